@@ -4,7 +4,7 @@ use Rattle.std.specs.Prelude.{Result, Ok, Err, OnOk}
 use Rattle.regex_front.specs.declared.failure.Failure.{Failure}
 use Rattle.regress_arguments.specs.Output.{Took}
 use Rattle.regress_arguments.specs.Request.{Request}
-use Rattle.regress_arguments.proofs.laws.Output.{appends_both}
+use Rattle.regress_arguments.proofs.lemmas.Output.{appends_both}
 use Rattle.regex_front.specs.Printed.{IsParsedText, IsOptimizedText, IsOutput}
 
 -- both parts are the whole output

@@ -48,7 +48,7 @@ impl From<ParseFault> for Failure {
 }
 
 /// Writes the message of a failure to `err`, and returns the exit status. An error of that write is ignored.
-pub(crate) fn tell<E: Write>(failure: Failure, err: &mut E) -> u8
+pub(crate) fn report<E: Write>(failure: Failure, err: &mut E) -> u8
     ensures status { result ≡ status_of failure }
     ensures quiet { failure ≡ Output → err.new ≡ err.old }
 {

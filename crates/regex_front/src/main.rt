@@ -13,8 +13,8 @@ ghost use Rattle.regex_front.specs.Ending.{Ends};
 mod failure;
 mod trees;
 
-use failure::{Failure, tell};
-use regress_arguments::{ArgumentsError, arguments, read_pattern};
+use failure::{Failure, report};
+use regress_arguments::{ArgumentsError, arguments, parse_pattern};
 use std::alloc::Global;
 use std::env::Env;
 use std::io::{BufWriter, Write};
@@ -31,8 +31,8 @@ fn run<R: Env + AllocGlobal, W: Write + Drop, E: Write>(rt: &R, out: W, err: &mu
 {
     match arguments(rt) {
         Ok(args) => run_buffered(rt.alloc(), &args, out, err),
-        Err(ArgumentsError::NotUtf8) => tell(Failure::Usage, err),
-        Err(ArgumentsError::OutOfMemory) => tell(Failure::Memory, err),
+        Err(ArgumentsError::NotUtf8) => report(Failure::Usage, err),
+        Err(ArgumentsError::OutOfMemory) => report(Failure::Memory, err),
     }
 }
 
@@ -45,14 +45,14 @@ fn run_buffered<W: Write + Drop, E: Write>(
 ) -> u8
     ensures known { result ≤ 4 }
     ensures usage { result ≡ 2 → request_of args.now ≡ None }
-    ensures refused { result ≡ 1 → IfSome (request_of args.now) NoneIsAccepted }
+    ensures rejected { result ≡ 1 → IfSome (request_of args.now) NoneIsAccepted }
     ensures accepted { (result ≡ 0) ⊎ (result ≡ 4) → IfSome (request_of args.now) IsAcceptedPattern }
-    ensures told { request_of args.now ≡ None → (result ≡ 2) ⊎ (result ≡ 3) }
+    ensures reported { request_of args.now ≡ None → (result ≡ 2) ⊎ (result ≡ 3) }
     ensures quiet { (result ≡ 0) ⊎ (result ≡ 4) → err.new ≡ err.old }
 {
     match BufWriter::new(alloc, out) {
         Ok(mut out) => run_front(alloc, args, &mut out, err),
-        Err(_) => tell(Failure::Memory, err),
+        Err(_) => report(Failure::Memory, err),
     }
 }
 
@@ -69,20 +69,20 @@ fn run_buffered<W: Write + Drop, E: Write>(
 pub fn run_front<W: Write, E: Write>(alloc: Global, args: &[String], out: &mut W, err: &mut E) -> u8
     ensures known { result ≤ 4 }
     ensures usage { (result ≡ 2) ↔ (request_of args.now ≡ None) }
-    ensures refused { result ≡ 1 → IfSome (request_of args.now) NoneIsAccepted }
+    ensures rejected { result ≡ 1 → IfSome (request_of args.now) NoneIsAccepted }
     ensures accepted { (result ≡ 0) ⊎ (result ≡ 4) → IfSome (request_of args.now) IsAcceptedPattern }
 
     // The bytes written: both trees, nothing, or the first tree.
     ensures printed { result ≡ 0 → IfSome (request_of args.now)
         (λ request. Took (W.contents out.old) (W.contents out.new) (IsOutput request)) }
     ensures untouched { (result ≡ 1) ⊎ (result ≡ 2) → out.new ≡ out.old }
-    ensures wanting { result ≡ 3 → (out.new ≡ out.old) ⊎ IfSome (request_of args.now)
+    ensures out_of_memory { result ≡ 3 → (out.new ≡ out.old) ⊎ IfSome (request_of args.now)
         (λ request. Took (W.contents out.old) (W.contents out.new) (IsParsedText request)) }
     ensures quiet { (result ≡ 0) ⊎ (result ≡ 4) → err.new ≡ err.old }
 {
     match print_request(alloc, args, out) {
         Ok(()) => 0,
-        Err(failure) => tell(failure, err),
+        Err(failure) => report(failure, err),
     }
 }
 
@@ -92,10 +92,10 @@ fn print_request<W: Write>(alloc: Global, args: &[String], out: &mut W) -> Resul
     ensures printed { OnOk result (IfSome (request_of args.now)
         (λ request. Took (W.contents out.old) (W.contents out.new) (IsOutput request))) }
     ensures untouched { IfErr result (λ failure. failure ≢ Output → failure ≢ Memory → out.new ≡ out.old) }
-    ensures wanting { IfErr result (λ failure. failure ≡ Memory → (out.new ≡ out.old) ⊎ IfSome (request_of args.now)
+    ensures out_of_memory { IfErr result (λ failure. failure ≡ Memory → (out.new ≡ out.old) ⊎ IfSome (request_of args.now)
         (λ request. Took (W.contents out.old) (W.contents out.new) (IsParsedText request))) }
 {
-    let Some((pattern, flags)) = read_pattern(args) else {
+    let Some((pattern, flags)) = parse_pattern(args) else {
         return Err(Failure::Usage);
     };
     print_trees(alloc, pattern, flags, out)

@@ -31,7 +31,7 @@ pub(crate) fn print_trees<W: Write>(
     ensures ends { Ends (Some (chars pattern.now, flags)) result }
     ensures printed { OnOk result (Took (W.contents out.old) (W.contents out.new) (IsOutput (chars pattern.now, flags))) }
     ensures untouched { IfErr result (λ failure. failure ≢ Output → failure ≢ Memory → out.new ≡ out.old) }
-    ensures wanting { IfErr result (λ failure. failure ≡ Memory → (out.new ≡ out.old)
+    ensures out_of_memory { IfErr result (λ failure. failure ≡ Memory → (out.new ≡ out.old)
         ⊎ Took (W.contents out.old) (W.contents out.new) (IsParsedText (chars pattern.now, flags))) }
 {
     let points = code_points(alloc, pattern)?;
@@ -78,9 +78,9 @@ fn print_optimized<W: Write>(
 }
 
 /// Writes a tree and the text after it, and flushes the output, so that it is printed even if the program fails later.
-fn write_tree<W: Write>(regex: &Regex, behind: &str, out: &mut W) -> io::Result<()>
-    ensures { OnOk result (Appends (W.contents out.old) (W.contents out.new) (printed (tree regex.now.node) ++ behind.now)) }
+fn write_tree<W: Write>(regex: &Regex, after: &str, out: &mut W) -> io::Result<()>
+    ensures { OnOk result (Appends (W.contents out.old) (W.contents out.new) (printed (tree regex.now.node) ++ after.now)) }
 {
-    write!(out, "{regex}{behind}")?;
+    write!(out, "{regex}{after}")?;
     out.flush()
 }

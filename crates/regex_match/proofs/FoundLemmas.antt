@@ -5,7 +5,7 @@ use Rattle.std.proofs.lemmas.List.Elements.{All-replicate}
 use Rattle.regress_front.specs.Accepted.{Means}
 use Rattle.regress_front.specs.Law.{MeansTheSame}
 use Rattle.regress_front.specs.Matching.{matches}
-use Rattle.regress_front.specs.Reading.{byte_place, forwards}
+use Rattle.regress_front.specs.Reading.{byte_position, forwards}
 use Rattle.regress_front.specs.Setting.{Setting}
 use Rattle.regress_front.specs.Steps.{IsStateOf, IsCaptureOf, byte_capture, byte_state}
 use Rattle.regress_front.specs.Syntax.{Pattern}
@@ -24,10 +24,10 @@ pub finds_what_means : (setting : Setting) (old new : Tree) (p : Pattern) → Me
 finds_what_means setting old new p means same text k is_text within =
     let n = length (captures new) in
     let state : IsStateOf text (no_groups n k) = record {
-      place = within;
+      position = within;
       captures = All-replicate (IsCaptureOf text) n None tt;
     } in
-    ap (λ spans. matches setting (encode_utf8_all text) forwards new (record { place = byte_place text k; captures = spans }))
+    ap (λ spans. matches setting (encode_utf8_all text) forwards new (record { position = byte_position text k; captures = spans }))
     (sym (nothing text n))
     ∙ sym ((same setting text is_text).same (byte_state text (no_groups n k)))
     ∙ means text (no_groups n k) is_text state

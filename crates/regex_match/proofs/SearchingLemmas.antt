@@ -4,19 +4,19 @@ use Rattle.std.proofs.lemmas.List.{append-nil, flat_map_more, get_or-map, length
 use Rattle.std.specs.Io.KnownBytes.{Appends, Keeps}
 use Rattle.std.specs.List.Sorted.{IsNonDecreasingBy, IsPermutation}
 use Rattle.std.specs.Prelude.{Result, Ok, Err, IfOk, IfErr, IfSome}
-use Rattle.regress_arguments.proofs.laws.Output.{appends_both, appends_kept}
+use Rattle.regress_arguments.proofs.lemmas.Output.{appends_both, appends_kept}
 use Rattle.regress_arguments.specs.Output.{Took}
 use Rattle.regress_front.specs.Setting.{Setting}
 use Rattle.regress_front.specs.Tree.{Tree}
 use Rattle.regress_front.specs.WellFormed.{Capture, captures}
 use Rattle.regress_match.specs.Matched.{Finds, IsLeftmost, outcomes_at}
 use Rattle.regress_match.specs.Names.{capture_of}
-use Rattle.regress_match.specs.Searched.{AreFound, IsSameSearch, place_behind, next_from, searched_outcomes, searched_text}
+use Rattle.regress_match.specs.Searched.{AreMatches, IsSameSearch, next_offset, next_from, searched_outcomes, searched_text}
 use Rattle.regress_match.specs.declared.matching.Match.{Match}
 use Rattle.regress_match.specs.declared.matching.Outcome.TheVariants as outcomes
 use Rattle.regress_match.specs.declared.names.Group.{Group}
 use Rattle.regress_match.specs.declared.search.Matches.{Matches}
-use Rattle.regress_match.proofs.laws.Searched.{AreFound-more}
+use Rattle.regress_match.proofs.lemmas.Searched.{AreMatches-more}
 use Rattle.regex_match.specs.Lines.{line}
 use Rattle.regex_match.specs.Ending.{Leaves}
 use Rattle.regex_match.specs.Printed.{AreLines, AreLinesOf, WritesAll, WritesFirst, WritesRest, WritesSome, has_some}
@@ -24,7 +24,7 @@ use Rattle.regex_match.specs.declared.failure.Failure.{Failure}
 use Rattle.regex_match.specs.declared.failure.Failure.TheVariants.{Usage, Memory, Output, Syntax, OutOfSteps, Input}
 
 pub further : (old new : Matches) (m : Match) → IsLeftmost (searched_text old) (searched_outcomes old) (next_from old) m →
-    next_from new ≡ place_behind m → searched_text new ≡ searched_text old →
+    next_from new ≡ next_offset m → searched_text new ≡ searched_text old →
     length (searched_text new) + 2 - next_from new < length (searched_text old) + 2 - next_from old
 further old new m found next same = omega (arith, found.from, found.boundary.0, next, ap length same)
 
@@ -33,7 +33,7 @@ pub record Progress (old new : Matches) (groups : List Capture) (before after : 
   pub found : List Match
   pub some : has_some found ≡ any
   pub same : IsSameSearch old new
-  pub chain : AreFound (searched_text old) (searched_outcomes old) (next_from old) (next_from new) found
+  pub chain : AreMatches (searched_text old) (searched_outcomes old) (next_from old) (next_from new) found
   pub written : Appends before after (flat_map (line groups) found)
 
 appends_nothing : (known : Option (List ℕ)) → Appends known known []
@@ -71,7 +71,7 @@ sorted-map (first ∷ groups) sorted = λ i j d up within.
 module _ (old now : Matches) (groups : List Capture) (before between : Option (List ℕ)) (any : Bool)
     (sofar : Progress old now groups before between any) where
   pub goes_on : (new : Matches) (m : Match) (after : Option (List ℕ)) →
-      IsLeftmost (searched_text now) (searched_outcomes now) (next_from now) m → next_from new ≡ place_behind m → IsSameSearch now new →
+      IsLeftmost (searched_text now) (searched_outcomes now) (next_from now) m → next_from new ≡ next_offset m → IsSameSearch now new →
       Appends between after (line groups m) → Progress old new groups before after true
   goes_on new m after found next same line_written =
       let text = searched_text old in
@@ -83,8 +83,8 @@ module _ (old now : Matches) (groups : List Capture) (before between : Option (L
         found = sofar.found ++ m ∷ [];
         some = has_some-more sofar.found m;
         same = record { text = same.text ∙ sofar.same.text; outcomes = same.outcomes ∙ sofar.same.outcomes };
-        chain = subst (λ k. AreFound text at (next_from old) k (sofar.found ++ m ∷ [])) (sym next)
-            (AreFound-more text at (next_from old) (next_from now) sofar.found m sofar.chain here);
+        chain = subst (λ k. AreMatches text at (next_from old) k (sofar.found ++ m ∷ [])) (sym next)
+            (AreMatches-more text at (next_from old) (next_from now) sofar.found m sofar.chain here);
         written = subst (λ bytes. Appends before after bytes) (lines-more groups sofar.found m)
             (appends_both before between after (flat_map (line groups) sofar.found) (line groups m) sofar.written line_written);
       }
@@ -144,7 +144,7 @@ module _ (setting : Setting) (t : Tree) (m : Matches) (groups : List Group) (inp
   left nothing Memory (inl h) = absurd h
   left nothing Memory (inr h) = inr (h.0, lines_of false h.0 h.1)
   left nothing Output h = tt
-  left nothing (Syntax e place) h = absurd h
+  left nothing (Syntax e position) h = absurd h
   left nothing OutOfSteps h = (h.0, lines_of false h.0 h.1)
   left nothing Input h = absurd h
 

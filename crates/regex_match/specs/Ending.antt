@@ -13,13 +13,13 @@ abbrev pub status_of : Failure → ℕ
 status_of Usage = 2
 status_of Memory = 3
 status_of Output = 4
-status_of (Syntax e place) = 5
+status_of (Syntax e position) = 5
 status_of OutOfSteps = 6
 status_of Input = 7
 
 -- an error of the parser as a failure
 abbrev pub failure_of : PlacedFault → Failure
-failure_of (fault.Syntax e place) = Syntax e place
+failure_of (fault.Syntax e position) = Syntax e position
 failure_of (fault.Memory e) = Memory
 
 -- When a failure is due: a syntax error if no pattern is accepted, and a later failure if one is.
@@ -27,7 +27,7 @@ abbrev pub IsDue : (accepted none : Type 0) → Failure → Type 0
 IsDue accepted none Usage = ⊥
 IsDue accepted none Memory = Unit {0}
 IsDue accepted none Output = accepted
-IsDue accepted none (Syntax e place) = none
+IsDue accepted none (Syntax e position) = none
 IsDue accepted none OutOfSteps = accepted
 IsDue accepted none Input = accepted
 
@@ -37,7 +37,7 @@ abbrev pub Leaves : (nothing first : Type 0) → Failure → Type 0
 Leaves nothing first Usage = nothing
 Leaves nothing first Memory = nothing ⊎ first
 Leaves nothing first Output = Unit {0}
-Leaves nothing first (Syntax e place) = nothing
+Leaves nothing first (Syntax e position) = nothing
 Leaves nothing first OutOfSteps = first
 Leaves nothing first Input = nothing
 

@@ -2,7 +2,7 @@
 use Rattle.std.specs.Prelude.{◌≡◌, ℕ, ◌≤◌, List, length, map, encode_utf8_all}
 use Rattle.regress_front.specs.Accepted.{IsAccepted}
 use Rattle.regress_front.specs.Meaning.{meaning}
-use Rattle.regress_front.specs.Reading.{IsText, byte_place, forwards}
+use Rattle.regress_front.specs.Reading.{IsText, byte_position, forwards}
 use Rattle.regress_front.specs.Setting.{Setting}
 use Rattle.regress_front.specs.Source.{Source}
 use Rattle.regress_front.specs.Steps.{byte_state}
@@ -16,7 +16,7 @@ use Rattle.regress_match.specs.Matched.{no_groups, outcomes_at}
 -- over the code points, in the same order, with code-point indices converted to byte offsets.
 abbrev pub FindsWhatMeans : Setting → Tree → Pattern → Type 0
 FindsWhatMeans setting t p = (text : List ℕ) (k : ℕ) → IsText text → k ≤ length text →
-    outcomes_at setting (encode_utf8_all text) t (byte_place text k)
+    outcomes_at setting (encode_utf8_all text) t (byte_position text k)
     ≡ map (byte_state text) (meaning setting text forwards p (no_groups (length (captures t)) k))
 
 -- A tree with the outcomes and the groups of the accepted pattern.

@@ -26,4 +26,4 @@ field m group = codes " " ++ name_in_front group.name ++ captured_span (slice_in
 
 -- the match and its groups
 abbrev pub line : List Capture → Match → List ℕ
-line groups m = span (start_of m, (state_of m).place) ++ flat_map (field m) groups ++ codes "\n"
+line groups m = span (start_of m, (state_of m).position) ++ flat_map (field m) groups ++ codes "\n"

@@ -8,7 +8,7 @@ use Rattle.regress_front.specs.Steps.{State}
 use Rattle.regress_front.specs.Tree.{Tree}
 use Rattle.regress_front.specs.WellFormed.{Capture, captures}
 use Rattle.regress_match.specs.Matched.{Finds, outcomes_at}
-use Rattle.regress_match.specs.Searched.{AreFound, next_from, searched_outcomes, searched_text}
+use Rattle.regress_match.specs.Searched.{AreMatches, next_from, searched_outcomes, searched_text}
 use Rattle.regress_match.specs.declared.matching.Match.{Match}
 use Rattle.regress_match.specs.declared.matching.Outcome.TheVariants as outcomes
 use Rattle.regress_match.specs.declared.search.Matches.{Matches}
@@ -20,7 +20,7 @@ use Rattle.regex_match.specs.Lines.{line}
 pub record AreLines (text : List ℕ) (at : ℕ → List State) (from : ℕ) (groups : List Capture) (ended : Bool) (found : List Match)
     (bytes : List ℕ) : Type 0 where
   pub to : ℕ
-  pub chain : AreFound text at from to found
+  pub chain : AreMatches text at from to found
   pub none : ended ≡ true → Finds text at to outcomes.NoMatch
   pub lines : bytes ≡ flat_map (line groups) found
 

@@ -3,7 +3,7 @@ ghost use Rattle.std.specs.Prelude.{◌≡◌, option_map};
 ghost use Rattle.regress_arguments.specs.Request.{request_of};
 ghost use Rattle.regex_match.specs.Asked.{matches, task, task_of};
 
-use regress_arguments::read_pattern;
+use regress_arguments::parse_pattern;
 use regress_front::types::Flags;
 
 /// The request that the arguments make.
@@ -30,6 +30,6 @@ pub(crate) fn read_asked(args: &[String]) -> Option<Asked<'_>>
 fn read_matches(args: &[String]) -> Option<Asked<'_>>
     ensures { option_map task result ≡ option_map matches (request_of args.now) }
 {
-    let (pattern, flags) = read_pattern(args)?;
+    let (pattern, flags) = parse_pattern(args)?;
     Some(Asked::Matches(pattern, flags))
 }

@@ -19,7 +19,7 @@ pub(crate) enum Failure {
     /// Standard output cannot be written: status 4.
     Output,
     /// The pattern is rejected, with a syntax error at a code-point index of the pattern or at its end: status 5.
-    Syntax { error: Error, place: usize },
+    Syntax { error: Error, position: usize },
     /// The step limit was reached: status 6.
     OutOfSteps,
     /// Standard input cannot be read, or is not UTF-8: status 7.
@@ -45,14 +45,14 @@ impl From<PlacedFault> for Failure {
 
     fn from(fault: PlacedFault) -> Failure {
         match fault {
-            PlacedFault::Syntax { error, place } => Failure::Syntax { error, place },
+            PlacedFault::Syntax { error, position } => Failure::Syntax { error, position },
             PlacedFault::Memory(_) => Failure::Memory,
         }
     }
 }
 
 /// Writes the message of a failure to `err`, and returns the exit status. An error of that write is ignored.
-pub(crate) fn tell<E: Write>(failure: Failure, err: &mut E) -> u8
+pub(crate) fn report<E: Write>(failure: Failure, err: &mut E) -> u8
     ensures status { result ≡ status_of failure }
     ensures quiet { failure ≡ Output → err.new ≡ err.old }
 {
@@ -66,8 +66,8 @@ pub(crate) fn tell<E: Write>(failure: Failure, err: &mut E) -> u8
             3
         }
         Failure::Output => 4,
-        Failure::Syntax { error, place } => {
-            let _ = writeln!(err, "error: {error} at {place}");
+        Failure::Syntax { error, position } => {
+            let _ = writeln!(err, "error: {error} at {position}");
             5
         }
         Failure::OutOfSteps => {

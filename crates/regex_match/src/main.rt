@@ -16,7 +16,7 @@ mod lines;
 mod searching;
 
 use asked::{Asked, read_asked};
-use failure::{Failure, tell};
+use failure::{Failure, report};
 use regress_arguments::{ArgumentsError, arguments};
 use searching::print_matches;
 use std::alloc::Global;
@@ -39,8 +39,8 @@ fn run<R: Env + AllocGlobal, I: Read + Drop, W: Write + Drop, E: Write>(
 {
     match arguments(rt) {
         Ok(args) => run_buffered(rt.alloc(), &args, input, out, err),
-        Err(ArgumentsError::NotUtf8) => tell(Failure::Usage, err),
-        Err(ArgumentsError::OutOfMemory) => tell(Failure::Memory, err),
+        Err(ArgumentsError::NotUtf8) => report(Failure::Usage, err),
+        Err(ArgumentsError::OutOfMemory) => report(Failure::Memory, err),
     }
 }
 
@@ -56,7 +56,7 @@ fn run_buffered<I: Read + Drop, W: Write + Drop, E: Write>(
 {
     match BufWriter::new(alloc, out) {
         Ok(mut out) => run_match(alloc, args, input, &mut out, err),
-        Err(_) => tell(Failure::Memory, err),
+        Err(_) => report(Failure::Memory, err),
     }
 }
 
@@ -90,24 +90,24 @@ pub fn run_match<I: Read + Drop, W: Write, E: Write>(
     // The first matches, if the step limit was reached; nothing or the first matches, if an allocation failed.
     ensures steps { result ≡ 6 → IfSome (task_of args.now)
         (OfPattern (PrintsFirst (I.remaining input) (W.contents out.old) (W.contents out.new))) }
-    ensures wanting { result ≡ 3 → (out.new ≡ out.old) ⊎ IfSome (task_of args.now)
+    ensures out_of_memory { result ≡ 3 → (out.new ≡ out.old) ⊎ IfSome (task_of args.now)
         (OfPattern (PrintsFirst (I.remaining input) (W.contents out.old) (W.contents out.new))) }
     ensures untouched { (result ≡ 2) ⊎ ((result ≡ 5) ⊎ (result ≡ 7)) → out.new ≡ out.old }
     ensures quiet { (result ≡ 0) ⊎ ((result ≡ 1) ⊎ (result ≡ 4)) → err.new ≡ err.old }
 
     // The pattern is rejected, or accepted.
-    ensures refused { result ≡ 5 → IfSome (task_of args.now) (OfPattern NoneIsAccepted) }
+    ensures rejected { result ≡ 5 → IfSome (task_of args.now) (OfPattern NoneIsAccepted) }
     ensures accepted { (result ≡ 4) ⊎ (result ≡ 7) → IfSome (task_of args.now) (OrHelp IsAcceptedPattern) }
 {
-    match answer(alloc, args, input, out) {
+    match response(alloc, args, input, out) {
         Ok(true) => 0,
         Ok(false) => 1,
-        Err(failure) => tell(failure, err),
+        Err(failure) => report(failure, err),
     }
 }
 
 /// Prints what the arguments ask for, and returns whether there is a match or help.
-fn answer<I: Read + Drop, W: Write>(
+fn response<I: Read + Drop, W: Write>(
     alloc: Global,
     args: &[String],
     input: I,

@@ -17,7 +17,7 @@ use crate::lines::Line;
 use regress_front::codepointset::CODE_POINT_MAX;
 use regress_front::ir::Regex;
 use regress_front::optimizer::optimize;
-use regress_front::parse::try_parse_with_place;
+use regress_front::parse::try_parse_with_position;
 use regress_front::types::Flags;
 use regress_front::unicode::Tables;
 use regress_front::util::code_points;
@@ -54,7 +54,7 @@ fn prepared(alloc: Global, points: &[u32], flags: Flags, tables: &Tables) -> Res
     ensures flags { IfOk result (λ regex. regex.flags ≡ flags) }
     ensures due { IfErr result (IsDue ⊥ (NoneIsAccepted (setting_of flags tables.now) points.now)) }
 {
-    let mut regex = try_parse_with_place(alloc, points, flags, tables)?;
+    let mut regex = try_parse_with_position(alloc, points, flags, tables)?;
     optimize(alloc, &mut regex)?;
     Ok(regex)
 }

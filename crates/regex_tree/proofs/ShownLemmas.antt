@@ -3,11 +3,11 @@ use Rattle.std.proofs.Common.{◌≡◌, ℕ, Bool, List, [], ◌++◌, Option, 
 use Rattle.std.specs.Io.KnownBytes.{Appends}
 use Rattle.std.specs.Prelude.{Result, Ok, Err, OnOk, IfOk}
 use Rattle.regress_arguments.specs.Output.{Took}
-use Rattle.regress_arguments.proofs.laws.Output.{appends_both}
+use Rattle.regress_arguments.proofs.lemmas.Output.{appends_both}
 use Rattle.regress_base.specs.declared.types.Flags.{Flags}
 use Rattle.regress_base.specs.Table.{Table}
 use Rattle.regress_parse.specs.Accepted as parse
-use Rattle.regress_parse.specs.Fault.{RefusedOnlyIf, unplaced}
+use Rattle.regress_parse.specs.Fault.{RejectedOnlyIf, unplaced}
 use Rattle.regress_parse.specs.declared.fault.PlacedFault.{PlacedFault}
 use Rattle.regress_parse.specs.TreeOf.{tree_of}
 use Rattle.regress_spans.specs.Spans.{spans_of}
@@ -23,11 +23,11 @@ use Rattle.regex_tree.specs.declared.request.Stage.TheVariants.{Both}
 use Rattle.regex_tree.specs.Shown.{Asked, IsParsed, setting_asked, table_asked, IsOptimized, IsOptimizedShown, IsOutput, IsShown, IsShownAs, IsShownWith}
 
 -- one tree
-pub shows_one : (format : Format) (flags : Flags) (t : Tree) (spans : List Span) (shown behind : List ℕ) (r : Result (Unit {0}) Failure)
-    (old new : Option (List ℕ)) → IsShownAs format flags t spans shown → OnOk r (Appends old new (shown ++ behind)) →
-    OnOk r (Took old new (IsShownWith format flags t spans behind))
-shows_one format flags t spans shown behind (Ok done) old new is_shown appends = (shown ++ behind, (shown, is_shown, refl), appends)
-shows_one format flags t spans shown behind (Err failure) old new is_shown appends = tt
+pub shows_one : (format : Format) (flags : Flags) (t : Tree) (spans : List Span) (shown after : List ℕ) (r : Result (Unit {0}) Failure)
+    (old new : Option (List ℕ)) → IsShownAs format flags t spans shown → OnOk r (Appends old new (shown ++ after)) →
+    OnOk r (Took old new (IsShownWith format flags t spans after))
+shows_one format flags t spans shown after (Ok done) old new is_shown appends = (shown ++ after, (shown, is_shown, refl), appends)
+shows_one format flags t spans shown after (Err failure) old new is_shown appends = tt
 
 -- the optimized tree
 pub shows_optimized : (format : Format) (flags : Flags) (t o : Tree) (r : Result (Unit {0}) Failure) (old new : Option (List ℕ)) →
@@ -39,9 +39,9 @@ shows_optimized format flags t o (Err failure) old new optimized took = tt
 pub shows_both : (format : Format) (flags : Flags) (t : Tree) (spans : List Span) (r : Result (Unit {0}) Failure) (old between new : Option (List ℕ)) →
     Took old between (IsShownWith format flags t spans (codes "--\n")) → OnOk r (Took between new (IsOptimizedShown format flags t)) →
     OnOk r (Took old new (IsShown Both format flags t spans))
-shows_both format flags t spans (Ok done) old between new (first, one, before) (second, two, behind) =
-    (first ++ second, (first, second, one, two, refl), appends_both old between new first second before behind)
-shows_both format flags t spans (Err failure) old between new before behind = tt
+shows_both format flags t spans (Ok done) old between new (first, one, before) (second, two, after) =
+    (first ++ second, (first, second, one, two, refl), appends_both old between new first second before after)
+shows_both format flags t spans (Err failure) old between new before after = tt
 
 -- the spans of the tree's own nodes are shown as themselves
 pub spanned_parsed : (stage : Stage) (format : Format) (setting : Setting) (text : List ℕ) (r : Result SpannedRegex PlacedFault) →
@@ -62,11 +62,11 @@ module _ (stage : Stage) (format : Format) (flags : Flags) (text : List ℕ) (r 
   pub parsed_asked : (small : Bool) (table : Table) → table ≡ table_asked small → ParsedBy table → ParsedBy (table_asked small)
   parsed_asked small table same parsed = subst (λ (x : Table). ParsedBy x) same parsed
 
-  abbrev RefusedBy : Table → Type 0
-  RefusedBy table = RefusedOnlyIf (unplaced r) (parse.NoneIsAccepted (setting table) text)
+  abbrev RejectedBy : Table → Type 0
+  RejectedBy table = RejectedOnlyIf (unplaced r) (parse.NoneIsAccepted (setting table) text)
 
-  pub refused_asked : (small : Bool) (table : Table) → table ≡ table_asked small → RefusedBy table → RefusedBy (table_asked small)
-  refused_asked small table same refused = subst (λ (x : Table). RefusedBy x) same refused
+  pub rejected_asked : (small : Bool) (table : Table) → table ≡ table_asked small → RejectedBy table → RejectedBy (table_asked small)
+  rejected_asked small table same rejected = subst (λ (x : Table). RejectedBy x) same rejected
 
 -- an accepted pattern
 pub shows_output : (stage : Stage) (format : Format) (asked : Asked) (parsed : SpannedRegex) (r : Result (Unit {0}) Failure)

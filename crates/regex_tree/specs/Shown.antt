@@ -14,8 +14,8 @@ use Rattle.regress_tree.specs.Tree.{Tree, tree}
 use Rattle.regress_syntax.specs.Syntax.{Pattern}
 use Rattle.regress_parse.specs.Accepted as parse
 use Rattle.regress_parse.specs.TreeOf.{tree_of}
-use Rattle.regress_markup.specs.Markup.{IsDocument}
-use Rattle.regress_show.specs.Json.{spanned_json_of}
+use Rattle.regress_svg.specs.Markup.{IsDocument}
+use Rattle.regress_json.specs.Json.{spanned_json_of}
 use Rattle.regress_spans.specs.Spans.{spans_of}
 use Rattle.regress_spans.specs.declared.pattern.SpannedRegex.{SpannedRegex}
 use Rattle.regress_spans.specs.declared.span.Span.{Span}
@@ -55,8 +55,8 @@ IsShownAs Json flags t spans bytes = bytes ≡ spanned_json_of flags t spans ++ 
 IsShownAs Svg flags t spans bytes = (picture : List ℕ) × IsDocument picture × (bytes ≡ picture ++ codes "\n")
 
 -- one tree, and these bytes after it
-abbrev pub IsShownWith : Format → Flags → Tree → List Span → (behind bytes : List ℕ) → Type 0
-IsShownWith format flags t spans behind bytes = (shown : List ℕ) × IsShownAs format flags t spans shown × (bytes ≡ shown ++ behind)
+abbrev pub IsShownWith : Format → Flags → Tree → List Span → (after bytes : List ℕ) → Type 0
+IsShownWith format flags t spans after bytes = (shown : List ℕ) × IsShownAs format flags t spans shown × (bytes ≡ shown ++ after)
 
 -- a tree in normal form with the meaning and the captures of the other one
 pub record IsOptimized (t optimized : Tree) : Type 0 where

@@ -42,7 +42,7 @@ exit status:
 #[derive(Drop)]
 pub(crate) enum Failure {
     /// The pattern is rejected, with a syntax error at that code-point index: status 1.
-    Syntax { error: Error, place: usize },
+    Syntax { error: Error, position: usize },
     /// The arguments are invalid: status 2.
     Usage,
     /// An allocation failed: status 3.
@@ -70,14 +70,14 @@ impl From<PlacedFault> for Failure {
 
     fn from(fault: PlacedFault) -> Failure {
         match fault {
-            PlacedFault::Syntax { error, place } => Failure::Syntax { error, place },
+            PlacedFault::Syntax { error, position } => Failure::Syntax { error, position },
             PlacedFault::Memory(_) => Failure::Memory,
         }
     }
 }
 
 /// Writes the message of a failure to `err`, and returns the exit status. An error of that write is ignored.
-pub(crate) fn tell<E: Write>(failure: Failure, err: &mut E) -> u8
+pub(crate) fn report<E: Write>(failure: Failure, err: &mut E) -> u8
     ensures status { result ≡ status_of failure }
     ensures quiet { failure ≡ Output → err.new ≡ err.old }
 {

@@ -7,13 +7,13 @@ use std::io::{self, Write};
 pub(crate) fn write_fault<E: Write>(
     error: &Error,
     pattern: &str,
-    place: usize,
+    position: usize,
     err: &mut E,
 ) -> io::Result<()> {
     write!(err, "error: {error}\n  ")?;
     write_in_one_line(pattern, err)?;
     err.write_all(b"\n  ")?;
-    write_spaces(place, err)?;
+    write_spaces(position, err)?;
     err.write_all(b"^\n")
 }
 
@@ -33,15 +33,15 @@ fn write_spaces<E: Write>(count: usize, err: &mut E) -> io::Result<()> {
     Ok(())
 }
 
-/// Writes `{"fault":"..","place":0}` and a line feed.
+/// Writes `{"fault":"..","position":0}` and a line feed.
 pub(crate) fn write_json_fault<W: Write>(
     error: &Error,
-    place: usize,
+    position: usize,
     out: &mut W,
 ) -> io::Result<()> {
     out.write_all(b"{\"fault\":\"")?;
     write_json_text(&error.text, out)?;
-    writeln!(out, "\",\"place\":{place}}}")?;
+    writeln!(out, "\",\"place\":{position}}}")?;
     out.flush()
 }
 

@@ -13,7 +13,7 @@ mod output;
 mod request;
 mod trees;
 
-use failure::{Failure, USAGE, tell};
+use failure::{Failure, USAGE, report};
 use fault::{write_fault, write_json_fault};
 use output::write_out;
 use regress_arguments::{ArgumentsError, arguments};
@@ -35,8 +35,8 @@ fn run<R: Env + AllocGlobal, W: Write + Drop, E: Write>(rt: &R, out: W, err: &mu
 {
     match arguments(rt) {
         Ok(args) => run_buffered(rt.alloc(), &args, out, err),
-        Err(ArgumentsError::NotUtf8) => tell(Failure::Usage, err),
-        Err(ArgumentsError::OutOfMemory) => tell(Failure::Memory, err),
+        Err(ArgumentsError::NotUtf8) => report(Failure::Usage, err),
+        Err(ArgumentsError::OutOfMemory) => report(Failure::Memory, err),
     }
 }
 
@@ -51,7 +51,7 @@ fn run_buffered<W: Write + Drop, E: Write>(
 {
     match BufWriter::new(alloc, out) {
         Ok(mut out) => run_tree(alloc, args, &mut out, err),
-        Err(_) => tell(Failure::Memory, err),
+        Err(_) => report(Failure::Memory, err),
     }
 }
 
@@ -72,9 +72,9 @@ pub fn run_tree<W: Write, E: Write>(alloc: Global, args: &[String], out: &mut W,
         Some(Asked::Tree(request)) => run_request(alloc, &request, out, err),
         Some(Asked::Usage) => match write_out(&USAGE, "", "", out) {
             Ok(()) => 0,
-            Err(failure) => tell(failure, err),
+            Err(failure) => report(failure, err),
         },
-        None => tell(Failure::Usage, err),
+        None => report(Failure::Usage, err),
     }
 }
 
@@ -89,15 +89,17 @@ fn run_request<W: Write, E: Write>(
 {
     match show(alloc, request, out) {
         Ok(()) => 0,
-        Err(Failure::Syntax { error, place }) => tell_fault(&error, place, request, out, err),
-        Err(failure) => tell(failure, err),
+        Err(Failure::Syntax { error, position }) => report_fault(
+            &error, position, request, out, err,
+        ),
+        Err(failure) => report(failure, err),
     }
 }
 
 /// Writes a syntax error in the requested format, and returns the exit status.
-fn tell_fault<W: Write, E: Write>(
+fn report_fault<W: Write, E: Write>(
     error: &Error,
-    place: usize,
+    position: usize,
     request: &Request<'_>,
     out: &mut W,
     err: &mut E,
@@ -106,12 +108,12 @@ fn tell_fault<W: Write, E: Write>(
 {
     match request.format {
         Format::Text | Format::Svg => {
-            let _ = write_fault(error, request.pattern, place, err);
+            let _ = write_fault(error, request.pattern, position, err);
             1
         }
-        Format::Json => match write_json_fault(error, place, out) {
+        Format::Json => match write_json_fault(error, position, out) {
             Ok(()) => 1,
-            Err(_) => tell(Failure::Output, err),
+            Err(_) => report(Failure::Output, err),
         },
     }
 }

@@ -12,13 +12,13 @@ use std::io::Write;
 pub(crate) fn write_out<D: Display, W: Write>(
     shown: &D,
     end: &str,
-    behind: &str,
+    after: &str,
     out: &mut W,
 ) -> Result<(), Failure>
     ensures written { OnOk result (IfSome (D.output shown.now)
-        (λ text. Appends (W.contents out.old) (W.contents out.new) ((text ++ end.now) ++ behind.now))) }
+        (λ text. Appends (W.contents out.old) (W.contents out.new) ((text ++ end.now) ++ after.now))) }
     ensures failed { IfErr result (λ failure. failure ≡ Output) }
 {
-    write!(out, "{shown}{end}{behind}").map_err(|_| Failure::Output)?;
+    write!(out, "{shown}{end}{after}").map_err(|_| Failure::Output)?;
     out.flush().map_err(|_| Failure::Output)
 }

@@ -6,7 +6,7 @@ ghost use Rattle.regress_tree.specs.Tree.{Tree};
 ghost use Rattle.regex_tree.specs.Shown.{IsShown};
 ghost use Rattle.regex_tree.specs.Taken.{no_options, options_of, taken, taken_of, with_option};
 
-use regress_arguments::read_pattern;
+use regress_arguments::parse_pattern;
 use regress_base::types::Flags;
 
 /// The request that the arguments make.
@@ -29,7 +29,7 @@ pub(crate) struct Request<'a> {
 impl Request<'_> {
     /// Returns whether the output contains the spans of nodes. The text format has none, and those of an optimized tree
     /// are not known.
-    pub(crate) fn tells_spans(&self) -> bool
+    pub(crate) fn reports_spans(&self) -> bool
         ensures { result ≡ false → (flags : Flags) (t : Tree) (ss others : List Span) (bytes : List ℕ) →
             IsShown self.now.stage self.now.format flags t ss bytes → IsShown self.now.stage self.now.format flags t others bytes }
     {
@@ -96,7 +96,7 @@ pub(crate) fn read_request(args: &[String]) -> Option<Asked<'_>>
     if options.help {
         return Some(Asked::Usage);
     }
-    let (pattern, flags) = read_pattern(rest)?;
+    let (pattern, flags) = parse_pattern(rest)?;
     Some(Asked::Tree(Request {
         pattern,
         flags,
@@ -112,16 +112,16 @@ fn read_options(args: &[String]) -> Option<(Options, &[String])>
 {
     let mut options = NO_OPTIONS;
     let mut rest = args;
-    while let [first, behind @ ..] = rest {
+    while let [first, after @ ..] = rest {
         let word = first.as_str();
         if !word.starts_with('-') {
             return Some((options, rest));
         }
         if word == "--" {
-            return Some((options, behind));
+            return Some((options, after));
         }
         options = with_option(options, word)?;
-        rest = behind;
+        rest = after;
     }
     Some((options, rest))
 }

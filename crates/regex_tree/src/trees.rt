@@ -7,7 +7,7 @@ ghost use Rattle.regress_tree.specs.WellFormed.{IsWellFormed};
 ghost use Rattle.regex_tree.specs.declared.failure.Failure.TheVariants.{Memory, Output};
 ghost use Rattle.regex_tree.specs.Ending.{IsDue};
 ghost use Rattle.regress_parse.specs.Accepted.{NoneIsAccepted};
-ghost use Rattle.regress_parse.specs.Fault.{RefusedOnlyIf, unplaced};
+ghost use Rattle.regress_parse.specs.Fault.{RejectedOnlyIf, unplaced};
 ghost use Rattle.regress_parse.specs.Source.{IsCodePoint};
 ghost use Rattle.regress_syntax.specs.SettingOf.{setting_of};
 ghost use Rattle.regex_tree.specs.Shown.{IsParsed, NoneIsAcceptedOf, IsOptimizedShown, IsOutput, IsShown, IsShownWith, asked, setting_asked, table_asked};
@@ -16,10 +16,10 @@ use crate::failure::Failure;
 use crate::output::write_out;
 use crate::request::{Format, Request, Stage};
 use regress_base::util::code_points;
-use regress_diagram::svg_with_titles;
+use regress_json::SpannedJson;
 use regress_opt::optimize;
-use regress_parse::{PlacedFault, try_parse_with_place};
-use regress_show::SpannedJson;
+use regress_parse::{PlacedFault, try_parse_with_position};
+use regress_railroad::svg_with_titles;
 use regress_spans::{Span, SpannedRegex, try_parse_with_spans};
 use regress_tree::ir::Regex;
 use regress_ucd::unicode_tables;
@@ -63,7 +63,7 @@ pub(crate) fn show<W: Write>(
 /// Parses a pattern, given as code points, as the request specifies.
 fn parse(alloc: Global, points: &[u32], request: &Request<'_>) -> Result<SpannedRegex, PlacedFault>
     requires { All IsCodePoint points.now }
-    ensures refused { RefusedOnlyIf (unplaced result) (NoneIsAcceptedOf (asked points.now request.now.flags request.now.small)) }
+    ensures rejected { RejectedOnlyIf (unplaced result) (NoneIsAcceptedOf (asked points.now request.now.flags request.now.small)) }
     ensures parsed { IfOk result (IsParsed request.now.stage request.now.format
         (setting_asked (asked points.now request.now.flags request.now.small)) points.now) }
     ensures flags { IfOk result (λ r. r.regex.flags ≡ request.now.flags) }
@@ -81,15 +81,15 @@ fn parse_with(
     tables: &Tables,
 ) -> Result<SpannedRegex, PlacedFault>
     requires { All IsCodePoint points.now }
-    ensures refused { RefusedOnlyIf (unplaced result) (NoneIsAccepted (setting_of request.now.flags tables.now) points.now) }
+    ensures rejected { RejectedOnlyIf (unplaced result) (NoneIsAccepted (setting_of request.now.flags tables.now) points.now) }
     ensures parsed { IfOk result (IsParsed request.now.stage request.now.format (setting_of request.now.flags tables.now) points.now) }
     ensures flags { IfOk result (λ r. r.regex.flags ≡ request.now.flags) }
     ensures well_formed { IfOk result (λ r. IsWellFormed (tree r.regex.node)) }
 {
-    if request.tells_spans() {
+    if request.reports_spans() {
         return try_parse_with_spans(alloc, points, request.flags, tables);
     }
-    let regex = try_parse_with_place(alloc, points, request.flags, tables)?;
+    let regex = try_parse_with_position(alloc, points, request.flags, tables)?;
     let spans = Vec::new(alloc);
     Ok(SpannedRegex { regex, spans })
 }
@@ -155,22 +155,22 @@ fn write_tree<W: Write>(
     regex: &Regex,
     written: &Written<'_>,
     format: Format,
-    behind: &str,
+    after: &str,
     out: &mut W,
 ) -> Result<(), Failure>
     ensures written { OnOk result (Took (W.contents out.old) (W.contents out.new)
-        (IsShownWith format regex.now.flags (tree regex.now.node) written.now.spans.now behind.now)) }
+        (IsShownWith format regex.now.flags (tree regex.now.node) written.now.spans.now after.now)) }
     ensures failed { IfErr result (λ failure. (failure ≡ Memory) ⊎ (failure ≡ Output)) }
 {
     match format {
-        Format::Text => write_out(regex, "", behind, out),
+        Format::Text => write_out(regex, "", after, out),
         Format::Json => {
             let spans = written.spans;
-            write_out(&SpannedJson { regex, spans }, "\n", behind, out)
+            write_out(&SpannedJson { regex, spans }, "\n", after, out)
         }
         Format::Svg => {
             let picture = svg_with_titles(alloc, regex, written.pattern, written.spans)?;
-            write_out(&picture, "\n", behind, out)
+            write_out(&picture, "\n", after, out)
         }
     }
 }

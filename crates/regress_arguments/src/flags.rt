@@ -8,7 +8,7 @@ use regress_base::types::Flags;
 ///
 /// The letters mean ignoreCase, multiline, dotAll, unicode and unicodeSets (ECMA-262, RegExpInitialize). Dialect: `u`
 /// and `v` may be given together.
-pub fn read_flags(letters: &str) -> Option<Flags>
+pub fn parse_flags(letters: &str) -> Option<Flags>
     ensures { result ≡ with_letters no_flags letters.now }
 {
     let mut flags = Flags::default();

@@ -6,5 +6,5 @@ mod flags;
 mod pattern;
 
 pub use environment::{ArgumentsError, arguments};
-pub use flags::read_flags;
-pub use pattern::read_pattern;
+pub use flags::parse_flags;
+pub use pattern::parse_pattern;

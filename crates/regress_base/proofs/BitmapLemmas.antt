@@ -14,7 +14,7 @@ use Rattle.std.proofs.lemmas.Nat.{div-mul-add, mod-mul-add}
 use Rattle.std.proofs.lemmas.Nat.Bits.{bit_at-lt, same_from_bits_below}
 use Rattle.regress_base.specs.ByteBitmap.{contains, same_members}
 use Rattle.regress_base.specs.ByteSets.{bit_in, bytes_of, all_bytes, SameMembers}
-use Rattle.regress_base.specs.ByteLaws.{contains-bytes_only}
+use Rattle.regress_base.specs.ByteLemmas.{contains-bytes_only}
 use Rattle.regress_base.specs.declared.bytesearch.bitmap.ByteBitmap.{ByteBitmap}
 use Rattle.regress_base.proofs.CellLemmas.{or-guarded, bit_in-with_mask}
 use Rattle.regress_base.proofs.CountLemmas.{count_below, count_below-add, count_below-agree, count_ones-bits}
@@ -42,16 +42,16 @@ same_bit x y p q e =
       ]
     ]
 
-bit_in-place : (n : ℕ) (xs : List ℕ) (k i : ℕ) → i < n → bit_in n xs (k * n + i) ≡ eqb (bit_at (get_or xs k 0) i) 1
+bit_in-position : (n : ℕ) (xs : List ℕ) (k i : ℕ) → i < n → bit_in n xs (k * n + i) ≡ eqb (bit_at (get_or xs k 0) i) 1
 unfolding bit_in
-bit_in-place n xs k i low = rw (div-mul-add k n i low, mod-mul-add k n i low) refl
+bit_in-position n xs k i low = rw (div-mul-add k n i low, mod-mul-add k n i low) refl
 
 same_cell : (n : ℕ) (xs ys : List ℕ) (k : ℕ) → get_or xs k 0 < 2 ^ n → get_or ys k 0 < 2 ^ n
     → ((i : ℕ) → i < n → bit_in n xs (k * n + i) ≡ bit_in n ys (k * n + i)) → get_or xs k 0 ≡ get_or ys k 0
 same_cell n xs ys k fx fy same =
     same_from_bits_below n (get_or xs k 0) (get_or ys k 0) fx fy (λ i low.
     same_bit (bit_at (get_or xs k 0) i) (bit_at (get_or ys k 0) i) (bit_at-lt (get_or xs k 0) i) (bit_at-lt (get_or ys k 0) i)
-    (sym (bit_in-place n xs k i low) ∙ same i low ∙ bit_in-place n ys k i low))
+    (sym (bit_in-position n xs k i low) ∙ same i low ∙ bit_in-position n ys k i low))
 
 same_word : (s t : ByteBitmap) (k : ℕ) → k < 16 → get_or s.words k 0 < 2 ^ 16 → get_or t.words k 0 < 2 ^ 16
     → SameMembers (contains s) (contains t) → get_or s.words k 0 ≡ get_or t.words k 0
@@ -195,7 +195,7 @@ run_more true old b word = grind (arith, nat_tests)
 
 word_bit : (s : ByteBitmap) (i k : ℕ) → i < 16 → k < 16 → contains s (i * 16 + k) ≡ eqb (bit_at (get_or s.words i 0) k) 1
 unfolding contains
-word_bit s i k inside low = rw (lt-ltb (i * 16 + k) 256 (omega arith)) (bit_in-place 16 s.words i k low)
+word_bit s i k inside low = rw (lt-ltb (i * 16 + k) 256 (omega arith)) (bit_in-position 16 s.words i k low)
 
 pub count_below-word : (s : ByteBitmap) (i : ℕ) → i < 16 → get_or s.words i 0 < 2 ^ 16
     → count_below (contains s) ((i + 1) * 16) ≡ count_below (contains s) (i * 16) + count_ones (get_or s.words i 0)

@@ -126,9 +126,9 @@ no_member_past_end ivs c can h =
     false_from_ne_true _ (λ t. let above = member_above 0 ivs c can t in omega arith)
 
 -- the intervals after an index are canonical
-pub canonical_behind : (low : ℕ) (ivs : List Bounds) (i : ℕ) (d : Bounds) → IsTrue (is_canonical_from low ivs) → i < length ivs
+pub canonical_after : (low : ℕ) (ivs : List Bounds) (i : ℕ) (d : Bounds) → IsTrue (is_canonical_from low ivs) → i < length ivs
     → IsTrue (is_canonical_from ((get_or ivs i d).last + 2) (drop (suc i) ivs))
-canonical_behind low [] i d can h = absurd (not-suc-le-zero h)
-canonical_behind low (iv ∷ ivs) zero d can h = (canonical_parts low iv ivs can).rest
-canonical_behind low (iv ∷ ivs) (suc i) d can h =
-    canonical_behind (iv.last + 2) ivs i d (canonical_parts low iv ivs can).rest (le_of_suc-le-suc h)
+canonical_after low [] i d can h = absurd (not-suc-le-zero h)
+canonical_after low (iv ∷ ivs) zero d can h = (canonical_parts low iv ivs can).rest
+canonical_after low (iv ∷ ivs) (suc i) d can h =
+    canonical_after (iv.last + 2) ivs i d (canonical_parts low iv ivs can).rest (le_of_suc-le-suc h)

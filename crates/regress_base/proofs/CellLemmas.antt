@@ -33,8 +33,8 @@ tested w n k h =
     rw (one_shl k (bits w) h, and_pow n k) (of_bit (bit_at n k) (2 ^ k) (bit_at-lt n k) (pow_pos k))
 
 -- two numbers with the same cell and the same bit are equal
-same_place : (n a b : ℕ) → a / n ≡ b / n → a % n ≡ b % n → a ≡ b
-same_place n a b d m = sym (div-add-mod' a n) ∙ ap (λ q. q * n + a % n) d ∙ ap (λ r. b / n * n + r) m ∙ div-add-mod' b n
+same_bit_index : (n a b : ℕ) → a / n ≡ b / n → a % n ≡ b % n → a ≡ b
+same_bit_index n a b d m = sym (div-add-mod' a n) ∙ ap (λ q. q * n + a % n) d ∙ ap (λ r. b / n * n + r) m ∙ div-add-mod' b n
 
 -- the cells after bit v is set
 abbrev pub with_bit : (w : Width) → List ℕ → ℕ → List ℕ
@@ -55,7 +55,7 @@ unfolding bit_in
 set_other w cells v b low inside ne =
     elim (cases_eq (b / bits w) (v / bits w)) [
       | inl e ↦
-          let apart : b % bits w ≢ v % bits w = λ m. ne (same_place (bits w) b v e m) in
+          let apart : b % bits w ≢ v % bits w = λ m. ne (same_bit_index (bits w) b v e m) in
           rw (
             e,
             get_or-set_same cells (v / bits w) (bit_or (get_or cells (v / bits w) 0) (1 * 2 ^ (v % bits w) % 2 ^ bits w)) 0 inside,

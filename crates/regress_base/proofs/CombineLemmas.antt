@@ -7,7 +7,7 @@ use Rattle.regress_base.specs.Overlap.{overlap}
 use Rattle.regress_base.proofs.WithinLemmas.{pair, is_within_overlap, is_within-true}
 use Rattle.regress_base.proofs.MemberLemmas.{is_member-nil, is_member-one, is_member-append, is_member-take_more, is_member-drop_more, or_assoc}
 use Rattle.std.proofs.Math.Bool.{or-false}
-use Rattle.regress_base.proofs.CanonicalLemmas.{canonical_behind, canonical_at, canonical_apart, canonical_cons, canonical_append, next_low, next_low-nil, next_low-push, no_member_below}
+use Rattle.regress_base.proofs.CanonicalLemmas.{canonical_after, canonical_at, canonical_apart, canonical_cons, canonical_append, next_low, next_low-nil, next_low-push, no_member_below}
 
 move_left : (a b w : Bool) → ((a || b) || w) ≡ ((a || w) || b)
 move_left true b w = refl
@@ -32,22 +32,22 @@ union_right xs i c x old new rest inside read added so_far =
     ∙ ap (λ b. rest || b) (sym more)
 
 -- no interval after the index contains a code point up to the end of the interval there
-none_behind : (ivs : List Bounds) (i c : ℕ) (x : Bounds) → IsCanonical ivs → i < length ivs → x ≡ get_or ivs i x → c ≤ x.last
+none_after : (ivs : List Bounds) (i c : ℕ) (x : Bounds) → IsCanonical ivs → i < length ivs → x ≡ get_or ivs i x → c ≤ x.last
     → is_member (drop (i + 1) ivs) c ≡ false
-none_behind ivs i c x can inside read below =
-    let behind : IsTrue (is_canonical_from (x.last + 2) (drop (i + 1) ivs)) =
+none_after ivs i c x can inside read below =
+    let after : IsTrue (is_canonical_from (x.last + 2) (drop (i + 1) ivs)) =
     subst (λ (n : ℕ). IsTrue (is_canonical_from (x.last + 2) (drop n ivs))) (sym (add-one i))
     (subst (λ (b : Bounds). IsTrue (is_canonical_from (b.last + 2) (drop (suc i) ivs))) (sym read)
-    (canonical_behind 0 ivs i x can inside)) in
-    no_member_below (x.last + 2) (drop (i + 1) ivs) c behind (omega arith)
+    (canonical_after 0 ivs i x can inside)) in
+    no_member_below (x.last + 2) (drop (i + 1) ivs) c after (omega arith)
 
-within_and_behind : (w b : Bool) → (w ≡ true → b ≡ false) → (w && b) ≡ false
-within_and_behind true b h = h refl
-within_and_behind false b h = refl
+within_and_after : (w b : Bool) → (w ≡ true → b ≡ false) → (w && b) ≡ false
+within_and_after true b h = h refl
+within_and_after false b h = refl
 
-behind_and_within : (b w : Bool) → (w ≡ true → b ≡ false) → (b && w) ≡ false
-behind_and_within b true h = and_left b true (h refl)
-behind_and_within b false h = and_right b false refl
+after_and_within : (b w : Bool) → (w ≡ true → b ≡ false) → (b && w) ≡ false
+after_and_within b true h = and_left b true (h refl)
+after_and_within b false h = and_right b false refl
 
 -- the left interval overlaps nothing after the right one
 meet_first : (o a b l r : Bool) → (a && r) ≡ false → ((o || (a && b)) || (l && (b || r))) ≡ (o || ((a || l) && (b || r)))
@@ -70,8 +70,8 @@ module _ (left right : List Bounds) (i j c : ℕ) (a b : Bounds) (old new whole 
     (left_in : i < length left) (right_in : j < length right) (left_read : a ≡ get_or left i a) (right_read : b ≡ get_or right j b)
     (added : new ≡ (old || (is_within a c && is_within b c)))
     (so_far : (old || (is_member (drop i left) c && is_member (drop j right) c)) ≡ whole) where
-  left_more : is_member (drop i left) c ≡ (is_within a c || is_member (drop (i + 1) left) c)
-  left_more = is_member-drop_more left i c a left_in ∙ ap (λ x. is_within x c || is_member (drop (i + 1) left) c) (sym left_read)
+  remainder_of_more : is_member (drop i left) c ≡ (is_within a c || is_member (drop (i + 1) left) c)
+  remainder_of_more = is_member-drop_more left i c a left_in ∙ ap (λ x. is_within x c || is_member (drop (i + 1) left) c) (sym left_read)
 
   right_more : is_member (drop j right) c ≡ (is_within b c || is_member (drop (j + 1) right) c)
   right_more = is_member-drop_more right j c b right_in ∙ ap (λ x. is_within x c || is_member (drop (j + 1) right) c) (sym right_read)
@@ -79,19 +79,19 @@ module _ (left right : List Bounds) (i j c : ℕ) (a b : Bounds) (old new whole 
   -- the left interval ends no later than the right one, and is dropped
   pub meet_left : a.last ≤ b.last → (new || (is_member (drop (i + 1) left) c && is_member (drop j right) c)) ≡ whole
   meet_left ends =
-      let apart = within_and_behind (is_within a c) (is_member (drop (j + 1) right) c)
-      (λ within. none_behind right j c b right_canonical right_in right_read (let in_a = is_within-true a c within in omega arith)) in
+      let apart = within_and_after (is_within a c) (is_member (drop (j + 1) right) c)
+      (λ within. none_after right j c b right_canonical right_in right_read (let in_a = is_within-true a c within in omega arith)) in
       ap₂ (λ x y. x || (is_member (drop (i + 1) left) c && y)) added right_more
       ∙ meet_first old (is_within a c) (is_within b c) (is_member (drop (i + 1) left) c) (is_member (drop (j + 1) right) c) apart
-      ∙ sym (ap₂ (λ x y. old || (x && y)) left_more right_more) ∙ so_far
+      ∙ sym (ap₂ (λ x y. old || (x && y)) remainder_of_more right_more) ∙ so_far
 
   pub meet_right : b.last < a.last → (new || (is_member (drop i left) c && is_member (drop (j + 1) right) c)) ≡ whole
   meet_right ends =
-      let apart = behind_and_within (is_member (drop (i + 1) left) c) (is_within b c)
-      (λ within. none_behind left i c a left_canonical left_in left_read (let in_b = is_within-true b c within in omega arith)) in
-      ap₂ (λ x y. x || (y && is_member (drop (j + 1) right) c)) added left_more
+      let apart = after_and_within (is_member (drop (i + 1) left) c) (is_within b c)
+      (λ within. none_after left i c a left_canonical left_in left_read (let in_b = is_within-true b c within in omega arith)) in
+      ap₂ (λ x y. x || (y && is_member (drop (j + 1) right) c)) added remainder_of_more
       ∙ meet_second old (is_within a c) (is_within b c) (is_member (drop (i + 1) left) c) (is_member (drop (j + 1) right) c) apart
-      ∙ sym (ap₂ (λ x y. old || (x && y)) left_more right_more) ∙ so_far
+      ∙ sym (ap₂ (λ x y. old || (x && y)) remainder_of_more right_more) ∙ so_far
 
 -- one of the lists is at its end
 pub meet_done : (left right : List Bounds) (i j c : ℕ) (old whole : Bool) → (length left ≤ i) ⊎ (length right ≤ j)
@@ -129,7 +129,7 @@ meets a b =
     elim (cases_lt b.last a.first) [
       | inl before ↦ inr (λ t. omega (arith, before, t.0))
       | inr left ↦ elim (cases_lt a.last b.first) [
-        | inl behind ↦ inr (λ t. omega (arith, behind, t.1))
+        | inl after ↦ inr (λ t. omega (arith, after, t.1))
         | inr right ↦ inl (left, right)
       ]
     ]

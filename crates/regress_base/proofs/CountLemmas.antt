@@ -182,12 +182,12 @@ IsFilled-room p n b len array so_far passes byte room =
     omega arith
 
 -- one more number is tested, and added to the array if it is a member
-pub IsFilled-turn : (p : ℕ → Bool) (n b len len' : ℕ) (array array' : List ℕ) → b < 256 → member_count p ≤ n → IsFilled p n b len array
+pub IsFilled-iteration : (p : ℕ → Bool) (n b len len' : ℕ) (array array' : List ℕ) → b < 256 → member_count p ≤ n → IsFilled p n b len array
     → ((p b ≡ true) × (len' ≡ len + 1) × (array' ≡ set array len b)) ⊎ ((p b ≡ false) × (len' ≡ len) × (array' ≡ array))
     → IsFilled p n (b + 1) len' array'
-IsFilled-turn p n b len len' array array' byte fits so_far (inl joins) =
+IsFilled-iteration p n b len len' array array' byte fits so_far (inl joins) =
     rw (joins.1, joins.2) (IsFilled-yes p n b len array so_far joins.0 (IsFilled-room p n b len array so_far joins.0 byte fits))
-IsFilled-turn p n b len len' array array' byte fits so_far (inr stays) =
+IsFilled-iteration p n b len len' array array' byte fits so_far (inr stays) =
     rw (stays.1, stays.2) (IsFilled-no p n b len array so_far stays.0)
 
 pub IsFilled-all : (p : ℕ → Bool) (n len : ℕ) (array : List ℕ) → IsFilled p n 256 len array

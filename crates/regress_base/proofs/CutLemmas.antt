@@ -57,9 +57,9 @@ raised low xs (y ∷ ys) can can_ys fewer =
       rest = p.rest;
     })
 
-room_behind : (low : ℕ) (xs ys : List Bounds) → IsTrue (is_canonical_from low xs) → IsTrue (is_canonical_from low ys)
+bounds_after : (low : ℕ) (xs ys : List Bounds) → IsTrue (is_canonical_from low xs) → IsTrue (is_canonical_from low ys)
     → ((c : ℕ) → is_member ys c ≡ true → is_member xs c ≡ true) → next_low low ys ≤ next_low low xs
-room_behind low xs ys can can_ys fewer =
+bounds_after low xs ys can can_ys fewer =
     elim (last_member low ys can_ys) [
       | inl none ↦ (let le = low_le low xs can in omega (arith, none, le))
       | inr some ↦ (let le = member_low low xs some.0 can (fewer some.0 some.1) in
@@ -72,7 +72,7 @@ replaced low xs ys zs can can_ys fewer =
     let front = canonical_front low xs zs can in
     let above = raised low xs ys front can_ys fewer in
     canonical_append low ys zs above
-    (canonical_lower (next_low low xs) (next_low low ys) zs (room_behind low xs ys front above fewer) (canonical_back low xs zs can))
+    (canonical_lower (next_low low xs) (next_low low ys) zs (bounds_after low xs ys front above fewer) (canonical_back low xs zs can))
 
 -- ---- a list in three parts, with the middle one replaced
 
@@ -120,7 +120,7 @@ in_span (iv ∷ ivs) first last c can at_first at_last h =
       elim (cases_lt last.last c) [
         | inl past ↦ absurd (true≢false (sym h ∙ is_member-nowhere (iv ∷ ivs) c last (λ k inside. gt-is_within (get_or (iv ∷ ivs) k last) c
             (elim (cases_lt k (length (iv ∷ ivs) - 1)) [
-              | inl earlier ↦ (let after = l.after k last earlier in
+              | inl earlier ↦ (let beyond = l.beyond k last earlier in
                   let ordered = l.interval.ordered in omega arith)
               | inr not_earlier ↦ (let same : k ≡ length (iv ∷ ivs) - 1 = omega arith in
                   let at : (get_or (iv ∷ ivs) k last).last ≡ last.last = ap (λ n. (get_or (iv ∷ ivs) n last).last) same
@@ -149,15 +149,15 @@ within_span ivs first last span c can at_first at_last is h =
 -- ---- a list without the members of other intervals
 
 cut_or : (t b d i : Bool) → (t ≡ true → i ≡ false) → (d ≡ true → i ≡ false) → (t || ((b && not i) || d)) ≡ ((t || (b || d)) && not i)
-cut_or true b d i front behind = sym (ap not (front refl))
-cut_or false true d true front behind = cut_none d behind
+cut_or true b d i front after = sym (ap not (front refl))
+cut_or false true d true front after = cut_none d after
   where
     cut_none : (d : Bool) → (d ≡ true → true ≡ false) → d ≡ false
     cut_none true h = absurd (true≢false (h refl))
     cut_none false h = refl
-cut_or false true d false front behind = refl
-cut_or false false true i front behind = sym (ap not (behind refl))
-cut_or false false false i front behind = refl
+cut_or false true d false front after = refl
+cut_or false false true i front after = sym (ap not (after refl))
+cut_or false false false i front after = refl
 
 -- the list has exactly the members of the first list that are not in the second
 pub record IsCut (ivs dropped new : List Bounds) : Type 0 where
@@ -176,15 +176,15 @@ module _ (ivs dropped : List Bounds) (span : Bounds) (start end : ℕ) (can : Is
       ap (λ (b : Bounds). b.last) (get_or-take start ivs k span (omega (arith, inside, len))) in
       gt-is_within (get_or (take start ivs) k span) c (omega (arith, w.0, before, at))))))
 
-  behind_apart : (c : ℕ) → is_member (drop end ivs) c ≡ true → is_member dropped c ≡ false
-  behind_apart c h =
+  after_apart : (c : ℕ) → is_member (drop end ivs) c ≡ true → is_member dropped c ≡ false
+  after_apart c h =
       false_from_ne_true _ (λ t. let w = is_within-true span c (spans c t) in
       true≢false (sym h ∙ is_member-nowhere (drop end ivs) c span (λ k inside. (
       let len = length-drop end ivs in
-      let behind = range.behind (end + k) span (omega arith) (omega (arith, inside, len)) in
+      let after = range.after (end + k) span (omega arith) (omega (arith, inside, len)) in
       let at : (get_or (drop end ivs) k span).first ≡ (get_or ivs (end + k) span).first =
       ap (λ (b : Bounds). b.first) (get_or-drop end ivs k span) in
-      lt-is_within (get_or (drop end ivs) k span) c (omega (arith, w.1, behind, at))))))
+      lt-is_within (get_or (drop end ivs) k span) c (omega (arith, w.1, after, at))))))
 
   pub cut : (gaps kept new : List Bounds) → IsComplement dropped gaps → IsCanonical kept
       → ((c : ℕ) → is_member kept c ≡ (is_member (between ivs start end) c && is_member gaps c))
@@ -207,7 +207,7 @@ module _ (ivs dropped : List Bounds) (span : Bounds) (start end : ℕ) (can : Is
               let whole : is_member ivs c ≡ (t || (b || d)) = ap (λ l. is_member l c) (sym (parts ivs start end range.in_order))
               ∙ is_member-append (take start ivs) (between ivs start end ++ drop end ivs) c
               ∙ ap (λ x. t || x) (is_member-append (between ivs start end) (drop end ivs) c) in
-              left ∙ cut_or t b d (is_member dropped c) (front_apart c) (behind_apart c)
+              left ∙ cut_or t b d (is_member dropped c) (front_apart c) (after_apart c)
               ∙ ap (λ x. x && not (is_member dropped c)) (sym whole)
         ];
       }
@@ -226,7 +226,7 @@ cut_none ivs dropped span start end c can spans range same =
           let t_none = false_from_ne_true (is_member (take start ivs) c)
           (λ t. true≢false (sym gone ∙ front_apart ivs dropped span start end can spans range c t)) in
           let d_none = false_from_ne_true (is_member (drop end ivs) c)
-          (λ t. true≢false (sym gone ∙ behind_apart ivs dropped span start end can spans range c t)) in
+          (λ t. true≢false (sym gone ∙ after_apart ivs dropped span start end can spans range c t)) in
           let whole = ap (λ l. is_member l c) (sym (take-append-drop start ivs)) ∙ is_member-append (take start ivs) (drop start ivs) c in
           let none = whole ∙ ap₂ (λ x y. x || y) t_none (ap (λ n. is_member (drop n ivs) c) same ∙ d_none) in
           none ∙ sym (and_left _ _ none)

@@ -8,7 +8,7 @@ use Rattle.std.proofs.lemmas.List.{take_rest, drop-drop, length-drop, length-tak
 use Rattle.std.proofs.lemmas.Slice.Eq.{bytes_eq-Decides}
 use Rattle.std.proofs.lemmas.Bool.{false≢true, cases_lt, lt-ltb, eq-eqb, ne_eqb, cases_eq}
 use Rattle.regress_base.specs.ByteSets.{bytes_of}
-use Rattle.regress_base.specs.Places.{IsLeastAt, IsMemberAt, StandsWhole, IsTestFor}
+use Rattle.regress_base.specs.Positions.{IsLeastAt, IsMemberAt, OccursAt, DecidesMembership}
 
 -- no byte of the text before index n is a member
 abbrev pub NoneBefore : (ℕ → Bool) → List ℕ → ℕ → Type 0
@@ -18,17 +18,17 @@ pub none_past : (set : ℕ → Bool) (text : List ℕ) → NoneBefore set text (
 none_past set text none k h at = none k at.inside at
 
 -- one more byte, which fails the test
-pub none_more : (says : ℕ → Bool → Type 0) (set : ℕ → Bool) (text : List ℕ) (i : ℕ) → IsTestFor says set → get_or text i 0 < 256
+pub none_more : (says : ℕ → Bool → Type 0) (set : ℕ → Bool) (text : List ℕ) (i : ℕ) → DecidesMembership says set → get_or text i 0 < 256
     → says (get_or text i 0) false → NoneBefore set text i → NoneBefore set text (i + 1)
-none_more says set text i tells byte failed none =
-    below_more _ _ none (λ at. false≢true (tells (get_or text i 0) false byte failed ∙ at.member))
+none_more says set text i reports byte failed none =
+    below_more _ _ none (λ at. false≢true (reports (get_or text i 0) false byte failed ∙ at.member))
 
 -- the first byte that passes the test is at the least index
-pub first_found : (says : ℕ → Bool → Type 0) (set : ℕ → Bool) (text : List ℕ) (i : ℕ) → IsTestFor says set → get_or text i 0 < 256
+pub first_found : (says : ℕ → Bool → Type 0) (set : ℕ → Bool) (text : List ℕ) (i : ℕ) → DecidesMembership says set → get_or text i 0 < 256
     → says (get_or text i 0) true → NoneBefore set text i → i < length text → IsLeastAt (IsMemberAt set text) (length text) i
-first_found says set text i tells byte passed none inside = record {
+first_found says set text i reports byte passed none inside = record {
   within = omega arith;
-  stands = record { inside = inside; member = sym (tells (get_or text i 0) true byte passed) };
+  occurs = record { inside = inside; member = sym (reports (get_or text i 0) true byte passed) };
   before = none;
 }
 
@@ -58,11 +58,11 @@ none_in_part set text n part at none nowhere = λ k h here.
 pub found_in_part : (set : ℕ → Bool) (text : List ℕ) (n : ℕ) (part : List ℕ) (k : ℕ) → IsStretch text n part → NoneBefore set text n
     → IsLeastAt (IsMemberAt set part) (length part) k → IsLeastAt (IsMemberAt set text) (length text) (n + k)
 found_in_part set text n part k at none least =
-    let inside = least.stands.inside in
+    let inside = least.occurs.inside in
     let within = at.within in
     record {
       within = omega arith;
-      stands = record { inside = omega arith; member = ap set (sym (at.same k inside)) ∙ least.stands.member };
+      occurs = record { inside = omega arith; member = ap set (sym (at.same k inside)) ∙ least.occurs.member };
       before = λ j h here. elim (cases_lt j n) [
         | inl before ↦ none j before here
         | inr from ↦ (let e : n + (j - n) ≡ j = omega arith in
@@ -147,13 +147,13 @@ bytes_of-four (v ∷ w ∷ x ∷ y ∷ z ∷ xs) b four byte = absurd (omega (ar
 
 -- the result of `starts_with` on the text from index i on
 pub starts-Decides : (text needle : List ℕ) (i : ℕ) (r : Bool) → r ≡ starts_with eqb (take (length text - i) (drop i text)) needle
-    → Decides r (StandsWhole needle text i)
+    → Decides r (OccursAt needle text i)
 starts-Decides text needle i r e =
     let d = bytes_eq-Decides needle (take (length needle) (drop i text)) in
     let at : r ≡ bytes_eq needle (take (length needle) (drop i text)) = e ∙ ap (λ xs. starts_with eqb xs needle) (take_rest text i) in
     (λ t. sym (d.0 (sym at ∙ t)), λ h. at ∙ d.1 (sym h))
 
 -- the needle occurs first at the least index for which `starts_with` returns true
-pub stands_first : (text needle : List ℕ) (i : ℕ) → ((k : ℕ) → k < i → ¬ (StandsWhole needle text k)) → i ≤ length text
-    → StandsWhole needle text i → IsLeastAt (StandsWhole needle text) (length text) i
-stands_first text needle i none inside whole = record { within = inside; stands = whole; before = none }
+pub occurs_first : (text needle : List ℕ) (i : ℕ) → ((k : ℕ) → k < i → ¬ (OccursAt needle text k)) → i ≤ length text
+    → OccursAt needle text i → IsLeastAt (OccursAt needle text) (length text) i
+occurs_first text needle i none inside whole = record { within = inside; occurs = whole; before = none }

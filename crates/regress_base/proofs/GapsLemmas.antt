@@ -91,9 +91,9 @@ complement_gaps start low c (iv ∷ ivs) h can from to =
           ∙ sym (ap not (is_member-cons iv ivs c
           ∙ or_from _ _ (lt-is_within iv c before) (no_member_below (iv.last + 2) ivs c p.rest (omega arith))))
       | inr reached ↦ elim (cases_lt iv.last c) [
-        | inl behind ↦ skip_gap start c iv ivs reached
+        | inl after ↦ skip_gap start c iv ivs reached
             ∙ complement_gaps (iv.last + 1) (iv.last + 2) c ivs (omega arith) p.rest (omega arith) to
-            ∙ sym (ap not (is_member-cons iv ivs c ∙ ap (λ b. b || is_member ivs c) (gt-is_within iv c behind)))
+            ∙ sym (ap not (is_member-cons iv ivs c ∙ ap (λ b. b || is_member ivs c) (gt-is_within iv c after)))
         | inr inside ↦ skip_gap start c iv ivs reached
             ∙ no_member_below (iv.last + 1) (gaps_from (iv.last + 1) ivs) c
             (canonical_gaps (iv.last + 1) (iv.last + 2) ivs (omega arith) p.rest) (omega arith)
@@ -200,11 +200,11 @@ pub counted : (items ivs : List Bounds) (first last : Bounds) (n : ℕ) → IsCa
 counted [] ivs first last n can same at_first at_last is = absurd (none-some first at_first)
 counted (iv ∷ items) ivs first last n can same at_first at_last is =
     let complement = complement_from (iv ∷ items) (gaps_from 0 (iv ∷ items)) can refl in
-    let behind : length (iv ∷ items) - 1 ≡ length items = omega arith in
+    let after : length (iv ∷ items) - 1 ≡ length items = omega arith in
     let begin = ap (λ (b : Bounds). bool_byte (nat_lt 0 b.first)) (same_Some iv first at_first) in
     let end =
     ap (λ (b : Bounds). bool_byte (nat_lt b.last code_point_max))
-    (get_or_from_slice_get (iv ∷ items) (length items) last iv (ap (slice_get (iv ∷ items)) (sym behind) ∙ at_last)) in
+    (get_or_from_slice_get (iv ∷ items) (length items) last iv (ap (slice_get (iv ∷ items)) (sym after) ∙ at_last)) in
     let all = count-all 0 0 iv iv items can in (
       gaps_from 0 (iv ∷ items),
       complement.0,

@@ -15,7 +15,7 @@ between ivs start end = drop start (take end ivs)
 -- the merged interval has the members of `iv` and of the intervals from `start` to `end`
 pub record Merges (ivs : List Bounds) (iv : Bounds) (start end : ℕ) (merged : Bounds) : Type 0 where
   pub interval : IsInterval merged
-  pub after : (k : ℕ) (d : Bounds) → k < start → (get_or ivs k d).last + 1 < merged.first
+  pub beyond : (k : ℕ) (d : Bounds) → k < start → (get_or ivs k d).last + 1 < merged.first
   pub before : (k : ℕ) (d : Bounds) → end ≤ k → k < length ivs → merged.last + 1 < (get_or ivs k d).first
   pub members : (c : ℕ) → is_within merged c ≡ (is_member (between ivs start end) c || is_within iv c)
 
@@ -44,7 +44,7 @@ module _ (ivs : List Bounds) (iv : Bounds) (start end : ℕ) (merged : Bounds) w
   canonical_joined in_order in_bounds can m =
       let front = canonical_front 0 (take start ivs) (drop start ivs) (subst IsCanonical (sym (take-append-drop start ivs)) can) in
       let back = canonical_back 0 (take end ivs) (drop end ivs) (subst IsCanonical (sym (take-append-drop end ivs)) can) in
-      let low = next_low-take ivs start merged.first merged (omega arith) (λ j h. m.after j merged h) in
+      let low = next_low-take ivs start merged.first merged (omega arith) (λ j h. m.beyond j merged h) in
       canonical_append 0 (take start ivs) (merged ∷ drop end ivs) front (canonical_cons _ merged (drop end ivs) (record {
         above = low;
         interval = m.interval;
@@ -93,8 +93,8 @@ merges_none ivs iv k interval range =
     let none : between ivs k k ≡ [] = drop_all k (take k ivs) (le_of_eq (length-take-le k ivs range.in_bounds)) in
     record {
       interval = interval;
-      after = λ j d h. range.before j d (omega arith) h;
-      before = λ j d h inside. range.behind j d h inside;
+      beyond = λ j d h. range.before j d (omega arith) h;
+      before = λ j d h inside. range.after j d h inside;
       members = λ c. sym (ap (λ b. b || is_within iv c) (ap (λ l. is_member l c) none ∙ is_member-nil c));
     }
 
@@ -107,9 +107,9 @@ module _ (ivs : List Bounds) (start end : ℕ) (d : Bounds) (in_bounds : end ≤
 
   between-at : (k c : ℕ) → start ≤ k → k < end → is_within (get_or ivs k d) c ≡ true → is_member (between ivs start end) c ≡ true
   between-at k c from to within =
-      let place : start + (k - start) ≡ k = omega arith in
+      let position : start + (k - start) ≡ k = omega arith in
       is_member-at (between ivs start end) (k - start) c d (omega (arith, length-between))
-      (ap (λ b. is_within b c) (get_or-between (k - start) (omega arith) ∙ ap (λ n. get_or ivs n d) place) ∙ within)
+      (ap (λ b. is_within b c) (get_or-between (k - start) (omega arith) ∙ ap (λ n. get_or ivs n d) position) ∙ within)
 
   between-nowhere : (c : ℕ) → ((k : ℕ) → start ≤ k → k < end → is_within (get_or ivs k d) c ≡ false)
       → is_member (between ivs start end) c ≡ false
@@ -135,14 +135,14 @@ merges_some ivs iv start end d can interval range some merged first last =
     let high_ordered = high_at.interval.ordered in
     record {
       interval = record { ordered = omega arith; in_range = omega (arith, interval.in_range, high_at.interval.in_range) };
-      after = λ k e h. (let gap = canonical_apart 0 ivs k start e can h (omega (arith, range.in_bounds)) in
+      beyond = λ k e h. (let gap = canonical_apart 0 ivs k start e can h (omega (arith, range.in_bounds)) in
           let same : get_or ivs start e ≡ low = get_or_default ivs start e d (omega (arith, range.in_bounds)) in
           let same_first : (get_or ivs start e).first ≡ low.first = ap (λ b. b.first) same in
           let before = range.before k e (omega arith) h in omega arith);
       before = λ k e h inside. (let gap = canonical_apart 0 ivs (end - 1) k e can (omega arith) inside in
           let same : get_or ivs (end - 1) e ≡ high = get_or_default ivs (end - 1) e d (omega (arith, range.in_bounds)) in
           let same_last : (get_or ivs (end - 1) e).last ≡ high.last = ap (λ b. b.last) same in
-          let behind = range.behind k e h inside in omega arith);
+          let after = range.after k e h inside in omega arith);
       members = λ c. elim (cases_lt c iv.first) [
         | inl below ↦ elim (cases_lt c low.first) [
           | inl outside ↦ lt-is_within merged c (omega arith) ∙ sym (or_from _ _

@@ -15,4 +15,4 @@ pub mod CombineLemmas
 pub mod UniqueLemmas
 pub mod GapsLemmas
 pub mod CutLemmas
-pub mod laws
+pub mod lemmas

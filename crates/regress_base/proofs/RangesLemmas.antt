@@ -11,24 +11,24 @@ use Rattle.std.specs.Ordering.{ordering_index}
 use Rattle.std.specs.declared.cmp.Ordering.{Ordering}
 
 -- a call of a closure that always computes gives the computed result, and the closure computes the same afterwards
-answers_next : {F X R : Type 0} (g : Mut F X R) (P : X → R → Type 0) (f : F) (a : X) (r : R) (f' : F) → Called g f a r f'
+call_computes : {F X R : Type 0} (g : Mut F X R) (P : X → R → Type 0) (f : F) (a : X) (r : R) (f' : F) → Called g f a r f'
     → AlwaysReturns g P f → P a r × AlwaysReturns g P f'
-answers_next g P f a r f' call always =
+call_computes g P f a r f' call always =
     ((always.at (a ∷ []) r f' call).0, record { at = λ xs. (always.at (a ∷ xs) r f' call).1 })
 
 -- the result at an element that was read
 read_index : {X : Type 0} (ord : X → Ordering) (xs : List X) (i : ℕ) (x : X) (r : Ordering) (d : X) → i < length xs → x ≡ get_or xs i x
     → r ≡ ord x → ordering_index r ≡ ordering_index (ord (get_or xs i d))
-read_index ord xs i x r d inside read answer =
-    ap ordering_index (answer ∙ ap ord (get_or_read xs i x inside read d))
+read_index ord xs i x r d inside read response =
+    ap ordering_index (response ∙ ap ord (get_or_read xs i x inside read d))
 
 -- both facts for a closure that computes an order
-pub answered : {F X : Type 0} (g : Mut F (Bor X × Unit {0}) Ordering) (ord : X → Ordering) (xs : List X)
+pub returned : {F X : Type 0} (g : Mut F (Bor X × Unit {0}) Ordering) (ord : X → Ordering) (xs : List X)
     → (i : ℕ) (f f' : F) (a : Bor X) (r : Ordering) → i < length xs → a.now ≡ get_or xs i a.now
     → Called g f (a, tt) r f' → ComputesKey g ord f
     → ((d : X) → ordering_index r ≡ ordering_index (ord (get_or xs i d))) × ComputesKey g ord f'
-answered g ord xs i f f' a r inside read call computes =
-    let both = answers_next g _ f (a, tt) r f' call computes in
+returned g ord xs i f f' a r inside read call computes =
+    let both = call_computes g _ f (a, tt) r f' call computes in
     (λ d. read_index ord xs i a.now r d inside read both.0, both.1)
 
 pub index-lt : (a b : ℕ) (t : Bool) → t ≡ is_lt (nat_cmp a b) → t ≡ true → a < b

@@ -16,60 +16,60 @@ abbrev no_bounds : Bounds
 no_bounds = record { first = 0; last = 0 }
 
 -- how an interval compares with a number
-unfoldable pub place_of : ℕ → Bounds → Ordering
-place_of c iv = cond (nat_lt c iv.first) Greater (cond (nat_lt iv.last c) Less Equal)
+unfoldable pub position_of : ℕ → Bounds → Ordering
+position_of c iv = cond (nat_lt c iv.first) Greater (cond (nat_lt iv.last c) Less Equal)
 
-pub place_of_tells : (c : ℕ) (iv : Bounds) → MatchOrdering (place_of c iv) (iv.last < c) ((iv.first ≤ c) × (c ≤ iv.last)) (c < iv.first)
-unfolding place_of
-place_of_tells c iv = grind (arith, nat_tests)
+pub position_of_reports : (c : ℕ) (iv : Bounds) → MatchOrdering (position_of c iv) (iv.last < c) ((iv.first ≤ c) × (c ≤ iv.last)) (c < iv.first)
+unfolding position_of
+position_of_reports c iv = grind (arith, nat_tests)
 
-pub place_of-Equal : (c : ℕ) (iv : Bounds) → place_of c iv ≡ Equal → is_within iv c ≡ true
-place_of-Equal c iv e =
-    let tells = subst (λ (o : Ordering). MatchOrdering o (iv.last < c) ((iv.first ≤ c) × (c ≤ iv.last)) (c < iv.first)) e
-    (place_of_tells c iv) in
-    le-is_within iv c tells.0 tells.1
+pub position_of-Equal : (c : ℕ) (iv : Bounds) → position_of c iv ≡ Equal → is_within iv c ≡ true
+position_of-Equal c iv e =
+    let reports = subst (λ (o : Ordering). MatchOrdering o (iv.last < c) ((iv.first ≤ c) × (c ≤ iv.last)) (c < iv.first)) e
+    (position_of_reports c iv) in
+    le-is_within iv c reports.0 reports.1
 
-pub place_of-Less : (c : ℕ) (iv : Bounds) → place_of c iv ≡ Less → is_within iv c ≡ false
-place_of-Less c iv e =
+pub position_of-Less : (c : ℕ) (iv : Bounds) → position_of c iv ≡ Less → is_within iv c ≡ false
+position_of-Less c iv e =
     gt-is_within iv c (subst (λ (o : Ordering). MatchOrdering o (iv.last < c) ((iv.first ≤ c) × (c ≤ iv.last)) (c < iv.first)) e
-    (place_of_tells c iv))
+    (position_of_reports c iv))
 
-pub place_of-Greater : (c : ℕ) (iv : Bounds) → place_of c iv ≡ Greater → is_within iv c ≡ false
-place_of-Greater c iv e =
+pub position_of-Greater : (c : ℕ) (iv : Bounds) → position_of c iv ≡ Greater → is_within iv c ≡ false
+position_of-Greater c iv e =
     lt-is_within iv c (subst (λ (o : Ordering). MatchOrdering o (iv.last < c) ((iv.first ≤ c) × (c ≤ iv.last)) (c < iv.first)) e
-    (place_of_tells c iv))
+    (position_of_reports c iv))
 
 -- an interval compares no later than one after it
-place_of-rises : (c : ℕ) (a b : Bounds) → IsInterval a → IsInterval b → a.last + 1 < b.first
-    → ordering_index (place_of c a) ≤ ordering_index (place_of c b)
-place_of-rises c a b ha hb apart = by_places (place_of c a) (place_of c b) (place_of_tells c a) (place_of_tells c b)
+position_of-rises : (c : ℕ) (a b : Bounds) → IsInterval a → IsInterval b → a.last + 1 < b.first
+    → ordering_index (position_of c a) ≤ ordering_index (position_of c b)
+position_of-rises c a b ha hb apart = by_positions (position_of c a) (position_of c b) (position_of_reports c a) (position_of_reports c b)
   where
-    by_places : (x y : Ordering) → MatchOrdering x (a.last < c) ((a.first ≤ c) × (c ≤ a.last)) (c < a.first)
+    by_positions : (x y : Ordering) → MatchOrdering x (a.last < c) ((a.first ≤ c) × (c ≤ a.last)) (c < a.first)
         → MatchOrdering y (b.last < c) ((b.first ≤ c) × (c ≤ b.last)) (c < b.first) → ordering_index x ≤ ordering_index y
-    by_places Less y s t = omega arith
-    by_places Equal Less s t = absurd (omega (arith, ha.ordered, hb.ordered, s.0, s.1, t))
-    by_places Equal Equal s t = le_refl 1
-    by_places Equal Greater s t = omega arith
-    by_places Greater Less s t = absurd (omega (arith, ha.ordered, hb.ordered, s, t))
-    by_places Greater Equal s t = absurd (omega (arith, ha.ordered, hb.ordered, s, t.0))
-    by_places Greater Greater s t = le_refl 2
+    by_positions Less y s t = omega arith
+    by_positions Equal Less s t = absurd (omega (arith, ha.ordered, hb.ordered, s.0, s.1, t))
+    by_positions Equal Equal s t = le_refl 1
+    by_positions Equal Greater s t = omega arith
+    by_positions Greater Less s t = absurd (omega (arith, ha.ordered, hb.ordered, s, t))
+    by_positions Greater Equal s t = absurd (omega (arith, ha.ordered, hb.ordered, s, t.0))
+    by_positions Greater Greater s t = le_refl 2
 
 -- along a canonical list the results of the comparison do not decrease
-pub places_rise : (c : ℕ) (ivs : List Bounds) → IsCanonical ivs → IsNonDecreasingBy (λ iv. ordering_index (place_of c iv)) ivs
-places_rise c ivs can i j d le lt =
+pub comparisons_rise : (c : ℕ) (ivs : List Bounds) → IsCanonical ivs → IsNonDecreasingBy (λ iv. ordering_index (position_of c iv)) ivs
+comparisons_rise c ivs can i j d le lt =
     elim (cases_lt i j) [
-      | inl before ↦ place_of-rises c (get_or ivs i d) (get_or ivs j d) (canonical_at 0 ivs i d can (omega arith)).interval
+      | inl before ↦ position_of-rises c (get_or ivs i d) (get_or ivs j d) (canonical_at 0 ivs i d can (omega arith)).interval
           (canonical_at 0 ivs j d can lt).interval (canonical_apart 0 ivs i j d can before lt)
-      | inr not_before ↦ (let same : i ≡ j = omega arith in le_of_eq (ap (λ k. ordering_index (place_of c (get_or ivs k d))) same))
+      | inr not_before ↦ (let same : i ≡ j = omega arith in le_of_eq (ap (λ k. ordering_index (position_of c (get_or ivs k d))) same))
     ]
 
 -- a search for a code point succeeds if and only if it is a member
 pub found_member : (ivs : List Bounds) (c : ℕ) (r : Result ℕ ℕ) → IsCanonical ivs → IsSearchInRange r (length ivs)
-    → IsBinarySearchResult (place_of c) ivs r → is_ok r ≡ is_member ivs c
-found_member ivs c (Ok i) can bound at = sym (is_member-at ivs i c no_bounds bound (place_of-Equal c _ (at no_bounds)))
+    → IsBinarySearchResult (position_of c) ivs r → is_ok r ≡ is_member ivs c
+found_member ivs c (Ok i) can bound at = sym (is_member-at ivs i c no_bounds bound (position_of-Equal c _ (at no_bounds)))
 found_member ivs c (Err i) can bound at =
-    let parts = at (places_rise c ivs can) in
+    let parts = at (comparisons_rise c ivs can) in
     sym (is_member-nowhere ivs c no_bounds (λ k lt. elim (cases_lt k i) [
-      | inl before ↦ place_of-Less c _ (parts.0 k no_bounds (omega arith) before)
-      | inr after ↦ place_of-Greater c _ (parts.1 k no_bounds after lt)
+      | inl before ↦ position_of-Less c _ (parts.0 k no_bounds (omega arith) before)
+      | inr after ↦ position_of-Greater c _ (parts.1 k no_bounds after lt)
     ]))

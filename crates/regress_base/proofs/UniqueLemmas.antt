@@ -40,10 +40,10 @@ begins low x y xs ys cx cy same =
     (member_above y.first (y ∷ ys) x.first (from_first low y ys cy) (sym (same x.first) ∙ first_is_member low x xs cx)).0
 
 -- lists after equal first intervals have the same members
-behind_same : (iv : Bounds) (xs ys : List Bounds) → IsTrue (is_canonical_from (iv.last + 2) xs)
+after_same : (iv : Bounds) (xs ys : List Bounds) → IsTrue (is_canonical_from (iv.last + 2) xs)
     → IsTrue (is_canonical_from (iv.last + 2) ys) → ((c : ℕ) → is_member (iv ∷ xs) c ≡ is_member (iv ∷ ys) c) → (c : ℕ)
     → is_member xs c ≡ is_member ys c
-behind_same iv xs ys cx cy same c =
+after_same iv xs ys cx cy same c =
     elim (cases_lt c (iv.last + 2)) [
       | inl below ↦ no_member_below (iv.last + 2) xs c cx below ∙ sym (no_member_below (iv.last + 2) ys c cy below)
       | inr above ↦ (let out = gt-is_within iv c (omega arith) in
@@ -67,7 +67,7 @@ canonical_unique_from low (x ∷ xs) (y ∷ ys) cx cy same =
     (canonical_parts low y ys cy).rest in
     let same_heads : (c : ℕ) → is_member (x ∷ xs) c ≡ is_member (x ∷ ys) c = λ c. same c ∙ ap (λ b. is_member (b ∷ ys) c) (sym equal) in
     let rest_x = (canonical_parts low x xs cx).rest in
-    ap₂ (λ h t. h ∷ t) equal (canonical_unique_from (x.last + 2) xs ys rest_x rest_y (behind_same x xs ys rest_x rest_y same_heads))
+    ap₂ (λ h t. h ∷ t) equal (canonical_unique_from (x.last + 2) xs ys rest_x rest_y (after_same x xs ys rest_x rest_y same_heads))
 
 -- agreement on the code points suffices
 pub canonical_unique : (xs ys : List Bounds) → IsCanonical xs → IsCanonical ys

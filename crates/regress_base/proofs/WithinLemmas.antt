@@ -9,22 +9,22 @@ abbrev pub pair : ℕ → ℕ → Bounds
 pair f l = record { first = f; last = l }
 
 -- the result of the test, with the inequalities that it decides
-pub is_within_tells : (iv : Bounds) (c : ℕ)
+pub is_within_reports : (iv : Bounds) (c : ℕ)
     → ((is_within iv c ≡ true) × (iv.first ≤ c) × (c ≤ iv.last)) ⊎ ((is_within iv c ≡ false) × ((c < iv.first) ⊎ (iv.last < c)))
 unfolding is_within
-is_within_tells iv c = grind (arith, nat_tests)
+is_within_reports iv c = grind (arith, nat_tests)
 
 pub le-is_within : (iv : Bounds) (c : ℕ) → iv.first ≤ c → c ≤ iv.last → is_within iv c ≡ true
-le-is_within iv c above below = grind (arith, is_within_tells iv c)
+le-is_within iv c above below = grind (arith, is_within_reports iv c)
 
 pub lt-is_within : (iv : Bounds) (c : ℕ) → c < iv.first → is_within iv c ≡ false
-lt-is_within iv c below = grind (arith, is_within_tells iv c)
+lt-is_within iv c below = grind (arith, is_within_reports iv c)
 
 pub gt-is_within : (iv : Bounds) (c : ℕ) → iv.last < c → is_within iv c ≡ false
-gt-is_within iv c above = grind (arith, is_within_tells iv c)
+gt-is_within iv c above = grind (arith, is_within_reports iv c)
 
 pub is_within-true : (iv : Bounds) (c : ℕ) → is_within iv c ≡ true → (iv.first ≤ c) × (c ≤ iv.last)
-is_within-true iv c within = grind (arith, is_within_tells iv c)
+is_within-true iv c within = grind (arith, is_within_reports iv c)
 
 -- the higher first of two overlapping intervals is in both
 pub shared_from_ends : (a b : Bounds) → IsInterval a → IsInterval b → a.first ≤ b.last → b.first ≤ a.last
@@ -44,7 +44,7 @@ ends_from_shared a b shared =
 
 -- the interval of one code point
 pub is_within_one : (first last c : ℕ) → first ≡ last → is_within (record { first = first; last = last }) c ≡ (c == first)
-is_within_one first last c same = grind (arith, nat_tests, is_within_tells (record { first = first; last = last }) c)
+is_within_one first last c same = grind (arith, nat_tests, is_within_reports (record { first = first; last = last }) c)
 
 -- a number is in the overlap if and only if it is in both intervals
 pub is_within_overlap : (a b : Bounds) (c : ℕ)
@@ -53,7 +53,7 @@ is_within_overlap a b c =
     grind (
       arith,
       nat_tests,
-      is_within_tells a c,
-      is_within_tells b c,
-      is_within_tells (record { first = max a.first b.first; last = min a.last b.last }) c,
+      is_within_reports a c,
+      is_within_reports b c,
+      is_within_reports (record { first = max a.first b.first; last = min a.last b.last }) c,
     )

@@ -85,4 +85,4 @@ pub record IsTouchingRange (ivs : List Bounds) (iv : Bounds) (start end : ℕ) :
   pub in_bounds : end ≤ length ivs
   pub before : AllWithin (λ old. old.last + 1 < iv.first) ivs 0 start
   pub touching : AllWithin (Touches iv) ivs start end
-  pub behind : AllWithin (λ old. iv.last + 1 < old.first) ivs end (length ivs)
+  pub after : AllWithin (λ old. iv.last + 1 < old.first) ivs end (length ivs)

@@ -1,11 +1,11 @@
 pub mod AsciiBitmap
-pub mod AsciiLaws
+pub mod AsciiLemmas
 pub mod ByteBitmap
-pub mod ByteLaws
+pub mod ByteLemmas
 pub mod ByteSets
 pub mod FirstBytes
 pub mod Needle
-pub mod Places
+pub mod Positions
 pub mod Intervals
 pub mod Listing
 pub mod Overlap

@@ -16,11 +16,11 @@ pub record IsEqualRange {X : Type 0} (ord : X → Ordering) (xs : List X) (start
   pub equal : AllWithin (λ x. ord x ≡ Equal) xs start end
   pub greater : AllWithin (λ x. ord x ≡ Greater) xs end (length xs)
 
--- If the results do not decrease, and those before `low` are below `least`, then exactly the results before `place` are
+-- If the results do not decrease, and those before `low` are below `least`, then exactly the results before `position` are
 -- below `least`.
 abbrev pub SplitsAt : {X : Type 0} → (X → Ordering) → List X → Ordering → ℕ → ℕ → Type 0
-SplitsAt ord xs least low place =
+SplitsAt ord xs least low position =
     IsNonDecreasingBy (λ x. ordering_index (ord x)) xs
     → AllWithin (λ x. ordering_index (ord x) < ordering_index least) xs 0 low
-    → AllWithin (λ x. ordering_index (ord x) < ordering_index least) xs 0 place
-    × AllWithin (λ x. ordering_index least ≤ ordering_index (ord x)) xs place (length xs)
+    → AllWithin (λ x. ordering_index (ord x) < ordering_index least) xs 0 position
+    × AllWithin (λ x. ordering_index least ≤ ordering_index (ord x)) xs position (length xs)

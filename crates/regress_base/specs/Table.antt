@@ -41,7 +41,7 @@ HasSmallClasses f =
     (image : ℕ) (xs : List ℕ) → IsTrue (is_ascending xs) → All (λ x. f x ≡ image) xs → length xs ≤ 4
 
 -- A case mapping: it is idempotent, it maps code points to code points, and at most four of them to the same one.
-pub record IsCaseMap (f : ℕ → ℕ) : Type 0 where
+pub record IsCaseMapping (f : ℕ → ℕ) : Type 0 where
   pub idempotent : IsIdempotent f
   pub in_range : (c : ℕ) → c ≤ code_point_max → f c ≤ code_point_max
   pub small_classes : HasSmallClasses f
@@ -63,9 +63,9 @@ abbrev pub HasStrings : List (Named (List (List ℕ))) → Type 0
 HasStrings entries = IsTrue (list_all (λ entry. list_all is_string entry.value) entries)
 
 -- The invariants of every table of the library.
-pub record IsLawful (t : Table) : Type 0 where
-  pub fold : IsCaseMap t.fold
-  pub uppercase : IsCaseMap t.uppercase
+pub record IsValidTable (t : Table) : Type 0 where
+  pub fold : IsCaseMapping t.fold
+  pub uppercase : IsCaseMapping t.uppercase
   pub id_start : IsCanonical t.id_start
   pub id_continue : IsCanonical t.id_continue
   pub id_start_ascii : HasWordAscii t.id_start
@@ -79,17 +79,17 @@ pub record IsLawful (t : Table) : Type 0 where
 -- ---- canonical forms
 
 -- the canonical form of a character (ECMA-262, Canonicalize): its simple case folding if `unicode`, else its upper case
-abbrev pub canon : Table → Bool → ℕ → ℕ
-canon t unicode c = if unicode then t.fold c else t.uppercase c
+abbrev pub canonicalize : Table → Bool → ℕ → ℕ
+canonicalize t unicode c = if unicode then t.fold c else t.uppercase c
 
 -- whether a literal c matches x: with icase if both have the same canonical form (ECMA-262, CharacterSetMatcher), else
 -- if they are equal
-abbrev pub stands_for : Table → (icase unicode : Bool) → ℕ → ℕ → Bool
-stands_for t icase unicode c x = if icase then canon t unicode x == canon t unicode c else x == c
+abbrev pub denotes : Table → (icase unicode : Bool) → ℕ → ℕ → Bool
+denotes t icase unicode c x = if icase then canonicalize t unicode x == canonicalize t unicode c else x == c
 
 -- the code points that a literal c matches
 abbrev pub class_of : Table → (icase unicode : Bool) → ℕ → List ℕ
-class_of t icase unicode c = listed (stands_for t icase unicode c)
+class_of t icase unicode c = listed (denotes t icase unicode c)
 
 -- Whether the code point is in the closure of a set: its simple case folding is the simple case folding of a member
 -- (ECMA-262, MaybeSimpleCaseFolding).

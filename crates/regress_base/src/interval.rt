@@ -66,7 +66,7 @@ impl Interval {
 
     /// Compares the interval with `cp`: `Greater` if all of it is above `cp`, `Less` if all of it is below, and `Equal`
     /// if it contains `cp`.
-    #[tactic(auto, using(crate::proofs::WithinLemmas::is_within_tells))]
+    #[tactic(auto, using(crate::proofs::WithinLemmas::is_within_reports))]
     pub fn compare(self, cp: u32) -> Ordering
         ensures greater { (result ≡ Greater) ↔ (cp < self.first) }
         ensures less { (result ≡ Less) ↔ (self.last < cp) }
@@ -82,7 +82,7 @@ impl Interval {
     }
 
     /// Returns whether the interval contains `cp`.
-    #[tactic(auto, using(crate::proofs::WithinLemmas::is_within_tells))]
+    #[tactic(auto, using(crate::proofs::WithinLemmas::is_within_reports))]
     pub fn contains(self, cp: CodePoint) -> bool
         ensures { result ≡ is_within self cp }
     {

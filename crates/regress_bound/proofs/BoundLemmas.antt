@@ -4,12 +4,12 @@ use Rattle.regress_base.specs.declared.types.Flags.{Flags}
 use Rattle.regress_tree.specs.Reading.{forwards}
 use Rattle.regress_tree.specs.Visits.{nodes}
 use Rattle.regress_tree.specs.Setting.{Setting}
-use Rattle.regress_lexical.specs.Source.{Source, bar, is_at}
+use Rattle.regress_lexer.specs.Source.{Source, bar, is_at}
 use Rattle.regress_syntax.specs.Syntax.{Name, Pattern, names}
 use Rattle.regress_syntax.specs.Meaning.{groups_named}
 use Rattle.regress_parse.specs.TreeOf.{tree_of}
 use Rattle.regress_parse.specs.Accepted.{own_context, IsDerived}
-use Rattle.regress_bound.specs.Bound.{total, places, opens_name, is_reference, nodes_at, node_bound, HasAtMost}
+use Rattle.regress_bound.specs.Bound.{total, positions, opens_name, is_reference, nodes_at, node_bound, HasAtMost}
 use Rattle.regress_bound.proofs.NameLemmas.{groups_named-few, names-pattern}
 use Rattle.regress_bound.proofs.NodeLemmas.{pattern-nodes}
 
@@ -17,7 +17,7 @@ tree-nodes : (setting : Setting) (t : Source) (p : Pattern) → IsDerived settin
     nodes (tree_of setting.table p) ≤ node_bound setting.flags.unicode_sets t
 tree-nodes setting t p derived =
     let ctx = own_context setting p in
-    let most = places opens_name t in
+    let most = positions opens_name t in
     let all = names-pattern ctx p t [] derived in
     let few : (name : Name) → length (groups_named name 1 (names p)) ≤ most = λ name. omega (arith, groups_named-few name 1 (names p), all) in
     omega (
@@ -30,24 +30,24 @@ bounded flags t table p derived = tree-nodes (record { flags = flags; table = ta
 
 -- ---- how tight the bound is
 
-place_near : (a b d : Bool) (m k : ℕ) (n : ℕ) (x : ℕ) → x ≤ 5 * n + 2 * (m * k) →
+position_near : (a b d : Bool) (m k : ℕ) (n : ℕ) (x : ℕ) → x ≤ 5 * n + 2 * (m * k) →
     cond a 2 (cond b 5 (cond d (2 * m + 1) 1)) + x ≤ 5 * (1 + n) + 2 * (m * (cond d 1 0 + k))
-place_near true b true m k n x h = omega arith
-place_near true b false m k n x h = omega arith
-place_near false true true m k n x h = omega arith
-place_near false true false m k n x h = omega arith
-place_near false false true m k n x h = omega arith
-place_near false false false m k n x h = omega arith
+position_near true b true m k n x h = omega arith
+position_near true b false m k n x h = omega arith
+position_near false true true m k n x h = omega arith
+position_near false true false m k n x h = omega arith
+position_near false false true m k n x h = omega arith
+position_near false false false m k n x h = omega arith
 
-total-near : (sets : Bool) (m : ℕ) (t : Source) → total (nodes_at sets m) t ≤ 5 * length t + 2 * (m * places is_reference t)
+total-near : (sets : Bool) (m : ℕ) (t : Source) → total (nodes_at sets m) t ≤ 5 * length t + 2 * (m * positions is_reference t)
 total-near sets m [] = omega arith
 total-near sets m (c ∷ t) =
     omega (
       arith,
-      place_near (is_at bar (c ∷ t)) (is_at 91 (c ∷ t) && sets) (is_reference (c ∷ t)) m (places is_reference t) (length t)
+      position_near (is_at bar (c ∷ t)) (is_at 91 (c ∷ t) && sets) (is_reference (c ∷ t)) m (positions is_reference t) (length t)
           (total (nodes_at sets m) t) (total-near sets m t),
     )
 
 pub bound-near : (sets : Bool) (t : Source) →
-    node_bound sets t ≤ 3 + 5 * length t + 2 * (places opens_name t * places is_reference t)
-bound-near sets t = omega (arith, total-near sets (places opens_name t) t)
+    node_bound sets t ≤ 3 + 5 * length t + 2 * (positions opens_name t * positions is_reference t)
+bound-near sets t = omega (arith, total-near sets (positions opens_name t) t)

@@ -7,20 +7,20 @@ use Rattle.regress_base.specs.Intervals.{Bounds}
 use Rattle.regress_base.specs.declared.charclasses.CharacterClassType.{CharacterClassType}
 use Rattle.regress_tree.specs.Tree.{Leaf}
 use Rattle.regress_tree.specs.Visits.{nodes}
-use Rattle.regress_lexical.specs.Source.{Source, Found, found_map, opening, first_row, is_at}
-use Rattle.regress_lexical.specs.Digits.{is_decimal, number, front}
-use Rattle.regress_lexical.specs.Escapes.{escape_at}
-use Rattle.regress_lexical.specs.Quantifiers.{quantifier_at}
-use Rattle.regress_lexical.specs.Modifiers.{modifiers_at}
-use Rattle.regress_lexical.proofs.laws.InRange.{Finds, finds_none, finds_some, finds_cond, finds_then, finds_map}
-use Rattle.regress_lexical.proofs.laws.Sources.{EachRow, no_more, ◌also◌, first_row-has}
+use Rattle.regress_lexer.specs.Source.{Source, Found, found_map, opening, first_production, is_at}
+use Rattle.regress_lexer.specs.Digits.{is_decimal, number, front}
+use Rattle.regress_lexer.specs.Escapes.{escape_at}
+use Rattle.regress_lexer.specs.Quantifiers.{quantifier_at}
+use Rattle.regress_lexer.specs.Modifiers.{modifiers_at}
+use Rattle.regress_lexer.proofs.lemmas.InRange.{Finds, finds_none, finds_some, finds_cond, finds_then, finds_map}
+use Rattle.regress_lexer.proofs.lemmas.Sources.{EachProduction, no_more, ◌also◌, first_production-has}
 use Rattle.regress_classes.specs.Properties.{Property, of_points, of_strings, property_at}
-use Rattle.regress_classes.specs.ClassRows.{complement, class_letter, class_at}
+use Rattle.regress_classes.specs.ClassProductions.{complement, class_letter, class_at}
 use Rattle.regress_classes.specs.ClassSets.{class_set_at}
 use Rattle.regress_syntax.specs.Syntax.{Name, Atom, class, class_set, class_escape, grouping, modified, capture, look}
 use Rattle.regress_syntax.specs.Names.{group_name_at}
 use Rattle.regress_syntax.specs.Meaning.{groups_named}
-use Rattle.regress_syntax.specs.Rows.{Context, Head, single, opens, angle_at, behind_mark_at, group_at, has_names, has_name, character_at, property_atom, property_atom_at, numbered_at, named_at, escape_rows, escaped_by, escaped_at, brackets_at, atom_rows, atom_by, head_by}
+use Rattle.regress_syntax.specs.Productions.{Context, Head, single, opens, angle_at, after_question_mark_at, group_at, has_names, has_name, character_at, property_atom, property_atom_at, number_reference_at, name_reference_at, escape_productions, escaped_by, escaped_at, brackets_at, atom_productions, atom_by, head_by}
 use Rattle.regress_parse.specs.TreeOf.{references, alternation, strings_or_points, tree_of_atom}
 use Rattle.regress_bound.specs.Bound.{opens_name, nodes_at}
 use Rattle.regress_bound.proofs.SourceLemmas.{nodes_at-some}
@@ -49,9 +49,9 @@ module _ (table : Table) (Q : Atom → Type 0) where
       (λ no_mark. finds_map (λ _. Unit {0}) _ _ (group_name_at table t) (λ x _. rw (paren, question, angle, no_equals, no_mark) refl)
       (any_found (group_name_at table t))))
 
-  behind_mark-fits : (c b : ℕ) (t : Source) → (c == opening) ≡ true → (b == 63) ≡ true →
-      Finds (Fits Q (opens_name (c ∷ b ∷ t))) (behind_mark_at table t)
-  behind_mark-fits c b t paren question =
+  after_mark-fits : (c b : ℕ) (t : Source) → (c == opening) ≡ true → (b == 63) ≡ true →
+      Finds (Fits Q (opens_name (c ∷ b ∷ t))) (after_question_mark_at table t)
+  after_mark-fits c b t paren question =
       finds_cond _ (is_at 58 t) _ _ (λ _. finds_some _ _ tt)
       (λ _. finds_cond _ (is_at 61 t) _ _ (λ _. finds_some _ _ tt)
       (λ _. finds_cond _ (is_at 33 t) _ _ (λ _. finds_some _ _ tt)
@@ -60,7 +60,7 @@ module _ (table : Table) (Q : Atom → Type 0) where
 
   group_at-fits : (c : ℕ) (t : Source) → (c == opening) ≡ true → Finds (Fits Q (opens_name (c ∷ t))) (group_at table t)
   group_at-fits c [] paren = finds_some _ _ tt
-  group_at-fits c (b ∷ t) paren = finds_cond _ (b == 63) _ _ (behind_mark-fits c b t paren) (λ _. finds_some _ _ tt)
+  group_at-fits c (b ∷ t) paren = finds_cond _ (b == 63) _ _ (after_mark-fits c b t paren) (λ _. finds_some _ _ tt)
 
 pub head_by-fits : (ctx : Context) (Q : Atom → Type 0) (c : ℕ) (t : Source) → Finds Q (atom_by ctx c t) →
     Finds (Fits Q (opens_name (c ∷ t))) (head_by ctx c t)
@@ -115,13 +115,13 @@ module _ (table : Table) (ctx : Context) (most : ℕ) (few : (name : Name) → l
       finds_then (λ _. Unit {0}) (AtMost 1) (property_at ctx.setting.flags.unicode_sets ctx.setting.table t) (property_atom ctx negated)
       (any_found _) (λ x _. property_atom-one negated x)
 
-  numbered_at-one : (c : ℕ) (t : Source) → Finds (AtMost 1) (numbered_at ctx c t)
-  numbered_at-one c t =
+  number_reference_at-one : (c : ℕ) (t : Source) → Finds (AtMost 1) (number_reference_at ctx c t)
+  number_reference_at-one c t =
       finds_cond (AtMost 1) (nat_le (number 10 (front is_decimal (c ∷ t))) ctx.groups) _ _ (λ _. alone _ _ (omega arith))
       (λ _. finds_cond (AtMost 1) ctx.setting.flags.unicode _ _ (λ _. finds_none (AtMost 1)) (λ _. character_at-one c t))
 
-  named_at-nodes : (t : Source) → Finds (AtMost (2 * most + 1)) (named_at ctx t)
-  named_at-nodes t =
+  name_reference_at-nodes : (t : Source) → Finds (AtMost (2 * most + 1)) (name_reference_at ctx t)
+  name_reference_at-nodes t =
       finds_then (λ _. Unit {0}) (AtMost (2 * most + 1)) (group_name_at ctx.setting.table t) _ (any_found _)
       (λ x _. finds_cond (AtMost (2 * most + 1)) (has_name x.0 ctx.names) _ _
       (λ _. finds_some (AtMost (2 * most + 1)) _
@@ -138,15 +138,15 @@ module _ (table : Table) (ctx : Context) (most : ℕ) (few : (name : Name) → l
   escape-one : (c : ℕ) (found : Found Atom) → Finds (AtMost 1) found → Finds (AtMost (escaped c)) found
   escape-one c found h = weaker (escaped c) found (escaped-some c) h
 
-  escape_rows-nodes : (c : ℕ) (t : Source) → EachRow (λ found. Finds (AtMost (escaped c)) found) (escape_rows ctx c t)
-  escape_rows-nodes c t =
+  escape_productions-nodes : (c : ℕ) (t : Source) → EachProduction (λ found. Finds (AtMost (escaped c)) found) (escape_productions ctx c t)
+  escape_productions-nodes c t =
       (λ _. escape-one c _ (alone _ t (omega arith)))
       also (λ _. escape-one c _ (alone _ t (omega arith)))
       also (λ _. escape-one c _ (alone _ (99 ∷ t) (omega arith)))
       also (λ _. escape-one c _ (property_atom_at-one (c == 80) t))
-      also (λ _. escape-one c _ (numbered_at-one c t))
-      also (λ e. subst (λ b. Finds (AtMost (cond b (2 * most + 1) 1)) (named_at ctx t))
-      (sym (and_parts (c == 107) (ctx.setting.flags.unicode || has_names ctx.names) e).0) (named_at-nodes t))
+      also (λ _. escape-one c _ (number_reference_at-one c t))
+      also (λ e. subst (λ b. Finds (AtMost (cond b (2 * most + 1) 1)) (name_reference_at ctx t))
+      (sym (and_parts (c == 107) (ctx.setting.flags.unicode || has_names ctx.names) e).0) (name_reference_at-nodes t))
       also (λ _. escape-one c _ (character_at-one c t))
       also no_more
 
@@ -156,12 +156,12 @@ module _ (table : Table) (ctx : Context) (most : ℕ) (few : (name : Name) → l
       by : (letter : Option (CharacterClassType × Bool)) →
           Finds (AtMost (escaped c)) (elim letter as (λ _. Found Atom) [
             | Some named ↦ Some (class_escape ctx.setting.flags named.0 named.1, t)
-            | None ↦ first_row (escape_rows ctx c t)
+            | None ↦ first_production (escape_productions ctx c t)
           ])
       by (Some named) = escape-one c _ (alone _ t (omega arith))
       by None =
-          first_row-has (λ found. Finds (AtMost (escaped c)) found) (escape_rows ctx c t) (finds_none (AtMost (escaped c)))
-          (escape_rows-nodes c t)
+          first_production-has (λ found. Finds (AtMost (escaped c)) found) (escape_productions ctx c t) (finds_none (AtMost (escaped c)))
+          (escape_productions-nodes c t)
 
   -- the count of the code point c, which t follows
   abbrev here : ℕ → Source → ℕ
@@ -185,8 +185,8 @@ module _ (table : Table) (ctx : Context) (most : ℕ) (few : (name : Name) → l
       by true = finds_map (λ _. Unit {0}) (AtMost 5) _ _ (λ x _. class-nodes _ _ _ _ _) (any_found _)
       by false = finds_map (λ _. Unit {0}) (AtMost 1) _ _ (λ x _. omega arith) (any_found _)
 
-  atom_rows-nodes : (c : ℕ) (t : Source) → EachRow (λ found. Finds (AtMost (here c t)) found) (atom_rows ctx c t)
-  atom_rows-nodes c t =
+  atom_productions-nodes : (c : ℕ) (t : Source) → EachProduction (λ found. Finds (AtMost (here c t)) found) (atom_productions ctx c t)
+  atom_productions-nodes c t =
       (λ _. here-one c t _ (alone _ t (omega arith)))
       also (λ _. here-one c t _ (alone _ t (omega arith)))
       also (λ _. here-one c t _ (alone _ t (omega arith)))
@@ -199,4 +199,4 @@ module _ (table : Table) (ctx : Context) (most : ℕ) (few : (name : Name) → l
 
   pub atom_by-nodes : (c : ℕ) (t : Source) → Finds (AtMost (here c t)) (atom_by ctx c t)
   atom_by-nodes c t =
-      first_row-has (λ found. Finds (AtMost (here c t)) found) (atom_rows ctx c t) (finds_none (AtMost (here c t))) (atom_rows-nodes c t)
+      first_production-has (λ found. Finds (AtMost (here c t)) found) (atom_productions ctx c t) (finds_none (AtMost (here c t))) (atom_productions-nodes c t)

@@ -1,14 +1,14 @@
 -- At most as many groups have a name as there are positions at which a named group begins.
 use Rattle.std.proofs.Common.{◌≡◌, ℕ, ◌+◌, ◌≤◌, Bool, true, false, cond, List, [], ◌∷◌, ◌++◌, length, Option, Some, None, ap, arith}
 use Rattle.std.proofs.lemmas.Option.{none-some}
-use Rattle.regress_lexical.specs.Source.{Source, closing, bar}
+use Rattle.regress_lexer.specs.Source.{Source, closing, bar}
 use Rattle.regress_syntax.specs.Syntax.{Name, Group, grouping, modified, capture, look, Pattern, Terms, Item, one, either, no_terms, more_terms, atom, group, is_named, names, names_of_group, names_of_terms, names_of_item}
 use Rattle.regress_syntax.specs.Meaning.{groups_named}
-use Rattle.regress_syntax.specs.Rows.{Context, context_inside, single, opens, head_of_item, allows, head_at}
+use Rattle.regress_syntax.specs.Productions.{Context, context_inside, single, opens, head_of_item, allows, head_at}
 use Rattle.regress_syntax.specs.Grammar.{IsPattern, AreTerms, IsItem}
-use Rattle.regress_syntax.proofs.laws.Rows.{head_at-ends, head_at-shortens, times_at-ends}
-use Rattle.regress_bound.specs.Bound.{places, opens_name}
-use Rattle.regress_bound.proofs.SourceLemmas.{total-behind, behind_first}
+use Rattle.regress_syntax.proofs.lemmas.Productions.{head_at-ends, head_at-shortens, optional_quantifier_at-ends}
+use Rattle.regress_bound.specs.Bound.{positions, opens_name}
+use Rattle.regress_bound.proofs.SourceLemmas.{total-after, after_first}
 use Rattle.regress_bound.proofs.HeadLemmas.{Fits, head_by-fits, any_found}
 
 -- the number of groups with a name
@@ -43,38 +43,38 @@ is_opened (capture (Some name)) opened fits = rw fits (omega arith)
 is_opened (look negate direction) opened fits = omega arith
 
 opens-named : (ctx : Context) (kind : Group) (t rest : Source) → head_at ctx t ≡ Some (opens kind, rest) →
-    named (names_of_group kind) + places opens_name rest ≤ places opens_name t
+    named (names_of_group kind) + positions opens_name rest ≤ positions opens_name t
 unfolding head_at
 opens-named ctx kind [] rest e = absurd (none-some _ e)
 opens-named ctx kind (c ∷ t) rest e =
     let fits = (head_by-fits ctx (λ _. Unit {0}) c t (any_found _)).each (opens kind, rest) e in
-    let behind = behind_first c t rest ((head_at-ends ctx (c ∷ t)).each (opens kind, rest) e) (head_at-shortens ctx (c ∷ t) (opens kind, rest) e) in
-    omega (arith, is_opened kind (opens_name (c ∷ t)) fits, total-behind (λ t. cond (opens_name t) 1 0) t rest behind)
+    let after = after_first c t rest ((head_at-ends ctx (c ∷ t)).each (opens kind, rest) e) (head_at-shortens ctx (c ∷ t) (opens kind, rest) e) in
+    omega (arith, is_opened kind (opens_name (c ∷ t)) fits, total-after (λ t. cond (opens_name t) 1 0) t rest after)
 
 mutual
   pub names-pattern : (ctx : Context) (p : Pattern) (t rest : Source) → IsPattern ctx p t rest →
-      named (names p) + places opens_name rest ≤ places opens_name t
+      named (names p) + positions opens_name rest ≤ positions opens_name t
   names-pattern ctx (one ts) t rest h = names-terms ctx ts t rest h.0
   names-pattern ctx (either ts p) t rest (mid, first, others) =
       omega (arith, named-append (names_of_terms ts) (names p), names-terms ctx ts t (bar ∷ mid) first, names-pattern ctx p mid rest others)
 
   names-terms : (ctx : Context) (ts : Terms) (t rest : Source) → AreTerms ctx ts t rest →
-      named (names_of_terms ts) + places opens_name rest ≤ places opens_name t
-  names-terms ctx no_terms t rest h = omega (arith, ap (places opens_name) h.1)
-  names-terms ctx (more_terms x q xs) t rest (mid, behind, first, times, others) =
+      named (names_of_terms ts) + positions opens_name rest ≤ positions opens_name t
+  names-terms ctx no_terms t rest h = omega (arith, ap (positions opens_name) h.1)
+  names-terms ctx (more_terms x q xs) t rest (mid, after, first, times, others) =
       let allowed = allows ctx.setting.flags.unicode (head_of_item x) in
       omega (
         arith,
         named-append (names_of_item x) (names_of_terms xs),
         names-item ctx x t mid first,
-        total-behind (λ t. cond (opens_name t) 1 0) mid behind ((times_at-ends ctx allowed mid).each (q, behind) times),
-        names-terms ctx xs behind rest others,
+        total-after (λ t. cond (opens_name t) 1 0) mid after ((optional_quantifier_at-ends ctx allowed mid).each (q, after) times),
+        names-terms ctx xs after rest others,
       )
 
   names-item : (ctx : Context) (x : Item) (t rest : Source) → IsItem ctx x t rest →
-      named (names_of_item x) + places opens_name rest ≤ places opens_name t
+      named (names_of_item x) + positions opens_name rest ≤ positions opens_name t
   names-item ctx (atom a) t rest h =
-      omega (arith, total-behind (λ t. cond (opens_name t) 1 0) t rest ((head_at-ends ctx t).each (single a, rest) h))
+      omega (arith, total-after (λ t. cond (opens_name t) 1 0) t rest ((head_at-ends ctx t).each (single a, rest) h))
   names-item ctx (group kind p) t rest (mid, head, body) =
       omega (
         arith,

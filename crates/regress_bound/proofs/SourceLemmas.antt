@@ -1,7 +1,7 @@
 -- The counts of the positions of a source, and of its suffixes.
 use Rattle.std.proofs.Common.{◌≡◌, ℕ, zero, suc, ◌+◌, ◌*◌, ◌<◌, ◌≤◌, Bool, true, false, cond, ◌&&◌, [], ◌∷◌, length, drop, ap, arith}
-use Rattle.regress_lexical.specs.Source.{Source, bar, is_at}
-use Rattle.regress_lexical.proofs.laws.Behind.{IsBehind}
+use Rattle.regress_lexer.specs.Source.{Source, bar, is_at}
+use Rattle.regress_lexer.proofs.lemmas.After.{IsSuffix}
 use Rattle.regress_bound.specs.Bound.{total, is_reference, nodes_at}
 
 module _ (count : Source → ℕ) where
@@ -11,14 +11,14 @@ module _ (count : Source → ℕ) where
   total-drop (suc n) (c ∷ t) = omega (arith, total-drop n t)
 
   -- The count of a suffix is at most that of the source.
-  pub total-behind : (t rest : Source) → IsBehind t rest → total count rest ≤ total count t
-  total-behind t rest h = omega (arith, ap (total count) h.same, total-drop h.count t)
+  pub total-after : (t rest : Source) → IsSuffix t rest → total count rest ≤ total count t
+  total-after t rest h = omega (arith, ap (total count) h.same, total-drop h.count t)
 
 -- A shorter suffix of a source is a suffix of the source after its first code point.
-pub behind_first : (c : ℕ) (t rest : Source) → IsBehind (c ∷ t) rest → length rest < length (c ∷ t) → IsBehind t rest
-behind_first c t rest h shorter = by h.count h.same
+pub after_first : (c : ℕ) (t rest : Source) → IsSuffix (c ∷ t) rest → length rest < length (c ∷ t) → IsSuffix t rest
+after_first c t rest h shorter = by h.count h.same
   where
-    by : (n : ℕ) → rest ≡ drop n (c ∷ t) → IsBehind t rest
+    by : (n : ℕ) → rest ≡ drop n (c ∷ t) → IsSuffix t rest
     by zero same = absurd (omega (arith, ap length same))
     by (suc n) same = record { count = n; same = same }
 
@@ -35,8 +35,8 @@ pub nodes_at-some : (sets : Bool) (m : ℕ) (t : Source) → 1 ≤ nodes_at sets
 nodes_at-some sets m t = some_counted (is_at bar t) (is_at 91 t && sets) (is_reference t) m
 
 -- A shorter suffix has a lower count, by at least that of the first code point.
-pub nodes-shorter : (sets : Bool) (m : ℕ) (t rest : Source) → IsBehind t rest → length rest < length t →
+pub nodes-shorter : (sets : Bool) (m : ℕ) (t rest : Source) → IsSuffix t rest → length rest < length t →
     1 + total (nodes_at sets m) rest ≤ total (nodes_at sets m) t
 nodes-shorter sets m [] rest h shorter = absurd (omega arith)
 nodes-shorter sets m (c ∷ t) rest h shorter =
-    omega (arith, nodes_at-some sets m (c ∷ t), total-behind (nodes_at sets m) t rest (behind_first c t rest h shorter))
+    omega (arith, nodes_at-some sets m (c ∷ t), total-after (nodes_at sets m) t rest (after_first c t rest h shorter))

@@ -3,7 +3,7 @@ use Rattle.std.specs.Prelude.{◌≤◌, ℕ, ◌+◌, ◌*◌, Bool, not, ◌&&
 use Rattle.regress_base.specs.Table.{Table}
 use Rattle.regress_base.specs.declared.types.Flags.{Flags}
 use Rattle.regress_tree.specs.Visits.{nodes}
-use Rattle.regress_lexical.specs.Source.{Source, char, opening, question_mark, bar, is_at}
+use Rattle.regress_lexer.specs.Source.{Source, char, opening, question_mark, bar, is_at}
 use Rattle.regress_syntax.specs.Syntax.{Pattern}
 use Rattle.regress_parse.specs.TreeOf.{tree_of}
 use Rattle.regress_parse.specs.Accepted.{IsDerived}
@@ -14,8 +14,8 @@ total count [] = 0
 total count (c ∷ t) = count (c ∷ t) + total count t
 
 -- the number of positions at which the property holds
-abbrev pub places : (Source → Bool) → Source → ℕ
-places is_there = total (λ t. if is_there t then 1 else 0)
+abbrev pub positions : (Source → Bool) → Source → ℕ
+positions is_there = total (λ t. if is_there t then 1 else 0)
 
 -- a `(?<` that neither `=` nor `!` follows
 abbrev pub opens_name : Source → Bool
@@ -39,7 +39,7 @@ nodes_at sets named t =
 
 -- The bound. The tree of an empty pattern has three nodes: a `Cat` with an `Empty` and a `Goal`.
 abbrev pub node_bound : (sets : Bool) → Source → ℕ
-node_bound sets t = 3 + total (nodes_at sets (places opens_name t)) t
+node_bound sets t = 3 + total (nodes_at sets (positions opens_name t)) t
 
 -- Whatever the table, the tree of a pattern that the grammar derives from the source has at most `most` nodes.
 abbrev pub HasAtMost : Flags → Source → ℕ → Type 0

@@ -1,8 +1,8 @@
 //! Bounds the number of nodes of a pattern's tree.
 ghost use Rattle.std.specs.Prelude.{◌≡◌, ◌+◌, ◌-◌, ◌*◌, ◌^◌, ◌<◌, ◌≤◌, length, min};
-ghost use Rattle.regress_bound.specs.Bound.{HasAtMost, opens_name, is_reference, places, total, nodes_at, node_bound};
+ghost use Rattle.regress_bound.specs.Bound.{HasAtMost, opens_name, is_reference, positions, total, nodes_at, node_bound};
 
-use crate::places::{named_groups, nodes_at};
+use crate::positions::{named_groups, nodes_at};
 use regress_base::types::Flags;
 
 /// Returns an upper bound on the number of nodes of the tree that `try_parse` makes of `pattern`, whatever the table.
@@ -25,7 +25,7 @@ use regress_base::types::Flags;
 pub fn node_bound(pattern: &[u32], flags: Flags) -> usize
     ensures nodes { result < 2 ^ 64 - 1 → HasAtMost flags pattern.now result }
     ensures value { result ≡ min (node_bound flags.unicode_sets pattern.now) (2 ^ 64 - 1) }
-    ensures near { result ≤ 3 + 5 * length pattern.now + 2 * (places opens_name pattern.now * places is_reference pattern.now) }
+    ensures near { result ≤ 3 + 5 * length pattern.now + 2 * (positions opens_name pattern.now * positions is_reference pattern.now) }
 {
     sum_nodes(pattern, flags.unicode_sets, named_groups(pattern))
 }
@@ -36,9 +36,9 @@ fn sum_nodes(pattern: &[u32], sets: bool, named: usize) -> usize
 {
     let mut nodes: usize = 3;
     let mut rest = pattern;
-    while let [_, behind @ ..] = rest {
+    while let [_, after @ ..] = rest {
         nodes = nodes.saturating_add(nodes_at(rest, sets, named));
-        rest = behind;
+        rest = after;
     }
     nodes
 }

@@ -2,6 +2,6 @@
 #![tactic(auto)]
 
 mod bound;
-mod places;
+mod positions;
 
 pub use bound::node_bound;

@@ -1,1 +1,1 @@
-mod AnswerLemmas
+mod ResultLemmas

@@ -1,4 +1,4 @@
 pub mod Request
-pub mod Answer
-pub mod WordsAnswer
-pub mod FaultAnswer
+pub mod Results
+pub mod EncodingResults
+pub mod ErrorResults

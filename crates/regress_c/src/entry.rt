@@ -1,15 +1,15 @@
 //! The functions that C calls.
 ghost use Rattle.std.specs.Prelude.{◌==◌, chars};
 ghost use Rattle.regress_c.specs.Request.{setting_by, IsRequest, IsTextRequest};
-ghost use Rattle.regress_c.specs.WordsAnswer.{AnswersWords};
-ghost use Rattle.regress_c.specs.FaultAnswer.{AnswersFault};
+ghost use Rattle.regress_c.specs.EncodingResults.{EncodingResult};
+ghost use Rattle.regress_c.specs.ErrorResults.{ErrorResult};
 
-use super::answers::{BAD_INPUT, MEMORY, answer_fault, answer_words};
 use super::request::read_points;
+use super::results::{BAD_INPUT, MEMORY, write_encoding, write_error};
 use std::alloc::Global;
 
 /// Writes the encoding of the tree of a pattern in code points to `words`, and its length in words to `needed`; or, if
-/// the pattern is rejected, the code-point index of its syntax error to `place`.
+/// the pattern is rejected, the code-point index of its syntax error to `position`.
 ///
 /// The encoding is written only if it fits. Otherwise `words` is unchanged.
 ///
@@ -24,15 +24,15 @@ pub extern "C" fn regress_front_parse_code_points(
     optimize: u32,
     words: &mut [u32],
     needed: &mut usize,
-    place: &mut usize,
+    position: &mut usize,
 ) -> u32
-    ensures answer { AnswersWords (IsRequest pattern.now flags optimize) (setting_by flags) pattern.now (optimize == 1)
-        words.old result needed.new place.new words.new }
+    ensures status { EncodingResult (IsRequest pattern.now flags optimize) (setting_by flags) pattern.now (optimize == 1)
+        words.old result needed.new position.new words.new }
 {
-    answer_words(alloc, pattern, flags, optimize, words, needed, place)
+    write_encoding(alloc, pattern, flags, optimize, words, needed, position)
 }
 
-/// As `regress_front_parse_code_points`, for a pattern in UTF-8. `place` counts code points here too.
+/// As `regress_front_parse_code_points`, for a pattern in UTF-8. `position` counts code points here too.
 ///
 /// # Errors
 /// As `regress_front_parse_code_points`; a pattern that is not UTF-8 is an invalid argument.
@@ -44,15 +44,17 @@ pub extern "C" fn regress_front_parse_text(
     optimize: u32,
     words: &mut [u32],
     needed: &mut usize,
-    place: &mut usize,
+    position: &mut usize,
 ) -> u32
-    ensures answer { AnswersWords (IsTextRequest pattern.now flags optimize) (setting_by flags) (chars pattern.now) (optimize == 1)
-        words.old result needed.new place.new words.new }
+    ensures status { EncodingResult (IsTextRequest pattern.now flags optimize) (setting_by flags) (chars pattern.now) (optimize == 1)
+        words.old result needed.new position.new words.new }
 {
     *needed = 0;
-    *place = 0;
+    *position = 0;
     match read_points(alloc, pattern, flags, optimize) {
-        Ok(Some(points)) => answer_words(alloc, &points, flags, optimize, words, needed, place),
+        Ok(Some(points)) => write_encoding(
+            alloc, &points, flags, optimize, words, needed, position,
+        ),
         Ok(None) => BAD_INPUT,
         Err(_) => MEMORY,
     }
@@ -73,9 +75,9 @@ pub extern "C" fn regress_front_tell_fault(
     text: &mut [u8],
     needed: &mut usize,
 ) -> u32
-    ensures answer { AnswersFault (IsRequest pattern.now flags 0) (setting_by flags) pattern.now text.old result needed.new text.new }
+    ensures status { ErrorResult (IsRequest pattern.now flags 0) (setting_by flags) pattern.now text.old result needed.new text.new }
 {
-    answer_fault(alloc, pattern, flags, text, needed)
+    write_error(alloc, pattern, flags, text, needed)
 }
 
 /// As `regress_front_tell_fault`, for a pattern in UTF-8.
@@ -90,12 +92,12 @@ pub extern "C" fn regress_front_tell_fault_of_text(
     text: &mut [u8],
     needed: &mut usize,
 ) -> u32
-    ensures answer { AnswersFault (IsTextRequest pattern.now flags 0) (setting_by flags) (chars pattern.now)
+    ensures status { ErrorResult (IsTextRequest pattern.now flags 0) (setting_by flags) (chars pattern.now)
         text.old result needed.new text.new }
 {
     *needed = 0;
     match read_points(alloc, pattern, flags, 0) {
-        Ok(Some(points)) => answer_fault(alloc, &points, flags, text, needed),
+        Ok(Some(points)) => write_error(alloc, &points, flags, text, needed),
         Ok(None) => BAD_INPUT,
         Err(_) => MEMORY,
     }

@@ -1,8 +1,8 @@
 //! The library for C. include/regress_front.h documents its functions.
 #![tactic(auto)]
 
-mod answers;
+mod buffer;
 mod entry;
 mod request;
-mod room;
+mod results;
 mod trees;

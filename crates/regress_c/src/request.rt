@@ -48,7 +48,7 @@ pub(crate) fn read_points(
 ) -> Result<Option<Vec<u32>>, AllocError>
     ensures points { IfOk result (λ found. MatchOption found (IsTextRequest pattern.now bits choice → ⊥) (λ points.
         IsTextRequest pattern.now bits choice × (points.items ≡ chars pattern.now) × All (λ c. c ≤ code_point_max) points.items)) }
-    ensures wanting { OnErr result (IsTextRequest pattern.now bits choice) }
+    ensures out_of_memory { OnErr result (IsTextRequest pattern.now bits choice) }
 {
     if !are_options(bits, choice) {
         return Ok(None);
@@ -60,7 +60,7 @@ pub(crate) fn read_points(
 }
 
 /// Returns the flags that are set in `bits`.
-pub(crate) fn read_flags(bits: u32) -> Flags
+pub(crate) fn parse_flags(bits: u32) -> Flags
     ensures { result ≡ flags_of bits }
 {
     Flags {

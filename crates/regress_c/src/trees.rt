@@ -5,21 +5,21 @@ ghost use Rattle.regress_front.specs.TableOf.{table_of};
 ghost use Rattle.regress_front.specs.SettingOf.{setting_of};
 ghost use Rattle.regress_front.specs.Tree.{tree};
 ghost use Rattle.regress_front.specs.Accepted.{NoneIsAccepted, IsTrueOf};
-ghost use Rattle.regress_front.specs.Fault.{RefusedOnlyIf, Tells, IsPlacedWithin, unplaced};
+ghost use Rattle.regress_front.specs.Fault.{RejectedOnlyIf, ReportsKind, HasPositionWithin, unplaced};
 ghost use Rattle.regress_c.specs.Request.{setting_by};
-ghost use Rattle.regress_c.specs.Answer.{IsAnswer, AreWords};
+ghost use Rattle.regress_c.specs.Results.{IsResult, AreWords};
 
-use super::request::{make_tables, read_flags};
+use super::request::{make_tables, parse_flags};
 use regress_front::ir::Regex;
 use regress_front::optimizer::optimize;
-use regress_front::parse::{PlacedFault, try_parse_with_place};
+use regress_front::parse::{PlacedFault, try_parse_with_position};
 use regress_front::types::Flags;
 use regress_front::unicode::Tables;
 use regress_words::encode;
 use std::alloc::Global;
 
 /// Returns the encoding of the pattern's tree, as parsed or optimized.
-pub(crate) fn make_words(
+pub(crate) fn make_encoding(
     alloc: Global,
     pattern: &[u32],
     bits: u32,
@@ -27,12 +27,12 @@ pub(crate) fn make_words(
 ) -> Result<Vec<u32>, PlacedFault>
     requires { All (λ c. c ≤ code_point_max) pattern.now }
     ensures words { IfOk result (λ words. AreWords (setting_by bits) pattern.now optimized words.items) }
-    ensures refused { RefusedOnlyIf (unplaced result) (NoneIsAccepted (setting_by bits) pattern.now) }
-    ensures told { Tells (unplaced result) (IsTrueOf (setting_by bits) pattern.now) }
-    ensures place { IsPlacedWithin (length pattern.now) result }
+    ensures rejected { RejectedOnlyIf (unplaced result) (NoneIsAccepted (setting_by bits) pattern.now) }
+    ensures reported { ReportsKind (unplaced result) (IsTrueOf (setting_by bits) pattern.now) }
+    ensures position { HasPositionWithin (length pattern.now) result }
 {
     let tables = make_tables(alloc, bits)?;
-    let regex = make_tree(alloc, pattern, read_flags(bits), &tables, optimized)?;
+    let regex = make_tree(alloc, pattern, parse_flags(bits), &tables, optimized)?;
     Ok(encode(alloc, &regex.node)?)
 }
 
@@ -45,12 +45,12 @@ fn make_tree(
     optimized: bool,
 ) -> Result<Regex, PlacedFault>
     requires { All (λ c. c ≤ code_point_max) pattern.now }
-    ensures answer { IfOk result (λ regex. IsAnswer (setting_of flags tables.now) pattern.now optimized (tree regex.node)) }
-    ensures refused { RefusedOnlyIf (unplaced result) (NoneIsAccepted (setting_of flags tables.now) pattern.now) }
-    ensures told { Tells (unplaced result) (IsTrueOf (setting_of flags tables.now) pattern.now) }
-    ensures place { IsPlacedWithin (length pattern.now) result }
+    ensures status { IfOk result (λ regex. IsResult (setting_of flags tables.now) pattern.now optimized (tree regex.node)) }
+    ensures rejected { RejectedOnlyIf (unplaced result) (NoneIsAccepted (setting_of flags tables.now) pattern.now) }
+    ensures reported { ReportsKind (unplaced result) (IsTrueOf (setting_of flags tables.now) pattern.now) }
+    ensures position { HasPositionWithin (length pattern.now) result }
 {
-    let mut regex = try_parse_with_place(alloc, pattern, flags, tables)?;
+    let mut regex = try_parse_with_position(alloc, pattern, flags, tables)?;
     if optimized {
         optimize(alloc, &mut regex)?;
     }

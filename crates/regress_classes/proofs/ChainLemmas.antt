@@ -9,14 +9,14 @@ use Rattle.std.proofs.Math.Bool.{and-true}
 use Rattle.std.specs.Str.{bytes_eq}
 use Rattle.std.specs.declared.alloc.Global.{Global}
 use Rattle.regress_base.specs.Intervals.{Bounds, is_member, IsCanonical, intervals_of, code_point_max}
-use Rattle.regress_base.proofs.laws.Sets.{is_member-nil, no_member_past_end, intervals_of-member, intervals_of-canonical}
+use Rattle.regress_base.proofs.lemmas.Sets.{is_member-nil, no_member_past_end, intervals_of-member, intervals_of-canonical}
 use Rattle.regress_classes.specs.declared.class_sets.value.Value.{Value as CodeValue}
 use Rattle.regress_classes.specs.declared.class_sets.chain.Taken.{Taken}
 use Rattle.regress_classes.specs.declared.class_sets.others.Others.{Others}
 use Rattle.regress_classes.specs.declared.class_sets.Operator.{Operator}
 use Rattle.regress_classes.specs.declared.class_sets.Operator.TheVariants as operators
 use Rattle.regress_classes.specs.ClassSets.{Value, is_among}
-use Rattle.regress_classes.specs.ClassViews.{HasMembers, HasOthers, IsValue, AreLeft, IsLeft, strings_of, applied, kept}
+use Rattle.regress_classes.specs.ClassViews.{HasMembers, HasOthers, IsValue, AreKeptStrings, IsLeft, strings_of, applied, kept}
 use Rattle.regress_classes.proofs.ClassSetLemmas.{kept_strings}
 
 -- ---- both operators
@@ -26,7 +26,7 @@ left_of operator a b = record {
   members = intervals_of (λ c. is_member a.members c && kept operator (is_member b.members c));
   strings = filter (λ s. kept operator (is_among b.strings s)) a.strings;
   has_empty = a.has_empty && kept operator b.has_empty;
-  levels = max a.levels b.levels;
+  nesting = max a.nesting b.nesting;
 }
 
 pub applied_is : (operator : Operator) (a b : Value) → applied operator a b ≡ left_of operator a b
@@ -99,53 +99,53 @@ strings_joined olds news both s e =
 -- ---- the strings and the nesting depth that are kept
 
 pub others_first : (operator : Operator) (a b : Value) (first taken : Others) → HasOthers a first → HasOthers b taken →
-    AreLeft operator first taken (left_of operator a b)
+    AreKeptStrings operator first taken (left_of operator a b)
 others_first operator a b first taken h k = record {
   strings = ap₂ (λ (l m : List (List ℕ)). filter (λ s. kept operator (is_among l s)) m) (sym k.strings) (sym h.strings);
   has_empty = ap₂ (λ x y. x && kept operator y) (sym h.has_empty) (sym k.has_empty);
-  levels = ap₂ max (sym h.levels) (sym k.levels);
+  nesting = ap₂ max (sym h.nesting) (sym k.nesting);
 }
 
-pub others_more : (operator : Operator) (first : Others) (v b : Value) (old operand new : Others) → AreLeft operator first old v → HasOthers b operand →
+pub others_more : (operator : Operator) (first : Others) (v b : Value) (old operand new : Others) → AreKeptStrings operator first old v → HasOthers b operand →
     ((s : List ℕ) → kept operator (is_among (strings_of new.strings.items) s)
     ≡ (kept operator (is_among (strings_of old.strings.items) s) && kept operator (is_among (strings_of operand.strings.items) s))) →
     kept operator new.has_empty ≡ (kept operator old.has_empty && kept operator operand.has_empty) →
-    new.levels ≡ max old.levels operand.levels → AreLeft operator first new (applied operator v b)
-others_more operator first v b old operand new h k strings has_empty levels = subst (AreLeft operator first new) (sym (applied_is operator v b)) (record {
+    new.nesting ≡ max old.nesting operand.nesting → AreKeptStrings operator first new (applied operator v b)
+others_more operator first v b old operand new h k strings has_empty nesting = subst (AreKeptStrings operator first new) (sym (applied_is operator v b)) (record {
   strings = ap₂ (λ (l m : List (List ℕ)). filter (λ s. kept operator (is_among l s)) m) (sym k.strings) h.strings
       ∙ sym (filter_both (λ s. kept operator (is_among (strings_of old.strings.items) s)) (λ s. kept operator (is_among (strings_of operand.strings.items) s))
       (λ s. kept operator (is_among (strings_of new.strings.items) s)) strings (strings_of first.strings.items));
   has_empty = ap₂ (λ x y. x && kept operator y) h.has_empty (sym k.has_empty)
       ∙ and_both first.has_empty (kept operator old.has_empty) (kept operator operand.has_empty)
       ∙ ap (λ x. first.has_empty && x) (sym has_empty);
-  levels = omega (arith, h.levels, k.levels, levels);
+  nesting = omega (arith, h.nesting, k.nesting, nesting);
 })
   where
     and_both : (x y z : Bool) → ((x && y) && z) ≡ (x && (y && z))
     and_both true y z = refl
     and_both false y z = refl
 
-pub others_over : (operator : Operator) (first new taken : Others) (v : Value) → AreLeft operator first taken v →
+pub others_over : (operator : Operator) (first new taken : Others) (v : Value) → AreKeptStrings operator first taken v →
     new.strings.items ≡ filter (λ string. kept operator (is_among (strings_of taken.strings.items) string.items)) first.strings.items →
-    new.has_empty ≡ (first.has_empty && kept operator taken.has_empty) → new.levels ≡ max first.levels taken.levels → HasOthers v new
-others_over operator first new taken v h strings has_empty levels = record {
+    new.has_empty ≡ (first.has_empty && kept operator taken.has_empty) → new.nesting ≡ max first.nesting taken.nesting → HasOthers v new
+others_over operator first new taken v h strings has_empty nesting = record {
   strings = ap strings_of strings
       ∙ kept_strings (λ s. kept operator (is_among (strings_of taken.strings.items) s))
       (λ string. kept operator (is_among (strings_of taken.strings.items) string.items)) (λ string. refl) first.strings.items
       ∙ sym h.strings;
   has_empty = has_empty ∙ sym h.has_empty;
-  levels = levels ∙ sym h.levels;
+  nesting = nesting ∙ sym h.nesting;
 }
 
 -- ---- the value that is kept
 
 -- The first operand after the operator.
-pub left_first : (operator : Operator) (first : CodeValue) (a b : Value) (operand : CodeValue) (taken : Taken) (none dropped : List Bounds) →
+pub remainder_of_first : (operator : Operator) (first : CodeValue) (a b : Value) (operand : CodeValue) (taken : Taken) (none dropped : List Bounds) →
     IsValue first a → IsValue operand b → none ≡ [] →
     ((c : ℕ) → c ≤ code_point_max → is_member dropped c ≡ not (kept operator (is_member operand.set c))) →
     ((c : ℕ) → is_member taken.points c ≡ (is_member none c || is_member dropped c)) → HasOthers b taken.others →
     IsLeft operator first taken (applied operator a b)
-left_first operator first a b operand taken none dropped h k empty drops adds others =
+remainder_of_first operator first a b operand taken none dropped h k empty drops adds others =
     subst (IsLeft operator first taken) (sym (applied_is operator a b)) (record {
       canonical = h.members.canonical;
       members = members_left operator first.set a.members b.members none taken.points dropped h.members.canonical
@@ -156,12 +156,12 @@ left_first operator first a b operand taken none dropped h k empty drops adds ot
     })
 
 -- One more operand.
-pub left_more : (operator : Operator) (first : CodeValue) (v b : Value) (operand : CodeValue) (old new : Taken) (dropped : List Bounds) →
+pub remainder_of_more : (operator : Operator) (first : CodeValue) (v b : Value) (operand : CodeValue) (old new : Taken) (dropped : List Bounds) →
     IsLeft operator first old v → IsValue operand b →
     ((c : ℕ) → c ≤ code_point_max → is_member dropped c ≡ not (kept operator (is_member operand.set c))) →
     ((c : ℕ) → is_member new.points c ≡ (is_member old.points c || is_member dropped c)) →
-    AreLeft operator first.others new.others (applied operator v b) → IsLeft operator first new (applied operator v b)
-left_more operator first v b operand old new dropped h k drops adds others = record {
+    AreKeptStrings operator first.others new.others (applied operator v b) → IsLeft operator first new (applied operator v b)
+remainder_of_more operator first v b operand old new dropped h k drops adds others = record {
   canonical = h.canonical;
   members = subst (λ (left : Value). (c : ℕ) → is_member left.members c ≡ (is_member first.set c && not (is_member new.points c)))
       (sym (applied_is operator v b))

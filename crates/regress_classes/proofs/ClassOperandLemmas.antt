@@ -2,7 +2,7 @@
 use Rattle.std.proofs.Common.{◌≡◌, ℕ, Bool, true, false, not, ◌&&◌, ◌||◌, cond, [], ◌∷◌, length, drop, Some, None, refl, sym, ap, arith, ◌∙◌}
 use Rattle.std.proofs.lemmas.Bool.{cond-true, cond-false}
 use Rattle.regress_base.specs.Table.{Table}
-use Rattle.regress_lexical.specs.Source.{Source, Found, found_map, is_at}
+use Rattle.regress_lexer.specs.Source.{Source, Found, found_map, is_at}
 use Rattle.regress_classes.specs.ClassSets.{Value, nested, character, class, is_set_syntax, is_double, begins_double, escaped_character_at, set_character_at, operand_at, escaped_operand_at}
 
 -- ---- productions of characters
@@ -23,9 +23,9 @@ module _ (unicode : Bool) where
   unfolding set_character_at
   character_by t c rest front no_escape = ap (set_character_at unicode) front ∙ cond-false _ _ _ (ap (is_at 92) (sym front) ∙ no_escape)
 
-  pub itself_read : (t : Source) (c : ℕ) (rest : Source) → t ≡ c ∷ rest → is_at 92 t ≡ false →
+  pub literal_parsed : (t : Source) (c : ℕ) (rest : Source) → t ≡ c ∷ rest → is_at 92 t ≡ false →
       not (is_set_syntax c || (is_double c && begins_double rest)) ≡ true → set_character_at unicode t ≡ Some (c, rest)
-  itself_read t c rest front no_escape itself =
+  literal_parsed t c rest front no_escape itself =
       character_by t c rest front no_escape ∙ if_not (is_set_syntax c || (is_double c && begins_double rest)) itself
     where
       if_not : (b : Bool) → not b ≡ true → cond {A = Found ℕ} b None (Some (c, rest)) ≡ Some (c, rest)

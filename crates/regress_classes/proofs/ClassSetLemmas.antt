@@ -10,11 +10,11 @@ use Rattle.std.specs.Ordering.{nat_cmp, is_eq}
 use Rattle.std.specs.Str.{bytes_eq}
 use Rattle.std.specs.declared.alloc.Global.{Global}
 use Rattle.regress_base.specs.Intervals.{Bounds, is_within, is_member, IsCanonical, IsComplement, intervals_of}
-use Rattle.regress_base.proofs.laws.Sets.{is_member-one, is_member-append, canonical_is, intervals_of-agree}
+use Rattle.regress_base.proofs.lemmas.Sets.{is_member-one, is_member-append, canonical_is, intervals_of-agree}
 use Rattle.regress_classes.specs.declared.class_sets.value.Value.{Value as CodeValue}
 use Rattle.regress_classes.specs.declared.class_sets.others.Others.{Others}
 use Rattle.regress_classes.specs.declared.class_sets.union.Union.{Union as CodeUnion}
-use Rattle.regress_classes.specs.ClassRows.{complement, complement_if, one_point}
+use Rattle.regress_classes.specs.ClassProductions.{complement, complement_if, one_point}
 use Rattle.regress_classes.specs.ClassSets.{Value, nothing, only, joined, nested, is_among, value_of_string}
 use Rattle.regress_classes.specs.ClassViews.{HasMembers, HasOthers, IsValue, IsUnion, strings_of}
 
@@ -43,12 +43,12 @@ members_complement set others opposite canonical = record {
 pub members_same : (set others : List Bounds) → others ≡ set → IsCanonical others → HasMembers set others
 members_same set others e canonical = record { canonical = canonical; each = λ c. ap (λ (l : List Bounds). is_member l c) e }
 
-is_itself : (c n : ℕ) → (n == c) ≡ is_within (record { first = c; last = c }) n
+is_literal : (c n : ℕ) → (n == c) ≡ is_within (record { first = c; last = c }) n
 unfolding is_within
-is_itself c n = grind (arith, nat_tests)
+is_literal c n = grind (arith, nat_tests)
 
 pub is_one_point : (c n : ℕ) → (n == c) ≡ is_member (one_point c) n
-is_one_point c n = is_itself c n ∙ sym (is_member-one (record { first = c; last = c }) n)
+is_one_point c n = is_literal c n ∙ sym (is_member-one (record { first = c; last = c }) n)
 
 -- ---- two values
 
@@ -58,7 +58,7 @@ joined-assoc a b c =
       append_assoc a.members b.members c.members,
       append_assoc a.strings b.strings c.strings,
       or_assoc a.has_empty b.has_empty c.has_empty,
-      max-assoc a.levels b.levels c.levels,
+      max-assoc a.nesting b.nesting c.nesting,
     ) refl
   where
     or_assoc : (x y z : Bool) → ((x || y) || z) ≡ (x || (y || z))
@@ -73,13 +73,13 @@ or_false true = refl
 or_false false = refl
 
 pub joined-nothing : (a : Value) → joined a nothing ≡ a
-joined-nothing a = rw (append-nil a.members, append-nil a.strings, or_false a.has_empty, max-zero a.levels) refl
+joined-nothing a = rw (append-nil a.members, append-nil a.strings, or_false a.has_empty, max-zero a.nesting) refl
   where
     max-zero : (i : ℕ) → max i 0 ≡ i
     max-zero i = omega arith
 
 pub nothing-joined : (a : Value) → joined nothing a ≡ a
-nothing-joined a = rw (zero-max a.levels) refl
+nothing-joined a = rw (zero-max a.nesting) refl
   where
     zero-max : (i : ℕ) → max 0 i ≡ i
     zero-max i = omega arith
@@ -88,7 +88,7 @@ others_only : (a : Value) (members : List Bounds) (held : Others) → HasOthers 
 others_only a members held h = record {
   strings = h.strings ∙ sym (append-nil a.strings);
   has_empty = h.has_empty ∙ sym (or_false a.has_empty);
-  levels = omega (arith, h.levels);
+  nesting = omega (arith, h.nesting);
 }
 
 -- A value with one more code point.
@@ -160,15 +160,15 @@ kept_strings test p same (string ∷ strings) =
     if_kept false rest = rest
 
 -- A class inside another class.
-pub held_nested : (read : Bool × Value) (negated : Bool) (old : CodeValue) (set : List Bounds) → (negated ≡ read.0) × IsValue old read.1 →
+pub nested_value : (read : Bool × Value) (negated : Bool) (old : CodeValue) (set : List Bounds) → (negated ≡ read.0) × IsValue old read.1 →
     HasMembers (complement_if negated old.set) set →
-    IsValue (record { set = set; others = record old.others { levels = old.others.levels + 1 } }) (nested read)
-held_nested (negated, value) b old set (same, h) members = rw (sym same) (record {
+    IsValue (record { set = set; others = record old.others { nesting = old.others.nesting + 1 } }) (nested read)
+nested_value (negated, value) b old set (same, h) members = rw (sym same) (record {
   members = record {
     canonical = members.canonical;
     each = λ c. members.each c ∙ complements b c;
   };
-  others = record { strings = h.others.strings; has_empty = h.others.has_empty; levels = ap (λ n. n + 1) h.others.levels };
+  others = record { strings = h.others.strings; has_empty = h.others.has_empty; nesting = ap (λ n. n + 1) h.others.nesting };
 })
   where
     complements : (b : Bool) (c : ℕ) → is_member (complement_if b old.set) c ≡ is_member (complement_if b value.members) c

@@ -7,12 +7,12 @@ use Rattle.std.proofs.lemmas.List.Elements.{All-nil, All-cons, All-append}
 use Rattle.std.specs.List.{All}
 use Rattle.std.specs.declared.alloc.Global.{Global}
 use Rattle.regress_classes.specs.declared.class_sets.value.Value.{Value as CodeValue}
-use Rattle.regress_lexical.specs.Source.{Source, Found, ◌>>=◌, found_map, is_at, IsCodePoint}
+use Rattle.regress_lexer.specs.Source.{Source, Found, ◌>>=◌, found_map, is_at, IsCodePoint}
 use Rattle.regress_classes.specs.ClassSets.{joined, value_of_string, value_of_strings, set_character_at, strings_by, quoted_at, class}
 use Rattle.regress_classes.specs.ClassViews.{IsValue, strings_of}
-use Rattle.regress_lexical.proofs.laws.Sources.{then_same, cond_same, at_front}
-use Rattle.regress_lexical.proofs.laws.Behind.{behind_shorter}
-use Rattle.regress_classes.proofs.laws.ClassSets.{set_character_at-shortens}
+use Rattle.regress_lexer.proofs.lemmas.Sources.{then_same, cond_same, at_front}
+use Rattle.regress_lexer.proofs.lemmas.After.{after_shorter}
+use Rattle.regress_classes.proofs.lemmas.ClassSets.{set_character_at-shortens}
 use Rattle.regress_classes.proofs.ClassSetLemmas.{joined-assoc, joined-nothing, nothing-joined}
 
 -- ---- the strings without a bound
@@ -20,7 +20,7 @@ use Rattle.regress_classes.proofs.ClassSetLemmas.{joined-assoc, joined-nothing, 
 pub character_shortens : (unicode : Bool) (t : Source) (x : ℕ × Source) → set_character_at unicode t ≡ Some x → length x.1 < length t
 unfolding set_character_at
 character_shortens unicode [] x e = absurd (none-some x e)
-character_shortens unicode (c ∷ t) x e = omega (arith, behind_shorter t x.1 ((set_character_at-shortens unicode (c ∷ t)).each x e))
+character_shortens unicode (c ∷ t) x e = omega (arith, after_shorter t x.1 ((set_character_at-shortens unicode (c ∷ t)).each x e))
 
 bar_shortens : (t : Source) → is_at 124 t ≡ true → length (drop 1 t) < length t
 bar_shortens t e = omega (arith, at_front 124 t e, length-drop 1 t)
@@ -74,22 +74,22 @@ strings-push (first ∷ strings) s =
     ∙ ap (joined (value_of_string first)) (strings-push strings s)
 
 -- the strings that follow those parsed already
-abbrev pub more_strings : List (List ℕ) → Found (List (List ℕ)) → Found (List (List ℕ))
-more_strings strings found = found_map (λ ss. strings ++ ss) found
+abbrev pub strings_after : List (List ℕ) → Found (List (List ℕ)) → Found (List (List ℕ))
+strings_after strings found = found_map (λ ss. strings ++ ss) found
 
-none-more : (found : Found (List (List ℕ))) → found ≡ more_strings [] found
+none-more : (found : Found (List (List ℕ))) → found ≡ strings_after [] found
 none-more None = refl
 none-more (Some x) = refl
 
 one-more : (strings : List (List ℕ)) (s : List ℕ) (found : Found (List (List ℕ))) →
-    more_strings strings (found_map (λ ss. s ∷ ss) found) ≡ more_strings (strings ++ s ∷ []) found
+    strings_after strings (found_map (λ ss. s ∷ ss) found) ≡ strings_after (strings ++ s ∷ []) found
 one-more strings s None = refl
 one-more strings s (Some x) = ap (λ (l : List (List ℕ)). Some (l, x.1)) (sym (append_assoc strings (s ∷ []) x.0))
 
 -- From `t`, the strings `held` and the start `s` of one more were parsed, up to `rest`.
 pub record StringsUpTo (unicode : Bool) (t rest : Source) (s : List ℕ) (held : CodeValue) : Type 0 where
   pub strings : List (List ℕ)
-  pub whole : strings_from unicode [] t ≡ more_strings strings (strings_from unicode s rest)
+  pub whole : strings_from unicode [] t ≡ strings_after strings (strings_from unicode s rest)
   pub value : IsValue held (value_of_strings strings)
   pub in_range : All IsCodePoint s
 
@@ -102,37 +102,37 @@ no_strings unicode t s held none value = rw none (record {
   in_range = All-nil IsCodePoint;
 })
 
-pub more_character : (unicode : Bool) (t rest behind : Source) (s new : List ℕ) (c : ℕ) (held : CodeValue) →
-    StringsUpTo unicode t rest s held → is_at 125 rest ≡ false → is_at 124 rest ≡ false → set_character_at unicode rest ≡ Some (c, behind) →
-    IsCodePoint c → new ≡ s ++ c ∷ [] → StringsUpTo unicode t behind new held
-more_character unicode t rest behind s new c held so_far goes_on more found c_in pushed = rw pushed (record {
+pub more_character : (unicode : Bool) (t rest after : Source) (s new : List ℕ) (c : ℕ) (held : CodeValue) →
+    StringsUpTo unicode t rest s held → is_at 125 rest ≡ false → is_at 124 rest ≡ false → set_character_at unicode rest ≡ Some (c, after) →
+    IsCodePoint c → new ≡ s ++ c ∷ [] → StringsUpTo unicode t after new held
+more_character unicode t rest after s new c held so_far goes_on more found c_in pushed = rw pushed (record {
   strings = so_far.strings;
   whole = so_far.whole
-      ∙ ap (more_strings so_far.strings)
+      ∙ ap (strings_after so_far.strings)
       (strings_at_character unicode s rest goes_on more
       ∙ ap (λ (first : Found ℕ). first >>= λ (x : ℕ × Source). strings_from unicode (s ++ x.0 ∷ []) x.1) found);
   value = so_far.value;
   in_range = All-append IsCodePoint s (c ∷ []) so_far.in_range (All-cons IsCodePoint c [] c_in (All-nil IsCodePoint));
 })
 
-pub more_string : (unicode : Bool) (t rest behind : Source) (s next : List ℕ) (held new : CodeValue) →
-    (so_far : StringsUpTo unicode t rest s held) → is_at 125 rest ≡ false → is_at 124 rest ≡ true → behind ≡ drop 1 rest → next ≡ [] →
-    IsValue new (joined (value_of_strings so_far.strings) (value_of_string s)) → StringsUpTo unicode t behind next new
-more_string unicode t rest behind s next held new so_far goes_on bar moved none value = rw (moved, none) (record {
+pub more_string : (unicode : Bool) (t rest after : Source) (s next : List ℕ) (held new : CodeValue) →
+    (so_far : StringsUpTo unicode t rest s held) → is_at 125 rest ≡ false → is_at 124 rest ≡ true → after ≡ drop 1 rest → next ≡ [] →
+    IsValue new (joined (value_of_strings so_far.strings) (value_of_string s)) → StringsUpTo unicode t after next new
+more_string unicode t rest after s next held new so_far goes_on bar moved none value = rw (moved, none) (record {
   strings = so_far.strings ++ s ∷ [];
-  whole = so_far.whole ∙ ap (more_strings so_far.strings) (strings_at_bar unicode s rest goes_on bar)
+  whole = so_far.whole ∙ ap (strings_after so_far.strings) (strings_at_bar unicode s rest goes_on bar)
       ∙ one-more so_far.strings s (strings_from unicode [] (drop 1 rest));
   value = rw (sym (strings-push so_far.strings s)) value;
   in_range = All-nil IsCodePoint;
 })
 
-pub all_strings_read : (unicode : Bool) (t rest behind : Source) (s : List ℕ) (held new : CodeValue) →
-    (so_far : StringsUpTo unicode t rest s held) → is_at 125 rest ≡ true → behind ≡ drop 1 rest →
+pub all_strings_read : (unicode : Bool) (t rest after : Source) (s : List ℕ) (held new : CodeValue) →
+    (so_far : StringsUpTo unicode t rest s held) → is_at 125 rest ≡ true → after ≡ drop 1 rest →
     IsValue new (joined (value_of_strings so_far.strings) (value_of_string s)) →
-    (ss : List (List ℕ)) × (strings_from unicode [] t ≡ Some (ss, behind)) × IsValue new (value_of_strings ss)
-all_strings_read unicode t rest behind s held new so_far closes moved value = (
+    (ss : List (List ℕ)) × (strings_from unicode [] t ≡ Some (ss, after)) × IsValue new (value_of_strings ss)
+all_strings_read unicode t rest after s held new so_far closes moved value = (
   so_far.strings ++ s ∷ [],
-  so_far.whole ∙ ap (more_strings so_far.strings) (strings_closed unicode s rest closes)
+  so_far.whole ∙ ap (strings_after so_far.strings) (strings_closed unicode s rest closes)
       ∙ ap (λ (u : Source). Some (so_far.strings ++ s ∷ [], u)) (sym moved),
   rw (sym (strings-push so_far.strings s)) value,
 )
@@ -142,7 +142,7 @@ pub no_character : (unicode : Bool) (t rest : Source) (s : List ℕ) (held : Cod
     is_at 125 rest ≡ false → is_at 124 rest ≡ false → set_character_at unicode rest ≡ None → strings_from unicode [] t ≡ None
 no_character unicode t rest s held so_far goes_on more none =
     so_far.whole
-    ∙ ap (more_strings so_far.strings)
+    ∙ ap (strings_after so_far.strings)
     (strings_at_character unicode s rest goes_on more
     ∙ ap (λ (first : Found ℕ). first >>= λ (x : ℕ × Source). strings_from unicode (s ++ x.0 ∷ []) x.1) none)
 

@@ -1,10 +1,10 @@
-pub mod laws
+pub mod lemmas
 mod ChainLemmas
 mod ClassContentsLemmas
 mod ClassLemmas
 mod ClassOperandLemmas
 mod ClassSetLemmas
 mod ClassStringLemmas
-mod EscapeRows
-mod GatheredLemmas
+mod EscapeProductions
+mod IntervalCollectorLemmas
 mod PropertyLemmas

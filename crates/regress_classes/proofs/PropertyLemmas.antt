@@ -2,8 +2,8 @@
 use Rattle.std.proofs.Common.{◌≡◌, ℕ, ◌<◌, ◌==◌, Bool, true, false, cond, List, [], ◌∷◌, ◌++◌, length, Some, None, refl, sym, ap, ap₂, ◌∙◌, append_assoc, append-nil, arith}
 use Rattle.std.proofs.lemmas.Bool.{cond-true}
 use Rattle.std.proofs.lemmas.Bool.Decides.{nat_tests}
-use Rattle.regress_lexical.specs.Source.{Source}
-use Rattle.regress_lexical.specs.Digits.{front, behind}
+use Rattle.regress_lexer.specs.Source.{Source}
+use Rattle.regress_lexer.specs.Digits.{front, after}
 use Rattle.regress_classes.specs.Properties.{is_property_character, property_word_at}
 
 pub ascii : (c : ℕ) → is_property_character c ≡ true → c < 128
@@ -12,22 +12,22 @@ ascii c e = grind (arith, nat_tests)
 -- From `t`, this word was parsed up to `rest`.
 pub record WordUpTo (t rest : Source) (word : List ℕ) : Type 0 where
   pub read : word ++ front is_property_character rest ≡ front is_property_character t
-  pub left : behind is_property_character rest ≡ behind is_property_character t
+  pub left : after is_property_character rest ≡ after is_property_character t
 
 front-more : (c : ℕ) (t : Source) → is_property_character c ≡ true → front is_property_character (c ∷ t) ≡ c ∷ front is_property_character t
 unfolding front
 front-more c t e = cond-true _ _ _ e
 
-behind-more : (c : ℕ) (t : Source) → is_property_character c ≡ true → behind is_property_character (c ∷ t) ≡ behind is_property_character t
-unfolding behind
-behind-more c t e = cond-true _ _ _ e
+after-more : (c : ℕ) (t : Source) → is_property_character c ≡ true → after is_property_character (c ∷ t) ≡ after is_property_character t
+unfolding after
+after-more c t e = cond-true _ _ _ e
 
-behind-none : (t : Source) → front is_property_character t ≡ [] → behind is_property_character t ≡ t
-unfolding front behind
-behind-none [] e = refl
-behind-none (c ∷ t) e = by (is_property_character c) e
+after-none : (t : Source) → front is_property_character t ≡ [] → after is_property_character t ≡ t
+unfolding front after
+after-none [] e = refl
+after-none (c ∷ t) e = by (is_property_character c) e
   where
-    by : (b : Bool) → cond b (c ∷ front is_property_character t) [] ≡ [] → cond b (behind is_property_character t) (c ∷ t) ≡ c ∷ t
+    by : (b : Bool) → cond b (c ∷ front is_property_character t) [] ≡ [] → cond b (after is_property_character t) (c ∷ t) ≡ c ∷ t
     by true h = absurd cc
     by false h = refl
 
@@ -38,12 +38,12 @@ more_of_word t s rest c word new so_far next passes is = record {
       ∙ append_assoc word (c ∷ []) (front is_property_character rest)
       ∙ ap (λ (u : Source). word ++ u) (sym (ap (front is_property_character) next ∙ front-more c rest passes))
       ∙ so_far.read;
-  left = sym (ap (behind is_property_character) next ∙ behind-more c rest passes) ∙ so_far.left;
+  left = sym (ap (after is_property_character) next ∙ after-more c rest passes) ∙ so_far.left;
 }
 
 pub all_of_word : (t rest : Source) (word : List ℕ) → WordUpTo t rest word → front is_property_character rest ≡ [] →
     cond (length word == 0) None (Some (word, rest)) ≡ property_word_at t
 all_of_word t rest word so_far ends =
     let whole : word ≡ front is_property_character t = sym (append-nil word) ∙ ap (λ (u : Source). word ++ u) (sym ends) ∙ so_far.read in
-    let left : rest ≡ behind is_property_character t = sym (behind-none rest ends) ∙ so_far.left in
+    let left : rest ≡ after is_property_character t = sym (after-none rest ends) ∙ so_far.left in
     ap₂ (λ (w : List ℕ) (u : Source). cond (length w == 0) None (Some (w, u))) whole left

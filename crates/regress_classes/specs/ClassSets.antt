@@ -5,10 +5,10 @@ use Rattle.std.specs.Str.{bytes_eq}
 use Rattle.regress_base.specs.Intervals.{Bounds, is_member, intervals_of}
 use Rattle.regress_base.specs.Limits.{max_nesting_depth}
 use Rattle.regress_base.specs.Table.{Table}
-use Rattle.regress_lexical.specs.Source.{Source, Found, ◌>>=◌, found_map, Row, when, otherwise, first_row, char, is_one_of, is_at}
-use Rattle.regress_lexical.specs.Escapes.{escape_at}
+use Rattle.regress_lexer.specs.Source.{Source, Found, ◌>>=◌, found_map, Production, when, otherwise, first_production, char, is_one_of, is_at}
+use Rattle.regress_lexer.specs.Escapes.{escape_at}
 use Rattle.regress_classes.specs.Properties.{Property, of_points, of_strings, property_at}
-use Rattle.regress_classes.specs.ClassRows.{complement_if, class_letter, class_members, one_point, points_between}
+use Rattle.regress_classes.specs.ClassProductions.{complement_if, class_letter, class_members, one_point, points_between}
 
 -- ---- contents of a class
 
@@ -19,10 +19,10 @@ pub record Value : Type 0 where
   pub members : List Bounds
   pub strings : List (List ℕ)
   pub has_empty : Bool
-  pub levels : ℕ
+  pub nesting : ℕ
 
 abbrev pub nothing : Value
-nothing = record { members = []; strings = []; has_empty = false; levels = 0 }
+nothing = record { members = []; strings = []; has_empty = false; nesting = 0 }
 
 -- whether it has a string, which may be the empty one (ECMA-262, MayContainStrings, but by its contents)
 abbrev pub has_strings : Value → Bool
@@ -38,13 +38,13 @@ joined a b = record {
   members = a.members ++ b.members;
   strings = a.strings ++ b.strings;
   has_empty = a.has_empty || b.has_empty;
-  levels = max a.levels b.levels;
+  nesting = max a.nesting b.nesting;
 }
 
 -- a first value combined with each of the others in order
-abbrev pub from_left : (Value → Value → Value) → Value → List Value → Value
-from_left f first [] = first
-from_left f first (next ∷ rest) = from_left f (f first next) rest
+abbrev pub folded_left : (Value → Value → Value) → Value → List Value → Value
+folded_left f first [] = first
+folded_left f first (next ∷ rest) = folded_left f (f first next) rest
 
 abbrev pub is_among : List (List ℕ) → List ℕ → Bool
 is_among strings s = list_any (λ other. bytes_eq other s) strings
@@ -55,7 +55,7 @@ common a b = record {
   members = intervals_of (λ c. is_member a.members c && is_member b.members c);
   strings = filter (is_among b.strings) a.strings;
   has_empty = a.has_empty && b.has_empty;
-  levels = max a.levels b.levels;
+  nesting = max a.nesting b.nesting;
 }
 
 -- `--`: the difference of the first and the second (ECMA-262, ClassSubtraction)
@@ -64,7 +64,7 @@ without a b = record {
   members = intervals_of (λ c. is_member a.members c && not (is_member b.members c));
   strings = filter (λ s. not (is_among b.strings s)) a.strings;
   has_empty = a.has_empty && not b.has_empty;
-  levels = max a.levels b.levels;
+  nesting = max a.nesting b.nesting;
 }
 
 -- A string of one character is a code point.
@@ -79,11 +79,11 @@ value_of_strings (s ∷ ss) = joined (value_of_string s) (value_of_strings ss)
 
 -- a class inside another class, where a negated class is its complement already (ECMA-262, NestedClass)
 abbrev pub nested : Bool × Value → Value
-nested (negated, v) = record v { members = complement_if negated v.members; levels = v.levels + 1 }
+nested (negated, v) = record v { members = complement_if negated v.members; nesting = v.nesting + 1 }
 
 -- a class, unless it is negated and has strings
-abbrev pub unless_of_strings : Bool → Value × Source → Found (Bool × Value)
-unless_of_strings negated (v, t) = if negated && has_strings v then None else Some ((negated, v), t)
+abbrev pub unless_negated_strings : Bool → Value × Source → Found (Bool × Value)
+unless_negated_strings negated (v, t) = if negated && has_strings v then None else Some ((negated, v), t)
 
 -- ---- operands
 
@@ -168,8 +168,8 @@ are_at c t = is_at c t && is_at c (drop 1 t)
 
 module _ (table : Table) (unicode : Bool) where
   -- the productions of an escape that starts with c and is no class escape, after its backslash
-  abbrev pub operand_rows : (in_negated : Bool) → ℕ → Source → List (Row Operand)
-  operand_rows in_negated c t =
+  abbrev pub operand_productions : (in_negated : Bool) → ℕ → Source → List (Production Operand)
+  operand_productions in_negated c t =
       when (c == char "q") (quoted_at unicode t)
       ∷ when (is_one_of "pP" c) (property_operand_at table in_negated (c == char "P") t)
       ∷ otherwise (found_map character (escaped_character_at unicode (c ∷ t))) ∷ []
@@ -180,7 +180,7 @@ module _ (table : Table) (unicode : Bool) where
   escaped_operand_at in_negated (c ∷ t) =
       elim (class_letter c) [
         | Some named ↦ Some (class (only (class_members named)), t)
-        | None ↦ first_row (operand_rows in_negated c t)
+        | None ↦ first_production (operand_productions in_negated c t)
       ]
 
   -- In what follows, `inner` parses a class after its `[`, and `in_negated` means that the class around is negated.
@@ -199,15 +199,15 @@ module _ (table : Table) (unicode : Bool) where
         elim (range_of first last) [ None ↦ None | Some members ↦ Some (only members, rest) ]
 
     -- a part after its first operand: a hyphen always makes a range
-    abbrev pub part_behind : Operand × Source → Found Value
-    part_behind (first, t) = if is_at (char "-") t then range_at first (drop 1 t) else Some (value_of first, t)
+    abbrev pub part_after : Operand × Source → Found Value
+    part_after (first, t) = if is_at (char "-") t then range_at first (drop 1 t) else Some (value_of first, t)
 
     -- The parts up to `]`. The number bounds the number of parts.
     unfoldable pub parts_by : ℕ → Source → Found (List Value)
     parts_by zero t = None
     parts_by (suc n) t =
         if is_at (char "]") t then Some ([], drop 1 t)
-        else operand_at t >>= part_behind >>= λ (part, rest). found_map (λ parts. part ∷ parts) (parts_by n rest)
+        else operand_at t >>= part_after >>= λ (part, rest). found_map (λ parts. part ∷ parts) (parts_by n rest)
 
     abbrev pub parts_at : Source → Found (List Value)
     parts_at t = parts_by (length t + 1) t
@@ -230,21 +230,21 @@ module _ (table : Table) (unicode : Bool) where
     -- ---- contents of a class: one of five productions
 
     -- the contents after the first operand, by what follows it
-    abbrev pub contents_behind : Operand × Source → Found Value
-    contents_behind (first, t) =
+    abbrev pub contents_after : Operand × Source → Found Value
+    contents_after (first, t) =
         -- operands joined by `&&`
-        if are_at (char "&") t then found_map (from_left common (value_of first)) (operands_at (char "&") (drop 2 t))
+        if are_at (char "&") t then found_map (folded_left common (value_of first)) (operands_at (char "&") (drop 2 t))
         -- operands joined by `--`
-        else if are_at (char "-") t then found_map (from_left without (value_of first)) (operands_at (char "-") (drop 2 t))
+        else if are_at (char "-") t then found_map (folded_left without (value_of first)) (operands_at (char "-") (drop 2 t))
         -- parts, with a single `&` after the first operand: that is a member and starts no range
         else if is_at (char "&") t
-        then found_map (λ parts. from_left joined (value_of first) (only (one_point (char "&")) ∷ parts)) (parts_at (drop 1 t))
+        then found_map (λ parts. folded_left joined (value_of first) (only (one_point (char "&")) ∷ parts)) (parts_at (drop 1 t))
         -- a first part, and the parts after it; a single operand is a part too
-        else part_behind (first, t) >>= λ (part, rest). found_map (from_left joined part) (parts_at rest)
+        else part_after (first, t) >>= λ (part, rest). found_map (folded_left joined part) (parts_at rest)
 
     -- all contents up to the `]`: nothing, or what starts with a first operand
     abbrev pub contents_at : Source → Found Value
-    contents_at t = if is_at (char "]") t then Some (nothing, drop 1 t) else operand_at t >>= contents_behind
+    contents_at t = if is_at (char "]") t then Some (nothing, drop 1 t) else operand_at t >>= contents_after
 
   -- A class after its `[`: whether it is negated, and its contents. The number bounds how deep classes nest, the class
   -- itself included.
@@ -252,7 +252,7 @@ module _ (table : Table) (unicode : Bool) where
   class_set_by zero t = None
   class_set_by (suc n) t =
       let negated = is_at (char "^") t in
-      contents_at (class_set_by n) negated (if negated then drop 1 t else t) >>= unless_of_strings negated
+      contents_at (class_set_by n) negated (if negated then drop 1 t else t) >>= unless_negated_strings negated
 
   -- a class that nests no deeper than the limit
   abbrev pub class_set_at : Source → Found (Bool × Value)

@@ -17,13 +17,13 @@ use Rattle.regress_classes.specs.declared.class_sets.chain.Taken.{Taken}
 use Rattle.regress_classes.specs.declared.class_sets.operand.Operand.{Operand as CodeOperand}
 use Rattle.regress_classes.specs.declared.class_sets.operand.Operand.TheVariants as operands
 use Rattle.regress_classes.specs.declared.class_sets.ClassSet.{ClassSet as CodeClassSet}
-use Rattle.regress_classes.specs.declared.class_sets.Surroundings.{Surroundings}
+use Rattle.regress_classes.specs.declared.class_sets.OperandContext.{OperandContext}
 use Rattle.regress_classes.specs.declared.class_sets.Operator.{Operator}
 use Rattle.regress_classes.specs.declared.class_sets.Operator.TheVariants as operators
-use Rattle.regress_classes.specs.ClassRows.{ClassAtom, point, set, class_members, complement_if}
+use Rattle.regress_classes.specs.ClassProductions.{ClassAtom, point, set, class_members, complement_if}
 use Rattle.regress_classes.specs.Properties.{Property, of_points, of_strings}
-use Rattle.regress_classes.specs.ClassSets.{Value, joined, from_left, is_among, common, without, Operand, character, class, parts_at, operands_at, class_set_by}
-use Rattle.regress_lexical.specs.Source.{Source, Found, found_map, IsCodePoint, char}
+use Rattle.regress_classes.specs.ClassSets.{Value, joined, folded_left, is_among, common, without, Operand, character, class, parts_at, operands_at, class_set_by}
+use Rattle.regress_lexer.specs.Source.{Source, Found, found_map, IsCodePoint, char}
 
 -- an atom of a class
 abbrev pub class_atom_of : CodeClassAtom → ClassAtom
@@ -62,7 +62,7 @@ property_of (properties.Strings written) = of_strings (strings_of written.now)
 pub record HasOthers (value : Value) (held : Others) : Type 0 where
   pub strings : strings_of held.strings.items ≡ value.strings
   pub has_empty : held.has_empty ≡ value.has_empty
-  pub levels : held.levels ≡ value.levels
+  pub nesting : held.nesting ≡ value.nesting
 
 -- the contents of a class with the flag v
 pub record IsValue (held : CodeValue) (value : Value) : Type 0 where
@@ -84,22 +84,22 @@ IsOperand (operands.Character c) operand = (operand ≡ character c) × IsCodePo
 IsOperand (operands.Class held) operand = (value : Value) × (operand ≡ class value) × IsValue held value
 
 -- the function that parses classes inside this class
-abbrev pub inner_of : Surroundings → Source → Found (Bool × Value)
-inner_of around = class_set_by (table_of around.tables.now) around.unicode around.levels
+abbrev pub inner_of : OperandContext → Source → Found (Bool × Value)
+inner_of around = class_set_by (table_of around.tables.now) around.unicode around.nesting
 
 module _ (table : Table) (unicode : Bool) (inner : Source → Found (Bool × Value)) (in_negated : Bool) where
   -- the contents before, joined with the parts that are parsed
   abbrev pub parts_onto : Value → Source → Found Value
-  parts_onto held t = found_map (from_left joined held) (parts_at table unicode inner in_negated t)
+  parts_onto held t = found_map (folded_left joined held) (parts_at table unicode inner in_negated t)
 
   -- the contents before, combined with the operands that are parsed after an operator
   abbrev pub operands_onto : (c : ℕ) → (Value → Value → Value) → Value → Source → Found Value
-  operands_onto c f held t = found_map (from_left f held) (operands_at table unicode inner in_negated c t)
+  operands_onto c f held t = found_map (folded_left f held) (operands_at table unicode inner in_negated c t)
 
 -- the code point that an operator has twice
-abbrev pub sign_of : Operator → ℕ
-sign_of operators.Intersection = char "&"
-sign_of operators.Subtraction = char "-"
+abbrev pub symbol_of : Operator → ℕ
+symbol_of operators.Intersection = char "&"
+symbol_of operators.Subtraction = char "-"
 
 abbrev pub applied : Operator → Value → Value → Value
 applied operators.Intersection = common
@@ -111,16 +111,16 @@ kept operators.Intersection has = has
 kept operators.Subtraction has = not has
 
 -- The value has the strings of the first operand that the operator keeps, given those of the others.
-pub record AreLeft (operator : Operator) (first taken : Others) (value : Value) : Type 0 where
+pub record AreKeptStrings (operator : Operator) (first taken : Others) (value : Value) : Type 0 where
   pub strings : value.strings ≡ filter (λ s. kept operator (is_among (strings_of taken.strings.items) s)) (strings_of first.strings.items)
   pub has_empty : value.has_empty ≡ (first.has_empty && kept operator taken.has_empty)
-  pub levels : value.levels ≡ max first.levels taken.levels
+  pub nesting : value.nesting ≡ max first.nesting taken.nesting
 
 -- The value has what the operator keeps of the first operand, given the others.
 pub record IsLeft (operator : Operator) (first : CodeValue) (taken : Taken) (value : Value) : Type 0 where
   pub canonical : IsCanonical first.set
   pub members : (c : ℕ) → is_member value.members c ≡ (is_member first.set c && not (is_member taken.points c))
-  pub others : AreLeft operator first.others taken.others value
+  pub others : AreKeptStrings operator first.others taken.others value
 
 -- the value of a chain of operators so far
 abbrev pub IsChain : Chain → Value → Type 0

@@ -1,4 +1,4 @@
 pub mod Properties
-pub mod ClassRows
+pub mod ClassProductions
 pub mod ClassSets
 pub mod ClassViews

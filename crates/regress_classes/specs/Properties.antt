@@ -4,8 +4,8 @@ use Rattle.std.specs.Option.{option_or}
 use Rattle.std.specs.Str.{bytes_eq}
 use Rattle.regress_base.specs.Intervals.{Bounds}
 use Rattle.regress_base.specs.Table.{Table, Named, named}
-use Rattle.regress_lexical.specs.Source.{Source, Found, ◌>>=◌, char, is_at}
-use Rattle.regress_lexical.specs.Digits.{is_decimal, is_letter, front, behind}
+use Rattle.regress_lexer.specs.Source.{Source, Found, ◌>>=◌, char, is_at}
+use Rattle.regress_lexer.specs.Digits.{is_decimal, is_letter, front, after}
 
 -- A property that a name denotes, of code points or of strings.
 pub data Property : Type 0 where
@@ -54,7 +54,7 @@ closed_property (Some property) t = if is_at (char "}") t then Some (property, d
 abbrev pub property_word_at : Source → Found (List ℕ)
 property_word_at t =
     if length (front is_property_character t) == 0 then None
-    else Some (front is_property_character t, behind is_property_character t)
+    else Some (front is_property_character t, after is_property_character t)
 
 -- a value and `}`, after the name of a list and `=`
 abbrev pub listed_value_at : Table → List ℕ → Source → Found Property

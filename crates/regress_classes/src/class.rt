@@ -1,21 +1,21 @@
 //! Parses classes without the flag v.
 ghost use Rattle.std.specs.Prelude.{◌≡◌, ◌+◌, ◌==◌, ◌&&◌, not, Bool, true, drop, if◌then◌else◌, Some, None, List, [], ◌∷◌, length, OnOk, IfSome, IfNone};
 ghost use Rattle.regress_base.specs.Intervals.{Bounds};
-ghost use Rattle.regress_classes.specs.ClassRows.{complement_if, atom_members, begins_range, range_of, range_at, class_part_at, class_parts_by, class_at};
+ghost use Rattle.regress_classes.specs.ClassProductions.{complement_if, atom_members, begins_range, range_of, range_at, class_part_at, class_parts_by, class_at};
 ghost use Rattle.regress_base.specs.Table.{Table};
 ghost use Rattle.regress_unicode.specs.TableOf.{table_of};
-ghost use Rattle.regress_lexical.specs.Source.{char};
-ghost use Rattle.regress_lexical.specs.Fault.{FailsByNoLimit, FailsOnlyIf};
-ghost use Rattle.regress_lexical.specs.Reads.{ReadsAs};
+ghost use Rattle.regress_lexer.specs.Source.{char};
+ghost use Rattle.regress_lexer.specs.Fault.{FailsByNoLimit, FailsOnlyIf};
+ghost use Rattle.regress_lexer.specs.Reads.{ParsesAs};
 ghost use Rattle.regress_classes.specs.ClassViews.{class_atom_of, IsClassAtomInRange, HasMembers, Adds, IsClassRead};
-ghost use Rattle.regress_lexical.specs.Views.{source};
+ghost use Rattle.regress_lexer.specs.Views.{source};
 
 use crate::class_atom::{ClassAtom, read_class_atom};
 use crate::class_escape::class_members;
-use crate::gathered::Gathered;
+use crate::gathered::IntervalCollector;
 use regress_base::codepointset::{CodePointSet, Interval};
-use regress_lexical::cursor::Cursor;
-use regress_lexical::fault::{Fault, FaultKind, refused};
+use regress_lexer::cursor::Cursor;
+use regress_lexer::fault::{Fault, FaultKind, rejected};
 use regress_unicode::Tables;
 use std::alloc::{AllocError, Global};
 
@@ -32,55 +32,55 @@ pub struct Class {
 /// after the `]`.
 ///
 /// # Errors
-/// - [`Fault::Refused`] if the class is not closed, or if it has an invalid escape, property or range.
+/// - [`Fault::Rejected`] if the class is not closed, or if it has an invalid escape, property or range.
 /// - [`Fault::Memory`] if an allocation fails.
 ///
 /// After an error the position of `cursor` is unspecified.
 ///
 /// # Complexity
 /// Linear in the number of intervals if they are written in ascending order, else O(n log n).
-pub fn read_class(
+pub fn parse_class(
     cursor: &mut Cursor,
     tables: &Tables,
     unicode: bool,
     opened: usize,
 ) -> Result<Class, Fault>
-    ensures value { ReadsAs IsClassRead (source cursor.new) result (class_at (table_of tables.now) unicode (source cursor.old)) }
+    ensures value { ParsesAs IsClassRead (source cursor.new) result (class_at (table_of tables.now) unicode (source cursor.old)) }
     ensures kind { FailsByNoLimit result }
 {
     let inverted = cursor.try_consume('^');
-    let set = read_parts(cursor, tables, unicode, opened)?;
+    let set = parse_parts(cursor, tables, unicode, opened)?;
     Ok(Class { inverted, set })
 }
 
 /// Parses the parts of a class and the `]` after them.
-fn read_parts(
+fn parse_parts(
     cursor: &mut Cursor,
     tables: &Tables,
     unicode: bool,
     opened: usize,
 ) -> Result<CodePointSet, Fault>
     ensures value { let t = source cursor.old in
-        ReadsAs (λ set members. HasMembers members set) (source cursor.new) result (class_parts_by (table_of tables.now) unicode (length t + 1) t) }
+        ParsesAs (λ set members. HasMembers members set) (source cursor.new) result (class_parts_by (table_of tables.now) unicode (length t + 1) t) }
     ensures kind { FailsByNoLimit result }
 {
-    let mut gathered = Gathered::new(cursor.alloc);
+    let mut gathered = IntervalCollector::new(cursor.alloc);
     while !cursor.is_at(']') {
-        read_part(cursor, tables, unicode, opened, &mut gathered)?;
+        parse_part(cursor, tables, unicode, opened, &mut gathered)?;
     }
     cursor.try_consume(']');
     Ok(gathered.into_set()?)
 }
 
 /// Parses an atom or a range, and adds its members.
-fn read_part(
+fn parse_part(
     cursor: &mut Cursor,
     tables: &Tables,
     unicode: bool,
     opened: usize,
-    set: &mut Gathered,
+    set: &mut IntervalCollector,
 ) -> Result<(), Fault>
-    ensures value { ReadsAs (λ _ members. Adds members set.old set.new) (source cursor.new) result (class_part_at (table_of tables.now) unicode (source cursor.old)) }
+    ensures value { ParsesAs (λ _ members. Adds members set.old set.new) (source cursor.new) result (class_part_at (table_of tables.now) unicode (source cursor.old)) }
     ensures kind { FailsByNoLimit result }
 {
     if let Some(interval) = take_plain_part(cursor) {
@@ -96,8 +96,8 @@ fn take_plain_part(cursor: &mut Cursor) -> Option<Interval>
         class_part_at table unicode (source cursor.old) ≡ Some (part ∷ [], source cursor.new)) }
     ensures none { IfNone result (source cursor.new ≡ source cursor.old) }
 {
-    let (first, behind) = split_plain(cursor.rest)?;
-    match behind.split_first() {
+    let (first, after) = split_plain(cursor.rest)?;
+    match after.split_first() {
         Some((hyphen, rest)) if *hyphen == u32::from('-') => {
             let (last, rest) = split_plain(rest)?;
             if first > last {
@@ -107,7 +107,7 @@ fn take_plain_part(cursor: &mut Cursor) -> Option<Interval>
             Some(Interval::new(first, last))
         }
         _ => {
-            cursor.rest = behind;
+            cursor.rest = after;
             Some(Interval::new(first, first))
         }
     }
@@ -118,11 +118,11 @@ fn split_plain(source: &[u32]) -> Option<(u32, &[u32])>
     ensures { IfSome result (λ found. (source.now ≡ found.0 ∷ found.1.now) × ((not (found.0 == char "]") && not (found.0 == char "\\")) ≡ true)) }
 {
     let (c, rest) = source.split_first()?;
-    is_itself(*c).then_some((*c, rest))
+    is_literal(*c).then_some((*c, rest))
 }
 
 /// Returns whether the code point is a literal in a class.
-fn is_itself(c: u32) -> bool
+fn is_literal(c: u32) -> bool
     ensures { result ≡ (not (c == char "]") && not (c == char "\\")) }
 {
     c != u32::from(']') && c != u32::from('\\')
@@ -134,9 +134,9 @@ fn read_any_part(
     tables: &Tables,
     unicode: bool,
     opened: usize,
-    set: &mut Gathered,
+    set: &mut IntervalCollector,
 ) -> Result<(), Fault>
-    ensures value { ReadsAs (λ _ members. Adds members set.old set.new) (source cursor.new) result (class_part_at (table_of tables.now) unicode (source cursor.old)) }
+    ensures value { ParsesAs (λ _ members. Adds members set.old set.new) (source cursor.new) result (class_part_at (table_of tables.now) unicode (source cursor.old)) }
     ensures kind { FailsByNoLimit result }
 {
     let left = cursor.rest.len();
@@ -178,10 +178,10 @@ fn read_range(
     opened: usize,
     first: ClassAtom,
     left: usize,
-    set: &mut Gathered,
+    set: &mut IntervalCollector,
 ) -> Result<(), Fault>
     requires { IsClassAtomInRange first }
-    ensures value { ReadsAs (λ _ members. Adds members set.old set.new) (source cursor.new) result (range_at (table_of tables.now) unicode (class_atom_of first.entry) (source cursor.old)) }
+    ensures value { ParsesAs (λ _ members. Adds members set.old set.new) (source cursor.new) result (range_at (table_of tables.now) unicode (class_atom_of first.entry) (source cursor.old)) }
     ensures kind { FailsByNoLimit result }
 {
     let last = read_class_atom(cursor, tables, unicode, opened)?;
@@ -191,7 +191,7 @@ fn read_range(
 /// Adds the members of two atoms with a hyphen between them. `left` is the number of code points that remained at the
 /// first.
 fn add_range(
-    set: &mut Gathered,
+    set: &mut IntervalCollector,
     alloc: Global,
     unicode: bool,
     left: usize,
@@ -207,13 +207,13 @@ fn add_range(
 {
     if let (ClassAtom::Point(a), ClassAtom::Point(b)) = (first, last) {
         if a > b {
-            return Err(refused(left, FaultKind::ReversedRange));
+            return Err(rejected(left, FaultKind::ReversedRange));
         }
         set.add(Interval::new(a, b))?;
         return Ok(());
     }
     if unicode {
-        return Err(refused(left, FaultKind::InvalidRange));
+        return Err(rejected(left, FaultKind::InvalidRange));
     }
     add_atom(set, alloc, first)?;
     add_atom(set, alloc, ClassAtom::Point(u32::from('-')))?;
@@ -222,7 +222,7 @@ fn add_range(
 }
 
 /// Adds the members of an atom.
-fn add_atom(set: &mut Gathered, alloc: Global, atom: ClassAtom) -> Result<(), AllocError>
+fn add_atom(set: &mut IntervalCollector, alloc: Global, atom: ClassAtom) -> Result<(), AllocError>
     requires { IsClassAtomInRange atom }
     ensures { OnOk result (Adds (atom_members (class_atom_of atom.entry)) set.old set.new) }
 {
@@ -240,7 +240,11 @@ fn add_atom(set: &mut Gathered, alloc: Global, atom: ClassAtom) -> Result<(), Al
 }
 
 /// Adds the members of a set, or of its complement if `negated`.
-fn add_members(set: &mut Gathered, members: &CodePointSet, negated: bool) -> Result<(), AllocError>
+fn add_members(
+    set: &mut IntervalCollector,
+    members: &CodePointSet,
+    negated: bool,
+) -> Result<(), AllocError>
     ensures { OnOk result (Adds (complement_if negated members.now) set.old set.new) }
 {
     if negated {

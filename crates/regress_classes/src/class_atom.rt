@@ -1,21 +1,21 @@
 //! Parses the atoms of a class without the flag v.
 ghost use Rattle.std.specs.Prelude.{◌≡◌, ◌∷◌, Some, IfOk};
-ghost use Rattle.regress_classes.specs.ClassRows.{class_atom_at, class_escape_at, class_control_at, class_property_at};
-ghost use Rattle.regress_lexical.specs.Source.{char};
-ghost use Rattle.regress_lexical.specs.Fault.{FailsByNoLimit};
-ghost use Rattle.regress_lexical.specs.Reads.{Reads};
+ghost use Rattle.regress_classes.specs.ClassProductions.{class_atom_at, class_escape_at, class_control_at, class_property_at};
+ghost use Rattle.regress_lexer.specs.Source.{char};
+ghost use Rattle.regress_lexer.specs.Fault.{FailsByNoLimit};
+ghost use Rattle.regress_lexer.specs.Reads.{Reads};
 ghost use Rattle.regress_classes.specs.ClassViews.{class_atom_of, IsClassAtomInRange};
-ghost use Rattle.regress_lexical.specs.Views.{source};
+ghost use Rattle.regress_lexer.specs.Views.{source};
 ghost use Rattle.regress_unicode.specs.TableOf.{table_of};
 
 use crate::class_escape::class_letter;
-use crate::property::{Property, is_property_letter, read_property};
+use crate::property::{Property, is_property_letter, parse_property};
 use regress_base::charclasses::CharacterClassType;
 use regress_base::codepointset::CodePointSet;
-use regress_lexical::cursor::Cursor;
-use regress_lexical::digits::{control, is_decimal, is_letter};
-use regress_lexical::escape::{escape_fault, read_escape};
-use regress_lexical::fault::{Fault, FaultKind, refused};
+use regress_lexer::cursor::Cursor;
+use regress_lexer::digits::{control, is_decimal, is_letter};
+use regress_lexer::escape::{escape_fault, parse_escape};
+use regress_lexer::fault::{Fault, FaultKind, rejected};
 use regress_unicode::Tables;
 
 /// An atom of a class.
@@ -40,7 +40,7 @@ pub enum ClassAtom<'a> {
 /// `unicode` is the flag u, and `opened` the number of code points that remained before the `[` of the class.
 ///
 /// # Errors
-/// - [`Fault::Refused`] if the next code point is `]`, if none remains, or if an escape or a property is invalid.
+/// - [`Fault::Rejected`] if the next code point is `]`, if none remains, or if an escape or a property is invalid.
 /// - [`Fault::Memory`] if an allocation fails.
 ///
 /// After an error the position of `cursor` is unspecified.
@@ -58,7 +58,7 @@ pub fn read_class_atom<'a>(
     match cursor.next() {
         Some(c) if c == u32::from('\\') => read_escaped_atom(cursor, tables, unicode, begin),
         Some(c) if c != u32::from(']') => Ok(ClassAtom::Point(c)),
-        _ => Err(refused(opened, FaultKind::UnbalancedBracket)),
+        _ => Err(rejected(opened, FaultKind::UnbalancedBracket)),
     }
 }
 
@@ -75,7 +75,7 @@ fn read_escaped_atom<'a>(
     ensures kind { FailsByNoLimit result }
 {
     let Some((c, rest)) = cursor.rest.split_first() else {
-        return Err(refused(begin, FaultKind::UnterminatedEscape));
+        return Err(rejected(begin, FaultKind::UnterminatedEscape));
     };
     let c = *c;
     if let Some((kind, negated)) = class_letter(c) {
@@ -88,17 +88,17 @@ fn read_escaped_atom<'a>(
         cursor.rest = rest;
         Ok(ClassAtom::Point(c))
     } else if c == u32::from('c') && !unicode {
-        let (atom, behind) = class_control(cursor.rest, rest);
-        cursor.rest = behind;
+        let (atom, after) = class_control(cursor.rest, rest);
+        cursor.rest = after;
         Ok(atom)
     } else if is_property_letter(c) && unicode {
         cursor.rest = rest;
         read_class_property(cursor, tables, c == u32::from('P'))
     } else {
-        let Some((point, behind)) = read_escape(cursor.rest, unicode) else {
-            return Err(refused(begin, escape_fault(cursor.rest)));
+        let Some((point, after)) = parse_escape(cursor.rest, unicode) else {
+            return Err(rejected(begin, escape_fault(cursor.rest)));
         };
-        cursor.rest = behind;
+        cursor.rest = after;
         Ok(ClassAtom::Point(point))
     }
 }
@@ -114,9 +114,9 @@ fn read_class_property<'a>(
     ensures in_range { IfOk result IsClassAtomInRange }
     ensures kind { FailsByNoLimit result }
 {
-    match read_property(cursor, false, tables)? {
+    match parse_property(cursor, false, tables)? {
         Property::Points(set) => Ok(ClassAtom::Property { set, negated }),
-        Property::Strings(_) => Err(cursor.refuse(FaultKind::InvalidProperty)),
+        Property::Strings(_) => Err(cursor.reject(FaultKind::InvalidProperty)),
     }
 }
 
@@ -128,8 +128,8 @@ fn class_control<'a>(source: &'a [u32], rest: &'a [u32]) -> (ClassAtom<'static>,
     ensures in_range { IsClassAtomInRange result.0 }
 {
     match rest.split_first() {
-        Some((d, behind)) if is_letter(*d) || is_decimal(*d) || *d == u32::from('_') => {
-            (ClassAtom::Point(control(*d)), behind)
+        Some((d, after)) if is_letter(*d) || is_decimal(*d) || *d == u32::from('_') => {
+            (ClassAtom::Point(control(*d)), after)
         }
         _ => (ClassAtom::Point(u32::from('\\')), source),
     }

@@ -2,7 +2,7 @@
 ghost use Rattle.std.specs.Prelude.{◌≡◌, ◌++◌, ℕ, IfOk};
 ghost use Rattle.regress_base.specs.Classes.{white_space, line_terminators};
 ghost use Rattle.regress_base.specs.Intervals.{is_member, IsCanonical};
-ghost use Rattle.regress_classes.specs.ClassRows.{class_letter, members_of, class_members};
+ghost use Rattle.regress_classes.specs.ClassProductions.{class_letter, members_of, class_members};
 ghost use Rattle.regress_classes.specs.ClassViews.{HasMembers};
 
 use regress_base::charclasses::{CharacterClassType, digit_intervals, word_intervals};

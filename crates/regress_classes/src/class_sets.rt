@@ -1,10 +1,10 @@
 //! Parses classes with the flag v.
 ghost use Rattle.std.specs.Prelude.{◌≡◌, ◌<◌, ◌≤◌, length, ◌+◌, ◌-◌, ◌^◌, Bool, true, false, drop, [], ◌∷◌, if◌then◌else◌, IfOk, OnOk, OnErr};
-ghost use Rattle.regress_classes.specs.ClassSets.{Value as Written, Operand as WrittenOperand, nested, are_at, operand_at, part_behind, contents_behind, contents_at, class_set_by};
-ghost use Rattle.regress_lexical.specs.Fault.{is_limit, FailsByNoLimit, FailsByLevelsOnlyIf};
-ghost use Rattle.regress_lexical.specs.Reads.{ReadsAs};
-ghost use Rattle.regress_classes.specs.ClassViews.{IsValue, IsUnion, Joins, IsOperand, IsClassSetRead, inner_of, parts_onto, operands_onto, sign_of, applied, kept};
-ghost use Rattle.regress_lexical.specs.Views.{source};
+ghost use Rattle.regress_classes.specs.ClassSets.{Value as Written, Operand as WrittenOperand, nested, are_at, operand_at, part_after, contents_after, contents_at, class_set_by};
+ghost use Rattle.regress_lexer.specs.Fault.{is_limit, FailsByNoLimit, FailsByDepthOnlyIf};
+ghost use Rattle.regress_lexer.specs.Reads.{ParsesAs};
+ghost use Rattle.regress_classes.specs.ClassViews.{IsValue, IsUnion, Joins, IsOperand, IsClassSetRead, inner_of, parts_onto, operands_onto, symbol_of, applied, kept};
+ghost use Rattle.regress_lexer.specs.Views.{source};
 ghost use Rattle.regress_unicode.specs.TableOf.{table_of};
 
 mod chain;
@@ -16,12 +16,12 @@ mod union;
 mod value;
 
 use chain::Chain;
-use character::read_set_character;
+use character::parse_set_character;
 use operand::{Operand, read_escaped_operand};
 pub use others::Others;
 use regress_base::codepointset::Interval;
-use regress_lexical::cursor::Cursor;
-use regress_lexical::fault::{Fault, FaultKind, refused};
+use regress_lexer::cursor::Cursor;
+use regress_lexer::fault::{Fault, FaultKind, rejected};
 use regress_unicode::Tables;
 use std::alloc::AllocError;
 use union::Union;
@@ -37,28 +37,28 @@ pub struct ClassSet {
 impl ClassSet {
     /// Returns the contents as those of an operand, where a negated class is its complement.
     fn into_nested(self) -> Result<Value, AllocError>
-        requires { self.value.others.levels < 2 ^ 32 - 1 }
+        requires { self.value.others.nesting < 2 ^ 32 - 1 }
         ensures { IfOk result (λ held. (read : Bool × Written) → IsClassSetRead self read → IsValue held (nested read)) }
     {
         let ClassSet { negated, mut value } = self;
         if negated {
             value.set = value.set.inverted()?;
         }
-        value.others.levels += 1;
+        value.others.nesting += 1;
         Ok(value)
     }
 }
 
 /// The context of an operand.
 #[derive(Clone, Copy)]
-struct Surroundings<'a> {
+struct OperandContext<'a> {
     tables: &'a Tables,
     /// The flag u.
     unicode: bool,
     /// Whether the class around is negated.
     negated: bool,
     /// The remaining nesting depth for classes.
-    levels: u32,
+    nesting: u32,
     /// The number of code points that remained before the `[` of the class around.
     opened: usize,
 }
@@ -73,7 +73,7 @@ enum Operator {
 impl Operator {
     /// Returns the character that the operator has twice.
     fn sign(self) -> char
-        ensures { result ≡ sign_of self }
+        ensures { result ≡ symbol_of self }
     {
         match self {
             Operator::Intersection => '&',
@@ -104,99 +104,99 @@ impl Operator {
 
 /// Parses a class after its `[` (dialect of ECMA-262, ClassSetExpression).
 ///
-/// `unicode` is the flag u, `levels` the remaining nesting depth, the class itself included, and `opened` the number of
+/// `unicode` is the flag u, `nesting` the remaining nesting depth, the class itself included, and `opened` the number of
 /// code points that remained before the `[`. Afterwards `cursor` is after the `]`.
 ///
 /// # Errors
-/// - [`Fault::Refused`] if the class is not closed, if it nests deeper than `levels`, if it is negated and has strings,
+/// - [`Fault::Rejected`] if the class is not closed, if it nests deeper than `nesting`, if it is negated and has strings,
 ///   or if it has an invalid operand, operator or range.
 /// - [`Fault::Memory`] if an allocation fails.
 ///
 /// After an error the position of `cursor` is unspecified.
 ///
 /// # Complexity
-/// The contents of a class are traversed once for each class around it. The depth of recursion is at most `levels`.
+/// The contents of a class are traversed once for each class around it. The depth of recursion is at most `nesting`.
 #[cycle(class_set)]
-pub fn read_class_set(
+pub fn parse_class_set(
     cursor: &mut Cursor,
     tables: &Tables,
     unicode: bool,
-    levels: u32,
+    nesting: u32,
     opened: usize,
 ) -> Result<ClassSet, Fault>
-    ensures value { ReadsAs IsClassSetRead (source cursor.new) result (class_set_by (table_of tables.now) unicode levels (source cursor.old)) }
-    ensures levels { IfOk result (λ class. class.value.others.levels < levels) }
-    ensures kind { FailsByLevelsOnlyIf result (levels ≤ length (source cursor.old)) }
+    ensures value { ParsesAs IsClassSetRead (source cursor.new) result (class_set_by (table_of tables.now) unicode nesting (source cursor.old)) }
+    ensures nesting { IfOk result (λ class. class.value.others.nesting < nesting) }
+    ensures kind { FailsByDepthOnlyIf result (nesting ≤ length (source cursor.old)) }
 {
-    if levels == 0 {
-        return Err(refused(opened, FaultKind::TooDeep));
+    if nesting == 0 {
+        return Err(rejected(opened, FaultKind::TooDeep));
     }
     let negated = cursor.try_consume('^');
-    let around = Surroundings {
+    let around = OperandContext {
         tables,
         unicode,
         negated,
-        levels: levels - 1,
+        nesting: nesting - 1,
         opened,
     };
-    let value = read_contents(cursor, &around)?;
+    let value = parse_contents(cursor, &around)?;
     if negated && value.has_strings() {
-        return Err(refused(opened, FaultKind::InvalidNegatedClass));
+        return Err(rejected(opened, FaultKind::InvalidNegatedClass));
     }
     Ok(ClassSet { negated, value })
 }
 
 /// Parses the contents of a class, up to its `]`.
 #[cycle(class_set)]
-fn read_contents(cursor: &mut Cursor, around: &Surroundings) -> Result<Value, Fault>
-    ensures value { ReadsAs IsValue (source cursor.new) result
+fn parse_contents(cursor: &mut Cursor, around: &OperandContext) -> Result<Value, Fault>
+    ensures value { ParsesAs IsValue (source cursor.new) result
         (contents_at (table_of around.now.tables.now) around.now.unicode (inner_of around.now) around.now.negated (source cursor.old)) }
-    ensures kind { FailsByLevelsOnlyIf result (around.now.levels < length (source cursor.old)) }
+    ensures kind { FailsByDepthOnlyIf result (around.now.nesting < length (source cursor.old)) }
 {
     if cursor.try_consume(']') {
         return Ok(Value::new(cursor.alloc));
     }
     if cursor.rest.is_empty() {
-        return Err(refused(around.opened, FaultKind::UnbalancedSet));
+        return Err(rejected(around.opened, FaultKind::UnbalancedSet));
     }
     let left = cursor.rest.len();
-    let first = read_operand(cursor, around)?;
-    read_behind(cursor, around, first, left)
+    let first = parse_operand(cursor, around)?;
+    parse_after_first_operand(cursor, around, first, left)
 }
 
 /// Parses the contents after the first operand. `left` is the number of code points that remained before that.
 #[cycle(class_set)]
-fn read_behind(
+fn parse_after_first_operand(
     cursor: &mut Cursor,
-    around: &Surroundings,
+    around: &OperandContext,
     first: Operand,
     left: usize,
 ) -> Result<Value, Fault>
     requires { (operand : WrittenOperand) × IsOperand first operand }
-    ensures value { (operand : WrittenOperand) → IsOperand first operand → ReadsAs IsValue (source cursor.new) result
-        (contents_behind (table_of around.now.tables.now) around.now.unicode (inner_of around.now) around.now.negated (operand, source cursor.old)) }
-    ensures kind { FailsByLevelsOnlyIf result (around.now.levels < length (source cursor.old)) }
+    ensures value { (operand : WrittenOperand) → IsOperand first operand → ParsesAs IsValue (source cursor.new) result
+        (contents_after (table_of around.now.tables.now) around.now.unicode (inner_of around.now) around.now.negated (operand, source cursor.old)) }
+    ensures kind { FailsByDepthOnlyIf result (around.now.nesting < length (source cursor.old)) }
 {
-    if try_consume_both(cursor, '&') {
+    if try_consume_twice(cursor, '&') {
         let value = first.into_value(cursor.alloc)?;
-        read_operands(cursor, around, value, Operator::Intersection)
-    } else if try_consume_both(cursor, '-') {
+        parse_operands(cursor, around, value, Operator::Intersection)
+    } else if try_consume_twice(cursor, '-') {
         let value = first.into_value(cursor.alloc)?;
-        read_operands(cursor, around, value, Operator::Subtraction)
+        parse_operands(cursor, around, value, Operator::Subtraction)
     } else if cursor.try_consume('&') {
         let mut union = Union::new(cursor.alloc);
         union.add_operand(first)?;
         union.add_point(u32::from('&'))?;
-        read_parts(cursor, around, union)
+        parse_parts(cursor, around, union)
     } else {
         let mut union = Union::new(cursor.alloc);
-        read_part_behind(cursor, around, first, left, &mut union)?;
-        read_parts(cursor, around, union)
+        parse_rest_of_part(cursor, around, first, left, &mut union)?;
+        parse_parts(cursor, around, union)
     }
 }
 
 /// Consumes `c` and another `c`, if both are next.
-fn try_consume_both(cursor: &mut Cursor, c: char) -> bool
+fn try_consume_twice(cursor: &mut Cursor, c: char) -> bool
     ensures found { result ≡ are_at c (source cursor.old) }
     ensures moves { source cursor.new ≡ (if result then drop 2 (source cursor.old) else source cursor.old) }
 {
@@ -219,18 +219,22 @@ fn are_at(source: &[u32], c: char) -> bool
 
 /// Parses the parts up to `]`, and adds their contents to `union`.
 #[cycle(class_set)]
-fn read_parts(cursor: &mut Cursor, around: &Surroundings, mut union: Union) -> Result<Value, Fault>
-    ensures value { (held : Written) → IsUnion union held → ReadsAs IsValue (source cursor.new) result
+fn parse_parts(
+    cursor: &mut Cursor,
+    around: &OperandContext,
+    mut union: Union,
+) -> Result<Value, Fault>
+    ensures value { (held : Written) → IsUnion union held → ParsesAs IsValue (source cursor.new) result
         (parts_onto (table_of around.now.tables.now) around.now.unicode (inner_of around.now) around.now.negated held (source cursor.old)) }
-    ensures kind { FailsByLevelsOnlyIf result (around.now.levels < length (source cursor.old)) }
+    ensures kind { FailsByDepthOnlyIf result (around.now.nesting < length (source cursor.old)) }
 {
     while !cursor.is_at(']') {
         if cursor.rest.is_empty() {
-            return Err(refused(around.opened, FaultKind::UnbalancedSet));
+            return Err(rejected(around.opened, FaultKind::UnbalancedSet));
         }
         let left = cursor.rest.len();
-        let first = read_operand(cursor, around)?;
-        read_part_behind(cursor, around, first, left, &mut union)?;
+        let first = parse_operand(cursor, around)?;
+        parse_rest_of_part(cursor, around, first, left, &mut union)?;
     }
     cursor.try_consume(']');
     Ok(union.into_value()?)
@@ -239,47 +243,47 @@ fn read_parts(cursor: &mut Cursor, around: &Surroundings, mut union: Union) -> R
 /// Parses the rest of a part after its first operand, and adds its contents to `union`. A hyphen makes a range. `left`
 /// is the number of code points that remained before the part.
 #[cycle(class_set)]
-fn read_part_behind(
+fn parse_rest_of_part(
     cursor: &mut Cursor,
-    around: &Surroundings,
+    around: &OperandContext,
     first: Operand,
     left: usize,
     union: &mut Union,
 ) -> Result<(), Fault>
     requires { (operand : WrittenOperand) × IsOperand first operand }
-    ensures value { (operand : WrittenOperand) → IsOperand first operand → ReadsAs (λ _ part. Joins part union.old union.new) (source cursor.new) result
-        (part_behind (table_of around.now.tables.now) around.now.unicode (inner_of around.now) around.now.negated (operand, source cursor.old)) }
-    ensures kind { FailsByLevelsOnlyIf result (around.now.levels < length (source cursor.old)) }
+    ensures value { (operand : WrittenOperand) → IsOperand first operand → ParsesAs (λ _ part. Joins part union.old union.new) (source cursor.new) result
+        (part_after (table_of around.now.tables.now) around.now.unicode (inner_of around.now) around.now.negated (operand, source cursor.old)) }
+    ensures kind { FailsByDepthOnlyIf result (around.now.nesting < length (source cursor.old)) }
 {
     if !cursor.try_consume('-') {
         union.add_operand(first)?;
         return Ok(());
     }
     let Operand::Character(a) = first else {
-        return Err(refused(left, FaultKind::InvalidSetRange));
+        return Err(rejected(left, FaultKind::InvalidSetRange));
     };
-    match read_operand(cursor, around)? {
+    match parse_operand(cursor, around)? {
         Operand::Character(b) if a <= b => Ok(union.add(Interval::new(a, b))?),
-        _ => Err(refused(left, FaultKind::InvalidSetRange)),
+        _ => Err(rejected(left, FaultKind::InvalidSetRange)),
     }
 }
 
 /// Parses the operands after an operator, up to `]`.
 #[cycle(class_set)]
-fn read_operands(
+fn parse_operands(
     cursor: &mut Cursor,
-    around: &Surroundings,
+    around: &OperandContext,
     value: Value,
     operator: Operator,
 ) -> Result<Value, Fault>
-    ensures value { (held : Written) → IsValue value held → ReadsAs IsValue (source cursor.new) result
+    ensures value { (held : Written) → IsValue value held → ParsesAs IsValue (source cursor.new) result
         (operands_onto (table_of around.now.tables.now) around.now.unicode (inner_of around.now) around.now.negated
-        (sign_of operator) (applied operator) held (source cursor.old)) }
-    ensures kind { FailsByLevelsOnlyIf result (around.now.levels < length (source cursor.old)) }
+        (symbol_of operator) (applied operator) held (source cursor.old)) }
+    ensures kind { FailsByDepthOnlyIf result (around.now.nesting < length (source cursor.old)) }
 {
     let mut chain = Chain::new(value, operator);
     loop {
-        let operand = read_operand(cursor, around)?.into_value(cursor.alloc)?;
+        let operand = parse_operand(cursor, around)?.into_value(cursor.alloc)?;
         if cursor.try_consume(']') {
             return Ok(chain.close(operand)?);
         }
@@ -291,40 +295,40 @@ fn read_operands(
 /// Consumes an operator. Fails if none is next; at the end of the source the error is that the class is not closed.
 /// `opened` is the number of code points that remained before the `[` of the class.
 fn consume_operator(cursor: &mut Cursor, operator: Operator, opened: usize) -> Result<(), Fault>
-    ensures ok { OnOk result ((are_at (sign_of operator) (source cursor.old) ≡ true) × (source cursor.new ≡ drop 2 (source cursor.old))) }
-    ensures err { OnErr result (are_at (sign_of operator) (source cursor.old) ≡ false) }
+    ensures ok { OnOk result ((are_at (symbol_of operator) (source cursor.old) ≡ true) × (source cursor.new ≡ drop 2 (source cursor.old))) }
+    ensures err { OnErr result (are_at (symbol_of operator) (source cursor.old) ≡ false) }
     ensures kind { FailsByNoLimit result }
 {
-    if try_consume_both(cursor, operator.sign()) {
+    if try_consume_twice(cursor, operator.sign()) {
         return Ok(());
     }
     if cursor.rest.is_empty() {
-        Err(refused(opened, FaultKind::UnbalancedSet))
+        Err(rejected(opened, FaultKind::UnbalancedSet))
     } else if cursor.is_at(operator.sign()) {
-        Err(cursor.refuse(FaultKind::UnbalancedSet))
+        Err(cursor.reject(FaultKind::UnbalancedSet))
     } else {
-        Err(cursor.refuse(operator.unexpected()))
+        Err(cursor.reject(operator.unexpected()))
     }
 }
 
 /// Parses an operand (dialect of ECMA-262, ClassSetOperand).
 #[cycle(class_set)]
-fn read_operand(cursor: &mut Cursor, around: &Surroundings) -> Result<Operand, Fault>
-    ensures value { ReadsAs IsOperand (source cursor.new) result
+fn parse_operand(cursor: &mut Cursor, around: &OperandContext) -> Result<Operand, Fault>
+    ensures value { ParsesAs IsOperand (source cursor.new) result
         (operand_at (table_of around.now.tables.now) around.now.unicode (inner_of around.now) around.now.negated (source cursor.old)) }
-    ensures kind { FailsByLevelsOnlyIf result (around.now.levels < length (source cursor.old)) }
+    ensures kind { FailsByDepthOnlyIf result (around.now.nesting < length (source cursor.old)) }
 {
     if cursor.rest.is_empty() {
-        return Err(cursor.refuse(FaultKind::EmptyOperand));
+        return Err(cursor.reject(FaultKind::EmptyOperand));
     }
     let begin = cursor.rest.len();
     if cursor.try_consume('[') {
-        let class = read_class_set(cursor, around.tables, around.unicode, around.levels, begin)?;
+        let class = parse_class_set(cursor, around.tables, around.unicode, around.nesting, begin)?;
         return Ok(Operand::Class(class.into_nested()?));
     }
     if cursor.try_consume('\\') {
         return read_escaped_operand(cursor, around, begin);
     }
-    let character = read_set_character(cursor, around.unicode)?;
+    let character = parse_set_character(cursor, around.unicode)?;
     Ok(Operand::Character(character))
 }

@@ -10,18 +10,18 @@ use std::alloc::{AllocError, Global};
 use std::marker::Model;
 
 /// Fewer intervals than this are inserted into a set one by one.
-const FEW: usize = 32;
+const SINGLE_INSERTION_LIMIT: usize = 32;
 
 /// The first set in a class, and all other intervals in the order in which they are written. They are sorted once all
 /// are there: inserting each one in order would move those after it, so a class in descending order would take
 /// quadratic time.
 #[derive(Drop)]
-pub(crate) struct Gathered {
+pub(crate) struct IntervalCollector {
     set: CodePointSet,
     list: Vec<Interval>,
 }
 
-impl Model for Gathered {
+impl Model for IntervalCollector {
     ghost use Rattle.std.specs.Prelude.{List, ◌++◌};
     ghost use Rattle.regress_base.specs.Intervals.{Bounds};
 
@@ -30,12 +30,12 @@ impl Model for Gathered {
     ghost view = { λ g. g.set ++ g.list.items };
 }
 
-impl Gathered {
+impl IntervalCollector {
     /// Returns an empty collection.
-    pub(crate) fn new(alloc: Global) -> Gathered
+    pub(crate) fn new(alloc: Global) -> IntervalCollector
         ensures { result ≡ [] }
     {
-        Gathered {
+        IntervalCollector {
             set: CodePointSet::new(alloc),
             list: Vec::new(alloc),
         }
@@ -80,12 +80,12 @@ impl Gathered {
         let mut set = self.set;
         let list = self.list;
         if set.is_empty() {
-            return Ok(set_of_written(list));
+            return Ok(set_of_unordered(list));
         }
-        if list.len() < FEW {
+        if list.len() < SINGLE_INSERTION_LIMIT {
             add_intervals(&mut set, &list)?;
         } else {
-            set.add_set(set_of_written(list))?;
+            set.add_set(set_of_unordered(list))?;
         }
         set_is_canonical(&set);
         Ok(set)
@@ -93,7 +93,7 @@ impl Gathered {
 }
 
 /// Returns the set of intervals in any order, sorted in place.
-fn set_of_written(list: Vec<Interval>) -> CodePointSet
+fn set_of_unordered(list: Vec<Interval>) -> CodePointSet
     ensures { HasMembers list.items result }
 {
     if is_canonical(&list) {
@@ -115,7 +115,7 @@ fn join_neighbours(list: &mut Vec<Interval>)
         return;
     };
     is_interval(*lowest);
-    list.dedup_by(|next, last| reach(last, *next));
+    list.dedup_by(|next, last| merge_if_adjacent(last, *next));
 }
 
 /// States the bounds of an interval for a proof that needs them. Does nothing else.
@@ -127,7 +127,7 @@ fn is_interval(interval: Interval)
 
 /// Extends `last` to the end of `next`, which starts no earlier, if no code point is between the two. Returns whether
 /// it did.
-fn reach(last: &mut Interval, next: Interval) -> bool
+fn merge_if_adjacent(last: &mut Interval, next: Interval) -> bool
     ensures intervals { IsInterval last.old × IsInterval next }
     ensures reached { MatchBool result
         ((next.first ≤ last.old.last + 1) × (last.new ≡ record { first = last.old.first; last = max last.old.last next.last }))

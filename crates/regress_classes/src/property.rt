@@ -1,22 +1,22 @@
 //! Parses properties by name.
 ghost use Rattle.std.specs.Prelude.{◌≡◌, ◌==◌, ◌||◌, true, [], ◌∷◌, string_bytes, option_map, IfOk, IfSome, IfNone};
-ghost use Rattle.regress_lexical.specs.Digits.{front};
+ghost use Rattle.regress_lexer.specs.Digits.{front};
 ghost use Rattle.regress_classes.specs.Properties.{is_property_character, lone_value, list_named, value_in, closed_property, property_word_at, braced_property_at, property_at};
-ghost use Rattle.regress_lexical.specs.Fault.{FailsByNoLimit};
-ghost use Rattle.regress_lexical.specs.Reads.{Reads};
+ghost use Rattle.regress_lexer.specs.Fault.{FailsByNoLimit};
+ghost use Rattle.regress_lexer.specs.Reads.{Reads};
 ghost use Rattle.regress_classes.specs.ClassViews.{property_of};
-ghost use Rattle.regress_lexical.specs.Views.{source};
+ghost use Rattle.regress_lexer.specs.Views.{source};
 ghost use Rattle.regress_unicode.specs.TableOf.{table_of};
 
 use regress_base::codepointset::CodePointSet;
-use regress_lexical::cursor::Cursor;
-use regress_lexical::digits::{Read, is_decimal, is_letter};
-use regress_lexical::fault::{Fault, FaultKind, refused};
+use regress_lexer::cursor::Cursor;
+use regress_lexer::digits::{Read, is_decimal, is_letter};
+use regress_lexer::fault::{Fault, FaultKind, rejected};
 use regress_unicode::Tables;
 use std::alloc::AllocError;
 
 /// The capacity for a word: nearly all names of Unicode fit, so a word seldom grows.
-const WORD_ROOM: usize = 32;
+const WORD_CAPACITY: usize = 32;
 
 /// The property that a name denotes.
 #[derive(Clone, Copy)]
@@ -40,12 +40,12 @@ pub fn is_property_letter(c: u32) -> bool
 /// `cursor` is after the `}`.
 ///
 /// # Errors
-/// - [`Fault::Refused`] if no `{` follows, if the braces are not closed, or if `tables` has no property of that name.
+/// - [`Fault::Rejected`] if no `{` follows, if the braces are not closed, or if `tables` has no property of that name.
 /// - [`Fault::Memory`] if an allocation fails.
 ///
 /// After an error the position of `cursor` is unspecified.
 #[tactic(auto, unfolding(crate::specs::Properties::property_at))]
-pub fn read_property<'a>(
+pub fn parse_property<'a>(
     cursor: &mut Cursor,
     sets: bool,
     tables: &'a Tables,
@@ -54,12 +54,12 @@ pub fn read_property<'a>(
     ensures kind { FailsByNoLimit result }
 {
     if !cursor.try_consume('{') {
-        return Err(cursor.refuse(FaultKind::PropertyWithoutBrace));
+        return Err(cursor.reject(FaultKind::PropertyWithoutBrace));
     }
     let name = cursor.rest.len();
     match read_braced(cursor, sets, tables)? {
         Some(property) if cursor.try_consume('}') => Ok(property),
-        _ => Err(refused(name, FaultKind::InvalidProperty)),
+        _ => Err(rejected(name, FaultKind::InvalidProperty)),
     }
 }
 
@@ -88,7 +88,7 @@ fn read_braced<'a>(
 fn read_word(cursor: &mut Cursor) -> Result<Option<String>, AllocError>
     ensures { IfOk result (λ word. option_map (λ word. (string_bytes word, source cursor.new)) word ≡ property_word_at (source cursor.old)) }
 {
-    let mut word = String::with_capacity(cursor.alloc, WORD_ROOM)?;
+    let mut word = String::with_capacity(cursor.alloc, WORD_CAPACITY)?;
     while let Some((c, rest)) = property_character(cursor.rest) {
         word.push(c)?;
         cursor.rest = rest;
@@ -100,7 +100,7 @@ fn read_word(cursor: &mut Cursor) -> Result<Option<String>, AllocError>
 }
 
 /// Splits off the first character, if it is a letter, a digit or a low line.
-#[tactic(auto, unfolding(regress_lexical::specs::Digits::front))]
+#[tactic(auto, unfolding(regress_lexer::specs::Digits::front))]
 fn property_character<'a>(text: &'a [u32]) -> Read<'a, char>
     ensures some { IfSome result (λ found. (text.now ≡ found.0 ∷ found.1.now) × (is_property_character found.0 ≡ true)) }
     ensures none { IfNone result (front is_property_character text.now ≡ []) }

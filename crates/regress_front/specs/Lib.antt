@@ -10,15 +10,15 @@ pub use Rattle.regress_base.specs.FirstBytes
 pub use Rattle.regress_base.specs.ByteSets
 pub use Rattle.regress_base.specs.ByteBitmap
 pub use Rattle.regress_base.specs.AsciiBitmap
-pub use Rattle.regress_base.specs.Places
+pub use Rattle.regress_base.specs.Positions
 pub use Rattle.regress_base.specs.Needle
 pub use Rattle.regress_base.specs.Ranges
 -- The table of case and properties.
 pub use Rattle.regress_base.specs.Table
-pub use Rattle.regress_unicode.specs.FoldRows
+pub use Rattle.regress_unicode.specs.FoldEntries
 pub use Rattle.regress_unicode.specs.Parts
 pub use Rattle.regress_unicode.specs.TableOf
-pub use Rattle.regress_unicode.specs.Refusals
+pub use Rattle.regress_unicode.specs.ConstructionErrors
 pub use Rattle.regress_base.specs.Listing
 pub use Rattle.regress_unicode.specs.SmallTable
 -- Trees, and what they match.
@@ -45,13 +45,13 @@ pub use Rattle.regress_tree.specs.Walk
 pub use Rattle.regress_tree.specs.SmallSets
 pub use Rattle.regress_literal.specs.Literal
 -- Patterns.
-pub use Rattle.regress_lexical.specs.Source
+pub use Rattle.regress_lexer.specs.Source
 pub use Rattle.regress_syntax.specs.SettingOf
 pub use Rattle.regress_syntax.specs.Syntax
 pub use Rattle.regress_syntax.specs.Grammar
 pub use Rattle.regress_syntax.specs.Meaning
 pub use Rattle.regress_syntax.specs.SameNames
-pub use Rattle.regress_syntax.specs.Misplaced
+pub use Rattle.regress_syntax.specs.FirstErrors
 pub use Rattle.regress_parse.specs.TreeOf
 pub use Rattle.regress_parse.specs.Accepted
 pub use Rattle.regress_parse.specs.Fault

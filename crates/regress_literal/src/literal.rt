@@ -1,7 +1,7 @@
 //! Lowering of literals to bytes and small sets.
 ghost use Rattle.std.specs.Prelude.{◌≡◌, ◌≢◌, ℕ, ◌≤◌, ◌++◌, [], ◌∷◌, map, All, IfOk, IfSome, OnOk, is_some, string_bytes};
 ghost use Rattle.regress_base.specs.Intervals.{code_point_max};
-ghost use Rattle.regress_literal.specs.Literal.{piece, is_character, bytes_piece, piece_of as piece_of_class, lowered, AreApart, MeanLiterals};
+ghost use Rattle.regress_literal.specs.Literal.{piece, is_character, bytes_piece, piece_of as piece_of_class, lowered, NoAdjacentSequences, MatchLiterals};
 ghost use Rattle.regress_unicode.specs.TableOf.{table_of};
 
 use regress_tree::ir::Node;
@@ -26,14 +26,14 @@ pub enum Piece {
 impl Piece {
     ghost use Rattle.std.specs.Prelude.{◌≡◌, map, IfOk};
     ghost use Rattle.regress_literal.specs.Literal.{piece};
-    ghost use Rattle.regress_tree.specs.Tree.{leaf, row, trees};
+    ghost use Rattle.regress_tree.specs.Tree.{leaf, list, trees};
 
     /// Returns the nodes of the pieces, in order.
     ///
     /// # Errors
     /// Returns [`AllocError`] if an allocation fails. The pieces are dropped.
     pub fn into_nodes(alloc: Global, pieces: Vec<Piece>) -> Result<Vec<Node>, AllocError>
-        ensures { IfOk result (λ nodes. trees nodes.items ≡ row (map (λ p. leaf (piece p)) pieces.items)) }
+        ensures { IfOk result (λ nodes. trees nodes.items ≡ list (map (λ p. leaf (piece p)) pieces.items)) }
     {
         pieces.into_iter().map(Node::from).collect(alloc)
     }
@@ -108,8 +108,8 @@ pub fn lower_code_point_sequence(
 ) -> Result<Vec<Piece>, AllocError>
     requires { All (λ c. c ≤ code_point_max) cps.now }
     ensures pieces { IfOk result (λ pieces. map piece pieces.items ≡ lowered (table_of tables.now) icase unicode cps.now) }
-    ensures apart { IfOk result (λ pieces. AreApart (map piece pieces.items)) }
-    ensures meaning { IfOk result (λ pieces. MeanLiterals (table_of tables.now) icase unicode cps.now (map piece pieces.items)) }
+    ensures apart { IfOk result (λ pieces. NoAdjacentSequences (map piece pieces.items)) }
+    ensures meaning { IfOk result (λ pieces. MatchLiterals (table_of tables.now) icase unicode cps.now (map piece pieces.items)) }
 {
     let mut pieces = Vec::new(alloc);
     let mut text = String::new(alloc);

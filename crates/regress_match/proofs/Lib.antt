@@ -1,4 +1,4 @@
-pub mod laws
+pub mod lemmas
 pub mod CaptureLemmas
 pub mod UnsetLemmas
 pub mod WordLemmas
@@ -10,7 +10,7 @@ pub mod PeekLemmas
 pub mod RunLemmas
 pub mod FirstLemmas
 pub mod BetweenLemmas
-pub mod TurnLemmas
+pub mod CharacterLoopLemmas
 pub mod LeafLemmas
 pub mod SingleLemmas
 pub mod NamesLemmas

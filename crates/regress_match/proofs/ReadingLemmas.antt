@@ -10,8 +10,8 @@ use Rattle.std.proofs.Math.Seq.{drop-append_seam}
 use Rattle.std.proofs.lemmas.Str.{IsUtf8-drop, IsCharBoundary-past_char, encode_ascii, length-encode, len_utf8_ascii, len_utf8_bounds}
 use lib.Utf8.{encode}
 use Rattle.regress_tree.specs.Reading.{Read, character_at, read_after, read_before, read_before_by}
-use Rattle.regress_tree.proofs.laws.Characters.{character_at_from, character_at_parts, no_character}
-use Rattle.regress_tree.proofs.laws.Readings.{read_before-behind}
+use Rattle.regress_tree.proofs.lemmas.Characters.{character_at_from, character_at_parts, no_character}
+use Rattle.regress_tree.proofs.lemmas.Readings.{read_before-after}
 
 pub len_positive : (c : ℕ) → IsScalar c → 1 ≤ len_utf8 c
 len_positive c is = (len_utf8_bounds c).0
@@ -59,7 +59,7 @@ pub read_after_none : (bytes : List ℕ) (k : ℕ) → character_at bytes k ≡ 
 unfolding read_after
 read_after_none bytes k none = rw none refl
 
-pub read_after_some : (bytes : List ℕ) (k c : ℕ) → character_at bytes k ≡ Some c → read_after bytes k ≡ Some (record { character = c; place = k + len_utf8 c })
+pub read_after_some : (bytes : List ℕ) (k c : ℕ) → character_at bytes k ≡ Some c → read_after bytes k ≡ Some (record { character = c; position = k + len_utf8 c })
 unfolding read_after
 read_after_some bytes k c some = rw some refl
 
@@ -82,10 +82,10 @@ by_test true x h = absurd (h refl)
 by_test false x h = refl
 
 by_none : (b : Bool) (o : Option ℕ) (n k : ℕ) → ((c : ℕ) → b ≡ true → o ≡ Some c → (len_utf8 c == n) ≡ true → ⊥) →
-    (if b then option_and_then {U = Read} (λ c. if len_utf8 c == n then Some (record { character = c; place = k - n }) else None) o else None) ≡ None
+    (if b then option_and_then {U = Read} (λ c. if len_utf8 c == n then Some (record { character = c; position = k - n }) else None) o else None) ≡ None
 by_none false o n k h = refl
 by_none true None n k h = refl
-by_none true (Some c) n k h = by_test (len_utf8 c == n) (record { character = c; place = k - n }) (λ e. h c refl refl e)
+by_none true (Some c) n k h = by_test (len_utf8 c == n) (record { character = c; position = k - n }) (λ e. h c refl refl e)
 
 all_none : (a b c d : Option Read) → a ≡ None → b ≡ None → c ≡ None → d ≡ None → option_or a (option_or b (option_or c d)) ≡ None
 all_none a b c d none-a none-b none-c none-d =
@@ -113,7 +113,7 @@ before_none bytes k utf8 off =
 
 -- the character that ends at an offset
 pub before_some : (bytes : List ℕ) (k c : ℕ) (xs : List ℕ) → IsScalar c → k ≤ length bytes → take k bytes ≡ xs ++ encode_utf8 c →
-    read_before bytes k ≡ Some (record { character = c; place = k - len_utf8 c })
+    read_before bytes k ≡ Some (record { character = c; position = k - len_utf8 c })
 before_some bytes k c xs is le split =
     let len : length xs + len_utf8 c ≡ k =
     sym (sym (length-take-le k bytes le) ∙ ap length split ∙ length-append xs (encode_utf8 c) ∙ ap (λ n. length xs + n) (length-encode c)) in
@@ -121,28 +121,28 @@ before_some bytes k c xs is le split =
     sym (take-append-drop k bytes) ∙ ap (λ ys. ys ++ drop k bytes) split ∙ append_assoc xs (encode_utf8 c) (drop k bytes) in
     let here : drop (length xs) bytes ≡ encode_utf8 c ++ drop k bytes =
     ap (drop (length xs)) whole ∙ drop-append_seam xs (encode_utf8 c ++ drop k bytes) in
-    ap (read_before bytes) (sym len) ∙ read_before-behind bytes (length xs) c (drop k bytes) is here
-    ∙ ap (λ i. Some (record { character = c; place = i })) (omega (arith, len))
+    ap (read_before bytes) (sym len) ∙ read_before-after bytes (length xs) c (drop k bytes) is here
+    ∙ ap (λ i. Some (record { character = c; position = i })) (omega (arith, len))
 
 ascii_scalar : (b : ℕ) → b < 128 → IsScalar b
 ascii_scalar b lt = grind arith
 
 -- an ASCII byte is a character of its own
 pub ascii_after : (bytes : List ℕ) (k b : ℕ) → b < 128 → k < length bytes → get_or bytes k 0 ≡ b →
-    read_after bytes k ≡ Some (record { character = b; place = k + 1 })
+    read_after bytes k ≡ Some (record { character = b; position = k + 1 })
 ascii_after bytes k b lt within is =
     let here : drop k bytes ≡ encode_utf8 b ++ drop (k + 1) bytes =
     drop_more bytes k 0 within ∙ ap (λ x. x ∷ drop (k + 1) bytes) is ∙ ap (λ xs. xs ++ drop (k + 1) bytes) (sym (encode_ascii b lt)) in
     read_after_some bytes k b (character_at_from bytes k b (drop (k + 1) bytes) (ascii_scalar b lt) here)
-    ∙ ap (λ n. Some (record { character = b; place = k + n })) (len_utf8_ascii b lt)
+    ∙ ap (λ n. Some (record { character = b; position = k + n })) (len_utf8_ascii b lt)
 
 pub ascii_before : (bytes : List ℕ) (k b : ℕ) → b < 128 → k < length bytes → get_or bytes k 0 ≡ b →
-    read_before bytes (k + 1) ≡ Some (record { character = b; place = k })
+    read_before bytes (k + 1) ≡ Some (record { character = b; position = k })
 ascii_before bytes k b lt within is =
     let split : take (k + 1) bytes ≡ take k bytes ++ encode_utf8 b =
     take_more bytes k 0 within ∙ ap (λ x. take k bytes ++ x ∷ []) is ∙ ap (λ xs. take k bytes ++ xs) (sym (encode_ascii b lt)) in
     before_some bytes (k + 1) b (take k bytes) (ascii_scalar b lt) (omega (arith, within)) split
-    ∙ ap (λ i. Some (record { character = b; place = i })) (omega (arith, len_utf8_ascii b lt))
+    ∙ ap (λ i. Some (record { character = b; position = i })) (omega (arith, len_utf8_ascii b lt))
 
 pub before_start : (bytes : List ℕ) → read_before bytes 0 ≡ None
 unfolding read_before

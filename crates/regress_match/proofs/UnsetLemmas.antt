@@ -13,8 +13,8 @@ same_tests start end end' k lt le = grind arith
 before_tests : (start group k : ℕ) → k < group → (nat_le start k && nat_lt k group) ≡ (nat_le start k && nat_lt k (group + 1))
 before_tests start group k lt = grind arith
 
-behind_test : (start group k : ℕ) → group < k → (nat_le start k && nat_lt k group) ≡ (nat_le start k && nat_lt k (group + 1))
-behind_test start group k lt = grind arith
+after_test : (start group k : ℕ) → group < k → (nat_le start k && nat_lt k group) ≡ (nat_le start k && nat_lt k (group + 1))
+after_test start group k lt = grind arith
 
 pub unset-none : (k start end : ℕ) (spans : List (Option CaptureSpan)) → end ≤ start → unset_from k start end spans ≡ spans
 unset-none k start end [] le = refl
@@ -33,7 +33,7 @@ beyond : (k start group : ℕ) (spans : List (Option CaptureSpan)) → group < k
     unset_from k start group spans ≡ unset_from k start (group + 1) spans
 beyond k start group [] lt = refl
 beyond k start group (x ∷ xs) lt =
-    ap₂ (λ (b : Bool) ys. (if b then None else x) ∷ ys) (behind_test start group k lt) (beyond (k + 1) start group xs (omega (arith, lt)))
+    ap₂ (λ (b : Bool) ys. (if b then None else x) ∷ ys) (after_test start group k lt) (beyond (k + 1) start group xs (omega (arith, lt)))
 
 -- unsetting one more group
 more_at : (k start j : ℕ) (spans : List (Option CaptureSpan)) → start ≤ k + j →
@@ -64,12 +64,12 @@ set-same [] i v is = refl
 set-same (x ∷ xs) zero v is = ap (λ y. y ∷ xs) is
 set-same (x ∷ xs) (suc i) v is = ap (λ ys. x ∷ ys) (set-same xs i v is)
 
-clipped_by : (start end behind : ℕ) (spans : List (Option CaptureSpan)) → (end < length spans) ⊎ (length spans ≤ end) → behind ≡ min end (length spans) →
-    unset_from 0 start behind spans ≡ unset_from 0 start end spans
-clipped_by start end behind spans (inl le) is = ap (λ k. unset_from 0 start k spans) (omega (arith, is, le))
-clipped_by start end behind spans (inr le) is =
-    unset-past 0 start behind end spans (omega (arith, is, le)) (omega (arith, is, le))
+clipped_by : (start end after : ℕ) (spans : List (Option CaptureSpan)) → (end < length spans) ⊎ (length spans ≤ end) → after ≡ min end (length spans) →
+    unset_from 0 start after spans ≡ unset_from 0 start end spans
+clipped_by start end after spans (inl le) is = ap (λ k. unset_from 0 start k spans) (omega (arith, is, le))
+clipped_by start end after spans (inr le) is =
+    unset-past 0 start after end spans (omega (arith, is, le)) (omega (arith, is, le))
 
-pub unset-clipped : (start end behind : ℕ) (spans : List (Option CaptureSpan)) → behind ≡ min end (length spans) →
-    unset_from 0 start behind spans ≡ unset_from 0 start end spans
-unset-clipped start end behind spans is = clipped_by start end behind spans (cases_lt end (length spans)) is
+pub unset-clipped : (start end after : ℕ) (spans : List (Option CaptureSpan)) → after ≡ min end (length spans) →
+    unset_from 0 start after spans ≡ unset_from 0 start end spans
+unset-clipped start end after spans is = clipped_by start end after spans (cases_lt end (length spans)) is

@@ -1,6 +1,6 @@
 -- Captures of groups, and the record of changes that undoes them (the trail).
 use Rattle.std.specs.Prelude.{◌≡◌, ℕ, List, [], ◌∷◌, ◌++◌, Option, slice_set}
-use Rattle.regress_tree.specs.Steps.{CaptureSpan, State}
+use Rattle.regress_tree.specs.Steps.{CaptureSpan, MatchState}
 use Rattle.regress_match.specs.declared.captures.Undo.{Undo}
 use Rattle.regress_match.specs.declared.captures.Captures.{Captures}
 
@@ -16,5 +16,5 @@ pub record Later (old new : Captures) : Type 0 where
   pub undo : undone noted new.spans.items ≡ old.spans.items
 
 -- the state (MatchState) at a position with these captures
-abbrev pub state : Captures → ℕ → State
-state c k = record { place = k; captures = c.spans.items }
+abbrev pub state : Captures → ℕ → MatchState
+state c k = record { position = k; captures = c.spans.items }

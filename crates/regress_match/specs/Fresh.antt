@@ -3,8 +3,8 @@ use Rattle.std.specs.Prelude.{◌≡◌, [], None, length, replicate}
 use Rattle.regress_tree.specs.Tree.{Tree}
 use Rattle.regress_tree.specs.WellFormed.{captures}
 use Rattle.regress_match.specs.declared.captures.Captures.{Captures}
-use Rattle.regress_match.specs.declared.machine.Answer.{Answer}
-use Rattle.regress_match.specs.declared.machine.Answer.TheVariants as answers
+use Rattle.regress_match.specs.declared.machine.Response.{Response}
+use Rattle.regress_match.specs.declared.machine.Response.TheVariants as yields
 
 -- every group of the tree is unset, and no change is recorded
 pub record IsFresh (t : Tree) (c : Captures) : Type 0 where
@@ -12,7 +12,7 @@ pub record IsFresh (t : Tree) (c : Captures) : Type 0 where
   pub trail : c.trail.items ≡ []
 
 -- The condition holds if the result is that there is no outcome.
-abbrev pub IfNowhere : Type 0 → Answer → Type 0
-IfNowhere P (answers.At k) = Unit {0}
-IfNowhere P answers.Nowhere = P
-IfNowhere P answers.OutOfSteps = Unit {0}
+abbrev pub IfNoOutcome : Type 0 → Response → Type 0
+IfNoOutcome P (yields.At k) = Unit {0}
+IfNoOutcome P yields.Nowhere = P
+IfNoOutcome P yields.OutOfSteps = Unit {0}

@@ -3,25 +3,25 @@ use Rattle.std.specs.Prelude.{ℕ, Bool, true, false, List, [], ◌∷◌, map, 
 use Rattle.std.specs.Box.{boxed_slice_items}
 use Rattle.std.specs.Global.{Global}
 use Rattle.std.specs.declared.boxed.BoxedSlice.{BoxedSlice}
-use Rattle.regress_base.specs.Table.{stands_for}
+use Rattle.regress_base.specs.Table.{denotes}
 use Rattle.regress_tree.specs.Reading.{Read, of_bytes}
-use Rattle.regress_tree.specs.Steps.{State, Step}
+use Rattle.regress_tree.specs.Steps.{MatchState, Matcher}
 use Rattle.regress_tree.specs.Strings.{any_string}
 use Rattle.regress_tree.specs.Tree.{Leaf, back_ref, string_set, Tree, leaf}
 use Rattle.regress_match.specs.Subject.{Subject}
 
 -- the state moved to a position, or no outcome
-abbrev pub put : State → Option ℕ → List State
+abbrev pub put : MatchState → Option ℕ → List MatchState
 put s None = []
-put s (Some k) = record s { place = k } ∷ []
+put s (Some k) = record s { position = k } ∷ []
 
 abbrev pub read_of : ℕ × ℕ → Read
-read_of r = record { character = r.0; place = r.1 }
+read_of r = record { character = r.0; position = r.1 }
 
 -- the alternatives of a set of strings, tried in order
-abbrev pub any_of : Subject → (icase : Bool) → List (BoxedSlice ℕ Global) → Step
+abbrev pub any_of : Subject → (icase : Bool) → List (BoxedSlice ℕ Global) → Matcher
 any_of u icase strings =
-    any_string u.direction (of_bytes u.bytes) (stands_for u.setting.table icase u.setting.flags.unicode) (map boxed_slice_items strings)
+    any_string u.direction (of_bytes u.bytes) (denotes u.setting.table icase u.setting.flags.unicode) (map boxed_slice_items strings)
 
 -- the leaf is no set of strings, so it has at most one outcome
 abbrev pub has_one_outcome_leaf : Leaf → Bool

@@ -2,7 +2,7 @@ pub mod Known
 pub mod Subject
 pub mod Captures
 pub mod Leaves
-pub mod Turns
+pub mod Iterations
 pub mod Machine
 pub mod Peek
 pub mod Matched

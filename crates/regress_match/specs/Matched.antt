@@ -4,7 +4,7 @@ use Rattle.std.specs.Str.{IsCharBoundary}
 use Rattle.regress_tree.specs.Matching.{matches}
 use Rattle.regress_tree.specs.Reading.{forwards}
 use Rattle.regress_tree.specs.Setting.{Setting}
-use Rattle.regress_tree.specs.Steps.{State}
+use Rattle.regress_tree.specs.Steps.{MatchState}
 use Rattle.regress_tree.specs.Tree.{Tree}
 use Rattle.regress_tree.specs.WellFormed.{captures}
 use Rattle.regress_match.specs.declared.matching.Outcome.{Outcome}
@@ -12,34 +12,34 @@ use Rattle.regress_match.specs.declared.matching.Outcome.TheVariants as outcomes
 use Rattle.regress_match.specs.declared.matching.Match.{Match}
 
 -- the state at a position with n groups, all unset
-abbrev pub no_groups : (n place : ℕ) → State
-no_groups n place = record { place = place; captures = replicate n None }
+abbrev pub no_groups : (n position : ℕ) → MatchState
+no_groups n position = record { position = position; captures = replicate n None }
 
 -- the outcomes of a tree from a position with every group unset, as RegExpBuiltinExec starts a match
-abbrev pub outcomes_at : Setting → (text : List ℕ) → Tree → (place : ℕ) → List State
-outcomes_at setting text t place = matches setting text forwards t (no_groups (length (captures t)) place)
+abbrev pub outcomes_at : Setting → (text : List ℕ) → Tree → (position : ℕ) → List MatchState
+outcomes_at setting text t position = matches setting text forwards t (no_groups (length (captures t)) position)
 
 -- the byte offset at which a match starts
 abbrev pub start_of : Match → ℕ
 start_of m = m.start
 
 -- the state (MatchState) that a match reports
-abbrev pub state_of : Match → State
-state_of m = record { place = m.end; captures = m.groups.items }
+abbrev pub state_of : Match → MatchState
+state_of m = record { position = m.end; captures = m.groups.items }
 
 -- The result is the first outcome, or `NoMatch` if there is none. Out of steps it states nothing.
-abbrev pub IsFirst : List State → Outcome → Type 0
-IsFirst states (outcomes.Matched m) = (rest : List State) × (states ≡ state_of m ∷ rest)
+abbrev pub IsFirst : List MatchState → Outcome → Type 0
+IsFirst states (outcomes.Matched m) = (rest : List MatchState) × (states ≡ state_of m ∷ rest)
 IsFirst states outcomes.NoMatch = states ≡ []
 IsFirst states outcomes.OutOfSteps = Unit {0}
 
 -- A match starts at this position.
 abbrev pub StartsAt : ℕ → Outcome → Type 0
-StartsAt place (outcomes.Matched m) = start_of m ≡ place
-StartsAt place outcomes.NoMatch = Unit {0}
-StartsAt place outcomes.OutOfSteps = Unit {0}
+StartsAt position (outcomes.Matched m) = start_of m ≡ position
+StartsAt position outcomes.NoMatch = Unit {0}
+StartsAt position outcomes.OutOfSteps = Unit {0}
 
-module _ (text : List ℕ) (at : ℕ → List State) (origin : ℕ) where
+module _ (text : List ℕ) (at : ℕ → List MatchState) (origin : ℕ) where
   -- No character boundary in the half-open range from `origin` to `to` has an outcome.
   abbrev pub NoneBefore : ℕ → Type 0
   NoneBefore to = (p : ℕ) → origin ≤ p → p < to → IsCharBoundary text p → at p ≡ []
@@ -48,7 +48,7 @@ module _ (text : List ℕ) (at : ℕ → List State) (origin : ℕ) where
   pub record IsLeftmost (m : Match) : Type 0 where
     pub from : origin ≤ start_of m
     pub boundary : IsCharBoundary text (start_of m)
-    pub first : (rest : List State) × (at (start_of m) ≡ state_of m ∷ rest)
+    pub first : (rest : List MatchState) × (at (start_of m) ≡ state_of m ∷ rest)
     pub least : NoneBefore (start_of m)
 
   -- the result of a search: the leftmost match, or `NoMatch` if no character boundary has an outcome

@@ -1,6 +1,6 @@
 -- Repeated searches: all non-overlapping matches from left to right.
 use Rattle.std.specs.Prelude.{◌≡◌, ℕ, ◌+◌, List, [], ◌∷◌, length, max}
-use Rattle.regress_tree.specs.Steps.{State}
+use Rattle.regress_tree.specs.Steps.{MatchState}
 use Rattle.regress_tree.specs.Tree.{tree}
 use Rattle.regress_unicode.specs.TableOf.{table_of}
 use Rattle.regress_match.specs.Matched.{IsLeftmost, outcomes_at, start_of, state_of}
@@ -18,24 +18,24 @@ abbrev pub searched_text : Matches → List ℕ
 searched_text m = m.text.now
 
 -- the outcomes of a pattern on a text, from each position
-abbrev pub outcomes_of : Prepared → (text : List ℕ) → (place : ℕ) → List State
+abbrev pub outcomes_of : Prepared → (text : List ℕ) → (position : ℕ) → List MatchState
 outcomes_of p text =
     outcomes_at (record { flags = p.regex.now.flags; table = table_of p.known.tables.now }) text (tree p.regex.now.node)
 
 -- the outcomes among which a repeated search finds matches
-abbrev pub searched_outcomes : Matches → (place : ℕ) → List State
+abbrev pub searched_outcomes : Matches → (position : ℕ) → List MatchState
 searched_outcomes m = outcomes_of m.prepared m.text.now
 
 -- The offset from which the next match is searched: the end of the last one, or one byte after its start if it is empty
 -- (AdvanceStringIndex, for UTF-8).
-abbrev pub place_behind : Match → ℕ
-place_behind m = max (state_of m).place (start_of m + 1)
+abbrev pub next_offset : Match → ℕ
+next_offset m = max (state_of m).position (start_of m + 1)
 
 -- the offset after a result: after a match, past the text if there is none, and unchanged if out of steps
-abbrev pub goes_on_from : List ℕ → ℕ → Outcome → ℕ
-goes_on_from text from (outcomes.Matched m) = place_behind m
-goes_on_from text from outcomes.NoMatch = length text + 1
-goes_on_from text from outcomes.OutOfSteps = from
+abbrev pub offset_after : List ℕ → ℕ → Outcome → ℕ
+offset_after text from (outcomes.Matched m) = next_offset m
+offset_after text from outcomes.NoMatch = length text + 1
+offset_after text from outcomes.OutOfSteps = from
 
 -- the pattern and the text of a repeated search are unchanged
 pub record IsSameSearch (old new : Matches) : Type 0 where
@@ -44,6 +44,6 @@ pub record IsSameSearch (old new : Matches) : Type 0 where
 
 -- The list has the matches that a repeated search finds in order, each the leftmost one, from the offset `from` until
 -- the search is at `to`.
-abbrev pub AreFound : (text : List ℕ) → (at : ℕ → List State) → (from to : ℕ) → List Match → Type 0
-AreFound text at from to [] = to ≡ from
-AreFound text at from to (m ∷ ms) = IsLeftmost text at from m × AreFound text at (place_behind m) to ms
+abbrev pub AreMatches : (text : List ℕ) → (at : ℕ → List MatchState) → (from to : ℕ) → List Match → Type 0
+AreMatches text at from to [] = to ≡ from
+AreMatches text at from to (m ∷ ms) = IsLeftmost text at from m × AreMatches text at (next_offset m) to ms

@@ -3,7 +3,7 @@ use Rattle.std.specs.Prelude.{ℕ, List}
 use Rattle.regress_tree.specs.Reading.{Direction, direction_if}
 use Rattle.regress_tree.specs.Setting.{Setting}
 use Rattle.regress_unicode.specs.TableOf.{table_of}
-use Rattle.regress_match.specs.declared.rules.Rules.{Rules}
+use Rattle.regress_match.specs.declared.rules.MatchContext.{MatchContext}
 
 -- a text in UTF-8, with the flags, the case mappings and the direction of a match
 pub record Subject : Type 0 where
@@ -12,7 +12,7 @@ pub record Subject : Type 0 where
   pub direction : Direction
 
 -- the text under the rules of a match
-abbrev pub subject : Rules → List ℕ → Subject
+abbrev pub subject : MatchContext → List ℕ → Subject
 subject rules bytes = record {
   setting = record { flags = rules.flags; table = table_of rules.known.tables.now };
   bytes = bytes;

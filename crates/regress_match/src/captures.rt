@@ -41,11 +41,14 @@ impl Captures {
     ///
     /// # Errors
     /// Returns [`AllocError`] if the change can't be recorded.
-    pub fn close(&mut self, group: u16, from: usize, place: usize) -> Result<(), AllocError>
-        ensures state { IfOk result (λ _. state self.new place ≡ captured group from (state self.old place)) }
+    pub fn close(&mut self, group: u16, from: usize, position: usize) -> Result<(), AllocError>
+        ensures state { IfOk result (λ _. state self.new position ≡ captured group from (state self.old position)) }
         ensures later { IfOk result (λ _. Later self.old self.new) }
     {
-        self.set(usize::from(group), Some((from.min(place), from.max(place))))
+        self.set(
+            usize::from(group),
+            Some((from.min(position), from.max(position))),
+        )
     }
 
     /// Unsets the groups with ids from `start` up to but not including `end`, as RepeatMatcher does before an
@@ -54,11 +57,11 @@ impl Captures {
     /// # Errors
     /// Returns [`AllocError`] if a change can't be recorded.
     pub fn unset(&mut self, start: usize, end: usize) -> Result<(), AllocError>
-        ensures state { IfOk result (λ _. (place : ℕ) → state self.new place ≡ unset start end (state self.old place)) }
+        ensures state { IfOk result (λ _. (position : ℕ) → state self.new position ≡ unset start end (state self.old position)) }
         ensures later { IfOk result (λ _. Later self.old self.new) }
     {
-        let behind = end.min(self.spans.len());
-        for group in start..behind {
+        let after = end.min(self.spans.len());
+        for group in start..after {
             if self.spans[group].is_some() {
                 self.set(group, None)?;
             }

@@ -2,18 +2,18 @@
 ghost use Rattle.std.specs.Prelude.{◌≡◌, true};
 ghost use Rattle.regress_base.specs.Classes.{word_characters};
 ghost use Rattle.regress_base.specs.Intervals.{is_member};
-ghost use Rattle.regress_base.specs.Table.{stands_for};
+ghost use Rattle.regress_base.specs.Table.{denotes};
 ghost use Rattle.regress_tree.specs.Assertions.{is_line_terminator, is_word_character};
 ghost use Rattle.regress_unicode.specs.TableOf.{table_of};
 
 use crate::known::Known;
-use crate::rules::Rules;
+use crate::rules::MatchContext;
 use regress_unicode::{fold, uppercase};
 
 /// Returns whether the character `x` of the text matches `c` of a backreference or a string: the same character, or
 /// with `icase` one with the same canonical form (Canonicalize).
-pub fn stands_for(rules: Rules<'_>, icase: bool, c: u32, x: u32) -> bool
-    ensures { result ≡ stands_for (table_of rules.entry.known.tables.now) icase rules.entry.flags.unicode c x }
+pub fn denotes(rules: MatchContext<'_>, icase: bool, c: u32, x: u32) -> bool
+    ensures { result ≡ denotes (table_of rules.entry.known.tables.now) icase rules.entry.flags.unicode c x }
 {
     if x == c {
         return true;
@@ -67,7 +67,7 @@ fn folds_to_word(known: Known<'_>, c: u32) -> bool
         return true;
     }
     let image = fold(c, known.tables);
-    if known.words_stay {
+    if known.words_fold_to_words {
         return is_word(image);
     }
     for m in 0x30..0x7B {

@@ -1,7 +1,7 @@
 //! What a search precomputes about the case mappings.
 ghost use Rattle.std.specs.Prelude.{◌≡◌, true};
 ghost use Rattle.regress_unicode.specs.TableOf.{table_of};
-ghost use Rattle.regress_match.specs.Known.{WordsStay, WordsStay-prop};
+ghost use Rattle.regress_match.specs.Known.{WordsFoldToWords, WordsFoldToWords-prop};
 
 use crate::characters::is_word;
 use regress_base::types::Flags;
@@ -13,8 +13,8 @@ pub struct Known<'t> {
     pub tables: &'t Tables,
     /// Whether each word character is known to fold to a word character. Then a character is in the closure of the word
     /// characters if its own folding is a word character.
-    pub words_stay: bool,
-    ghost words: { words_stay ≡ true → WordsStay (table_of tables.now) } by { WordsStay-prop words_stay (table_of tables.now) },
+    pub words_fold_to_words: bool,
+    ghost words: { words_fold_to_words ≡ true → WordsFoldToWords (table_of tables.now) } by { WordsFoldToWords-prop words_fold_to_words (table_of tables.now) },
 }
 
 impl<'t> Known<'t> {
@@ -25,14 +25,14 @@ impl<'t> Known<'t> {
     {
         Known {
             tables,
-            words_stay: flags.unicode && words_stay(tables),
+            words_fold_to_words: flags.unicode && words_fold_to_words(tables),
         }
     }
 }
 
 /// Returns whether each word character folds to a word character.
-fn words_stay(tables: &Tables) -> bool
-    ensures { result ≡ true → WordsStay (table_of tables.now) }
+fn words_fold_to_words(tables: &Tables) -> bool
+    ensures { result ≡ true → WordsFoldToWords (table_of tables.now) }
 {
     for c in 0x30..0x7B {
         if is_word(c) && !is_word(fold(c, tables)) {

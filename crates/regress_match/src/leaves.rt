@@ -2,12 +2,12 @@
 ghost use Rattle.std.specs.Prelude.{◌≡◌, ◌-◌, ◌<◌, [], ◌∷◌, true, None, IfOk, drop, length, nat_eq, option_map, slice_index, if◌then◌else◌};
 ghost use Rattle.std.specs.List.{starts_with};
 ghost use Rattle.regress_base.specs.Listing.{lists};
-ghost use Rattle.regress_base.specs.Table.{stands_for};
+ghost use Rattle.regress_base.specs.Table.{denotes};
 ghost use Rattle.regress_tree.specs.Assertions.{at_anchor, at_boundary, is_line_terminator, is_word_character, passes};
 ghost use Rattle.regress_tree.specs.Matching.{steps};
 ghost use Rattle.regress_tree.specs.Reading.{backwards, forwards, of_bytes, direction_if};
 ghost use Rattle.regress_tree.specs.References.{all_of, back_reference, in_order, characters_from};
-ghost use Rattle.regress_tree.specs.Steps.{State, these_bytes};
+ghost use Rattle.regress_tree.specs.Steps.{MatchState, these_bytes};
 ghost use Rattle.regress_tree.specs.Tree.{tree};
 ghost use Rattle.regress_unicode.specs.TableOf.{table_of};
 ghost use Rattle.regress_match.specs.Captures.{state};
@@ -15,17 +15,17 @@ ghost use Rattle.regress_prefilter.specs.OneCharacter.{sole_character, takes_one
 ghost use Rattle.regress_match.specs.Leaves.{put, read_of, has_one_outcome, is_simple};
 ghost use Rattle.regress_match.specs.Peek.{GoesTo};
 ghost use Rattle.regress_match.specs.Subject.{subject};
-ghost use Rattle.regress_match.specs.Turns.{one_of};
+ghost use Rattle.regress_match.specs.Iterations.{one_of};
 
 use crate::captures::Captures;
-use crate::characters::{is_line_terminator, is_word_character, stands_for};
+use crate::characters::{denotes, is_line_terminator, is_word_character};
 use crate::known::Known;
 use crate::reading::{next_read, read_after, read_before};
-use crate::rules::Rules;
+use crate::rules::MatchContext;
 use regress_tree::ir::{AnchorType, Node};
 use std::alloc::{AllocError, Global};
 
-/// Returns the position at which a leaf with at most one outcome ends that is matched from `place`, or `None` if it
+/// Returns the position at which a leaf with at most one outcome ends that is matched from `position`, or `None` if it
 /// fails.
 ///
 /// # Errors
@@ -34,43 +34,51 @@ use std::alloc::{AllocError, Global};
 pub fn leaf(
     alloc: Global,
     text: &str,
-    rules: Rules<'_>,
+    rules: MatchContext<'_>,
     node: &Node,
-    place: usize,
+    position: usize,
     captures: &Captures,
 ) -> Result<Option<usize>, AllocError>
     ensures { IfOk result (λ to. has_one_outcome (tree node.now) ≡ true →
         (let u = subject rules.entry text.now in
-        steps u.setting u.bytes u.direction (tree node.now) (state captures.now place) ≡ put (state captures.now place) to)) }
+        steps u.setting u.bytes u.direction (tree node.now) (state captures.now position) ≡ put (state captures.now position) to)) }
 {
     match node {
         Node::BackRef { group, icase } => {
-            back_reference(alloc, text, rules, *group, *icase, place, captures)
+            back_reference(alloc, text, rules, *group, *icase, position, captures)
         }
-        _ => Ok(simple_leaf(text, rules, node, place)),
+        _ => Ok(simple_leaf(text, rules, node, position)),
     }
 }
 
-/// Returns the position at which a leaf ends that is matched from `place`, or `None` if it fails. The leaf is neither a
+/// Returns the position at which a leaf ends that is matched from `position`, or `None` if it fails. The leaf is neither a
 /// backreference nor a set of strings.
-pub fn simple_leaf(text: &str, rules: Rules<'_>, node: &Node, place: usize) -> Option<usize>
-    ensures { is_simple (tree node.now) ≡ true → GoesTo (subject rules.entry text.now) place (tree node.now) result }
+pub fn simple_leaf(
+    text: &str,
+    rules: MatchContext<'_>,
+    node: &Node,
+    position: usize,
+) -> Option<usize>
+    ensures { is_simple (tree node.now) ≡ true → GoesTo (subject rules.entry text.now) position (tree node.now) result }
 {
     match node {
-        Node::Empty | Node::Goal => Some(place),
-        Node::ByteSequence(bytes) => these_bytes(text.as_bytes(), rules.backwards, bytes, place),
+        Node::Empty | Node::Goal => Some(position),
+        Node::ByteSequence(bytes) => these_bytes(text.as_bytes(), rules.backwards, bytes, position),
         Node::Anchor {
             anchor_type,
             multiline,
-        } => if_holds(at_anchor(text, *anchor_type, *multiline, place), place),
+        } => if_holds(
+            at_anchor(text, *anchor_type, *multiline, position),
+            position,
+        ),
         Node::WordBoundary {
             invert,
             unicode_icase,
         } => if_holds(
-            at_boundary(text, rules.known, *invert, *unicode_icase, place),
-            place,
+            at_boundary(text, rules.known, *invert, *unicode_icase, position),
+            position,
         ),
-        _ => one_character(text, rules, node, place),
+        _ => one_character(text, rules, node, position),
     }
 }
 
@@ -112,66 +120,71 @@ pub fn is_leaf(node: &Node) -> bool
 }
 
 /// Returns the position if the test holds.
-fn if_holds(holds: bool, place: usize) -> Option<usize>
-    ensures { (s : State) → s.place ≡ place → put s result ≡ (if holds then s ∷ [] else []) }
+fn if_holds(holds: bool, position: usize) -> Option<usize>
+    ensures { (s : MatchState) → s.position ≡ position → put s result ≡ (if holds then s ∷ [] else []) }
 {
-    if holds { Some(place) } else { None }
+    if holds { Some(position) } else { None }
 }
 
 /// Returns the position after the bytes `written`, in the direction of matching, or `None` if the text does not have
 /// them.
-fn these_bytes(bytes: &[u8], backwards: bool, written: &[u8], place: usize) -> Option<usize>
-    ensures { (s : State) → s.place ≡ place → put s result ≡ these_bytes (direction_if backwards) bytes.now written.now s }
+fn these_bytes(bytes: &[u8], backwards: bool, written: &[u8], position: usize) -> Option<usize>
+    ensures { (s : MatchState) → s.position ≡ position → put s result ≡ these_bytes (direction_if backwards) bytes.now written.now s }
 {
     if backwards {
-        bytes_before(bytes, written, place)
+        bytes_before(bytes, written, position)
     } else {
-        bytes_behind(bytes, written, place)
+        bytes_after(bytes, written, position)
     }
 }
 
-/// Returns the position after the bytes `written`, if the text has them from `place` on.
-fn bytes_behind(bytes: &[u8], written: &[u8], place: usize) -> Option<usize>
-    ensures { (s : State) → s.place ≡ place → put s result ≡ these_bytes forwards bytes.now written.now s }
+/// Returns the position after the bytes `written`, if the text has them from `position` on.
+fn bytes_after(bytes: &[u8], written: &[u8], position: usize) -> Option<usize>
+    ensures { (s : MatchState) → s.position ≡ position → put s result ≡ these_bytes forwards bytes.now written.now s }
 {
-    if stands_at(bytes, written, place) {
-        Some(place + written.len())
+    if has_bytes_at(bytes, written, position) {
+        Some(position + written.len())
     } else {
         None
     }
 }
 
-/// Returns the position before the bytes `written`, if the text has them up to `place`.
-fn bytes_before(bytes: &[u8], written: &[u8], place: usize) -> Option<usize>
-    ensures { (s : State) → s.place ≡ place → put s result ≡ these_bytes backwards bytes.now written.now s }
+/// Returns the position before the bytes `written`, if the text has them up to `position`.
+fn bytes_before(bytes: &[u8], written: &[u8], position: usize) -> Option<usize>
+    ensures { (s : MatchState) → s.position ≡ position → put s result ≡ these_bytes backwards bytes.now written.now s }
 {
     let count = written.len();
-    if count > place {
+    if count > position {
         return None;
     }
-    if stands_at(bytes, written, place - count) {
-        Some(place - count)
+    if has_bytes_at(bytes, written, position - count) {
+        Some(position - count)
     } else {
         None
     }
 }
 
-/// Returns whether the text has the bytes `written` from `place` on.
-fn stands_at(bytes: &[u8], written: &[u8], place: usize) -> bool
-    ensures { result ≡ starts_with nat_eq (drop place bytes.now) written.now }
+/// Returns whether the text has the bytes `written` from `position` on.
+fn has_bytes_at(bytes: &[u8], written: &[u8], position: usize) -> bool
+    ensures { result ≡ starts_with nat_eq (drop position bytes.now) written.now }
 {
-    if place <= bytes.len() {
-        bytes[place..].starts_with(written)
+    if position <= bytes.len() {
+        bytes[position..].starts_with(written)
     } else {
         written.is_empty()
     }
 }
 
 /// Returns the position after one character that the leaf accepts (CharacterSetMatcher), or `None` if it fails.
-pub fn one_character(text: &str, rules: Rules<'_>, node: &Node, place: usize) -> Option<usize>
-    ensures { (s : State) → s.place ≡ place → put s result ≡ one_of (direction_if rules.entry.backwards) text.now (tree node.now) s }
+pub fn one_character(
+    text: &str,
+    rules: MatchContext<'_>,
+    node: &Node,
+    position: usize,
+) -> Option<usize>
+    ensures { (s : MatchState) → s.position ≡ position → put s result ≡ one_of (direction_if rules.entry.backwards) text.now (tree node.now) s }
 {
-    let (c, to) = next_read(text, rules.backwards, place)?;
+    let (c, to) = next_read(text, rules.backwards, position)?;
     if accepts(node, c) { Some(to) } else { None }
 }
 
@@ -246,15 +259,15 @@ fn lists(characters: &[u32], c: u32) -> bool
 
 /// Returns whether an anchor holds at a position: at the start or end of the text, or with `multiline` of a line
 /// (CompileAssertion).
-fn at_anchor(text: &str, anchor_type: AnchorType, multiline: bool, place: usize) -> bool
-    ensures { result ≡ at_anchor (of_bytes text.now) anchor_type multiline place }
+fn at_anchor(text: &str, anchor_type: AnchorType, multiline: bool, position: usize) -> bool
+    ensures { result ≡ at_anchor (of_bytes text.now) anchor_type multiline position }
 {
     match anchor_type {
         AnchorType::StartOfLine => {
-            place == 0 || (multiline && ends_line(read_before(text, place)))
+            position == 0 || (multiline && ends_line(read_before(text, position)))
         }
         AnchorType::EndOfLine => {
-            place == text.len() || (multiline && ends_line(read_after(text, place)))
+            position == text.len() || (multiline && ends_line(read_after(text, position)))
         }
     }
 }
@@ -276,13 +289,13 @@ fn at_boundary(
     known: Known<'_>,
     invert: bool,
     unicode_icase: bool,
-    place: usize,
+    position: usize,
 ) -> bool
-    ensures { result ≡ at_boundary (of_bytes text.now) (is_word_character (table_of known.entry.tables.now) unicode_icase) invert place }
+    ensures { result ≡ at_boundary (of_bytes text.now) (is_word_character (table_of known.entry.tables.now) unicode_icase) invert position }
 {
-    let before = is_word(known, unicode_icase, read_before(text, place));
-    let behind = is_word(known, unicode_icase, read_after(text, place));
-    (before != behind) != invert
+    let before = is_word(known, unicode_icase, read_before(text, position));
+    let after = is_word(known, unicode_icase, read_after(text, position));
+    (before != after) != invert
 }
 
 /// Returns whether the neighbouring character is a word character.
@@ -300,24 +313,24 @@ fn is_word(known: Known<'_>, unicode_icase: bool, neighbour: Option<(u32, usize)
 fn back_reference(
     alloc: Global,
     text: &str,
-    rules: Rules<'_>,
+    rules: MatchContext<'_>,
     group: u32,
     icase: bool,
-    place: usize,
+    position: usize,
     captures: &Captures,
 ) -> Result<Option<usize>, AllocError>
-    ensures { IfOk result (λ to. let u = subject rules.entry text.now in put (state captures.now place) to
-        ≡ back_reference u.direction (of_bytes u.bytes) (stands_for u.setting.table icase u.setting.flags.unicode) (group - 1) (state captures.now place)) }
+    ensures { IfOk result (λ to. let u = subject rules.entry text.now in put (state captures.now position) to
+        ≡ back_reference u.direction (of_bytes u.bytes) (denotes u.setting.table icase u.setting.flags.unicode) (group - 1) (state captures.now position)) }
 {
     let id = group.saturating_sub(1) as usize;
     if id >= captures.spans.len() {
-        return Ok(Some(place));
+        return Ok(Some(position));
     }
     let Some((start, end)) = captures.spans[id] else {
-        return Ok(Some(place));
+        return Ok(Some(position));
     };
     let characters = characters_between(alloc, text, start, end)?;
-    Ok(all_of(text, rules, icase, &characters, place))
+    Ok(all_of(text, rules, icase, &characters, position))
 }
 
 /// Returns the characters of a span of the text.
@@ -330,13 +343,13 @@ fn characters_between(
     ensures { IfOk result (λ found. found.items ≡ characters_from (of_bytes text.now) (end - start) start end) }
 {
     let mut found = Vec::new(alloc);
-    let mut place = start;
-    while place < end {
-        let Some((c, to)) = read_after(text, place) else {
+    let mut position = start;
+    while position < end {
+        let Some((c, to)) = read_after(text, position) else {
             break;
         };
         found.push(c)?;
-        place = to;
+        position = to;
     }
     Ok(found)
 }
@@ -345,19 +358,19 @@ fn characters_between(
 /// With `icase` canonical forms are compared.
 pub fn all_of(
     text: &str,
-    rules: Rules<'_>,
+    rules: MatchContext<'_>,
     icase: bool,
     characters: &[u32],
-    place: usize,
+    position: usize,
 ) -> Option<usize>
-    ensures { (s : State) → s.place ≡ place → (let u = subject rules.entry text.now in
-        put s result ≡ all_of u.direction (of_bytes u.bytes) (stands_for u.setting.table icase u.setting.flags.unicode) (in_order u.direction characters.now) s) }
+    ensures { (s : MatchState) → s.position ≡ position → (let u = subject rules.entry text.now in
+        put s result ≡ all_of u.direction (of_bytes u.bytes) (denotes u.setting.table icase u.setting.flags.unicode) (in_order u.direction characters.now) s) }
 {
-    let mut here = place;
+    let mut here = position;
     for i in 0..characters.len() {
         let c = character_in_order(characters, rules.backwards, i);
         let (x, to) = next_read(text, rules.backwards, here)?;
-        if !stands_for(rules, icase, c, x) {
+        if !denotes(rules, icase, c, x) {
             return None;
         }
         here = to;

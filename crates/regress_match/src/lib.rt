@@ -6,6 +6,7 @@ mod characters;
 mod known;
 mod leaves;
 mod machine;
+mod match_single_char_loop;
 pub mod matching;
 pub mod names;
 mod peek;
@@ -14,7 +15,6 @@ mod reading;
 mod rules;
 mod run;
 pub mod search;
-mod single;
 mod visits;
 
 pub use matching::{Match, Outcome, match_at};

@@ -1,7 +1,7 @@
 //! The state of the backtracking machine: frames, which are the continuation, and backtrack points.
 ghost use Rattle.std.specs.Prelude.{◌≡◌, ◌≤◌, [], IfOk, length};
 ghost use Rattle.regress_match.specs.Captures.{undone};
-ghost use Rattle.regress_match.specs.Machine.{IsMachine, Resumed, Pushed, Chosen, waiting, what_step};
+ghost use Rattle.regress_match.specs.Machine.{IsMachine, Resumed, Pushed, Chosen, backtrack_outcomes, frame_step};
 ghost use Rattle.regress_match.specs.Subject.{Subject};
 
 use crate::captures::Captures;
@@ -22,18 +22,18 @@ pub struct Repeat<'a> {
 
 /// What a frame does at a position.
 #[derive(Clone, Copy)]
-pub enum What<'a> {
+pub enum Frame<'a> {
     Match(&'a Node),
     /// Matches these parts in order.
-    Row(&'a [Node]),
+    Sequence(&'a [Node]),
     /// Matches one of these strings, with `icase` or not.
     Strings(&'a [BoxedSlice<u32>], bool),
     /// Sets the capture of the group, whose match began at this byte offset.
     Close(u16, usize),
     /// Takes this number of iterations of the loop, and then the optional ones.
-    Turns(Repeat<'a>, usize),
+    Iterations(Repeat<'a>, usize),
     /// Takes one iteration, which must not be empty, and then further optional ones.
-    Turn(Repeat<'a>),
+    Iteration(Repeat<'a>),
     /// Ends an iteration that began at this byte offset. It fails if the iteration was empty; else further ones may
     /// follow.
     Moved(Repeat<'a>, usize),
@@ -47,15 +47,15 @@ pub enum What<'a> {
 /// end.
 #[derive(Clone, Copy)]
 pub struct Task<'a> {
-    pub what: What<'a>,
+    pub frame: Frame<'a>,
     pub next: usize,
 }
 
-/// A backtrack point: matching goes on from `place` with the frame `task`, after the list of frames is cut to `known`
+/// A backtrack point: matching goes on from `position` with the frame `task`, after the list of frames is cut to `known`
 /// and the trail to `noted` elements.
 #[derive(Clone, Copy)]
 pub struct Choice {
-    pub place: usize,
+    pub position: usize,
     pub task: usize,
     pub known: usize,
     pub noted: usize,
@@ -63,7 +63,7 @@ pub struct Choice {
 
 /// The result of a run: the position of the first outcome, no outcome, or that the step limit was reached.
 #[derive(Clone, Copy)]
-pub enum Answer {
+pub enum Response {
     At(usize),
     Nowhere,
     OutOfSteps,
@@ -75,13 +75,13 @@ pub struct Looking<'a> {
     pub body: &'a Node,
     pub negate: bool,
     pub backwards: bool,
-    pub place: usize,
+    pub position: usize,
     pub next: usize,
 }
 
 /// What comes next at a position: a frame, where 0 is the end, or a node and then a frame.
 #[derive(Clone, Copy)]
-pub enum Ahead<'a> {
+pub enum Pending<'a> {
     Task(usize),
     Node(&'a Node, usize),
 }
@@ -89,7 +89,7 @@ pub enum Ahead<'a> {
 /// The result of a step: go on from a position with a frame, or with a node and then a frame; backtrack; or match a
 /// lookaround first.
 #[derive(Clone, Copy)]
-pub enum Next<'a> {
+pub enum Transition<'a> {
     Go(usize, usize),
     Visit(usize, &'a Node, usize),
     Back,
@@ -99,7 +99,7 @@ pub enum Next<'a> {
 /// The same once lookarounds are matched, or that the step limit was reached.
 #[derive(Clone, Copy)]
 pub enum Settled<'a> {
-    On(usize, Ahead<'a>),
+    On(usize, Pending<'a>),
     Off,
     Spent,
 }
@@ -144,42 +144,42 @@ impl<'a> Machine<'a> {
     /// The machine is valid with these captures: each mark of a backtrack point is within the lists.
     pub fn resume(&mut self, captures: &mut Captures) -> Option<(usize, usize)>
         requires { IsMachine self.old captures.old }
-        ensures resumed { (u : Subject) → Resumed u (waiting u self.old captures.old) self.new captures.new result }
+        ensures resumed { (u : Subject) → Resumed u (backtrack_outcomes u self.old captures.old) self.new captures.new result }
         ensures undo { undone captures.new.trail.items captures.new.spans.items ≡ undone captures.old.trail.items captures.old.spans.items }
     {
         let choice = self.choices.pop()?;
         self.tasks.truncate(choice.known);
         captures.rewind(choice.noted);
-        Some((choice.place, choice.task))
+        Some((choice.position, choice.task))
     }
 
     /// Adds a frame before the frame `next`, and returns its number.
     ///
     /// # Errors
     /// Returns [`AllocError`] if an allocation fails.
-    pub fn push(&mut self, what: What<'a>, next: usize) -> Result<usize, AllocError>
+    pub fn push(&mut self, frame: Frame<'a>, next: usize) -> Result<usize, AllocError>
         ensures { IfOk result (λ task. (u : Subject) → next ≤ length self.old.tasks.items →
-            Pushed u self.old self.new (what_step u what.entry) next task) }
+            Pushed u self.old self.new (frame_step u frame.entry) next task) }
     {
-        self.tasks.push(Task { what, next })?;
+        self.tasks.push(Task { frame, next })?;
         Ok(self.tasks.len())
     }
 
-    /// Adds a backtrack point that goes on with the frame `task` from `place`.
+    /// Adds a backtrack point that goes on with the frame `task` from `position`.
     ///
     /// # Errors
     /// Returns [`AllocError`] if an allocation fails.
     pub fn choose(
         &mut self,
-        place: usize,
+        position: usize,
         task: usize,
         captures: &Captures,
     ) -> Result<(), AllocError>
         ensures { IfOk result (λ _. (u : Subject) → task ≤ length self.old.tasks.items →
-            Chosen u self.old self.new captures.now place task) }
+            Chosen u self.old self.new captures.now position task) }
     {
         self.choices.push(Choice {
-            place,
+            position,
             task,
             known: self.tasks.len(),
             noted: captures.trail.len(),

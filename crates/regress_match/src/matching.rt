@@ -6,12 +6,12 @@ ghost use Rattle.regress_tree.specs.WellFormed.{captures};
 ghost use Rattle.regress_unicode.specs.TableOf.{table_of};
 ghost use Rattle.regress_match.specs.Machine.{Answers};
 ghost use Rattle.regress_match.specs.Matched.{IsFirst, StartsAt, outcomes_at, start_of, state_of};
-ghost use Rattle.regress_match.specs.Fresh.{IsFresh, IfNowhere};
+ghost use Rattle.regress_match.specs.Fresh.{IsFresh, IfNoOutcome};
 
 use crate::captures::Captures;
 use crate::known::Known;
-use crate::machine::{Answer, Scratch};
-use crate::rules::Rules;
+use crate::machine::{Response, Scratch};
+use crate::rules::MatchContext;
 use crate::run::run;
 use regress_tree::ir::{Node, Regex, Walk, walk};
 use regress_unicode::Tables;
@@ -29,7 +29,7 @@ pub struct Match {
 impl Match {
     pub(crate) fn new(start: usize, end: usize, groups: Vec<Option<(usize, usize)>>) -> Match
         ensures start { start_of result ≡ start }
-        ensures state { state_of result ≡ record { place = end; captures = groups.items } }
+        ensures state { state_of result ≡ record { position = end; captures = groups.items } }
     {
         Match { start, end, groups }
     }
@@ -43,7 +43,7 @@ impl Match {
 
     /// Returns the byte offset at which the match ends, which is not part of it.
     pub fn end(&self) -> usize
-        ensures { result ≡ (state_of self.now).place }
+        ensures { result ≡ (state_of self.now).position }
     {
         self.end
     }
@@ -81,9 +81,9 @@ pub enum Outcome {
     OutOfSteps,
 }
 
-/// Matches a pattern at exactly the byte offset `place`, with every group unset at first.
+/// Matches a pattern at exactly the byte offset `position`, with every group unset at first.
 ///
-/// The result is the first outcome in the order of preference of ECMA-262. Every `place` is allowed: off a character
+/// The result is the first outcome in the order of preference of ECMA-262. Every `position` is allowed: off a character
 /// boundary, or past the end of `text`, no character is found.
 ///
 /// # Complexity
@@ -119,14 +119,14 @@ pub fn match_at(
     regex: &Regex,
     tables: &Tables,
     text: &str,
-    place: usize,
+    position: usize,
     steps: u64,
 ) -> Result<Outcome, AllocError>
-    ensures start { IfOk result (StartsAt place) }
+    ensures start { IfOk result (StartsAt position) }
     ensures first { IfOk result (IsFirst (outcomes_at (record { flags = regex.now.flags; table = table_of tables.now }) text.now
-        (tree regex.now.node) place)) }
+        (tree regex.now.node) position)) }
 {
-    let mut captures = nothing_captured(alloc, group_count(&regex.node))?;
+    let mut captures = unset_captures(alloc, group_count(&regex.node))?;
     let mut scratch = Scratch::new(alloc);
     let mut left = steps;
     match first_at(
@@ -134,14 +134,14 @@ pub fn match_at(
         regex,
         Known::new(tables, regex.flags),
         text,
-        place,
+        position,
         &mut scratch,
         &mut captures,
         &mut left,
     )? {
-        Answer::At(end) => Ok(Outcome::Matched(Match::new(place, end, captures.spans))),
-        Answer::Nowhere => Ok(Outcome::NoMatch),
-        Answer::OutOfSteps => Ok(Outcome::OutOfSteps),
+        Response::At(end) => Ok(Outcome::Matched(Match::new(position, end, captures.spans))),
+        Response::Nowhere => Ok(Outcome::NoMatch),
+        Response::OutOfSteps => Ok(Outcome::OutOfSteps),
     }
 }
 
@@ -155,51 +155,51 @@ pub(crate) fn first_at<'a>(
     regex: &'a Regex,
     known: Known<'_>,
     text: &str,
-    place: usize,
+    position: usize,
     scratch: &mut Scratch<'a>,
     captures: &mut Captures,
     left: &mut u64,
-) -> Result<Answer, AllocError>
+) -> Result<Response, AllocError>
     requires { IsFresh (tree regex.now.node) captures.old }
-    ensures answers { IfOk result (Answers (outcomes_at (record { flags = regex.now.flags; table = table_of known.entry.tables.now }) text.now
-        (tree regex.now.node) place) captures.new) }
-    ensures fresh { IfOk result (IfNowhere (IsFresh (tree regex.now.node) captures.new)) }
+    ensures yields { IfOk result (Answers (outcomes_at (record { flags = regex.now.flags; table = table_of known.entry.tables.now }) text.now
+        (tree regex.now.node) position) captures.new) }
+    ensures fresh { IfOk result (IfNoOutcome (IsFresh (tree regex.now.node) captures.new)) }
     ensures left { IfOk result (λ _. left.new ≤ left.old) }
 {
-    let rules = Rules {
+    let rules = MatchContext {
         flags: regex.flags,
         known,
         backwards: false,
     };
-    let answer = run(
+    let response = run(
         alloc,
         text,
         rules,
         &regex.node,
-        place,
+        position,
         &mut scratch.machine,
         &mut scratch.idle,
         captures,
         left,
     )?;
-    if let Answer::Nowhere = answer {
+    if let Response::Nowhere = response {
         captures.rewind(0);
     }
-    Ok(answer)
+    Ok(response)
 }
 
 /// Returns captures for `groups` groups, all unset.
-pub(crate) fn nothing_captured(alloc: Global, groups: usize) -> Result<Captures, AllocError>
+pub(crate) fn unset_captures(alloc: Global, groups: usize) -> Result<Captures, AllocError>
     ensures { IfOk result (λ fresh. (t : Tree) → groups ≡ min (length (captures t)) usize.MAX → IsFresh t fresh) }
 {
     Ok(Captures {
-        spans: no_spans(alloc, groups)?,
+        spans: unset_spans(alloc, groups)?,
         trail: Vec::new(alloc),
     })
 }
 
 /// Returns a list of `count` unset groups.
-fn no_spans(alloc: Global, count: usize) -> Result<Vec<Option<(usize, usize)>>, AllocError>
+fn unset_spans(alloc: Global, count: usize) -> Result<Vec<Option<(usize, usize)>>, AllocError>
     ensures items { IfOk result (λ spans. spans.items ≡ replicate count None) }
     ensures room { IfOk result (λ _. count < 2 ^ 63) }
 {

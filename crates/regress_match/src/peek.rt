@@ -2,22 +2,22 @@
 ghost use Rattle.std.specs.Prelude.{◌≡◌, [], ℕ, true, IfSome, Some};
 ghost use Rattle.regress_tree.specs.Matching.{steps};
 ghost use Rattle.regress_tree.specs.Tree.{tree, trees, cat};
-ghost use Rattle.regress_tree.specs.Steps.{State};
+ghost use Rattle.regress_tree.specs.Steps.{MatchState};
 ghost use Rattle.regress_match.specs.Leaves.{any_of};
-ghost use Rattle.regress_match.specs.Machine.{IsMachine, todo};
+ghost use Rattle.regress_match.specs.Machine.{IsMachine, continuation};
 ghost use Rattle.regress_match.specs.Peek.{FailsAt, GoesTo};
 ghost use Rattle.regress_match.specs.Subject.{Subject, subject};
 ghost use Rattle.regress_match.specs.declared.captures.Captures.{Captures};
 
 use crate::leaves::{all_of, is_simple, simple_leaf};
-use crate::machine::{Machine, What};
-use crate::rules::Rules;
+use crate::machine::{Frame, Machine};
+use crate::rules::MatchContext;
 use regress_tree::ir::Node;
 use std::boxed::BoxedSlice;
 
 /// The maximal number of nodes to descend to the leaf at the start. It is bounded, since each node on the way may run
 /// the test.
-const LEVELS: usize = 6;
+const NESTING: usize = 6;
 
 /// The maximal number of alternatives and of strings that are tested. So a test looks at a bounded number of nodes.
 /// This does not bound the time of a step: a loop over one character runs the test at each position to which it goes
@@ -26,19 +26,19 @@ const ALTERNATIVES: usize = 16;
 
 /// Returns true only if a node fails at a position, as its start shows: a leaf, a lookaround of a leaf, a set of few
 /// strings, or an alternation of these. A node for which it returns false may fail too.
-pub fn fails_at_once(text: &str, rules: Rules<'_>, node: &Node, place: usize) -> bool
-    ensures { result ≡ true → FailsAt (subject rules.entry text.now) place (tree node.now) }
+pub fn cannot_match_at(text: &str, rules: MatchContext<'_>, node: &Node, position: usize) -> bool
+    ensures { result ≡ true → FailsAt (subject rules.entry text.now) position (tree node.now) }
 {
-    let mut front = front_of(node);
+    let mut front = leading_leaf(node);
     let mut left = ALTERNATIVES;
     while left > 0 {
         let Node::Alt(first, others) = front else {
-            return front_fails(text, rules, front, place);
+            return front_fails(text, rules, front, position);
         };
-        if !front_fails(text, rules, front_of(first), place) {
+        if !front_fails(text, rules, leading_leaf(first), position) {
             return false;
         }
-        front = front_of(others);
+        front = leading_leaf(others);
         left -= 1;
     }
     false
@@ -46,8 +46,13 @@ pub fn fails_at_once(text: &str, rules: Rules<'_>, node: &Node, place: usize) ->
 
 /// Returns the remaining alternatives of an alternation, after at most `ALTERNATIVES` at its start that are shown to
 /// fail at a position.
-pub fn behind_failing<'a>(text: &str, rules: Rules<'_>, node: &'a Node, place: usize) -> &'a Node
-    ensures { (s : State) → s.place ≡ place → (let u = subject rules.entry text.now in
+pub fn skip_failing_alternatives<'a>(
+    text: &str,
+    rules: MatchContext<'_>,
+    node: &'a Node,
+    position: usize,
+) -> &'a Node
+    ensures { (s : MatchState) → s.position ≡ position → (let u = subject rules.entry text.now in
         steps u.setting u.bytes u.direction (tree result.now) s ≡ steps u.setting u.bytes u.direction (tree node.now) s) }
 {
     let mut rest = node;
@@ -56,7 +61,7 @@ pub fn behind_failing<'a>(text: &str, rules: Rules<'_>, node: &'a Node, place: u
         let Node::Alt(first, others) = rest else {
             break;
         };
-        if !fails_at_once(text, rules, first, place) {
+        if !cannot_match_at(text, rules, first, position) {
             break;
         }
         rest = others;
@@ -66,8 +71,8 @@ pub fn behind_failing<'a>(text: &str, rules: Rules<'_>, node: &'a Node, place: u
 }
 
 /// Returns true only if a leaf, a lookaround of a leaf, or a set of few strings fails at a position.
-fn front_fails(text: &str, rules: Rules<'_>, node: &Node, place: usize) -> bool
-    ensures { result ≡ true → FailsAt (subject rules.entry text.now) place (tree node.now) }
+fn front_fails(text: &str, rules: MatchContext<'_>, node: &Node, position: usize) -> bool
+    ensures { result ≡ true → FailsAt (subject rules.entry text.now) position (tree node.now) }
 {
     match node {
         Node::LookaroundAssertion {
@@ -76,58 +81,64 @@ fn front_fails(text: &str, rules: Rules<'_>, node: &Node, place: usize) -> bool
             contents,
             ..
         } => {
-            let inside = Rules {
+            let inside = MatchContext {
                 backwards: *backwards,
                 ..rules
             };
             if *negate {
-                matches!(told(text, inside, contents, place), Some(Some(_)))
+                matches!(
+                    simple_outcome(text, inside, contents, position),
+                    Some(Some(_))
+                )
             } else {
-                matches!(told(text, inside, front_of(contents), place), Some(None))
+                matches!(
+                    simple_outcome(text, inside, leading_leaf(contents), position),
+                    Some(None)
+                )
             }
         }
         Node::StringSet {
             alternatives,
             icase,
-        } => behind_missing(text, rules, alternatives, *icase, place).is_empty(),
-        _ => matches!(told(text, rules, node, place), Some(None)),
+        } => skip_missing_strings(text, rules, alternatives, *icase, position).is_empty(),
+        _ => matches!(simple_outcome(text, rules, node, position), Some(None)),
     }
 }
 
 /// Returns the remaining strings, after at most `ALTERNATIVES` at the start of the list that don't match at a position.
-pub fn behind_missing<'a>(
+pub fn skip_missing_strings<'a>(
     text: &str,
-    rules: Rules<'_>,
+    rules: MatchContext<'_>,
     strings: &'a [BoxedSlice<u32>],
     icase: bool,
-    place: usize,
+    position: usize,
 ) -> &'a [BoxedSlice<u32>]
-    ensures { (s : State) → s.place ≡ place → (let any = any_of (subject rules.entry text.now) icase in any result.now s ≡ any strings.now s) }
+    ensures { (s : MatchState) → s.position ≡ position → (let any = any_of (subject rules.entry text.now) icase in any result.now s ≡ any strings.now s) }
 {
     let mut rest = strings;
     let mut left = ALTERNATIVES;
     while left > 0 {
-        let Some((first, behind)) = rest.split_first() else {
+        let Some((first, after)) = rest.split_first() else {
             break;
         };
-        if all_of(text, rules, icase, first, place).is_some() {
+        if all_of(text, rules, icase, first, position).is_some() {
             break;
         }
-        rest = behind;
+        rest = after;
         left -= 1;
     }
     rest
 }
 
-/// Returns the node at the start of a node, at most `LEVELS` nodes down. Where it fails the node fails.
+/// Returns the node at the start of a node, at most `NESTING` nodes down. Where it fails the node fails.
 #[inline(always)]
-fn front_of(node: &Node) -> &Node
-    ensures { (u : Subject) (place : ℕ) → FailsAt u place (tree result.now) → FailsAt u place (tree node.now) }
+fn leading_leaf(node: &Node) -> &Node
+    ensures { (u : Subject) (position : ℕ) → FailsAt u position (tree result.now) → FailsAt u position (tree node.now) }
 {
     let mut front = node;
-    let mut left = LEVELS;
+    let mut left = NESTING;
     while left > 0 {
-        let Some(part) = front_part(front) else {
+        let Some(part) = leading_part(front) else {
             break;
         };
         front = part;
@@ -137,8 +148,8 @@ fn front_of(node: &Node) -> &Node
 }
 
 /// Returns the part with which a node has to begin, so that the node fails where the part does.
-fn front_part(node: &Node) -> Option<&Node>
-    ensures { IfSome result (λ part. (u : Subject) (place : ℕ) → FailsAt u place (tree part.now) → FailsAt u place (tree node.now)) }
+fn leading_part(node: &Node) -> Option<&Node>
+    ensures { IfSome result (λ part. (u : Subject) (position : ℕ) → FailsAt u position (tree part.now) → FailsAt u position (tree node.now)) }
 {
     match node {
         Node::Cat(parts) => first_part(parts),
@@ -151,7 +162,7 @@ fn front_part(node: &Node) -> Option<&Node>
 
 /// Returns the first part of a `Cat`.
 fn first_part(parts: &[Node]) -> Option<&Node>
-    ensures { IfSome result (λ part. (u : Subject) (place : ℕ) → FailsAt u place (tree part.now) → FailsAt u place (cat (trees parts.now))) }
+    ensures { IfSome result (λ part. (u : Subject) (position : ℕ) → FailsAt u position (tree part.now) → FailsAt u position (cat (trees parts.now))) }
 {
     let (first, _) = parts.split_first()?;
     Some(first)
@@ -159,11 +170,16 @@ fn first_part(parts: &[Node]) -> Option<&Node>
 
 /// Returns where a leaf ends that does not depend on captures, or that it fails; `None` for any other node.
 #[inline(always)]
-fn told(text: &str, rules: Rules<'_>, node: &Node, place: usize) -> Option<Option<usize>>
-    ensures { IfSome result (GoesTo (subject rules.entry text.now) place (tree node.now)) }
+fn simple_outcome(
+    text: &str,
+    rules: MatchContext<'_>,
+    node: &Node,
+    position: usize,
+) -> Option<Option<usize>>
+    ensures { IfSome result (GoesTo (subject rules.entry text.now) position (tree node.now)) }
 {
     if is_simple(node) {
-        Some(simple_leaf(text, rules, node, place))
+        Some(simple_leaf(text, rules, node, position))
     } else {
         None
     }
@@ -171,45 +187,45 @@ fn told(text: &str, rules: Rules<'_>, node: &Node, place: usize) -> Option<Optio
 
 /// Returns true only if a frame fails at a position, by the leaf at its start or, for a frame that closes a group, at
 /// the start of the next frame.
-pub fn task_fails(
+pub fn frame_fails(
     text: &str,
-    rules: Rules<'_>,
+    rules: MatchContext<'_>,
     machine: &Machine<'_>,
     task: usize,
-    place: usize,
+    position: usize,
 ) -> bool
-    ensures { result ≡ true → (c : Captures) → IsMachine machine.now c → (s : State) → s.place ≡ place →
-        todo (subject rules.entry text.now) machine.now.tasks.items task s ≡ [] }
+    ensures { result ≡ true → (c : Captures) → IsMachine machine.now c → (s : MatchState) → s.position ≡ position →
+        continuation (subject rules.entry text.now) machine.now.tasks.items task s ≡ [] }
 {
     if task == 0 || task > machine.tasks.len() {
         return false;
     }
     let here = machine.tasks[task - 1];
-    match here.what {
-        What::Close(..) => own_part_fails(text, rules, machine, here.next, place),
-        _ => own_part_fails(text, rules, machine, task, place),
+    match here.frame {
+        Frame::Close(..) => frame_itself_fails(text, rules, machine, here.next, position),
+        _ => frame_itself_fails(text, rules, machine, task, position),
     }
 }
 
 /// Returns true only if a frame fails at a position by the leaf at its own start.
-fn own_part_fails(
+fn frame_itself_fails(
     text: &str,
-    rules: Rules<'_>,
+    rules: MatchContext<'_>,
     machine: &Machine<'_>,
     task: usize,
-    place: usize,
+    position: usize,
 ) -> bool
-    ensures { result ≡ true → (c : Captures) → IsMachine machine.now c → (s : State) → s.place ≡ place →
-        todo (subject rules.entry text.now) machine.now.tasks.items task s ≡ [] }
+    ensures { result ≡ true → (c : Captures) → IsMachine machine.now c → (s : MatchState) → s.position ≡ position →
+        continuation (subject rules.entry text.now) machine.now.tasks.items task s ≡ [] }
 {
     if task == 0 || task > machine.tasks.len() {
         return false;
     }
     let here = machine.tasks[task - 1];
-    match here.what {
-        What::Match(node) => fails_at_once(text, rules, node, place),
-        What::Row(parts) => match first_part(parts) {
-            Some(first) => fails_at_once(text, rules, first, place),
+    match here.frame {
+        Frame::Match(node) => cannot_match_at(text, rules, node, position),
+        Frame::Sequence(parts) => match first_part(parts) {
+            Some(first) => cannot_match_at(text, rules, first, position),
             None => false,
         },
         _ => false,

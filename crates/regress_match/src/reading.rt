@@ -6,65 +6,65 @@ ghost use Rattle.regress_match.specs.Leaves.{read_of};
 /// Returns the next character in a direction, and the offset on its other side; `None` at the end of the text, and off
 /// a character boundary.
 #[inline]
-pub fn next_read(text: &str, backwards: bool, place: usize) -> Option<(u32, usize)>
-    ensures { option_map read_of result ≡ next_character (direction_if backwards) (of_bytes text.now) place }
+pub fn next_read(text: &str, backwards: bool, position: usize) -> Option<(u32, usize)>
+    ensures { option_map read_of result ≡ next_character (direction_if backwards) (of_bytes text.now) position }
 {
     if backwards {
-        read_before(text, place)
+        read_before(text, position)
     } else {
-        read_after(text, place)
+        read_after(text, position)
     }
 }
 
-/// Returns the character that begins at `place`, and the offset after it.
-pub fn read_after(text: &str, place: usize) -> Option<(u32, usize)>
-    ensures { option_map read_of result ≡ read_after text.now place }
+/// Returns the character that begins at `position`, and the offset after it.
+pub fn read_after(text: &str, position: usize) -> Option<(u32, usize)>
+    ensures { option_map read_of result ≡ read_after text.now position }
 {
-    match ascii_at(text, place) {
-        Some(b) => Some((u32::from(b), place + 1)),
-        None => decode_after(text, place),
+    match ascii_at(text, position) {
+        Some(b) => Some((u32::from(b), position + 1)),
+        None => decode_after(text, position),
     }
 }
 
-/// Returns the character that ends at `place`, and the offset before it.
-pub fn read_before(text: &str, place: usize) -> Option<(u32, usize)>
-    ensures { option_map read_of result ≡ read_before text.now place }
+/// Returns the character that ends at `position`, and the offset before it.
+pub fn read_before(text: &str, position: usize) -> Option<(u32, usize)>
+    ensures { option_map read_of result ≡ read_before text.now position }
 {
-    if place == 0 {
+    if position == 0 {
         return None;
     }
-    match ascii_at(text, place - 1) {
-        Some(b) => Some((u32::from(b), place - 1)),
-        None => decode_before(text, place),
+    match ascii_at(text, position - 1) {
+        Some(b) => Some((u32::from(b), position - 1)),
+        None => decode_before(text, position),
     }
 }
 
 /// Returns the byte at an offset if it is an ASCII character, which is the fast case.
-fn ascii_at(text: &str, place: usize) -> Option<u8>
-    ensures { IfSome result (λ b. (b < 128) × (place < length text.now) × (slice_index text.now place ≡ b)) }
+fn ascii_at(text: &str, position: usize) -> Option<u8>
+    ensures { IfSome result (λ b. (b < 128) × (position < length text.now) × (slice_index text.now position ≡ b)) }
 {
     let bytes = text.as_bytes();
-    if place < bytes.len() && bytes[place].is_ascii() {
-        Some(bytes[place])
+    if position < bytes.len() && bytes[position].is_ascii() {
+        Some(bytes[position])
     } else {
         None
     }
 }
 
-/// Returns the character of any length that begins at `place`, and the offset after it.
-fn decode_after(text: &str, place: usize) -> Option<(u32, usize)>
-    ensures { option_map read_of result ≡ read_after text.now place }
+/// Returns the character of any length that begins at `position`, and the offset after it.
+fn decode_after(text: &str, position: usize) -> Option<(u32, usize)>
+    ensures { option_map read_of result ≡ read_after text.now position }
 {
-    let (_, behind) = text.split_at_checked(place)?;
-    let c = behind.chars().next()?;
-    Some((u32::from(c), place + c.len_utf8()))
+    let (_, after) = text.split_at_checked(position)?;
+    let c = after.chars().next()?;
+    Some((u32::from(c), position + c.len_utf8()))
 }
 
-/// Returns the character of any length that ends at `place`, and the offset before it.
-fn decode_before(text: &str, place: usize) -> Option<(u32, usize)>
-    ensures { option_map read_of result ≡ read_before text.now place }
+/// Returns the character of any length that ends at `position`, and the offset before it.
+fn decode_before(text: &str, position: usize) -> Option<(u32, usize)>
+    ensures { option_map read_of result ≡ read_before text.now position }
 {
-    let (before, _) = text.split_at_checked(place)?;
+    let (before, _) = text.split_at_checked(position)?;
     let c = before.chars().next_back()?;
-    Some((u32::from(c), place - c.len_utf8()))
+    Some((u32::from(c), position - c.len_utf8()))
 }

@@ -1,22 +1,22 @@
 //! Runs of the machine, within a step limit.
 ghost use Rattle.std.specs.Prelude.{◌≡◌, ◌≤◌, [], true, false, IfOk, List, length, if◌then◌else◌};
 ghost use Rattle.regress_tree.specs.Reading.{direction_if};
-ghost use Rattle.regress_tree.specs.Lookaround.{look};
+ghost use Rattle.regress_tree.specs.Lookaround.{lookaround_matcher};
 ghost use Rattle.regress_tree.specs.Matching.{steps};
-ghost use Rattle.regress_tree.specs.Steps.{State};
+ghost use Rattle.regress_tree.specs.Steps.{MatchState};
 ghost use Rattle.regress_tree.specs.Tree.{tree};
 ghost use Rattle.regress_match.specs.Captures.{state, undone, Later};
 ghost use Rattle.regress_match.specs.Machine.{Answers, Continues, Fits, IsMachine, Looks, Settles, left_ahead};
-ghost use Rattle.regress_match.specs.declared.machine.Ahead.TheVariants.{Task};
+ghost use Rattle.regress_match.specs.declared.machine.Pending.TheVariants.{Task};
 ghost use Rattle.regress_match.specs.declared.machine.Looked.TheVariants.{Holds, Fails};
 ghost use Rattle.regress_match.specs.Subject.{subject};
 
 use crate::captures::Captures;
 use crate::machine::{
-    Ahead, Answer, Looked, Looking, Machine, Next, Settled, keep_idle, take_idle,
+    Looked, Looking, Machine, Pending, Response, Settled, Transition, keep_idle, take_idle,
 };
-use crate::peek::fails_at_once;
-use crate::rules::Rules;
+use crate::peek::cannot_match_at;
+use crate::rules::MatchContext;
 use crate::visits::{step, visit};
 use regress_tree::ir::Node;
 use std::alloc::{AllocError, Global};
@@ -40,55 +40,55 @@ use std::mem;
 pub fn run<'a>(
     alloc: Global,
     text: &str,
-    rules: Rules<'_>,
+    rules: MatchContext<'_>,
     node: &'a Node,
     start: usize,
     machine: &mut Machine<'a>,
     idle: &mut Vec<Machine<'a>>,
     captures: &mut Captures,
     budget: &mut u64,
-) -> Result<Answer, AllocError>
+) -> Result<Response, AllocError>
     requires { captures.old.trail.items ≡ [] }
-    ensures answers { IfOk result (let u = subject rules.entry text.now in
+    ensures yields { IfOk result (let u = subject rules.entry text.now in
         Answers (steps u.setting u.bytes u.direction (tree node.now) (state captures.old start)) captures.new) }
     ensures budget { IfOk result (λ _. budget.new ≤ budget.old) }
     ensures undo { IfOk result (λ _. undone captures.new.trail.items captures.new.spans.items ≡ captures.old.spans.items) }
 {
     machine.clear();
-    let mut place = start;
-    let mut ahead = Ahead::Node(node, 0);
+    let mut position = start;
+    let mut ahead = Pending::Node(node, 0);
     while *budget > 0 {
         if is_end(ahead) {
-            return Ok(Answer::At(place));
+            return Ok(Response::At(position));
         }
         *budget -= 1;
-        let next = advance(alloc, text, rules, ahead, place, machine, captures)?;
+        let next = advance(alloc, text, rules, ahead, position, machine, captures)?;
         match settle(alloc, text, rules, next, idle, captures, budget)? {
             Settled::On(to, with) => {
                 // a frame that succeeds counts the bytes it moves by; one that fails has counted 1
-                *budget = budget.saturating_sub(to.abs_diff(place) as u64);
-                place = to;
+                *budget = budget.saturating_sub(to.abs_diff(position) as u64);
+                position = to;
                 ahead = with;
             }
             Settled::Off => {
                 let Some((to, task)) = machine.resume(captures) else {
-                    return Ok(Answer::Nowhere);
+                    return Ok(Response::Nowhere);
                 };
-                place = to;
-                ahead = Ahead::Task(task);
+                position = to;
+                ahead = Pending::Task(task);
             }
-            Settled::Spent => return Ok(Answer::OutOfSteps),
+            Settled::Spent => return Ok(Response::OutOfSteps),
         }
     }
-    Ok(Answer::OutOfSteps)
+    Ok(Response::OutOfSteps)
 }
 
 /// Returns whether no frame remains.
-fn is_end(ahead: Ahead<'_>) -> bool
+fn is_end(ahead: Pending<'_>) -> bool
     ensures end { result ≡ true → ahead.entry ≡ Task 0 }
     ensures more { result ≡ false → ahead.entry ≡ Task 0 → ⊥ }
 {
-    matches!(ahead, Ahead::Task(0))
+    matches!(ahead, Pending::Task(0))
 }
 
 /// Does what comes next.
@@ -96,24 +96,26 @@ fn is_end(ahead: Ahead<'_>) -> bool
 fn advance<'a>(
     alloc: Global,
     text: &str,
-    rules: Rules<'_>,
-    ahead: Ahead<'a>,
-    place: usize,
+    rules: MatchContext<'_>,
+    ahead: Pending<'a>,
+    position: usize,
     machine: &mut Machine<'a>,
     captures: &mut Captures,
-) -> Result<Next<'a>, AllocError>
+) -> Result<Transition<'a>, AllocError>
     requires machine { IsMachine machine.old captures.old }
     requires fits { Fits ahead (length machine.old.tasks.items) }
     requires more { ahead ≡ Task 0 → ⊥ }
     ensures continues { IfOk result (let u = subject rules.entry text.now in
-        Continues u (left_ahead u machine.old captures.old place ahead.entry) machine.new captures.new) }
+        Continues u (left_ahead u machine.old captures.old position ahead.entry) machine.new captures.new) }
     ensures later { IfOk result (λ _. Later captures.old captures.new) }
 {
     match ahead {
-        Ahead::Node(node, next) => visit(alloc, text, rules, node, place, next, machine, captures),
-        Ahead::Task(task) => {
+        Pending::Node(node, next) => visit(
+            alloc, text, rules, node, position, next, machine, captures,
+        ),
+        Pending::Task(task) => {
             let here = machine.tasks[task - 1];
-            step(alloc, text, rules, here, task, place, machine, captures)
+            step(alloc, text, rules, here, task, position, machine, captures)
         }
     }
 }
@@ -123,23 +125,28 @@ fn advance<'a>(
 fn settle<'a>(
     alloc: Global,
     text: &str,
-    rules: Rules<'_>,
-    next: Next<'a>,
+    rules: MatchContext<'_>,
+    next: Transition<'a>,
     idle: &mut Vec<Machine<'a>>,
     captures: &mut Captures,
     budget: &mut u64,
 ) -> Result<Settled<'a>, AllocError>
-    ensures settles { IfOk result (λ settled. (outcomes : List State) (m : Machine) → (let u = subject rules.entry text.now in
+    ensures settles { IfOk result (λ settled. (outcomes : List MatchState) (m : Machine) → (let u = subject rules.entry text.now in
         Continues u outcomes m captures.old next.entry → Settles u outcomes m captures.new settled)) }
     ensures budget { IfOk result (λ _. budget.new ≤ budget.old) }
     ensures later { IfOk result (λ _. Later captures.old captures.new) }
 {
     match next {
-        Next::Go(place, task) => Ok(Settled::On(place, Ahead::Task(task))),
-        Next::Visit(place, node, task) => Ok(Settled::On(place, Ahead::Node(node, task))),
-        Next::Back => Ok(Settled::Off),
-        Next::Look(looking) => match look(alloc, text, rules, looking, idle, captures, budget)? {
-            Looked::Holds => Ok(Settled::On(looking.place, Ahead::Task(looking.next))),
+        Transition::Go(position, task) => Ok(Settled::On(position, Pending::Task(task))),
+        Transition::Visit(position, node, task) => Ok(Settled::On(
+            position,
+            Pending::Node(node, task),
+        )),
+        Transition::Back => Ok(Settled::Off),
+        Transition::Look(looking) => match lookaround_matcher(
+            alloc, text, rules, looking, idle, captures, budget,
+        )? {
+            Looked::Holds => Ok(Settled::On(looking.position, Pending::Task(looking.next))),
             Looked::Fails => Ok(Settled::Off),
             Looked::Spent => Ok(Settled::Spent),
         },
@@ -148,36 +155,36 @@ fn settle<'a>(
 
 /// Matches a lookaround (CompileAssertion). The changes of captures inside it are appended to the trail.
 #[cycle(run)]
-fn look<'a>(
+fn lookaround_matcher<'a>(
     alloc: Global,
     text: &str,
-    rules: Rules<'_>,
+    rules: MatchContext<'_>,
     looking: Looking<'a>,
     idle: &mut Vec<Machine<'a>>,
     captures: &mut Captures,
     budget: &mut u64,
 ) -> Result<Looked, AllocError>
     ensures looks { IfOk result (let u = subject rules.entry text.now in let l = looking.entry in
-        Looks (look l.negate (steps u.setting u.bytes (direction_if l.backwards) (tree l.body.now)) (state captures.old l.place)) captures.new l.place) }
+        Looks (lookaround_matcher l.negate (steps u.setting u.bytes (direction_if l.backwards) (tree l.body.now)) (state captures.old l.position)) captures.new l.position) }
     ensures budget { IfOk result (λ _. budget.new ≤ budget.old) }
     ensures later { IfOk result (λ _. Later captures.old captures.new) }
 {
-    let inside = Rules {
+    let inside = MatchContext {
         backwards: looking.backwards,
         ..rules
     };
-    if fails_at_once(text, inside, looking.body, looking.place) {
+    if cannot_match_at(text, inside, looking.body, looking.position) {
         return Ok(holds_if(looking.negate));
     }
     let noted = captures.trail.len();
     let before = mem::replace(&mut captures.trail, Vec::new(alloc));
     let mut machine = take_idle(alloc, idle);
-    let answer = run(
+    let response = run(
         alloc,
         text,
         inside,
         looking.body,
-        looking.place,
+        looking.position,
         &mut machine,
         idle,
         captures,
@@ -186,10 +193,10 @@ fn look<'a>(
     keep_idle(machine, idle);
     let mut since = mem::replace(&mut captures.trail, before);
     captures.trail.append(&mut since)?;
-    match answer {
-        Answer::OutOfSteps => Ok(Looked::Spent),
-        Answer::At(_) => Ok(holds_if(!looking.negate)),
-        Answer::Nowhere => {
+    match response {
+        Response::OutOfSteps => Ok(Looked::Spent),
+        Response::At(_) => Ok(holds_if(!looking.negate)),
+        Response::Nowhere => {
             captures.rewind(noted);
             Ok(holds_if(looking.negate))
         }

@@ -3,15 +3,15 @@ ghost use Rattle.std.specs.Prelude.{◌≡◌, ◌≤◌, [], true, IfOk, OnErr}
 ghost use Rattle.regress_tree.specs.Tree.{tree};
 ghost use Rattle.regress_unicode.specs.TableOf.{table_of};
 ghost use Rattle.regress_match.specs.Matched.{Finds, outcomes_at};
-ghost use Rattle.regress_match.specs.Searched.{IsSameSearch, goes_on_from, next_from, outcomes_of, searched_outcomes, searched_text};
+ghost use Rattle.regress_match.specs.Searched.{IsSameSearch, offset_after, next_from, outcomes_of, searched_outcomes, searched_text};
 
 use crate::known::Known;
-use crate::machine::{Answer, Scratch};
-use crate::matching::{Match, Outcome, first_at, nothing_captured};
-use crate::peek::fails_at_once;
+use crate::machine::{Response, Scratch};
+use crate::matching::{Match, Outcome, first_at, unset_captures};
+use crate::peek::cannot_match_at;
 use crate::prepared::Prepared;
-use crate::rules::Rules;
-use regress_prefilter::candidates::next_place;
+use crate::rules::MatchContext;
+use regress_prefilter::candidates::next_candidate_from;
 use regress_tree::ir::Regex;
 use regress_unicode::Tables;
 use std::alloc::{AllocError, Global};
@@ -77,31 +77,31 @@ pub(crate) fn find_within<'a>(
 {
     let regex = prepared.regex;
     let known = prepared.known;
-    let mut captures = nothing_captured(alloc, prepared.groups)?;
+    let mut captures = unset_captures(alloc, prepared.groups)?;
     let mut from = from;
     while from <= text.len() {
-        let Some(place) = next_place(&prepared.candidates, text, from) else {
+        let Some(position) = next_candidate_from(&prepared.candidates, text, from) else {
             return Ok(Outcome::NoMatch);
         };
-        if text.is_char_boundary(place) && !fails_from(regex, known, text, place) {
+        if text.is_char_boundary(position) && !fails_from(regex, known, text, position) {
             match first_at(
                 alloc,
                 regex,
                 known,
                 text,
-                place,
+                position,
                 scratch,
                 &mut captures,
                 left,
             )? {
-                Answer::At(end) => {
-                    return Ok(Outcome::Matched(Match::new(place, end, captures.spans)));
+                Response::At(end) => {
+                    return Ok(Outcome::Matched(Match::new(position, end, captures.spans)));
                 }
-                Answer::OutOfSteps => return Ok(Outcome::OutOfSteps),
-                Answer::Nowhere => {}
+                Response::OutOfSteps => return Ok(Outcome::OutOfSteps),
+                Response::Nowhere => {}
             }
         }
-        from = place + 1;
+        from = position + 1;
     }
     Ok(Outcome::NoMatch)
 }
@@ -167,7 +167,7 @@ impl<'a> Matches<'a> {
     /// ```
     pub fn next(&mut self, alloc: Global) -> Result<Outcome, AllocError>
         ensures finds { IfOk result (Finds (searched_text self.old) (searched_outcomes self.old) (next_from self.old)) }
-        ensures goes_on { IfOk result (λ outcome. next_from self.new ≡ goes_on_from (searched_text self.old) (next_from self.old) outcome) }
+        ensures goes_on { IfOk result (λ outcome. next_from self.new ≡ offset_after (searched_text self.old) (next_from self.old) outcome) }
         ensures stays { OnErr result (next_from self.new ≡ next_from self.old) }
         ensures same { IsSameSearch self.old self.new }
     {
@@ -194,14 +194,14 @@ impl<'a> Matches<'a> {
 }
 
 /// Returns true only if a pattern fails at a position, as its start shows.
-fn fails_from(regex: &Regex, known: Known<'_>, text: &str, place: usize) -> bool
+fn fails_from(regex: &Regex, known: Known<'_>, text: &str, position: usize) -> bool
     ensures { result ≡ true → outcomes_at (record { flags = regex.now.flags; table = table_of known.entry.tables.now }) text.now
-        (tree regex.now.node) place ≡ [] }
+        (tree regex.now.node) position ≡ [] }
 {
-    let rules = Rules {
+    let rules = MatchContext {
         flags: regex.flags,
         known,
         backwards: false,
     };
-    fails_at_once(text, rules, &regex.node, place)
+    cannot_match_at(text, rules, &regex.node, position)
 }

@@ -8,14 +8,14 @@ use Rattle.regress_tree.specs.NormalForm.{IsNormal}
 use Rattle.regress_tree.specs.Reading.{Direction}
 use Rattle.regress_tree.specs.Shapes.{is_cat, is_emptied_away, is_failed_away, has_group}
 use Rattle.regress_tree.specs.Tree.{Tree, leaf, empty, alt}
-use Rattle.regress_tree.proofs.laws.Measures.{LacksShape-here}
+use Rattle.regress_tree.proofs.lemmas.Measures.{LacksShape-here}
 use Rattle.regress_rewrite.specs.Law.{IsPart}
-use Rattle.regress_rewrite.proofs.laws.Keeps.{Keeps-refl}
-use Rattle.regress_rewrite.proofs.laws.Emptying.{emptied_keeps}
-use Rattle.regress_rewrite.proofs.laws.Alternatives.{left_alone, right_alone}
+use Rattle.regress_rewrite.proofs.lemmas.Keeps.{Keeps-refl}
+use Rattle.regress_rewrite.proofs.lemmas.Emptying.{emptied_keeps}
+use Rattle.regress_rewrite.proofs.lemmas.Alternatives.{left_alone, right_alone}
 use Rattle.regress_normalize.specs.declared.facts.PartFacts.{PartFacts}
 use Rattle.regress_normalize.specs.Normalized.{HasGoal, Normalized, IsAltOf}
-use Rattle.regress_normalize.specs.PartFacts.{HasFacts, IsStillOne}
+use Rattle.regress_normalize.specs.PartFacts.{HasFacts, IsStillOneCharacter}
 use Rattle.regress_normalize.proofs.GoalLemmas.{alt_goal}
 use Rattle.regress_normalize.proofs.NormalLemmas.{IsNormal-alt, empty_normal}
 
@@ -99,20 +99,20 @@ module _ (d : Direction) (t : Tree) (left_facts right_facts : PartFacts) (sides 
         }
 
   -- an `Alt` without a shape to remove is unchanged
-  pub alt_stays : (answer : Result PartFacts AllocError) → (is_empty first && is_empty second) ≡ false →
+  pub alt_stays : (response : Result PartFacts AllocError) → (is_empty first && is_empty second) ≡ false →
       ((left_facts.always_fails ≡ false) × (right_facts.always_fails ≡ false)) ⊎ ((left_facts.has_group || right_facts.has_group) ≡ true) →
-      IfOk answer (λ facts. HasFacts facts (alt first second)) → IfOk answer (λ facts. facts.was_one_character ≡ false) →
-      Normalized d t t answer
-  alt_stays answer no_empties may has many = record {
+      IfOk response (λ facts. HasFacts facts (alt first second)) → IfOk response (λ facts. facts.was_one_character ≡ false) →
+      Normalized d t t response
+  alt_stays response no_empties may has many = record {
     keeps = Keeps-refl d t;
     goal = λ has_goal. has_goal;
-    normal = by answer;
-    facts = subst (λ (u : Tree). IfOk answer (λ facts. HasFacts facts u)) (sym sides.is) has;
+    normal = by response;
+    facts = subst (λ (u : Tree). IfOk response (λ facts. HasFacts facts u)) (sym sides.is) has;
     left = λ normal. refl;
-    still_one = λ normal. still_one answer many;
+    still_one = λ normal. still_one response many;
   }
     where
-      still_one : (a : Result PartFacts AllocError) → IfOk a (λ facts. facts.was_one_character ≡ false) → IfOk a (λ facts. IsStillOne facts t)
+      still_one : (a : Result PartFacts AllocError) → IfOk a (λ facts. facts.was_one_character ≡ false) → IfOk a (λ facts. IsStillOneCharacter facts t)
       still_one (Ok facts) is = λ one. absurd (true≢false (sym one ∙ is))
       still_one (Err e) is = tt
 

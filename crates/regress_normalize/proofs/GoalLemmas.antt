@@ -5,11 +5,11 @@ use Rattle.std.proofs.lemmas.Bool.{cases_Bool, or_left, or_right, true≢false, 
 use Rattle.regress_tree.specs.Copies.{is_leaf}
 use Rattle.regress_tree.specs.NodeTests.{is_goal}
 use Rattle.regress_tree.specs.NormalForm.{IsNormal}
-use Rattle.regress_tree.specs.Shapes.{some_in_row, is_cat, is_simplified_away}
-use Rattle.regress_tree.specs.Tree.{Wrapper, Tree, Trees, leaf, goal, cat, alt, wrapped, no_trees, more_trees, row_append}
-use Rattle.regress_tree.proofs.laws.Goal.{goal-is}
-use Rattle.regress_tree.proofs.laws.Measures.{some_in_row-append}
-use Rattle.regress_tree.proofs.laws.Places.{Place, among, left_of, right_of, inside_of, put}
+use Rattle.regress_tree.specs.Shapes.{some_part, is_cat, is_simplified_away}
+use Rattle.regress_tree.specs.Tree.{Wrapper, Tree, Trees, leaf, goal, cat, alt, wrapped, no_trees, more_trees, append_trees}
+use Rattle.regress_tree.proofs.lemmas.Goal.{goal-is}
+use Rattle.regress_tree.proofs.lemmas.Measures.{some_part-append}
+use Rattle.regress_tree.proofs.lemmas.TreeContexts.{TreeContext, among, left_of, right_of, inside_of, put}
 use Rattle.regress_rewrite.specs.Splice.{parts_of, spliced}
 use Rattle.regress_normalize.specs.Normalized.{HasGoal}
 use Rattle.regress_normalize.specs.Steps.{Clears}
@@ -17,7 +17,7 @@ use Rattle.regress_normalize.proofs.NormalLemmas.{IsNormal-leaf, nothing_normal}
 
 -- ---- the trees that have it
 
-pub cat_goal : (ts : Trees) → HasGoal (cat ts) → some_in_row is_goal ts ≡ true
+pub cat_goal : (ts : Trees) → HasGoal (cat ts) → some_part is_goal ts ≡ true
 cat_goal ts (inl has) = has
 cat_goal ts (inr is) = absurd (true≢false (ap is_cat is))
 
@@ -43,16 +43,16 @@ is_normal t is = subst (λ (u : Tree). IsNormal u) (sym (goal-is t is)) (IsNorma
 
 -- a `Goal` as a part of another tree
 module _ (t u : Tree) (left : IsNormal t → u ≡ t) where
-  among_goal : (before behind : Trees) → some_in_row is_goal (row_append before (more_trees t behind)) ≡ true →
-      some_in_row is_goal (row_append before (more_trees u behind)) ≡ true
-  among_goal before behind has = elim (cases_Bool (is_goal t)) [
+  among_goal : (before after : Trees) → some_part is_goal (append_trees before (more_trees t after)) ≡ true →
+      some_part is_goal (append_trees before (more_trees u after)) ≡ true
+  among_goal before after has = elim (cases_Bool (is_goal t)) [
     | inl is ↦
-        subst (λ (x : Tree). some_in_row is_goal (row_append before (more_trees x behind)) ≡ true) (sym (left (is_normal t is))) has
+        subst (λ (x : Tree). some_part is_goal (append_trees before (more_trees x after)) ≡ true) (sym (left (is_normal t is))) has
     | inr is_not ↦
-        some_in_row-append is_goal before (more_trees u behind)
-        ∙ one_more (some_in_row is_goal before) (is_goal u) (some_in_row is_goal behind)
-        (ap (λ b. some_in_row is_goal before || (b || some_in_row is_goal behind)) (sym is_not)
-        ∙ sym (some_in_row-append is_goal before (more_trees t behind))
+        some_part-append is_goal before (more_trees u after)
+        ∙ one_more (some_part is_goal before) (is_goal u) (some_part is_goal after)
+        (ap (λ b. some_part is_goal before || (b || some_part is_goal after)) (sym is_not)
+        ∙ sym (some_part-append is_goal before (more_trees t after))
         ∙ has)
   ]
     where
@@ -60,8 +60,8 @@ module _ (t u : Tree) (left : IsNormal t → u ≡ t) where
       one_more true b c some = refl
       one_more false b c some = or_right b c some
 
-  pub put_goal : (p : Place) → HasGoal (put p t) → HasGoal (put p u)
-  put_goal (among before behind) has = inl (among_goal before behind (cat_goal _ has))
+  pub put_goal : (p : TreeContext) → HasGoal (put p t) → HasGoal (put p u)
+  put_goal (among before after) has = inl (among_goal before after (cat_goal _ has))
   put_goal (left_of right) has = absurd (alt_goal t right has)
   put_goal (right_of left_side) has = absurd (alt_goal left_side t has)
   put_goal (inside_of w) has = absurd (wrapped_goal w t has)
@@ -80,18 +80,18 @@ cleared_goal t simplified new first left has =
 
 -- ---- in a list that is spliced
 
-own_goal : (t : Tree) → is_goal t ≡ true → some_in_row is_goal (parts_of t) ≡ true
+own_goal : (t : Tree) → is_goal t ≡ true → some_part is_goal (parts_of t) ≡ true
 own_goal (leaf l) is = or_left _ _ is
 own_goal (cat parts) is = absurd (false≢true is)
 own_goal (alt left right) is = absurd (false≢true is)
 own_goal (wrapped w body) is = absurd (false≢true is)
 
-pub spliced_goal : (ts : Trees) → some_in_row is_goal ts ≡ true → some_in_row is_goal (spliced ts) ≡ true
+pub spliced_goal : (ts : Trees) → some_part is_goal ts ≡ true → some_part is_goal (spliced ts) ≡ true
 spliced_goal no_trees has = has
 spliced_goal (more_trees t ts) has =
-    some_in_row-append is_goal (parts_of t) (spliced ts) ∙ either (is_goal t) refl (spliced_goal ts)
+    some_part-append is_goal (parts_of t) (spliced ts) ∙ either (is_goal t) refl (spliced_goal ts)
   where
-    either : (b : Bool) → is_goal t ≡ b → (some_in_row is_goal ts ≡ true → some_in_row is_goal (spliced ts) ≡ true) →
-        (some_in_row is_goal (parts_of t) || some_in_row is_goal (spliced ts)) ≡ true
+    either : (b : Bool) → is_goal t ≡ b → (some_part is_goal ts ≡ true → some_part is_goal (spliced ts) ≡ true) →
+        (some_part is_goal (parts_of t) || some_part is_goal (spliced ts)) ≡ true
     either true is later = or_left _ _ (own_goal t is)
-    either false is later = or_right _ _ (later (ap (λ b. b || some_in_row is_goal ts) (sym is) ∙ has))
+    either false is later = or_right _ _ (later (ap (λ b. b || some_part is_goal ts) (sym is) ∙ has))

@@ -12,16 +12,16 @@ use Rattle.regress_tree.specs.Shapes.{LacksShape, is_cat, is_simplified_away, is
 use Rattle.regress_tree.specs.Tree.{Leaf, empty, Tree, leaf, cat, alt, wrapped}
 use Rattle.regress_tree.specs.Units.{weight, loops, IsLess}
 use Rattle.regress_tree.specs.WellFormed.{one_character}
-use Rattle.regress_tree.proofs.laws.Measures.{LacksShape-here}
-use Rattle.regress_tree.proofs.laws.Positions.{MayStand-one_character}
+use Rattle.regress_tree.proofs.lemmas.Measures.{LacksShape-here}
+use Rattle.regress_tree.proofs.lemmas.Positions.{IsAllowed-one_character}
 use Rattle.regress_rewrite.specs.declared.rewrite.PassAction.{PassAction}
 use Rattle.regress_rewrite.specs.declared.rewrite.PassAction.TheVariants.{Keep}
 use Rattle.regress_rewrite.specs.Law.{IsPart, Keeps, after, ObeysLaw}
-use Rattle.regress_rewrite.proofs.laws.Keeps.{Keeps-refl, Keeps-trans, IsPart-kept}
-use Rattle.regress_rewrite.proofs.laws.Emptying.{emptied_keeps}
+use Rattle.regress_rewrite.proofs.lemmas.Keeps.{Keeps-refl, Keeps-trans, IsPart-kept}
+use Rattle.regress_rewrite.proofs.lemmas.Emptying.{emptied_keeps}
 use Rattle.regress_normalize.specs.declared.facts.PartFacts.{PartFacts}
 use Rattle.regress_normalize.specs.Normalized.{Normalized}
-use Rattle.regress_normalize.specs.PartFacts.{StandsAsOne, HasFacts}
+use Rattle.regress_normalize.specs.PartFacts.{MayBeCharacterLoopBody, HasFacts}
 use Rattle.regress_normalize.specs.Steps.{Clears}
 use Rattle.regress_normalize.proofs.GoalLemmas.{cleared_goal}
 use Rattle.regress_normalize.proofs.NormalLemmas.{IsNormal-leaf}
@@ -117,17 +117,17 @@ Clears-empty t is some part = record {
 
 -- ---- one character
 
-one_stands : (t : Tree) → matches_exactly_one_char t ≡ true → IsPart t → StandsAsOne t
-one_stands t one part n = MayStand-one_character part.0 n t part.1 one part.2
+one_occurs : (t : Tree) → matches_exactly_one_char t ≡ true → IsPart t → MayBeCharacterLoopBody t
+one_occurs t one part n = IsAllowed-one_character part.0 n t part.1 one part.2
 
 -- ---- all three steps
 
 module _ (old simplified formed new : Tree) (part : IsPart old) (first : Clears is_simplified_away old simplified)
     (second : Clears is_formed_away simplified formed) (third : Clears is_emptied_away formed new) where
-  pub was_one : matches_exactly_one_char simplified ≡ true → StandsAsOne new
+  pub was_one : matches_exactly_one_char simplified ≡ true → MayBeCharacterLoopBody new
   was_one one n =
-      let at_first = one_stands simplified one (IsPart-kept forwards (first.keeps forwards) part) n in
-      (third.keeps forwards).stands n one_character ((second.keeps forwards).stands n one_character at_first)
+      let at_first = one_occurs simplified one (IsPart-kept forwards (first.keeps forwards) part) n in
+      (third.keeps forwards).occurs n one_character ((second.keeps forwards).occurs n one_character at_first)
 
   -- a leaf in normal form is unchanged
   same : IsNormal old → new ≡ old
@@ -158,7 +158,7 @@ module _ (d : Direction) (old simplified : Tree) (first : Clears is_simplified_a
   at_first : IsNormal old → simplified ≡ old
   at_first normal = first.left (LacksShape-here is_simplified_away old normal.simplified)
 
-  pub simplified_error : (answer : Result PartFacts AllocError) → IsErr answer → Normalized d old simplified answer
+  pub simplified_error : (response : Result PartFacts AllocError) → IsErr response → Normalized d old simplified response
   simplified_error (Ok facts) err = absurd (false≢true err)
   simplified_error (Err e) err = record {
     keeps = first.keeps d;
@@ -169,8 +169,8 @@ module _ (d : Direction) (old simplified : Tree) (first : Clears is_simplified_a
     still_one = λ normal. tt;
   }
 
-  pub formed_error : (formed : Tree) → Clears is_formed_away simplified formed → (answer : Result PartFacts AllocError) → IsErr answer →
-      Normalized d old formed answer
+  pub formed_error : (formed : Tree) → Clears is_formed_away simplified formed → (response : Result PartFacts AllocError) → IsErr response →
+      Normalized d old formed response
   formed_error formed second (Ok facts) err = absurd (false≢true err)
   formed_error formed second (Err e) err = record {
     keeps = Keeps-trans d (first.keeps d) (second.keeps d);

@@ -4,9 +4,9 @@ use Rattle.regress_tree.specs.NormalForm.{IsNormal}
 use Rattle.regress_tree.specs.Shapes.{LacksShape, is_simplified_away, is_flattened_away, is_unrolled_away, is_promoted_away, is_formed_away, is_emptied_away, is_failed_away}
 use Rattle.regress_tree.specs.Spine.{reattach}
 use Rattle.regress_tree.specs.Tree.{Leaf, Tree, leaf, empty, byte_set, alt}
-use Rattle.regress_tree.proofs.laws.Measures.{LacksShape-from}
-use Rattle.regress_tree.proofs.laws.Places.{Place, put, LacksShape-whole}
-use Rattle.regress_rewrite.proofs.laws.Spine.{LacksShape-reattach}
+use Rattle.regress_tree.proofs.lemmas.Measures.{LacksShape-from}
+use Rattle.regress_tree.proofs.lemmas.TreeContexts.{TreeContext, put, LacksShape-whole}
+use Rattle.regress_rewrite.proofs.lemmas.Spine.{LacksShape-reattach}
 
 -- the kinds of shapes, one for each field of the normal form
 pub data Kind : Type 0 where
@@ -48,7 +48,7 @@ normal_from t none = record {
   failed = none failed;
 }
 
-pub IsNormal-part : (p : Place) (t : Tree) → IsNormal (put p t) → IsNormal t
+pub IsNormal-part : (p : TreeContext) (t : Tree) → IsNormal (put p t) → IsNormal t
 IsNormal-part p t normal = normal_from t (λ k. LacksShape-whole (shape k) p t (lacks (put p t) normal k))
 
 pub IsNormal-reattach : (above t : Tree) → IsNormal (reattach above t) → IsNormal t

@@ -10,27 +10,27 @@ use Rattle.regress_tree.specs.NormalForm.{IsNormal}
 use Rattle.regress_tree.specs.Reading.{Direction}
 use Rattle.regress_tree.specs.Shapes.{is_flattened_away}
 use Rattle.regress_tree.specs.Spine.{Shifted, reattach}
-use Rattle.regress_tree.specs.Tree.{Wrapper, Tree, Trees, leaf, cat, alt, wrapped, no_trees, more_trees, row_append, tree, trees}
+use Rattle.regress_tree.specs.Tree.{Wrapper, Tree, Trees, leaf, cat, alt, wrapped, no_trees, more_trees, append_trees, tree, trees}
 use Rattle.regress_tree.specs.Units.{units}
-use Rattle.regress_tree.proofs.laws.Measures.{LacksShape-here}
-use Rattle.regress_tree.proofs.laws.Places.{Place, put, direction_at, right_of, inside_of, left_of}
-use Rattle.regress_tree.proofs.laws.Rows.{trees-append}
+use Rattle.regress_tree.proofs.lemmas.Measures.{LacksShape-here}
+use Rattle.regress_tree.proofs.lemmas.TreeContexts.{TreeContext, put, direction_at, right_of, inside_of, left_of}
+use Rattle.regress_tree.proofs.lemmas.Lists.{trees-append}
 use Rattle.regress_rewrite.specs.Law.{IsPart}
-use Rattle.regress_rewrite.proofs.laws.Keeps.{Keeps-trans, Keeps-put, Keeps-one_part, IsPart-kept}
-use Rattle.regress_rewrite.proofs.laws.Parts.{place, row_set, row_at}
-use Rattle.regress_rewrite.proofs.laws.Spine.{IsPart-reattach}
+use Rattle.regress_rewrite.proofs.lemmas.Keeps.{Keeps-trans, Keeps-put, Keeps-one_part, IsPart-kept}
+use Rattle.regress_rewrite.proofs.lemmas.Parts.{position, list_set, list_at}
+use Rattle.regress_rewrite.proofs.lemmas.Spine.{IsPart-reattach}
 use Rattle.regress_normalize.specs.declared.facts.PartFacts.{PartFacts}
-use Rattle.regress_normalize.specs.Normalized.{Finished, Normalized, IsCleanAround, RowIsNormal, IsWrapperOf, IsAltOf}
-use Rattle.regress_normalize.specs.PartFacts.{HasFacts, IsStillOne}
-use Rattle.regress_normalize.specs.Steps.{StandsFor, IsAltOnto}
+use Rattle.regress_normalize.specs.Normalized.{Finished, Normalized, IsCleanAround, ListIsNormal, IsWrapperOf, IsAltOf}
+use Rattle.regress_normalize.specs.PartFacts.{HasFacts, IsStillOneCharacter}
+use Rattle.regress_normalize.specs.Steps.{Denotes, IsAltOnto}
 use Rattle.regress_normalize.proofs.GoalLemmas.{only_goal, put_goal}
 use Rattle.regress_normalize.proofs.NormalLemmas.{IsNormal-part, IsNormal-reattach}
-use Rattle.regress_normalize.proofs.PackedLemmas.{RowIsNormal-append}
+use Rattle.regress_normalize.proofs.PackedLemmas.{ListIsNormal-append}
 
 -- ---- steps in sequence
 
-pub StandsFor-then : (d : Direction) (t u v : Tree) → StandsFor d t u → StandsFor d u v → StandsFor d t v
-StandsFor-then d t u v first second = record {
+pub Denotes-then : (d : Direction) (t u v : Tree) → Denotes d t u → Denotes d u v → Denotes d t v
+Denotes-then d t u v first second = record {
   keeps = Keeps-trans d first.keeps second.keeps;
   goal = λ has_goal. second.goal (first.goal has_goal);
   left = λ normal.
@@ -38,30 +38,30 @@ StandsFor-then d t u v first second = record {
       second.left (subst (λ (x : Tree). IsNormal x) (sym same) normal) ∙ same;
 }
 
-pub StandsFor-put : (p : Place) (d : Direction) (t u : Tree) → StandsFor (direction_at p d) t u → StandsFor d (put p t) (put p u)
-StandsFor-put p d t u stands = record {
-  keeps = Keeps-put p d stands.keeps;
-  goal = put_goal t u stands.left p;
-  left = λ normal. ap (put p) (stands.left (IsNormal-part p t normal));
+pub Denotes-put : (p : TreeContext) (d : Direction) (t u : Tree) → Denotes (direction_at p d) t u → Denotes d (put p t) (put p u)
+Denotes-put p d t u occurs = record {
+  keeps = Keeps-put p d occurs.keeps;
+  goal = put_goal t u occurs.left p;
+  left = λ normal. ap (put p) (occurs.left (IsNormal-part p t normal));
 }
 
-pub StandsFor-reattach : (d : Direction) (above t u : Tree) → StandsFor d t u → StandsFor d (reattach above t) (reattach above u)
-StandsFor-reattach d (leaf l) t u stands = stands
-StandsFor-reattach d (cat parts) t u stands = stands
-StandsFor-reattach d (alt left above) t u stands =
-    StandsFor-reattach d above (alt left t) (alt left u) (StandsFor-put (right_of left) d t u stands)
-StandsFor-reattach d (wrapped w body) t u stands = stands
+pub Denotes-reattach : (d : Direction) (above t u : Tree) → Denotes d t u → Denotes d (reattach above t) (reattach above u)
+Denotes-reattach d (leaf l) t u occurs = occurs
+Denotes-reattach d (cat parts) t u occurs = occurs
+Denotes-reattach d (alt left above) t u occurs =
+    Denotes-reattach d above (alt left t) (alt left u) (Denotes-put (right_of left) d t u occurs)
+Denotes-reattach d (wrapped w body) t u occurs = occurs
 
-pub StandsFor-normalized : (d : Direction) (t u : Tree) (answer : Result PartFacts AllocError) → Normalized d t u answer → StandsFor d t u
-StandsFor-normalized d t u answer normalized = record { keeps = normalized.keeps; goal = normalized.goal; left = normalized.left }
+pub Denotes-normalized : (d : Direction) (t u : Tree) (response : Result PartFacts AllocError) → Normalized d t u response → Denotes d t u
+Denotes-normalized d t u response normalized = record { keeps = normalized.keeps; goal = normalized.goal; left = normalized.left }
 
-pub IsPart-stands : (d : Direction) (t u : Tree) → StandsFor d t u → IsPart t → IsPart u
-IsPart-stands d t u stands part = IsPart-kept d stands.keeps part
+pub IsPart-occurs : (d : Direction) (t u : Tree) → Denotes d t u → IsPart t → IsPart u
+IsPart-occurs d t u occurs part = IsPart-kept d occurs.keeps part
 
-pub Normalized-after : (d : Direction) (t u v : Tree) (answer : Result PartFacts AllocError) → StandsFor d t u → Normalized d u v answer →
-    Normalized d t v answer
-Normalized-after d t u v answer first second =
-    let both = StandsFor-then d t u v first (StandsFor-normalized d u v answer second) in
+pub Normalized-after : (d : Direction) (t u v : Tree) (response : Result PartFacts AllocError) → Denotes d t u → Normalized d u v response →
+    Normalized d t v response
+Normalized-after d t u v response first second =
+    let both = Denotes-then d t u v first (Denotes-normalized d u v response second) in
     record {
       keeps = both.keeps;
       goal = both.goal;
@@ -72,9 +72,9 @@ Normalized-after d t u v answer first second =
     }
 
 -- two steps, where the second one leaves the tree unchanged under a condition that follows from the normal form
-pub Normalized-finished : (clean : Type 0) (d : Direction) (t u v : Tree) (answer : Result PartFacts AllocError) → StandsFor d t u →
-    Finished clean d u v answer → (IsNormal t → clean) → Normalized d t v answer
-Normalized-finished clean d t u v answer first second is_clean = record {
+pub Normalized-finished : (clean : Type 0) (d : Direction) (t u v : Tree) (response : Result PartFacts AllocError) → Denotes d t u →
+    Finished clean d u v response → (IsNormal t → clean) → Normalized d t v response
+Normalized-finished clean d t u v response first second is_clean = record {
   keeps = Keeps-trans d first.keeps second.keeps;
   goal = λ has_goal. second.goal (first.goal has_goal);
   normal = second.normal;
@@ -84,47 +84,47 @@ Normalized-finished clean d t u v answer first second is_clean = record {
 }
 
 -- after an error only what is always kept holds
-pub Normalized-error : (d : Direction) (t u : Tree) (answer : Result PartFacts AllocError) → IsErr answer → StandsFor d t u →
-    Normalized d t u answer
-Normalized-error d t u (Ok facts) err stands = absurd (false≢true err)
-Normalized-error d t u (Err e) err stands =
-    record { keeps = stands.keeps; goal = stands.goal; normal = tt; facts = tt; left = stands.left; still_one = λ normal. tt }
+pub Normalized-error : (d : Direction) (t u : Tree) (response : Result PartFacts AllocError) → IsErr response → Denotes d t u →
+    Normalized d t u response
+Normalized-error d t u (Ok facts) err occurs = absurd (false≢true err)
+Normalized-error d t u (Err e) err occurs =
+    record { keeps = occurs.keeps; goal = occurs.goal; normal = tt; facts = tt; left = occurs.left; still_one = λ normal. tt }
 
 -- the same with one more condition
-pub Finished-error : (known : Type 0) (d : Direction) (t u : Tree) (answer : Result PartFacts AllocError) → IsErr answer → StandsFor d t u →
-    Finished (IsNormal t × known) d t u answer
-Finished-error known d t u (Ok facts) err stands = absurd (false≢true err)
-Finished-error known d t u (Err e) err stands =
-    record { keeps = stands.keeps; goal = stands.goal; normal = tt; facts = tt; left = λ clean. stands.left clean.0; still_one = λ clean. tt }
+pub Finished-error : (known : Type 0) (d : Direction) (t u : Tree) (response : Result PartFacts AllocError) → IsErr response → Denotes d t u →
+    Finished (IsNormal t × known) d t u response
+Finished-error known d t u (Ok facts) err occurs = absurd (false≢true err)
+Finished-error known d t u (Err e) err occurs =
+    record { keeps = occurs.keeps; goal = occurs.goal; normal = tt; facts = tt; left = λ clean. occurs.left clean.0; still_one = λ clean. tt }
 
 -- a part may replace a `Cat` with one part
-pub StandsFor-only_part : (d : Direction) (t part : Tree) → t ≡ cat (more_trees part no_trees) → StandsFor d t part
-StandsFor-only_part d t part is = subst (λ (u : Tree). StandsFor d u part) (sym is) (record {
+pub Denotes-only_part : (d : Direction) (t part : Tree) → t ≡ cat (more_trees part no_trees) → Denotes d t part
+Denotes-only_part d t part is = subst (λ (u : Tree). Denotes d u part) (sym is) (record {
   keeps = Keeps-one_part d part;
   goal = only_goal part;
   left = λ normal. absurd (true≢false (LacksShape-here is_flattened_away (cat (more_trees part no_trees)) normal.flattened));
 })
 
 -- the body of a node
-module _ (d : Direction) (w : Wrapper) (t u : Tree) (answer : Result PartFacts AllocError)
-    (here : Normalized (direction_at (inside_of w) d) t u answer) where
-  pub stands_inside : StandsFor d (wrapped w t) (wrapped w u)
-  stands_inside = StandsFor-put (inside_of w) d t u (StandsFor-normalized (direction_at (inside_of w) d) t u answer here)
+module _ (d : Direction) (w : Wrapper) (t u : Tree) (response : Result PartFacts AllocError)
+    (here : Normalized (direction_at (inside_of w) d) t u response) where
+  pub occurs_inside : Denotes d (wrapped w t) (wrapped w u)
+  occurs_inside = Denotes-put (inside_of w) d t u (Denotes-normalized (direction_at (inside_of w) d) t u response here)
 
-  pub wraps : IfOk answer (λ facts. IsWrapperOf facts (wrapped w u))
-  wraps = by answer here.normal here.facts
+  pub wraps : IfOk response (λ facts. IsWrapperOf facts (wrapped w u))
+  wraps = by response here.normal here.facts
     where
       by : (a : Result PartFacts AllocError) → OnOk a (IsNormal u) → IfOk a (λ facts. HasFacts facts u) →
           IfOk a (λ facts. IsWrapperOf facts (wrapped w u))
       by (Ok facts) normal has = record { wrapper = w; body = u; is = refl; normal = normal; has = has }
       by (Err e) normal has = tt
 
-  pub wraps_clean : IsNormal (wrapped w t) → IfOk answer (λ facts. IsCleanAround facts (wrapped w u))
+  pub wraps_clean : IsNormal (wrapped w t) → IfOk response (λ facts. IsCleanAround facts (wrapped w u))
   wraps_clean whole =
       let inner = IsNormal-part (inside_of w) t whole in
-      by answer (subst (λ (x : Tree). IsNormal (wrapped w x)) (sym (here.left inner)) whole) (here.still_one inner)
+      by response (subst (λ (x : Tree). IsNormal (wrapped w x)) (sym (here.left inner)) whole) (here.still_one inner)
     where
-      by : (a : Result PartFacts AllocError) → IsNormal (wrapped w u) → IfOk a (λ facts. IsStillOne facts u) →
+      by : (a : Result PartFacts AllocError) → IsNormal (wrapped w u) → IfOk a (λ facts. IsStillOneCharacter facts u) →
           IfOk a (λ facts. IsCleanAround facts (wrapped w u))
       by (Ok facts) normal still_one = (normal, still_one)
       by (Err e) normal still_one = tt
@@ -162,28 +162,28 @@ module _ (above node rest here : Tree) (shifted : Shifted above node rest here) 
   pub onto_up : (facts : PartFacts) → IsNormal node → HasFacts facts node → IsAltOnto facts here
   onto_up facts normal has = record { left = shifted.left; right = node; is = shifted.is; normal = normal; has = has }
 
-  pub stands_up : (d : Direction) (old made : Tree) (answer : Result PartFacts AllocError) → StandsFor d old (reattach above node) →
-      Normalized d here made answer → StandsFor d old (reattach rest made)
-  stands_up d old made answer so_far next =
-      StandsFor-then d old (reattach rest here) (reattach rest made) (subst (λ (t : Tree). StandsFor d old t) (sym reattach_up) so_far)
-      (StandsFor-reattach d rest here made (StandsFor-normalized d here made answer next))
+  pub occurs_up : (d : Direction) (old made : Tree) (response : Result PartFacts AllocError) → Denotes d old (reattach above node) →
+      Normalized d here made response → Denotes d old (reattach rest made)
+  occurs_up d old made response so_far next =
+      Denotes-then d old (reattach rest here) (reattach rest made) (subst (λ (t : Tree). Denotes d old t) (sym reattach_up) so_far)
+      (Denotes-reattach d rest here made (Denotes-normalized d here made response next))
 
-  pub still_one_up : (d : Direction) (old made : Tree) (answer : PartFacts) → StandsFor d old (reattach above node) →
-      Normalized d here made (Ok answer) → IsNormal old → IsStillOne answer made
-  still_one_up d old made answer so_far next normal =
+  pub still_one_up : (d : Direction) (old made : Tree) (response : PartFacts) → Denotes d old (reattach above node) →
+      Normalized d here made (Ok response) → IsNormal old → IsStillOneCharacter response made
+  still_one_up d old made response so_far next normal =
       let whole = subst (λ (t : Tree). IsNormal t) (sym (reattach_up ∙ so_far.left normal)) normal in
       next.still_one (IsNormal-reattach rest here whole)
 
-  pub IsPart_up : (d : Direction) (old : Tree) → StandsFor d old (reattach above node) → IsPart old → IsPart here
+  pub IsPart_up : (d : Direction) (old : Tree) → Denotes d old (reattach above node) → IsPart old → IsPart here
   IsPart_up d old so_far part =
-      IsPart-reattach rest here (subst (λ (t : Tree). IsPart t) (sym reattach_up) (IsPart-stands d old (reattach above node) so_far part))
+      IsPart-reattach rest here (subst (λ (t : Tree). IsPart t) (sym reattach_up) (IsPart-occurs d old (reattach above node) so_far part))
 
 -- the left side of an `Alt` whose right side is in normal form
-module _ (d : Direction) (t left made right : Tree) (is : t ≡ alt left right) (answer : Result PartFacts AllocError)
-    (here : Normalized d left made answer) where
-  pub stands_left : StandsFor d t (alt made right)
-  stands_left = subst (λ (u : Tree). StandsFor d u (alt made right)) (sym is)
-      (StandsFor-put (left_of right) d left made (StandsFor-normalized d left made answer here))
+module _ (d : Direction) (t left made right : Tree) (is : t ≡ alt left right) (response : Result PartFacts AllocError)
+    (here : Normalized d left made response) where
+  pub occurs_left : Denotes d t (alt made right)
+  occurs_left = subst (λ (u : Tree). Denotes d u (alt made right)) (sym is)
+      (Denotes-put (left_of right) d left made (Denotes-normalized d left made response here))
 
 pub both_sides : (t left right : Tree) (facts left_facts : PartFacts) → t ≡ alt left right → IsAltOnto facts t → (made : Tree) →
     IsNormal made → HasFacts left_facts made → IsAltOf left_facts facts (alt made right)
@@ -202,17 +202,17 @@ both_sides t left right facts left_facts is onto made normal has =
 
 -- ---- parts
 
-module _ (now : List Node) (i : ℕ) (in_row : i < length now) (new : Node) where
+module _ (now : List Node) (i : ℕ) (in_list : i < length now) (new : Node) where
   -- the parts so far, with the current one
-  pub taken : trees (take (i + 1) (set now i new)) ≡ row_append (trees (take i now)) (more_trees (tree new) no_trees)
-  taken = ap trees (take_more_set now i new in_row) ∙ trees-append (take i now) (new ∷ [])
+  pub taken : trees (take (i + 1) (set now i new)) ≡ append_trees (trees (take i now)) (more_trees (tree new) no_trees)
+  taken = ap trees (take_more_set now i new in_list) ∙ trees-append (take i now) (new ∷ [])
 
-  pub more_normal : RowIsNormal (trees (take i now)) → IsNormal (tree new) → RowIsNormal (trees (take (i + 1) (set now i new)))
-  more_normal before here = subst (λ (ts : Trees). RowIsNormal ts) (sym taken) (RowIsNormal-append _ (more_trees (tree new) no_trees) before (here, tt))
+  pub more_normal : ListIsNormal (trees (take i now)) → IsNormal (tree new) → ListIsNormal (trees (take (i + 1) (set now i new)))
+  more_normal before here = subst (λ (ts : Trees). ListIsNormal ts) (sym taken) (ListIsNormal-append _ (more_trees (tree new) no_trees) before (here, tt))
 
-  pub StandsFor-part : (d : Direction) (initial : List Node) (old : Node) (at : old ≡ get_or now i old) (answer : Result PartFacts AllocError) →
-      StandsFor d (cat (trees initial)) (cat (trees now)) → Normalized d (tree old) (tree new) answer →
-      StandsFor d (cat (trees initial)) (cat (trees (set now i new)))
-  StandsFor-part d initial old at answer so_far here =
-      let there = StandsFor-put (place now i in_row) d (tree old) (tree new) (StandsFor-normalized d (tree old) (tree new) answer here) in
-      StandsFor-then d _ (cat (trees now)) _ so_far (rw (row_at now i in_row old at, row_set now i in_row new) there)
+  pub Denotes-part : (d : Direction) (initial : List Node) (old : Node) (at : old ≡ get_or now i old) (response : Result PartFacts AllocError) →
+      Denotes d (cat (trees initial)) (cat (trees now)) → Normalized d (tree old) (tree new) response →
+      Denotes d (cat (trees initial)) (cat (trees (set now i new)))
+  Denotes-part d initial old at response so_far here =
+      let there = Denotes-put (position now i in_list) d (tree old) (tree new) (Denotes-normalized d (tree old) (tree new) response here) in
+      Denotes-then d _ (cat (trees now)) _ so_far (rw (list_at now i in_list old at, list_set now i in_list new) there)

@@ -8,32 +8,32 @@ use Rattle.regress_base.specs.declared.types.Quantifier.{Quantifier}
 use Rattle.regress_tree.specs.NodeTests.{matches_exactly_one_char}
 use Rattle.regress_tree.specs.NormalForm.{IsNormal}
 use Rattle.regress_tree.specs.Reading.{Direction}
-use Rattle.regress_tree.specs.Shapes.{is_unrolled_away, is_promoted_away, is_emptied_away, is_failed_away, fails_by_part, has_group, has_loop, has_string_set, is_cat, is_within, max_body_charge, max_body_levels, may_unroll, may_unroll_by, is_zero}
-use Rattle.regress_tree.specs.Tree.{Tree, Trees, leaf, empty, byte_set, cat, alt, wrapped, Wrapper, loop, loop_one, no_trees, more_trees, row_append, copies, trees}
+use Rattle.regress_tree.specs.Shapes.{is_unrolled_away, is_promoted_away, is_emptied_away, is_failed_away, fails_by_part, has_group, has_loop, has_string_set, is_cat, is_within, max_body_charge, max_body_nesting, may_unroll, may_unroll_by, is_zero}
+use Rattle.regress_tree.specs.Tree.{Tree, Trees, leaf, empty, byte_set, cat, alt, wrapped, Wrapper, loop, loop_one, no_trees, more_trees, append_trees, copies, trees}
 use Rattle.regress_tree.specs.Units.{charge}
-use Rattle.regress_tree.specs.Measures.{levels}
-use Rattle.regress_tree.specs.WellFormed.{MayStand, inside, one_character}
-use Rattle.regress_tree.proofs.laws.Measures.{LacksShape-here}
-use Rattle.regress_tree.proofs.laws.Places.{among}
-use Rattle.regress_tree.proofs.laws.Positions.{MayStand-one_character}
+use Rattle.regress_tree.specs.Measures.{nesting}
+use Rattle.regress_tree.specs.WellFormed.{IsAllowed, inside, one_character}
+use Rattle.regress_tree.proofs.lemmas.Measures.{LacksShape-here}
+use Rattle.regress_tree.proofs.lemmas.TreeContexts.{among}
+use Rattle.regress_tree.proofs.lemmas.Positions.{IsAllowed-one_character}
 use Rattle.regress_rewrite.specs.Law.{IsPart, Keeps}
-use Rattle.regress_rewrite.specs.Unroll.{further_turns, unrolled}
-use Rattle.regress_rewrite.proofs.laws.Emptying.{emptied_keeps}
-use Rattle.regress_rewrite.proofs.laws.Failing.{fails_keeps}
-use Rattle.regress_rewrite.proofs.laws.Keeps.{Keeps-refl, Keeps-trans, Keeps-put, IsPart-part, IsPart-kept}
-use Rattle.regress_rewrite.proofs.laws.Promotion.{promoted_keeps}
-use Rattle.regress_rewrite.proofs.laws.Unrolling.{MayUnroll-from, unrolled_keeps, unrolled-without}
-use Rattle.regress_normalize.specs.Normalized.{HasGoal, Finished, Normalized, IsCleanAround, IsWrapperOf, RowIsNormal}
-use Rattle.regress_normalize.specs.PartFacts.{HasFacts, HasRowFacts}
+use Rattle.regress_rewrite.specs.Unroll.{further_iterations, unrolled}
+use Rattle.regress_rewrite.proofs.lemmas.Emptying.{emptied_keeps}
+use Rattle.regress_rewrite.proofs.lemmas.Failing.{fails_keeps}
+use Rattle.regress_rewrite.proofs.lemmas.Keeps.{Keeps-refl, Keeps-trans, Keeps-put, IsPart-part, IsPart-kept}
+use Rattle.regress_rewrite.proofs.lemmas.Promotion.{promoted_keeps}
+use Rattle.regress_rewrite.proofs.lemmas.Unrolling.{MayUnroll-from, unrolled_keeps, unrolled-without}
+use Rattle.regress_normalize.specs.Normalized.{HasGoal, Finished, Normalized, IsCleanAround, IsWrapperOf, ListIsNormal}
+use Rattle.regress_normalize.specs.PartFacts.{HasFacts, HasListFacts}
 use Rattle.regress_normalize.specs.Wrapped.{IsLoopOf, in_form, TakesForm, IsPlanned, HasFinishedParts}
 use Rattle.regress_normalize.specs.declared.facts.PartFacts.{PartFacts}
-use Rattle.regress_normalize.specs.declared.facts.RowFacts.{RowFacts}
+use Rattle.regress_normalize.specs.declared.facts.ListFacts.{ListFacts}
 use Rattle.regress_normalize.specs.declared.wrapper.LoopForm.{LoopForm}
 use Rattle.regress_normalize.specs.declared.wrapper.LoopForm.TheVariants.{OneCharacter, Empty, AlwaysFails, Stays}
 use Rattle.regress_normalize.specs.declared.wrapper.LoopPlan.{LoopPlan}
 use Rattle.regress_normalize.proofs.GoalLemmas.{wrapped_goal}
 use Rattle.regress_normalize.proofs.NormalLemmas.{empty_normal, nothing_normal}
-use Rattle.regress_normalize.proofs.PackedLemmas.{RowIsNormal-append}
+use Rattle.regress_normalize.proofs.PackedLemmas.{ListIsNormal-append}
 
 -- ---- finished nodes
 
@@ -79,9 +79,9 @@ module _ (clean : Type 0) (d : Direction) (t : Tree) (no_goal : HasGoal t → �
   }
 
   -- a node that changes in two steps
-  pub finished-then : (clean → ⊥) → (mid new : Tree) (answer : Result PartFacts AllocError) → Keeps d t mid → Normalized d mid new answer →
-      Finished clean d t new answer
-  finished-then other mid new answer keeps rest = record {
+  pub finished-then : (clean → ⊥) → (mid new : Tree) (response : Result PartFacts AllocError) → Keeps d t mid → Normalized d mid new response →
+      Finished clean d t new response
+  finished-then other mid new response keeps rest = record {
     keeps = Keeps-trans d keeps rest.keeps;
     goal = λ has_goal. absurd (no_goal has_goal);
     normal = rest.normal;
@@ -110,9 +110,9 @@ module _ (facts : PartFacts) (q : Quantifier) (start end : ℕ) (body : Tree) (n
   abbrev IsOne : Type 0
   IsOne = (facts.was_one_character ≡ true) ⊎ (matches_exactly_one_char body ≡ true)
 
-  one : IsOne → (n : ℕ) → MayStand n body inside → MayStand n body one_character
+  one : IsOne → (n : ℕ) → IsAllowed n body inside → IsAllowed n body one_character
   one (inl was) n m = has.one was n
-  one (inr is) n m = MayStand-one_character n n body inside is m
+  one (inr is) n m = IsAllowed-one_character n n body inside is m
 
   not_clean : IsOne → IsCleanAround facts around → ⊥
   not_clean (inl was) clean =
@@ -157,9 +157,9 @@ form_no_cat Stays q start end body = refl
 
 -- ---- copies as parts
 
-RowIsNormal-copies : (n : ℕ) (t : Tree) → IsNormal t → RowIsNormal (copies n t)
-RowIsNormal-copies zero t normal = tt
-RowIsNormal-copies (suc n) t normal = (normal, RowIsNormal-copies n t normal)
+ListIsNormal-copies : (n : ℕ) (t : Tree) → IsNormal t → ListIsNormal (copies n t)
+ListIsNormal-copies zero t normal = tt
+ListIsNormal-copies (suc n) t normal = (normal, ListIsNormal-copies n t normal)
 
 -- ---- the body of a node
 
@@ -174,99 +174,99 @@ pub record HoldsBody (facts : PartFacts) (body : Tree) : Type 0 where
   pub normal : IsNormal body
   pub has : HasFacts facts body
 
-module _ (facts : PartFacts) (body told : Tree) (same : body ≡ told) where
-  same_body : IsNormal told → HasFacts facts told → HoldsBody facts body
+module _ (facts : PartFacts) (body reported : Tree) (same : body ≡ reported) where
+  same_body : IsNormal reported → HasFacts facts reported → HoldsBody facts body
   same_body normal has = record {
     normal = subst (λ (t : Tree). IsNormal t) (sym same) normal;
     has = subst (λ (t : Tree). HasFacts facts t) (sym same) has;
   }
 
 pub wrapper_holds : (facts : PartFacts) (w : Wrapper) (body : Tree) → IsWrapperOf facts (wrapped w body) → HoldsBody facts body
-wrapper_holds facts w body told = same_body facts body told.body (ap body_of told.is) told.normal told.has
+wrapper_holds facts w body reported = same_body facts body reported.body (ap body_of reported.is) reported.normal reported.has
 
-module _ (facts : PartFacts) (q : Quantifier) (start end : ℕ) (body : Tree) (told : IsLoopOf facts (wrapped (loop q start end) body)) where
+module _ (facts : PartFacts) (q : Quantifier) (start end : ℕ) (body : Tree) (reported : IsLoopOf facts (wrapped (loop q start end) body)) where
   pub loop_holds : HoldsBody facts body
-  loop_holds = same_body facts body told.body (ap body_of told.is) told.normal told.has
+  loop_holds = same_body facts body reported.body (ap body_of reported.is) reported.normal reported.has
 
 -- ---- a loop that is unrolled
 
 -- a loop with no required iteration is not unrolled
-further-stays : (q : Quantifier) (start end : ℕ) (body : Tree) → may_unroll (further_turns q) start end body ≡ false
+further-stays : (q : Quantifier) (start end : ℕ) (body : Tree) → may_unroll (further_iterations q) start end body ≡ false
 further-stays q start end body = by (nat_le end start)
   where
     by : (b : Bool) → ((b && (nat_le 1 0 && nat_le 0 5))
-        && is_within max_body_levels max_body_charge (has_loop body) (has_string_set body) (charge body) (levels body)) ≡ false
+        && is_within max_body_nesting max_body_charge (has_loop body) (has_string_set body) (charge body) (nesting body)) ≡ false
     by true = refl
     by false = refl
 
 module _ (facts : PartFacts) (q : Quantifier) (start end : ℕ) (body : Tree) (holds : HoldsBody facts body) (d : Direction)
-    (part : IsPart (wrapped (loop q start end) body)) (may : may_unroll q start end body ≡ true) (row : RowFacts) where
-  abbrev turns : Trees
-  turns = copies q.min body
+    (part : IsPart (wrapped (loop q start end) body)) (may : may_unroll q start end body ≡ true) (list : ListFacts) where
+  abbrev iterations : Trees
+  iterations = copies q.min body
 
   keeps_unrolled : Keeps d (wrapped (loop q start end) body) (unrolled q start end body)
   keeps_unrolled = unrolled_keeps q start end body (MayUnroll-from q start end body may) d part
 
   -- the copies alone
-  pub turns_finished : HasRowFacts row turns → (parts : List Node) → trees parts ≡ turns → is_zero (further_turns q).max ≡ true →
-      HasFinishedParts d (wrapped (loop q start end) body) (cat (trees parts)) (Ok row)
-  turns_finished has parts copied none = record {
+  pub iterations_finished : HasListFacts list iterations → (parts : List Node) → trees parts ≡ iterations → is_zero (further_iterations q).max ≡ true →
+      HasFinishedParts d (wrapped (loop q start end) body) (cat (trees parts)) (Ok list)
+  iterations_finished has parts copied none = record {
     keeps = subst (λ (t : Tree). Keeps d (wrapped (loop q start end) body) t) (sym (unrolled-without q start end body parts copied none)) keeps_unrolled;
     parts = record {
-      parts = turns;
+      parts = iterations;
       is = ap cat copied;
-      normal = RowIsNormal-copies q.min body holds.normal;
+      normal = ListIsNormal-copies q.min body holds.normal;
       facts = has;
     };
   }
 
   -- the copies, and what the loop of the further iterations becomes
-  module _ (more : is_zero (further_turns q).max ≡ false) (plan : LoopPlan) (planned : IsPlanned facts (further_turns q) start end body plan) where
+  module _ (more : is_zero (further_iterations q).max ≡ false) (plan : LoopPlan) (planned : IsPlanned facts (further_iterations q) start end body plan) where
     abbrev rest : Tree
-    rest = wrapped (loop (further_turns q) start end) body
+    rest = wrapped (loop (further_iterations q) start end) body
 
     abbrev formed : Tree
-    formed = in_form plan.form (further_turns q) start end body
+    formed = in_form plan.form (further_iterations q) start end body
 
-    keeps_turns : Keeps d (wrapped (loop q start end) body) (cat (row_append turns (more_trees rest no_trees)))
-    keeps_turns = rw more at keeps_unrolled
+    keeps_iterations : Keeps d (wrapped (loop q start end) body) (cat (append_trees iterations (more_trees rest no_trees)))
+    keeps_iterations = rw more at keeps_unrolled
 
     rest_finished : Finished (IsCleanAround facts rest) d rest formed (Ok plan.facts)
     rest_finished =
-        form_finished facts (further_turns q) start end body holds.normal holds.has d
-        (IsPart-part (among turns no_trees) rest (IsPart-kept d keeps_turns part)) plan.facts plan.form planned.takes planned.has planned.many
+        form_finished facts (further_iterations q) start end body holds.normal holds.has d
+        (IsPart-part (among iterations no_trees) rest (IsPart-kept d keeps_iterations part)) plan.facts plan.form planned.takes planned.has planned.many
         (further-stays q start end body)
 
-    pub unrolled_finished : HasRowFacts row (row_append turns (more_trees formed no_trees)) → (t : Tree) →
-        t ≡ cat (row_append turns (more_trees formed no_trees)) → HasFinishedParts d (wrapped (loop q start end) body) t (Ok row)
+    pub unrolled_finished : HasListFacts list (append_trees iterations (more_trees formed no_trees)) → (t : Tree) →
+        t ≡ cat (append_trees iterations (more_trees formed no_trees)) → HasFinishedParts d (wrapped (loop q start end) body) t (Ok list)
     unrolled_finished has t is = record {
       keeps = subst (λ (u : Tree). Keeps d (wrapped (loop q start end) body) u) (sym is)
-          (Keeps-trans d keeps_turns (Keeps-put (among turns no_trees) d rest_finished.keeps));
+          (Keeps-trans d keeps_iterations (Keeps-put (among iterations no_trees) d rest_finished.keeps));
       parts = record {
-        parts = row_append turns (more_trees formed no_trees);
+        parts = append_trees iterations (more_trees formed no_trees);
         is = is;
-        normal = RowIsNormal-append turns (more_trees formed no_trees) (RowIsNormal-copies q.min body holds.normal) (rest_finished.normal, tt);
+        normal = ListIsNormal-append iterations (more_trees formed no_trees) (ListIsNormal-copies q.min body holds.normal) (rest_finished.normal, tt);
         facts = has;
       };
     }
 
 -- a loop that is unrolled, and the list of parts that it becomes
-module _ (d : Direction) (t mid : Tree) (parts : Result RowFacts AllocError) (finished : HasFinishedParts d t mid parts)
+module _ (d : Direction) (t mid : Tree) (parts : Result ListFacts AllocError) (finished : HasFinishedParts d t mid parts)
     (facts : PartFacts) (holds : IsWrapperOf facts t) where
   no_goal : HasGoal t → ⊥
   no_goal has_goal = wrapped_goal holds.wrapper holds.body (subst (λ (u : Tree). HasGoal u) holds.is has_goal)
 
-  pub row_finished : (new : Tree) (answer : Result PartFacts AllocError) → Normalized d mid new answer → Finished ⊥ d t new answer
-  row_finished new answer = finished-then ⊥ d t no_goal (λ none. none) mid new answer finished.keeps
+  pub list_finished : (new : Tree) (response : Result PartFacts AllocError) → Normalized d mid new response → Finished ⊥ d t new response
+  list_finished new response = finished-then ⊥ d t no_goal (λ none. none) mid new response finished.keeps
 
-  pub row_error : (answer : Result PartFacts AllocError) → IsErr answer → Finished ⊥ d t mid answer
-  row_error (Ok known) err = absurd (false≢true err)
-  row_error (Err e) err = finished-changed_error ⊥ d t no_goal (λ none. none) mid e finished.keeps
+  pub list_error : (response : Result PartFacts AllocError) → IsErr response → Finished ⊥ d t mid response
+  list_error (Ok known) err = absurd (false≢true err)
+  list_error (Err e) err = finished-changed_error ⊥ d t no_goal (λ none. none) mid e finished.keeps
 
 -- a finished node under a stronger condition
-pub finished_narrower : (wide narrow : Type 0) (d : Direction) (t new : Tree) (answer : Result PartFacts AllocError) → (narrow → wide) →
-    Finished wide d t new answer → Finished narrow d t new answer
-finished_narrower wide narrow d t new answer narrower finished = record {
+pub finished_narrower : (wide narrow : Type 0) (d : Direction) (t new : Tree) (response : Result PartFacts AllocError) → (narrow → wide) →
+    Finished wide d t new response → Finished narrow d t new response
+finished_narrower wide narrow d t new response narrower finished = record {
   keeps = finished.keeps;
   goal = finished.goal;
   normal = finished.normal;
@@ -276,9 +276,9 @@ finished_narrower wide narrow d t new answer narrower finished = record {
 }
 
 -- the facts of a body decide whether a loop around it is unrolled
-pub told_by_facts : (q : Quantifier) (start end : ℕ) (body : Tree) (facts : PartFacts) → HasFacts facts body →
-    may_unroll_by q start end facts.has_loop facts.has_string_set facts.charge facts.levels ≡ may_unroll q start end body
-told_by_facts q start end body facts has = rw (has.has_loop, has.has_string_set, has.charge, has.levels) refl
+pub facts_decide_unrolling : (q : Quantifier) (start end : ℕ) (body : Tree) (facts : PartFacts) → HasFacts facts body →
+    may_unroll_by q start end facts.has_loop facts.has_string_set facts.charge facts.nesting ≡ may_unroll q start end body
+facts_decide_unrolling q start end body facts has = rw (has.has_loop, has.has_string_set, has.charge, has.nesting) refl
 
 pub clean_normal : (facts : PartFacts) (t : Tree) → IsCleanAround facts t → IsNormal t
 clean_normal facts (leaf l) clean = clean

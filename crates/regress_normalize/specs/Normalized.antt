@@ -4,52 +4,52 @@ use Rattle.std.specs.declared.alloc.AllocError.{AllocError}
 use Rattle.regress_tree.specs.NodeTests.{is_goal}
 use Rattle.regress_tree.specs.NormalForm.{IsNormal}
 use Rattle.regress_tree.specs.Reading.{Direction}
-use Rattle.regress_tree.specs.Shapes.{some_in_row}
+use Rattle.regress_tree.specs.Shapes.{some_part}
 use Rattle.regress_tree.specs.Tree.{byte_set, Wrapper, Tree, Trees, leaf, cat, alt, wrapped, no_trees, more_trees}
 use Rattle.regress_rewrite.specs.Law.{Keeps}
 use Rattle.regress_rewrite.specs.Splice.{parts_of}
-use Rattle.regress_normalize.specs.PartFacts.{HasFacts, IsStillOne, HasRowFacts}
+use Rattle.regress_normalize.specs.PartFacts.{HasFacts, IsStillOneCharacter, HasListFacts}
 use Rattle.regress_normalize.specs.declared.facts.PartFacts.{PartFacts}
-use Rattle.regress_normalize.specs.declared.facts.RowFacts.{RowFacts}
+use Rattle.regress_normalize.specs.declared.facts.ListFacts.{ListFacts}
 
 -- the tree or one of its parts is `Goal`, or it is an empty set
 abbrev pub HasGoal : Tree → Type 0
-HasGoal t = (some_in_row is_goal (parts_of t) ≡ true) ⊎ (t ≡ leaf (byte_set []))
+HasGoal t = (some_part is_goal (parts_of t) ≡ true) ⊎ (t ≡ leaf (byte_set []))
 
 -- The new tree keeps what the law requires, whatever the result is. Unless an allocation failed it is in normal form
 -- and has the facts.
-pub record Finished (clean : Type 0) (d : Direction) (old new : Tree) (answer : Result PartFacts AllocError) : Type 0 where
+pub record Finished (clean : Type 0) (d : Direction) (old new : Tree) (response : Result PartFacts AllocError) : Type 0 where
   pub keeps : Keeps d old new
   pub goal : HasGoal old → HasGoal new
-  pub normal : OnOk answer (IsNormal new)
-  pub facts : IfOk answer (λ facts. HasFacts facts new)
+  pub normal : OnOk response (IsNormal new)
+  pub facts : IfOk response (λ facts. HasFacts facts new)
   -- a tree that satisfies `clean` is unchanged
   pub left : clean → new ≡ old
-  pub still_one : clean → IfOk answer (λ facts. IsStillOne facts new)
+  pub still_one : clean → IfOk response (λ facts. IsStillOneCharacter facts new)
 
 -- Normalizing leaves a tree unchanged that is in normal form.
 abbrev pub Normalized : Direction → (old new : Tree) → Result PartFacts AllocError → Type 0
-Normalized d old new answer = Finished (IsNormal old) d old new answer
+Normalized d old new response = Finished (IsNormal old) d old new response
 
 -- a node around a body with these facts is in normal form, and the facts promote no further loop
 abbrev pub IsCleanAround : PartFacts → Tree → Type 0
 IsCleanAround facts (leaf l) = IsNormal (leaf l)
 IsCleanAround facts (cat parts) = IsNormal (cat parts)
 IsCleanAround facts (alt left right) = IsNormal (alt left right)
-IsCleanAround facts (wrapped w body) = IsNormal (wrapped w body) × IsStillOne facts body
+IsCleanAround facts (wrapped w body) = IsNormal (wrapped w body) × IsStillOneCharacter facts body
 
 -- each tree of the list is in normal form
-abbrev pub RowIsNormal : Trees → Type 0
-RowIsNormal no_trees = Unit {0}
-RowIsNormal (more_trees t ts) = IsNormal t × RowIsNormal ts
+abbrev pub ListIsNormal : Trees → Type 0
+ListIsNormal no_trees = Unit {0}
+ListIsNormal (more_trees t ts) = IsNormal t × ListIsNormal ts
 
 -- ---- nodes whose children are in normal form, with their facts
 
-pub record IsCatOf (row : RowFacts) (t : Tree) : Type 0 where
+pub record IsCatOf (list : ListFacts) (t : Tree) : Type 0 where
   pub parts : Trees
   pub is : t ≡ cat parts
-  pub normal : RowIsNormal parts
-  pub facts : HasRowFacts row parts
+  pub normal : ListIsNormal parts
+  pub facts : HasListFacts list parts
 
 pub record IsAltOf (left_facts right_facts : PartFacts) (t : Tree) : Type 0 where
   pub left : Tree

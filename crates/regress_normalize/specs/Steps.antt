@@ -10,7 +10,7 @@ use Rattle.regress_normalize.specs.PartFacts.{HasFacts}
 use Rattle.regress_normalize.specs.declared.facts.PartFacts.{PartFacts}
 
 -- What normalizing part of a tree keeps, whatever the result is.
-pub record StandsFor (d : Direction) (old new : Tree) : Type 0 where
+pub record Denotes (d : Direction) (old new : Tree) : Type 0 where
   pub keeps : Keeps d old new
   pub goal : HasGoal old → HasGoal new
   -- a tree in normal form is unchanged

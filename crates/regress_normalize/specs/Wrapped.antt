@@ -11,7 +11,7 @@ use Rattle.regress_rewrite.specs.Law.{Keeps}
 use Rattle.regress_normalize.specs.Normalized.{IsCatOf}
 use Rattle.regress_normalize.specs.PartFacts.{HasFacts}
 use Rattle.regress_normalize.specs.declared.facts.PartFacts.{PartFacts}
-use Rattle.regress_normalize.specs.declared.facts.RowFacts.{RowFacts}
+use Rattle.regress_normalize.specs.declared.facts.ListFacts.{ListFacts}
 use Rattle.regress_normalize.specs.declared.wrapper.LoopForm.{LoopForm}
 use Rattle.regress_normalize.specs.declared.wrapper.LoopForm.TheVariants.{OneCharacter, Empty, AlwaysFails, Stays}
 use Rattle.regress_normalize.specs.declared.wrapper.LoopPlan.{LoopPlan}
@@ -60,6 +60,6 @@ pub record IsPlanned (body_facts : PartFacts) (q : Quantifier) (start end : ℕ)
 
 -- The new tree keeps what the law requires. Unless an allocation failed it is a `Cat` of parts in normal form with
 -- these facts.
-pub record HasFinishedParts (d : Direction) (old new : Tree) (answer : Result RowFacts AllocError) : Type 0 where
+pub record HasFinishedParts (d : Direction) (old new : Tree) (response : Result ListFacts AllocError) : Type 0 where
   pub keeps : Keeps d old new
-  pub parts : IfOk answer (λ row. IsCatOf row new)
+  pub parts : IfOk response (λ list. IsCatOf list new)

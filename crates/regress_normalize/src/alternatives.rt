@@ -91,7 +91,7 @@ fn join(left: &PartFacts, right: &PartFacts) -> Result<PartFacts, AllocError>
     let sides = left.charge.checked_add(right.charge).ok_or(AllocError)?;
     Ok(PartFacts {
         charge: sides.checked_add(1).ok_or(AllocError)?,
-        levels: cmp::max(left.levels, right.levels)
+        nesting: cmp::max(left.nesting, right.nesting)
             .checked_add(1)
             .ok_or(AllocError)?,
         has_group: left.has_group || right.has_group,

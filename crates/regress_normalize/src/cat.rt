@@ -2,19 +2,19 @@
 ghost use Rattle.std.specs.Prelude.{◌≡◌, ◌⊎◌, ◌≤◌, ◌||◌, true, false, MatchBool, IfOk, OnOk, OnErr, IfSome, None};
 ghost use Rattle.regress_tree.specs.NodeTests.{is_empty, is_goal};
 ghost use Rattle.regress_tree.specs.Reading.{Direction};
-ghost use Rattle.regress_tree.specs.Shapes.{has_bytes, has_cat, has_neighbours, some_in_row};
+ghost use Rattle.regress_tree.specs.Shapes.{has_bytes, has_cat, has_neighbours, some_part};
 ghost use Rattle.regress_tree.specs.Tree.{cat, tree, trees};
 ghost use Rattle.regress_tree.specs.Walk.{direction_of};
 ghost use Rattle.regress_rewrite.specs.Law.{IsPart, Keeps};
 ghost use Rattle.regress_rewrite.specs.Splice.{spliced};
 ghost use Rattle.regress_normalize.specs.Normalized.{Normalized, IsCatOf};
-ghost use Rattle.regress_normalize.specs.Packed.{in_text_order, Packs, IsPacked, TakesBytes, IsRowPacked, IsFactsOf};
+ghost use Rattle.regress_normalize.specs.Packed.{in_text_order, Packs, IsPacked, TakesBytes, IsListPacked, IsFactsOf};
 
-use crate::facts::{PartFacts, RowFacts};
+use crate::facts::{ListFacts, PartFacts};
 use crate::leaf::leaf_facts;
 use regress_rewrite::flatten::splice;
 use regress_rewrite::form_literal_bytes::{append, has_bytes};
-use regress_rewrite::remove_empties::{leave_out_empties, stand_in};
+use regress_rewrite::remove_empties::{collapse, drop_empties};
 use regress_tree::ir::{Node, NodeList, Walk};
 use std::alloc::{AllocError, Global};
 
@@ -31,14 +31,14 @@ use std::alloc::{AllocError, Global};
 pub fn finish_cat(
     alloc: Global,
     node: &mut Node,
-    row: &RowFacts,
+    list: &ListFacts,
     walk: &Walk,
 ) -> Result<PartFacts, AllocError>
     requires part { IsPart (tree node.old) }
-    requires parts { IsCatOf row.now (tree node.old) }
+    requires parts { IsCatOf list.now (tree node.old) }
     ensures { Normalized (direction_of walk.now) (tree node.old) (tree node.new) result }
 {
-    if row.always_fails() {
+    if list.always_fails() {
         *node = Node::ByteSet(Vec::new(alloc));
         return Ok(leaf_facts(node, false));
     }
@@ -46,14 +46,14 @@ pub fn finish_cat(
         unreachable!()
     };
     let taken = pack(alloc, parts, walk)?;
-    let Some(alone) = stand_in(parts) else {
-        return facts_of(row, taken, true);
+    let Some(alone) = collapse(parts) else {
+        return facts_of(list, taken, true);
     };
     *node = alone;
     if node.is_empty() {
         return Ok(leaf_facts(node, false));
     }
-    facts_of(row, taken, false)
+    facts_of(list, taken, false)
 }
 
 /// Returns the facts of a `Cat` of these parts after `taken` of them were removed, or of the one part that remains.
@@ -61,18 +61,18 @@ pub fn finish_cat(
 ///
 /// # Preconditions
 /// `taken` is at most the charge of the parts.
-fn facts_of(row: &RowFacts, taken: usize, cat: bool) -> Result<PartFacts, AllocError>
-    requires { taken ≤ row.now.charge }
-    ensures cat { cat ≡ true → IfOk result (IsFactsOf row.now taken 1) }
-    ensures alone { cat ≡ false → IfOk result (IsFactsOf row.now taken 0) }
+fn facts_of(list: &ListFacts, taken: usize, cat: bool) -> Result<PartFacts, AllocError>
+    requires { taken ≤ list.now.charge }
+    ensures cat { cat ≡ true → IfOk result (IsFactsOf list.now taken 1) }
+    ensures alone { cat ≡ false → IfOk result (IsFactsOf list.now taken 0) }
 {
     let around = usize::from(cat);
     Ok(PartFacts {
-        charge: (row.charge - taken).checked_add(around).ok_or(AllocError)?,
-        levels: row.levels.checked_add(around).ok_or(AllocError)?,
-        has_group: row.has_group,
-        has_loop: row.has_loop,
-        has_string_set: row.has_string_set,
+        charge: (list.charge - taken).checked_add(around).ok_or(AllocError)?,
+        nesting: list.nesting.checked_add(around).ok_or(AllocError)?,
+        has_group: list.has_group,
+        has_loop: list.has_loop,
+        has_string_set: list.has_string_set,
         always_fails: false,
         was_one_character: false,
     })
@@ -82,13 +82,13 @@ fn facts_of(row: &RowFacts, taken: usize, cat: bool) -> Result<PartFacts, AllocE
 /// parts removed. After an error the list has the same meaning.
 fn pack(alloc: Global, parts: &mut NodeList, walk: &Walk) -> Result<usize, AllocError>
     ensures keeps { Keeps (direction_of walk.now) (cat (trees parts.old.items)) (cat (trees parts.new.items)) }
-    ensures packed { IfOk result (IsRowPacked (direction_of walk.now) (trees parts.old.items) (trees parts.new.items)) }
+    ensures packed { IfOk result (IsListPacked (direction_of walk.now) (trees parts.old.items) (trees parts.new.items)) }
     ensures left { has_cat (trees parts.old.items) ≡ false → IsPacked (trees parts.old.items) → trees parts.new.items ≡ trees parts.old.items }
-    ensures goal { some_in_row is_goal (trees parts.old.items) ≡ true → some_in_row is_goal (trees parts.new.items) ≡ true }
+    ensures goal { some_part is_goal (trees parts.old.items) ≡ true → some_part is_goal (trees parts.new.items) ≡ true }
 {
     splice_cats(alloc, parts)?;
     let len = parts.len();
-    close_seams(parts, walk)?;
+    pack_in_order(parts, walk)?;
     Ok(len - parts.len())
 }
 
@@ -104,14 +104,14 @@ fn splice_cats(alloc: Global, parts: &mut NodeList) -> Result<(), AllocError>
 }
 
 /// Returns whether there is an `Empty`, or two neighbours have bytes.
-fn has_seams(parts: &[Node]) -> bool
-    ensures { result ≡ (some_in_row is_empty (trees parts.now) || has_neighbours has_bytes (trees parts.now)) }
+fn needs_packing(parts: &[Node]) -> bool
+    ensures { result ≡ (some_part is_empty (trees parts.now) || has_neighbours has_bytes (trees parts.now)) }
 {
-    parts.iter().any(Node::is_empty) || have_neighbours_bytes(parts)
+    parts.iter().any(Node::is_empty) || has_byte_neighbours(parts)
 }
 
 /// Returns whether two neighbours have bytes.
-fn have_neighbours_bytes(parts: &[Node]) -> bool
+fn has_byte_neighbours(parts: &[Node]) -> bool
     ensures { result ≡ has_neighbours has_bytes (trees parts.now) }
 {
     let mut before = false;
@@ -127,32 +127,32 @@ fn have_neighbours_bytes(parts: &[Node]) -> bool
 
 /// Removes each `Empty`, and joins the bytes of neighbours. In a lookbehind the parts are reversed first, so that bytes
 /// are always appended in the order of the text.
-fn close_seams(parts: &mut NodeList, walk: &Walk) -> Result<(), AllocError>
+fn pack_in_order(parts: &mut NodeList, walk: &Walk) -> Result<(), AllocError>
     ensures packs { Packs (direction_of walk.now) (trees parts.old.items) (trees parts.new.items) }
     ensures packed { OnOk result (IsPacked (trees parts.new.items)) }
     ensures left { IsPacked (trees parts.old.items) → trees parts.new.items ≡ trees parts.old.items }
 {
-    if !has_seams(parts) {
+    if !needs_packing(parts) {
         return Ok(());
     }
     if !walk.in_lookbehind {
-        return close_in_text_order(parts);
+        return pack_in_text_order(parts);
     }
     parts.reverse();
-    let closed = close_in_text_order(parts);
+    let closed = pack_in_text_order(parts);
     parts.reverse();
     closed
 }
 
 /// Removes each `Empty`, and joins the bytes of neighbours, where those of the earlier part come first. It works in
 /// place, and allocates memory only for bytes. If that fails, two neighbours remain separate.
-fn close_in_text_order(parts: &mut NodeList) -> Result<(), AllocError>
+fn pack_in_text_order(parts: &mut NodeList) -> Result<(), AllocError>
     ensures packs { (d : Direction) → Packs d (in_text_order d (trees parts.old.items)) (in_text_order d (trees parts.new.items)) }
     ensures packed { OnOk result (IsPacked (trees parts.new.items)) }
 {
-    leave_out_empties(parts);
+    drop_empties(parts);
     join_neighbours(parts);
-    if have_neighbours_bytes(parts) {
+    if has_byte_neighbours(parts) {
         return Err(AllocError);
     }
     Ok(())
@@ -161,7 +161,7 @@ fn close_in_text_order(parts: &mut NodeList) -> Result<(), AllocError>
 /// Joins the bytes of neighbours. If an allocation fails, two neighbours remain separate.
 fn join_neighbours(parts: &mut NodeList)
     ensures packs { (d : Direction) → Packs d (in_text_order d (trees parts.old.items)) (in_text_order d (trees parts.new.items)) }
-    ensures empties { some_in_row is_empty (trees parts.new.items) ≡ some_in_row is_empty (trees parts.old.items) }
+    ensures empties { some_part is_empty (trees parts.new.items) ≡ some_part is_empty (trees parts.old.items) }
 {
     parts.dedup_by(|part, last| take_bytes(last, part));
 }

@@ -1,10 +1,10 @@
 //! Facts about parts in normal form.
 ghost use Rattle.std.specs.Prelude.{◌≡◌, not, ◌&&◌, OnOk};
-ghost use Rattle.regress_tree.specs.Tree.{Tree, Trees, no_trees, more_trees, row_append};
-ghost use Rattle.regress_tree.specs.Shapes.{is_cat, is_within, max_body_charge, max_body_levels};
-ghost use Rattle.regress_normalize.specs.PartFacts.{HasFacts, HasRowFacts};
+ghost use Rattle.regress_tree.specs.Tree.{Tree, Trees, no_trees, more_trees, append_trees};
+ghost use Rattle.regress_tree.specs.Shapes.{is_cat, is_within, max_body_charge, max_body_nesting};
+ghost use Rattle.regress_normalize.specs.PartFacts.{HasFacts, HasListFacts};
 
-use regress_rewrite::unroll_loops::{MAX_CHARGE, MAX_LEVELS};
+use regress_rewrite::unroll_loops::{MAX_COPIED_SIZE, MAX_NESTING};
 use std::alloc::AllocError;
 use std::cmp;
 
@@ -14,7 +14,7 @@ pub struct PartFacts {
     /// The charge: one for each node, and one more for each byte of a `ByteSequence`.
     pub charge: usize,
     /// The nesting depth of nodes, where a leaf has depth 1.
-    pub levels: usize,
+    pub nesting: usize,
     /// Whether the part is or contains a capture group.
     pub has_group: bool,
     /// Whether the part is or contains a loop of either kind.
@@ -31,22 +31,22 @@ pub struct PartFacts {
 impl PartFacts {
     /// Returns whether the part is small enough to be copied for each iteration of a loop around it.
     pub fn may_be_copied(&self) -> bool
-        ensures { result ≡ is_within max_body_levels max_body_charge self.now.has_loop self.now.has_string_set self.now.charge self.now.levels }
+        ensures { result ≡ is_within max_body_nesting max_body_charge self.now.has_loop self.now.has_string_set self.now.charge self.now.nesting }
     {
         !self.has_loop
             && !self.has_string_set
-            && self.charge <= MAX_CHARGE
-            && self.levels <= MAX_LEVELS
+            && self.charge <= MAX_COPIED_SIZE
+            && self.nesting <= MAX_NESTING
     }
 }
 
 /// Facts about a list of parts in normal form. A part that is a `Cat` counts as its parts.
 #[derive(Drop)]
-pub struct RowFacts {
+pub struct ListFacts {
     /// The charge of all parts together.
     pub charge: usize,
     /// The nesting depth of the deepest part, and 1 if there is none.
-    pub levels: usize,
+    pub nesting: usize,
     /// Whether one of the parts has a capture group, a loop, a `StringSet`.
     pub has_group: bool,
     pub has_loop: bool,
@@ -55,14 +55,14 @@ pub struct RowFacts {
     pub some_fails: bool,
 }
 
-impl RowFacts {
+impl ListFacts {
     /// Returns the facts of an empty list.
-    pub fn none() -> RowFacts
-        ensures { HasRowFacts result no_trees }
+    pub fn none() -> ListFacts
+        ensures { HasListFacts result no_trees }
     {
-        RowFacts {
+        ListFacts {
             charge: 0,
-            levels: 1,
+            nesting: 1,
             has_group: false,
             has_loop: false,
             has_string_set: false,
@@ -75,8 +75,8 @@ impl RowFacts {
     /// # Errors
     /// Returns [`AllocError`] if the charge exceeds `usize::MAX`, which no tree in memory has.
     pub fn add(&mut self, part: &PartFacts, cat: bool) -> Result<(), AllocError>
-        ensures { (ts : Trees) (t : Tree) → HasRowFacts self.old ts → HasFacts part.now t → cat ≡ is_cat t →
-            OnOk result (HasRowFacts self.new (row_append ts (more_trees t no_trees))) }
+        ensures { (ts : Trees) (t : Tree) → HasListFacts self.old ts → HasFacts part.now t → cat ≡ is_cat t →
+            OnOk result (HasListFacts self.new (append_trees ts (more_trees t no_trees))) }
     {
         // The parts of a `Cat` are counted without the `Cat`.
         let around = usize::from(cat);
@@ -84,7 +84,7 @@ impl RowFacts {
             .charge
             .checked_add(part.charge.saturating_sub(around))
             .ok_or(AllocError)?;
-        self.levels = cmp::max(self.levels, part.levels.saturating_sub(around));
+        self.nesting = cmp::max(self.nesting, part.nesting.saturating_sub(around));
         self.has_group |= part.has_group;
         self.has_loop |= part.has_loop;
         self.has_string_set |= part.has_string_set;

@@ -7,7 +7,7 @@ ghost use Rattle.regress_tree.specs.Tree.{tree};
 ghost use Rattle.regress_tree.specs.Units.{charge};
 ghost use Rattle.regress_rewrite.specs.Law.{IsPart, after};
 ghost use Rattle.regress_normalize.specs.Normalized.{Normalized};
-ghost use Rattle.regress_normalize.specs.PartFacts.{StandsAsOne, HasFacts};
+ghost use Rattle.regress_normalize.specs.PartFacts.{MayBeCharacterLoopBody, HasFacts};
 ghost use Rattle.regress_normalize.specs.Steps.{Clears};
 
 use crate::facts::PartFacts;
@@ -44,13 +44,13 @@ pub fn finish_leaf(alloc: Global, node: &mut Node) -> Result<PartFacts, AllocErr
 /// - If `was_one_character` is set, the node may be the body of a `Loop1CharBody`.
 pub fn leaf_facts(node: &Node, was_one_character: bool) -> PartFacts
     requires leaf { is_leaf (tree node.now) ≡ true }
-    requires one { IsTrue was_one_character → StandsAsOne (tree node.now) }
+    requires one { IsTrue was_one_character → MayBeCharacterLoopBody (tree node.now) }
     ensures has { HasFacts result (tree node.now) }
     ensures was { result.was_one_character ≡ was_one_character }
 {
     PartFacts {
         charge: charge(node),
-        levels: 1,
+        nesting: 1,
         has_group: false,
         has_loop: false,
         has_string_set: matches!(node, Node::StringSet { .. }),

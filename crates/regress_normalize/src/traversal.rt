@@ -6,17 +6,17 @@ ghost use Rattle.regress_tree.specs.Spine.{is_alt, reattach};
 ghost use Rattle.regress_tree.specs.Tree.{tree, trees, leaf, empty, cat, no_trees, more_trees};
 ghost use Rattle.regress_tree.specs.Walk.{direction_of};
 ghost use Rattle.regress_rewrite.specs.Law.{IsPart};
-ghost use Rattle.regress_normalize.specs.Normalized.{Finished, Normalized, IsCleanAround, RowIsNormal, IsWrapperOf};
-ghost use Rattle.regress_normalize.specs.PartFacts.{HasFacts, IsStillOne, HasRowFacts};
-ghost use Rattle.regress_normalize.specs.Steps.{StandsFor, IsAltOnto};
+ghost use Rattle.regress_normalize.specs.Normalized.{Finished, Normalized, IsCleanAround, ListIsNormal, IsWrapperOf};
+ghost use Rattle.regress_normalize.specs.PartFacts.{HasFacts, IsStillOneCharacter, HasListFacts};
+ghost use Rattle.regress_normalize.specs.Steps.{Denotes, IsAltOnto};
 
 use crate::alternatives::finish_alt;
 use crate::cat::finish_cat;
-use crate::facts::{PartFacts, RowFacts};
+use crate::facts::{ListFacts, PartFacts};
 use crate::leaf::finish_leaf;
 use crate::wrapper::finish_wrapper;
 use regress_tree::ir::held::{body_mut, walk_inside};
-use regress_tree::ir::spine::{left_mut, relink, shift};
+use regress_tree::ir::spine::{left_mut, restore_spine, rotate_right_spine};
 use regress_tree::ir::{Node, NodeList, Walk};
 use std::alloc::{AllocError, Global};
 
@@ -38,11 +38,11 @@ pub fn normalize(alloc: Global, node: &mut Node, walk: &Walk) -> Result<PartFact
     ensures { Normalized (direction_of walk.now) (tree node.old) (tree node.new) result }
 {
     let mut above = Node::Empty;
-    go_down(node, &mut above);
+    descend(node, &mut above);
     match normalize_last(alloc, node, walk) {
         Ok(last) => normalize_up(alloc, node, above, last, walk),
         Err(e) => {
-            relink(node, above);
+            restore_spine(node, above);
             Err(e)
         }
     }
@@ -50,12 +50,12 @@ pub fn normalize(alloc: Global, node: &mut Node, walk: &Walk) -> Result<PartFact
 
 /// Descends the right sides of alternatives to the last one. The nodes of the descent are in `above`, the last one
 /// first.
-fn go_down(node: &mut Node, above: &mut Node)
+fn descend(node: &mut Node, above: &mut Node)
     requires { tree above.old ≡ leaf empty }
     ensures whole { reattach (tree above.new) (tree node.new) ≡ tree node.old }
     ensures last { is_alt (tree node.new) ≡ false }
 {
-    while shift(node, above) {}
+    while rotate_right_spine(node, above) {}
 }
 
 /// Brings the alternatives above a node into normal form, the last one first. The node is the right side of the last
@@ -71,16 +71,16 @@ fn normalize_up(
     requires part { IsPart (reattach (tree above) (tree node.old)) }
     requires normal { IsNormal (tree node.old) }
     requires facts { HasFacts last (tree node.old) }
-    ensures { Finished (IsNormal (reattach (tree above) (tree node.old)) × IsStillOne last (tree node.old)) (direction_of walk.now)
+    ensures { Finished (IsNormal (reattach (tree above) (tree node.old)) × IsStillOneCharacter last (tree node.old)) (direction_of walk.now)
         (reattach (tree above) (tree node.old)) (tree node.new) result }
 {
     let mut above = above;
     let mut right = last;
-    while shift(&mut above, node) {
+    while rotate_right_spine(&mut above, node) {
         match normalize_alt(alloc, node, &right, walk) {
             Ok(here) => right = here,
             Err(e) => {
-                relink(node, above);
+                restore_spine(node, above);
                 return Err(e);
             }
         }
@@ -119,8 +119,8 @@ fn normalize_last(alloc: Global, node: &mut Node, walk: &Walk) -> Result<PartFac
     }
     match node {
         Node::Cat(parts) => {
-            let row = normalize_parts(alloc, parts, walk)?;
-            finish_cat(alloc, node, &row, walk)
+            let list = normalize_parts(alloc, parts, walk)?;
+            finish_cat(alloc, node, &list, walk)
         }
         Node::CaptureGroup { .. }
         | Node::Loop { .. }
@@ -154,19 +154,23 @@ fn take_only_part(node: &mut Node) -> bool
 
 /// Brings the parts of a `Cat` into normal form.
 #[cycle(normalize)]
-fn normalize_parts(alloc: Global, parts: &mut NodeList, walk: &Walk) -> Result<RowFacts, AllocError>
+fn normalize_parts(
+    alloc: Global,
+    parts: &mut NodeList,
+    walk: &Walk,
+) -> Result<ListFacts, AllocError>
     requires { IsPart (cat (trees parts.old.items)) }
-    ensures keeps { StandsFor (direction_of walk.now) (cat (trees parts.old.items)) (cat (trees parts.new.items)) }
-    ensures normal { OnOk result (RowIsNormal (trees parts.new.items)) }
-    ensures facts { IfOk result (λ row. HasRowFacts row (trees parts.new.items)) }
+    ensures keeps { Denotes (direction_of walk.now) (cat (trees parts.old.items)) (cat (trees parts.new.items)) }
+    ensures normal { OnOk result (ListIsNormal (trees parts.new.items)) }
+    ensures facts { IfOk result (λ list. HasListFacts list (trees parts.new.items)) }
 {
-    let mut row = RowFacts::none();
+    let mut list = ListFacts::none();
     for i in 0..parts.len() {
         let part = &mut parts[i];
         let facts = normalize(alloc, part, walk)?;
-        row.add(&facts, part.is_cat())?;
+        list.add(&facts, part.is_cat())?;
     }
-    Ok(row)
+    Ok(list)
 }
 
 /// Brings the body of a node into normal form.
@@ -174,7 +178,7 @@ fn normalize_parts(alloc: Global, parts: &mut NodeList, walk: &Walk) -> Result<R
 fn normalize_body(alloc: Global, node: &mut Node, walk: &Walk) -> Result<PartFacts, AllocError>
     requires part { IsPart (tree node.old) }
     requires wrapper { is_wrapper (tree node.old) ≡ true }
-    ensures keeps { StandsFor (direction_of walk.now) (tree node.old) (tree node.new) }
+    ensures keeps { Denotes (direction_of walk.now) (tree node.old) (tree node.new) }
     ensures body { IfOk result (λ body. IsWrapperOf body (tree node.new)) }
     ensures still_one { IsNormal (tree node.old) → IfOk result (λ body. IsCleanAround body (tree node.new)) }
 {

@@ -8,14 +8,14 @@ ghost use Rattle.regress_tree.specs.Walk.{direction_of};
 ghost use Rattle.regress_base.specs.declared.types.Quantifier.{Quantifier};
 ghost use Rattle.regress_rewrite.specs.Law.{IsPart};
 ghost use Rattle.regress_normalize.specs.Normalized.{Finished, IsCleanAround, IsWrapperOf};
-ghost use Rattle.regress_normalize.specs.PartFacts.{HasFacts, HasRowFacts};
+ghost use Rattle.regress_normalize.specs.PartFacts.{HasFacts, HasListFacts};
 ghost use Rattle.regress_normalize.specs.Wrapped.{IsLoopOf, IsOneCharacter, IsPlanned, TakesForm, in_form, loop_in_form, HasFinishedParts};
 
 use crate::cat::finish_cat;
-use crate::facts::{PartFacts, RowFacts};
+use crate::facts::{ListFacts, PartFacts};
 use crate::leaf::leaf_facts;
 use regress_rewrite::promote_1char_loops::promoted;
-use regress_rewrite::unroll_loops::{copy_times, further_turns, has_few_turns};
+use regress_rewrite::unroll_loops::{further_iterations, has_few_iterations, required_copies};
 use regress_tree::ir::{Node, Quantifier, Walk};
 use std::alloc::{AllocError, Global};
 use std::mem;
@@ -97,9 +97,9 @@ fn always_holds(negate: bool, contents: &Node) -> bool
 /// Returns whether a loop with this quantifier and these groups, around a body with these facts, is unrolled.
 fn may_unroll(quant: &Quantifier, groups: &Range<u16>, body: &PartFacts) -> bool
     ensures { result ≡ may_unroll_by quant.now groups.now.start groups.now.end
-        body.now.has_loop body.now.has_string_set body.now.charge body.now.levels }
+        body.now.has_loop body.now.has_string_set body.now.charge body.now.nesting }
 {
-    has_few_turns(quant, groups) && body.may_be_copied()
+    has_few_iterations(quant, groups) && body.may_be_copied()
 }
 
 /// Unrolls a loop, and brings the list of its copies into normal form.
@@ -114,13 +114,13 @@ fn finish_unrolled(
     requires shape { is_unrolled_away (tree node.old) ≡ true }
     ensures { Finished ⊥ (direction_of walk.now) (tree node.old) (tree node.new) result }
 {
-    let row = unroll(alloc, node, body)?;
-    finish_cat(alloc, node, &row, walk)
+    let list = unroll(alloc, node, body)?;
+    finish_cat(alloc, node, &list, walk)
 }
 
 /// Replaces a loop by a `Cat` of a copy of its body for each required iteration and of the form of the loop of further
 /// iterations, and returns the facts of these parts. All memory is allocated before the loop is changed.
-fn unroll(alloc: Global, node: &mut Node, body: &PartFacts) -> Result<RowFacts, AllocError>
+fn unroll(alloc: Global, node: &mut Node, body: &PartFacts) -> Result<ListFacts, AllocError>
     requires part { IsPart (tree node.old) }
     requires body { IsWrapperOf body.now (tree node.old) }
     requires shape { is_unrolled_away (tree node.old) ≡ true }
@@ -134,32 +134,32 @@ fn unroll(alloc: Global, node: &mut Node, body: &PartFacts) -> Result<RowFacts, 
     else {
         unreachable!()
     };
-    let mut row = copies_facts(body, quant.min, loopee.is_cat())?;
-    let mut parts = copy_times(alloc, loopee, quant.min)?;
-    let rest = further_turns(quant);
+    let mut list = copies_facts(body, quant.min, loopee.is_cat())?;
+    let mut parts = required_copies(alloc, loopee, quant.min)?;
+    let rest = further_iterations(quant);
     if rest.max == Some(0) {
         *node = Node::Cat(parts);
-        return Ok(row);
+        return Ok(list);
     }
     let plan = plan_loop(alloc, loopee, &rest, enclosed_groups, body)?;
-    row.add(&plan.facts, false)?;
+    list.add(&plan.facts, false)?;
     // The capacity suffices for the loop, so nothing fails from here on.
     *quant = rest;
     take_form(alloc, node, plan.form);
     parts.push(mem::replace(node, Node::Empty))?;
     *node = Node::Cat(parts);
-    Ok(row)
+    Ok(list)
 }
 
 /// Returns the facts of `times` copies of a part.
-fn copies_facts(part: &PartFacts, times: usize, cat: bool) -> Result<RowFacts, AllocError>
-    ensures { (t : Tree) → HasFacts part.now t → cat ≡ is_cat t → IfOk result (λ row. HasRowFacts row (copies times t)) }
+fn copies_facts(part: &PartFacts, times: usize, cat: bool) -> Result<ListFacts, AllocError>
+    ensures { (t : Tree) → HasFacts part.now t → cat ≡ is_cat t → IfOk result (λ list. HasListFacts list (copies times t)) }
 {
-    let mut row = RowFacts::none();
+    let mut list = ListFacts::none();
     for _ in 0..times {
-        row.add(part, cat)?;
+        list.add(part, cat)?;
     }
-    Ok(row)
+    Ok(list)
 }
 
 /// Brings a loop into normal form that is not unrolled, and whose body is in normal form.
@@ -278,7 +278,7 @@ fn around(body: &PartFacts, group: bool, repeats: bool) -> Result<PartFacts, All
 {
     Ok(PartFacts {
         charge: body.charge.checked_add(1).ok_or(AllocError)?,
-        levels: body.levels.checked_add(1).ok_or(AllocError)?,
+        nesting: body.nesting.checked_add(1).ok_or(AllocError)?,
         has_group: group || body.has_group,
         has_loop: repeats || body.has_loop,
         has_string_set: body.has_string_set,

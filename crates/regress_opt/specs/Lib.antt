@@ -8,7 +8,7 @@ pub use Rattle.regress_tree.specs.Tree
 pub use Rattle.regress_tree.specs.WellFormed
 pub use Rattle.regress_tree.specs.Units
 pub use Rattle.regress_tree.specs.Shapes
-pub use Rattle.regress_lexical.specs.Source
+pub use Rattle.regress_lexer.specs.Source
 pub use Rattle.regress_parse.specs.Fault
 pub use Rattle.regress_syntax.specs.Syntax
 pub use Rattle.regress_syntax.specs.Grammar

@@ -13,13 +13,13 @@ use Rattle.regress_rewrite.specs.Law.{MeansTheSame}
 
 -- The tree has the same meaning and ends in `Goal` as before. It is in normal form unless an allocation failed, and
 -- unchanged if it was in normal form before.
-pub record IsOptimized (old : Regex) (answer : Regex × Result (Unit {0}) AllocError) : Type 0 where
-  pub meaning : MeansTheSame forwards (tree old.node) (tree answer.0.node)
-  pub well_formed : IsWellFormed (tree answer.0.node)
-  pub captures : captures (tree answer.0.node) ≡ captures (tree old.node)
-  pub account : account (tree answer.0.node) ≤ account (tree old.node)
-  pub units : units (tree answer.0.node) ≤ units (tree old.node) + unrolling * loops (tree old.node)
-  pub flags : answer.0.flags ≡ old.flags
-  pub goal : (ends_in_goal (tree answer.0.node) ≡ ends_in_goal (tree old.node)) ⊎ (match_always_fails (tree answer.0.node) ≡ true)
-  pub normal : OnOk answer.1 (IsNormal (tree answer.0.node))
-  pub left : IsNormal (tree old.node) → tree answer.0.node ≡ tree old.node
+pub record IsOptimized (old : Regex) (response : Regex × Result (Unit {0}) AllocError) : Type 0 where
+  pub meaning : MeansTheSame forwards (tree old.node) (tree response.0.node)
+  pub well_formed : IsWellFormed (tree response.0.node)
+  pub captures : captures (tree response.0.node) ≡ captures (tree old.node)
+  pub account : account (tree response.0.node) ≤ account (tree old.node)
+  pub units : units (tree response.0.node) ≤ units (tree old.node) + unrolling * loops (tree old.node)
+  pub flags : response.0.flags ≡ old.flags
+  pub goal : (ends_in_goal (tree response.0.node) ≡ ends_in_goal (tree old.node)) ⊎ (match_always_fails (tree response.0.node) ≡ true)
+  pub normal : OnOk response.1 (IsNormal (tree response.0.node))
+  pub left : IsNormal (tree old.node) → tree response.0.node ≡ tree old.node

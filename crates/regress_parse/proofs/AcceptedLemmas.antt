@@ -5,16 +5,16 @@ use Rattle.std.proofs.lemmas.Option.{same_Some}
 use Rattle.std.proofs.lemmas.Bool.{false≢true, cases_lt}
 use Rattle.regress_base.specs.Limits.{max_capture_groups, max_nesting_depth}
 use Rattle.regress_tree.specs.Setting.{Setting}
-use Rattle.regress_lexical.specs.declared.fault.FaultKind.{FaultKind}
-use Rattle.regress_lexical.specs.Source.{Source}
-use Rattle.regress_syntax.specs.Syntax.{Name, Pattern, nothing_counted, counts, names, levels}
-use Rattle.regress_syntax.specs.Rows.{Context}
+use Rattle.regress_lexer.specs.declared.fault.FaultKind.{FaultKind}
+use Rattle.regress_lexer.specs.Source.{Source}
+use Rattle.regress_syntax.specs.Syntax.{Name, Pattern, nothing_counted, counts, names, nesting}
+use Rattle.regress_syntax.specs.Productions.{Context}
 use Rattle.regress_syntax.specs.Grammar.{IsPattern}
 use Rattle.regress_syntax.specs.SameNames.{NoneConflict}
 use Rattle.regress_syntax.specs.Paths.{NoMarksConflict, are_marks_apart}
 use Rattle.regress_syntax.specs.Scan.{GivesMarks, plain, marks, named_by, deepest, MarksShow}
-use Rattle.regress_syntax.proofs.laws.SameNames.{apart_by_marks}
-use Rattle.regress_syntax.proofs.laws.Scan.{named_by-pattern, deepest-whole}
+use Rattle.regress_syntax.proofs.lemmas.SameNames.{apart_by_marks}
+use Rattle.regress_syntax.proofs.lemmas.Scan.{named_by-pattern, deepest-whole}
 use Rattle.regress_parse.specs.Reader.{pattern_at}
 use Rattle.regress_parse.specs.Parsing.{Fits, Exceeds, pattern_part}
 use Rattle.regress_parse.specs.Accepted.{own_context, IsDerived, IsWithinLimits, NoneIsAccepted, Says, IsTrueOf}
@@ -53,12 +53,12 @@ module _ (setting : Setting) (t : Source) (gives : GivesMarks setting.flags.unic
       (e ∙ ap (λ ns. min (length ns) max_capture_groups) same) same
 
   -- The nesting depth of a derived pattern is that of the marks.
-  marks-levels : (p : Pattern) → IsDerived setting t p → deepest 1 (marks setting.flags.unicode_sets setting.table plain t) ≡ levels p
-  marks-levels p h = ap (deepest 1) (sym (gives (own_context setting p) p refl refl h)) ∙ deepest-whole p
+  marks-nesting : (p : Pattern) → IsDerived setting t p → deepest 1 (marks setting.flags.unicode_sets setting.table plain t) ≡ nesting p
+  marks-nesting p h = ap (deepest 1) (sym (gives (own_context setting p) p refl refl h)) ∙ deepest-whole p
 
-  deep-levels : (p : Pattern) → IsDerived setting t p →
-      max_nesting_depth < deepest 1 (marks setting.flags.unicode_sets setting.table plain t) → max_nesting_depth < levels p
-  deep-levels p h deep = omega (arith, deep, marks-levels p h)
+  deep-nesting : (p : Pattern) → IsDerived setting t p →
+      max_nesting_depth < deepest 1 (marks setting.flags.unicode_sets setting.table plain t) → max_nesting_depth < nesting p
+  deep-nesting p h deep = omega (arith, deep, marks-nesting p h)
 
   pub reads_derived : (p : Pattern) → IsDerived setting t p → (counts p).groups ≤ max_capture_groups → pattern_at (scanned most) t ≡ Some (p, [])
   reads_derived p h few =
@@ -90,23 +90,23 @@ module _ (setting : Setting) (t : Source) (gives : GivesMarks setting.flags.unic
   marks-say kind (inl (is, inl conflicts)) p h =
       let same = gives (own_context setting p) p refl refl h in
       inr (inr (inr (is, inl (λ apart. false≢true (sym conflicts ∙ ap are_marks_apart (sym same) ∙ apart_by_marks p ∙ apart)))))
-  marks-say kind (inl (is, inr deep)) p h = inr (inr (inr (is, inr (deep-levels p h deep))))
-  marks-say kind (inr (inl (is, deep))) p h = inr (inr (inl (is, deep-levels p h deep)))
+  marks-say kind (inl (is, inr deep)) p h = inr (inr (inr (is, inr (deep-nesting p h deep))))
+  marks-say kind (inr (inl (is, deep))) p h = inr (inr (inl (is, deep-nesting p h deep)))
   marks-say kind (inr (inr (is, many))) p h = inl (is, omega (arith, many, groups_found (own_context setting p) p refl refl h))
 
   -- What the parser reports holds for each derived pattern, after a scan without an error.
   pub reading-says : deepest 1 (marks setting.flags.unicode_sets setting.table plain t) ≤ max_nesting_depth → (kind : FaultKind) →
       ((p : Pattern) → pattern_at (scanned most) t ≡ Some (p, []) →
       Exceeds kind nothing_counted 0 (pattern_part setting.table found_names p)) → IsTrueOf setting t kind
-  reading-says few kind refused p h =
+  reading-says few kind rejected p h =
       ⊎_elim (λ (many : max_capture_groups < (counts p).groups). inr many)
-      (λ (within : (counts p).groups ≤ max_capture_groups). inl (by p h (refused p (reads_derived p h within))))
+      (λ (within : (counts p).groups ≤ max_capture_groups). inl (by p h (rejected p (reads_derived p h within))))
       (cases_lt max_capture_groups (counts p).groups)
     where
       by : (p : Pattern) → IsDerived setting t p → Exceeds kind nothing_counted 0 (pattern_part setting.table found_names p) → Says kind p
       by p h (inl (is, many)) = inl (is, omega (arith, many))
       by p h (inr (inl (is, many))) = inr (inl (is, omega (arith, many)))
-      by p h (inr (inr deep)) = absurd (omega (arith, few, deep, marks-levels p h))
+      by p h (inr (inr deep)) = absurd (omega (arith, few, deep, marks-nesting p h))
 
   -- The names of a derived pattern do not conflict where those of the marks do not.
   pub marks-apart : (p : Pattern) → NoMarksConflict (marks setting.flags.unicode_sets setting.table plain t) → IsDerived setting t p →
@@ -116,16 +116,16 @@ module _ (setting : Setting) (t : Source) (gives : GivesMarks setting.flags.unic
 
 module _ (setting : Setting) (names : List (Option Name)) where
   pub fit-limits : (p : Pattern) → Fits nothing_counted 0 (pattern_part setting.table names p) → IsWithinLimits p
-  fit-limits p h = record { groups = omega (arith, h.groups); loops = omega (arith, h.loops); levels = omega (arith, h.levels) }
+  fit-limits p h = record { groups = omega (arith, h.groups); loops = omega (arith, h.loops); nesting = omega (arith, h.nesting) }
 
 -- A source with a true syntax error has no accepted pattern.
-pub true-refuses : (setting : Setting) (t : Source) (kind : FaultKind) → IsTrueOf setting t kind → NoneIsAccepted setting t
-true-refuses setting t kind told p h = by (told p h.derived)
+pub true-rejects : (setting : Setting) (t : Source) (kind : FaultKind) → IsTrueOf setting t kind → NoneIsAccepted setting t
+true-rejects setting t kind reported p h = by (reported p h.derived)
   where
     by : Says kind p ⊎ (max_capture_groups < (counts p).groups) → ⊥
     by (inl (inl (_, many))) = omega (arith, many, h.limits.groups)
     by (inl (inr (inl (_, many)))) = omega (arith, many, h.limits.loops)
-    by (inl (inr (inr (inl (_, deep))))) = omega (arith, deep, h.limits.levels)
+    by (inl (inr (inr (inl (_, deep))))) = omega (arith, deep, h.limits.nesting)
     by (inl (inr (inr (inr (_, inl conflict))))) = conflict h.names
-    by (inl (inr (inr (inr (_, inr deep))))) = omega (arith, deep, h.limits.levels)
+    by (inl (inr (inr (inr (_, inr deep))))) = omega (arith, deep, h.limits.nesting)
     by (inr many) = omega (arith, many, h.limits.groups)

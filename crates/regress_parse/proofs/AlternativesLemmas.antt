@@ -7,17 +7,17 @@ use Rattle.regress_tree.specs.declared.ir.node.Node.{Node}
 use Rattle.regress_tree.specs.Reading.{Direction}
 use Rattle.regress_base.specs.Table.{Table}
 use Rattle.regress_tree.specs.Tree.{Tree, tree, alt}
-use Rattle.regress_lexical.specs.Source.{Source, Found, ◌>>=◌, bar, is_at}
-use Rattle.regress_syntax.specs.Syntax.{Name, Pattern, Terms, one, either, Counts, added, counts, counts_of_terms, levels, levels_of_terms}
-use Rattle.regress_syntax.specs.Rows.{Context}
-use Rattle.regress_lexical.proofs.laws.Sources.{found_then, chosen, to_each, from_each, on_kind_then}
+use Rattle.regress_lexer.specs.Source.{Source, Found, ◌>>=◌, bar, is_at}
+use Rattle.regress_syntax.specs.Syntax.{Name, Pattern, Terms, one, either, Counts, added, counts, counts_of_terms, nesting, nesting_of_terms}
+use Rattle.regress_syntax.specs.Productions.{Context}
+use Rattle.regress_lexer.proofs.lemmas.Sources.{found_then, chosen, to_each, from_each, on_kind_then}
 use Rattle.regress_parse.specs.Reader.{pattern_at, terms_at}
 use Rattle.regress_parse.specs.TreeOf.{joined, tree_of_pattern, trees_of_terms}
 use Rattle.regress_base.specs.Limits.{max_nesting_depth}
 use Rattle.regress_parse.specs.Parsing.{text, counted, alternatives, Fits, Exceeds, pattern_part, terms_part, Builds, Yields}
 use Rattle.regress_parse.specs.declared.parser.Parser.{Parser}
-use Rattle.regress_lexical.specs.declared.fault.Fault.{Fault}
-use Rattle.regress_lexical.specs.declared.fault.FaultKind.{FaultKind}
+use Rattle.regress_lexer.specs.declared.fault.Fault.{Fault}
+use Rattle.regress_lexer.specs.declared.fault.FaultKind.{FaultKind}
 use Rattle.regress_parse.proofs.ParserLemmas.{built}
 use Rattle.regress_parse.proofs.BuildLemmas.{alternatives-push}
 use Rattle.regress_parse.proofs.CountLemmas.{Fits-inside, Exceeds-around}
@@ -57,33 +57,33 @@ loops_of_all-push [] ts = omega arith
 loops_of_all-push (us ∷ tss) ts = omega (arith, loops_of_all-push tss ts)
 
 -- One more alternative is no deeper than itself and the pattern.
-levels-eithers : (tss : List Terms) (ts : Terms) (p : Pattern) (most : ℕ) → levels (eithers tss (one ts)) ≤ most → levels p ≤ most →
-    levels (eithers tss (either ts p)) ≤ most
-levels-eithers [] ts p most h k = omega arith
-levels-eithers (us ∷ tss) ts p most h k = omega (arith, levels-eithers tss ts p most (omega arith) k)
+nesting-eithers : (tss : List Terms) (ts : Terms) (p : Pattern) (most : ℕ) → nesting (eithers tss (one ts)) ≤ most → nesting p ≤ most →
+    nesting (eithers tss (either ts p)) ≤ most
+nesting-eithers [] ts p most h k = omega arith
+nesting-eithers (us ∷ tss) ts p most h k = omega (arith, nesting-eithers tss ts p most (omega arith) k)
 
-levels-inside : (tss : List Terms) (p : Pattern) → levels p ≤ levels (eithers tss p)
-levels-inside [] p = omega arith
-levels-inside (us ∷ tss) p = omega (arith, levels-inside tss p)
+nesting-inside : (tss : List Terms) (p : Pattern) → nesting p ≤ nesting (eithers tss p)
+nesting-inside [] p = omega arith
+nesting-inside (us ∷ tss) p = omega (arith, nesting-inside tss p)
 
 -- a parsed pattern, after some alternatives
-abbrev behind_all : List Terms → Pattern × Source → Found Pattern
-behind_all tss (p, rest) = Some (eithers tss p, rest)
+abbrev after_all : List Terms → Pattern × Source → Found Pattern
+after_all tss (p, rest) = Some (eithers tss p, rest)
 
-behind_none : (found : Found Pattern) → found ≡ found >>= behind_all []
-behind_none None = refl
-behind_none (Some x) = refl
+after_none : (found : Found Pattern) → found ≡ found >>= after_all []
+after_none None = refl
+after_none (Some x) = refl
 
-behind_bar : (tss : List Terms) (ts : Terms) (found : Found Pattern) →
-    (found >>= λ (y : Pattern × Source). Some (either ts y.0, y.1)) >>= behind_all tss ≡ found >>= behind_all (tss ++ ts ∷ [])
-behind_bar tss ts None = refl
-behind_bar tss ts (Some y) = ap (λ p. Some (p, y.1)) (sym (eithers-push tss ts y.0))
+after_bar : (tss : List Terms) (ts : Terms) (found : Found Pattern) →
+    (found >>= λ (y : Pattern × Source). Some (either ts y.0, y.1)) >>= after_all tss ≡ found >>= after_all (tss ++ ts ∷ [])
+after_bar tss ts None = refl
+after_bar tss ts (Some y) = ap (λ p. Some (p, y.1)) (sym (eithers-push tss ts y.0))
 
 -- A pattern that starts with these terms has at least their groups, loops and nesting depth.
 record Begins (ts : Terms) (p : Pattern) : Type 0 where
   groups : (counts_of_terms ts).groups ≤ (counts p).groups
   loops : (counts_of_terms ts).loops ≤ (counts p).loops
-  levels : 1 + levels_of_terms ts ≤ levels p
+  nesting : 1 + nesting_of_terms ts ≤ nesting p
 
 first_terms : (ctx : Context) (ts : Terms) (mid : Source) (x : Pattern × Source) → others_of ctx (ts, mid) ≡ Some x → Begins ts x.0
 first_terms ctx ts mid x e =
@@ -98,11 +98,11 @@ first_terms ctx ts mid x e =
     (chosen (is_at bar mid) _ _ _ e)
   where
     begins : {ts : Terms} {p q : Pattern} → p ≡ q → (counts_of_terms ts).groups ≤ (counts p).groups →
-        (counts_of_terms ts).loops ≤ (counts p).loops → 1 + levels_of_terms ts ≤ levels p → Begins ts q
+        (counts_of_terms ts).loops ≤ (counts p).loops → 1 + nesting_of_terms ts ≤ nesting p → Begins ts q
     begins same g l d = record {
       groups = omega (arith, ap (λ p. (counts p).groups) same);
       loops = omega (arith, ap (λ p. (counts p).loops) same);
-      levels = omega (arith, ap levels same);
+      nesting = omega (arith, ap nesting same);
     }
 
 module _ (table : Table) (names : List (Option Name)) (d : Direction) (ctx : Context) (depth : ℕ) (t0 : Source) (before : Counts) where
@@ -114,7 +114,7 @@ module _ (table : Table) (names : List (Option Name)) (d : Direction) (ctx : Con
   pub record AlternativesSoFar (t : Source) (now : Counts) (done_nodes : List Node) (final : Node) : Type 0 where
     pub done : List Terms
     pub last : Terms
-    pub reads : pattern_at ctx t0 ≡ others_of ctx (last, t) >>= behind_all done
+    pub reads : pattern_at ctx t0 ≡ others_of ctx (last, t) >>= after_all done
     pub nodes : (p : Pattern) →
         alternatives (map tree done_nodes) (tree_of_pattern table names d (before.groups + groups_of_all done) p)
         ≡ tree_of_pattern table names d before.groups (eithers done p)
@@ -132,7 +132,7 @@ module _ (table : Table) (names : List (Option Name)) (d : Direction) (ctx : Con
       record {
         done = [];
         last = ts;
-        reads = pattern_at-is ctx t0 ∙ ap (λ found. found >>= others_of ctx) found ∙ behind_none (others_of ctx (ts, t));
+        reads = pattern_at-is ctx t0 ∙ ap (λ found. found >>= others_of ctx) found ∙ after_none (others_of ctx (ts, t));
         nodes = λ p. ap (λ k. tree_of_pattern table names d k p) (sym none);
         node = built ∙ ap (λ k. joined d (trees_of_terms table names d k ts)) none;
         counts = count;
@@ -165,11 +165,11 @@ module _ (table : Table) (names : List (Option Name)) (d : Direction) (ctx : Con
 
   -- What is parsed after a `|` continues the alternatives.
   reads_on : (t : Source) (now : Counts) (nodes : List Node) (final : Node) (h : AlternativesSoFar t now nodes final) →
-      is_at bar t ≡ true → pattern_at ctx t0 ≡ pattern_at ctx (drop 1 t) >>= behind_all (h.done ++ h.last ∷ [])
+      is_at bar t ≡ true → pattern_at ctx t0 ≡ pattern_at ctx (drop 1 t) >>= after_all (h.done ++ h.last ∷ [])
   reads_on t now nodes final h more =
       h.reads
-      ∙ ap (λ found. found >>= behind_all h.done) (cond-true (is_at bar t) _ _ more)
-      ∙ behind_bar h.done h.last (pattern_at ctx (drop 1 t))
+      ∙ ap (λ found. found >>= after_all h.done) (cond-true (is_at bar t) _ _ more)
+      ∙ after_bar h.done h.last (pattern_at ctx (drop 1 t))
 
   -- One more alternative keeps the invariant.
   pub alternatives-step : (t : Source) (now : Counts) (nodes : List Node) (final node : Node) (ts : Terms) (rest : Source) (new : Counts) →
@@ -185,11 +185,11 @@ module _ (table : Table) (names : List (Option Name)) (d : Direction) (ctx : Con
         done = all;
         last = ts;
         reads = reads_on t now nodes final h more
-            ∙ ap (λ found. found >>= behind_all all) (pattern_at-is ctx (drop 1 t) ∙ ap (λ found. found >>= others_of ctx) found);
+            ∙ ap (λ found. found >>= after_all all) (pattern_at-is ctx (drop 1 t) ∙ ap (λ found. found >>= others_of ctx) found);
         nodes = λ p.
             let k = (before.groups + groups_of_all h.done) + (counts_of_terms h.last).groups in
-            let place : before.groups + groups_of_all all ≡ k = omega (arith, groups_of_all-push h.done h.last) in
-            ap (λ k. alternatives (map tree (nodes ++ final ∷ [])) (tree_of_pattern table names d k p)) place
+            let position : before.groups + groups_of_all all ≡ k = omega (arith, groups_of_all-push h.done h.last) in
+            ap (λ k. alternatives (map tree (nodes ++ final ∷ [])) (tree_of_pattern table names d k p)) position
             ∙ alternatives-push nodes final (tree_of_pattern table names d k p)
             ∙ ap (λ u. alternatives (map tree nodes) (alt u (tree_of_pattern table names d k p))) h.node
             ∙ h.nodes (either h.last p)
@@ -205,11 +205,11 @@ module _ (table : Table) (names : List (Option Name)) (d : Direction) (ctx : Con
         fits = record {
           groups = omega (arith, fits.groups, at.groups, g);
           loops = omega (arith, fits.loops, at.loops, l);
-          levels =
-              let last : levels (eithers h.done (one h.last)) + depth ≤ max_nesting_depth = omega (arith, h.fits.levels) in
-              let both = levels-eithers h.done h.last (one ts) (max_nesting_depth - depth)
-              (omega (arith, last)) (omega (arith, fits.levels)) in
-              omega (arith, ap levels (eithers-push h.done h.last (one ts)), both, fits.levels);
+          nesting =
+              let last : nesting (eithers h.done (one h.last)) + depth ≤ max_nesting_depth = omega (arith, h.fits.nesting) in
+              let both = nesting-eithers h.done h.last (one ts) (max_nesting_depth - depth)
+              (omega (arith, last)) (omega (arith, fits.nesting)) in
+              omega (arith, ap nesting (eithers-push h.done h.last (one ts)), both, fits.nesting);
         };
         shorter = omega (arith, h.shorter, terms_at-shortens ctx (drop 1 t) (ts, rest) found, length-drop 1 t);
       }
@@ -217,7 +217,7 @@ module _ (table : Table) (names : List (Option Name)) (d : Direction) (ctx : Con
   -- Without a `|`, the last alternative ends the pattern.
   pub alternatives-end : (t : Source) (now : Counts) (nodes : List Node) (final : Node) (h : AlternativesSoFar t now nodes final) →
       is_at bar t ≡ false → pattern_at ctx t0 ≡ Some (eithers h.done (one h.last), t)
-  alternatives-end t now nodes final h none = h.reads ∙ ap (λ found. found >>= behind_all h.done) (cond-false (is_at bar t) _ _ none)
+  alternatives-end t now nodes final h none = h.reads ∙ ap (λ found. found >>= after_all h.done) (cond-false (is_at bar t) _ _ none)
 
   -- The node of all alternatives is the pattern's tree.
   pub alternatives-node : (t : Source) (now : Counts) (nodes : List Node) (final : Node) (h : AlternativesSoFar t now nodes final) →
@@ -228,13 +228,13 @@ module _ (table : Table) (names : List (Option Name)) (d : Direction) (ctx : Con
 pub first-fail : (table : Table) (names : List (Option Name)) (ctx : Context) (kind : FaultKind) (depth : ℕ) (t : Source) (before : Counts) →
     IfSome (terms_at ctx t) (λ x. Exceeds kind before (depth + 1) (terms_part table names x.0)) →
     IfSome (pattern_at ctx t) (λ x. Exceeds kind before depth (pattern_part table names x.0))
-first-fail table names ctx kind depth t before refused =
+first-fail table names ctx kind depth t before rejected =
     from_each (pattern_at ctx t) _ (λ x found.
     let first = found_then (terms_at ctx t) (others_of ctx) x (sym (pattern_at-is ctx t) ∙ found) in
     let less = first_terms ctx first.0.0 first.0.1 x first.2 in
     Exceeds-around kind before before depth (depth + 1) (pattern_part table names x.0) (terms_part table names first.0.0)
-    (omega (arith, less.groups)) (omega (arith, less.loops)) (omega (arith, less.levels))
-    (to_each (terms_at ctx t) _ refused first.0 first.1))
+    (omega (arith, less.groups)) (omega (arith, less.loops)) (omega (arith, less.nesting))
+    (to_each (terms_at ctx t) _ rejected first.0 first.1))
 
 -- Without a `|` after the first alternative, that is the pattern.
 pub lone-yields : (table : Table) (names : List (Option Name)) (d : Direction) (ctx : Context) (depth : ℕ) (t : Source) (before : Counts) (new : Parser)
@@ -262,15 +262,15 @@ pub alternatives-fail : (table : Table) (names : List (Option Name)) (d : Direct
     (t : Source) (now : Counts) (nodes : List Node) (final : Node) → AlternativesSoFar table names d ctx depth t0 before t now nodes final →
     is_at bar t ≡ true → IfSome (terms_at ctx (drop 1 t)) (λ x. Exceeds kind now (depth + 1) (terms_part table names x.0)) →
     IfSome (pattern_at ctx t0) (λ x. Exceeds kind before depth (pattern_part table names x.0))
-alternatives-fail table names d ctx kind depth t0 before t now nodes final h more refused =
+alternatives-fail table names d ctx kind depth t0 before t now nodes final h more rejected =
     let all = h.done ++ h.last ∷ [] in
     let at = here table names d ctx depth t0 before t now nodes final h in
     from_each (pattern_at ctx t0) _ (λ x found.
-    let rest = found_then (pattern_at ctx (drop 1 t)) (behind_all all) x
+    let rest = found_then (pattern_at ctx (drop 1 t)) (after_all all) x
     (sym (reads_on table names d ctx depth t0 before t now nodes final h more) ∙ found) in
     let same = ap (λ (z : Pattern × Source). z.0) (same_Some (eithers all rest.0.0, rest.0.1) x rest.2) in
     Exceeds-around kind before now depth depth (pattern_part table names x.0) (pattern_part table names rest.0.0)
     (omega (arith, at.groups, ap (λ p. (counts p).groups) same, groups-eithers all rest.0.0))
     (omega (arith, at.loops, ap (λ p. (counts p).loops) same, loops-eithers all rest.0.0))
-    (omega (arith, ap levels same, levels-inside all rest.0.0))
-    (to_each (pattern_at ctx (drop 1 t)) _ (first-fail table names ctx kind depth (drop 1 t) now refused) rest.0 rest.1))
+    (omega (arith, ap nesting same, nesting-inside all rest.0.0))
+    (to_each (pattern_at ctx (drop 1 t)) _ (first-fail table names ctx kind depth (drop 1 t) now rejected) rest.0 rest.1))

@@ -2,12 +2,12 @@
 use Rattle.std.proofs.Common.{◌≡◌, ℕ, ◌<◌, Bool, true, false, cond, not, List, [], ◌∷◌, ◌++◌, length, map, refl, sym, ap, ◌∙◌, arith}
 use Rattle.regress_base.specs.declared.types.Flags.{Flags}
 use Rattle.regress_base.specs.Intervals.{Bounds, is_member, IsCanonical, IsComplement, intervals_of}
-use Rattle.regress_base.proofs.laws.Sets.{canonical_is, intervals_of-member}
+use Rattle.regress_base.proofs.lemmas.Sets.{canonical_is, intervals_of-member}
 use Rattle.regress_tree.specs.declared.ir.node.Node.{Node}
 use Rattle.regress_tree.specs.Reading.{Direction}
 use Rattle.regress_base.specs.Table.{Table, is_in_closure}
-use Rattle.regress_unicode.proofs.laws.Closures.{closure_same}
-use Rattle.regress_tree.specs.Tree.{Tree, tree, trees, alt, cat, row_append, no_trees, more_trees}
+use Rattle.regress_unicode.proofs.lemmas.Closures.{closure_same}
+use Rattle.regress_tree.specs.Tree.{Tree, tree, trees, alt, cat, append_trees, no_trees, more_trees}
 use Rattle.regress_syntax.specs.Meaning.{is_in_class}
 use Rattle.regress_classes.specs.ClassViews.{HasMembers}
 use Rattle.regress_parse.specs.TreeOf.{turned, joined, alternation}
@@ -24,7 +24,7 @@ joined-many d [] h = absurd (omega arith)
 joined-many d (n ∷ []) h = absurd (omega arith)
 joined-many d (n ∷ (m ∷ nodes)) h = refl
 
-pub trees-push : (nodes : List Node) (node : Node) → trees (nodes ++ node ∷ []) ≡ row_append (trees nodes) (more_trees (tree node) no_trees)
+pub trees-push : (nodes : List Node) (node : Node) → trees (nodes ++ node ∷ []) ≡ append_trees (trees nodes) (more_trees (tree node) no_trees)
 trees-push [] node = refl
 trees-push (n ∷ nodes) node = ap (more_trees (tree n)) (trees-push nodes node)
 

@@ -5,23 +5,23 @@ use Rattle.std.proofs.lemmas.Bool.Decides.{nat_tests}
 use Rattle.std.proofs.lemmas.List.Elements.{All-head, All-tail}
 use Rattle.regress_base.specs.Intervals.{Bounds}
 use Rattle.regress_base.specs.declared.charclasses.CharacterClassType.{CharacterClassType}
-use Rattle.regress_base.specs.Table.{Table, IsLawful}
-use Rattle.regress_classes.specs.ClassRows.{complement, class_letter, class_at}
+use Rattle.regress_base.specs.Table.{Table, IsValidTable}
+use Rattle.regress_classes.specs.ClassProductions.{complement, class_letter, class_at}
 use Rattle.regress_classes.specs.ClassSets.{Value}
-use Rattle.regress_lexical.specs.Digits.{is_between, is_decimal, digit, number_from, number, front}
-use Rattle.regress_lexical.specs.Escapes.{escape_at}
-use Rattle.regress_lexical.specs.Modifiers.{Change, modifiers_at}
+use Rattle.regress_lexer.specs.Digits.{is_between, is_decimal, digit, number_from, number, front}
+use Rattle.regress_lexer.specs.Escapes.{escape_at}
+use Rattle.regress_lexer.specs.Modifiers.{Change, modifiers_at}
 use Rattle.regress_syntax.specs.Names.{group_name_at}
 use Rattle.regress_classes.specs.Properties.{Property, of_points, of_strings, property_at}
-use Rattle.regress_lexical.specs.Quantifiers.{quantifier_at}
-use Rattle.regress_syntax.specs.Rows.{Context, Head, single, opens, angle_at, behind_mark_at, group_at, property_atom, property_atom_at, has_name, character_at, numbered_at, named_at, escape_rows, escaped_by, escaped_at, brace_by, brackets_at, atom_rows, atom_by, head_at}
-use Rattle.regress_lexical.specs.Source.{Source, Found, IsCodePoint, opening, colon, question_mark, is_at, first_row}
+use Rattle.regress_lexer.specs.Quantifiers.{quantifier_at}
+use Rattle.regress_syntax.specs.Productions.{Context, Head, single, opens, angle_at, after_question_mark_at, group_at, property_atom, property_atom_at, has_name, character_at, number_reference_at, name_reference_at, escape_productions, escaped_by, escaped_at, brace_by, brackets_at, atom_productions, atom_by, head_at}
+use Rattle.regress_lexer.specs.Source.{Source, Found, IsCodePoint, opening, colon, question_mark, is_at, first_production}
 use Rattle.regress_syntax.specs.Syntax.{Target, by_number, by_name, Atom, literal, dot, anchor, boundary, class_escape, class, class_set, string_property, back_reference, Group, grouping, modified, capture, look}
-use Rattle.regress_lexical.proofs.laws.Behind.{Ends, behind_all}
-use Rattle.regress_classes.proofs.laws.ClassStrings.{OfCodePoints, PropertyInRange, property_at-in_range, class_set_at-in_range}
-use Rattle.regress_lexical.proofs.laws.InRange.{Finds, finds_none, finds_some, finds_cond, finds_then, finds_map, escape_at-in_range}
-use Rattle.regress_syntax.proofs.laws.NameEnds.{IsName, name_characters}
-use Rattle.regress_lexical.proofs.laws.Sources.{EachRow, no_more, ◌also◌, first_row-has}
+use Rattle.regress_lexer.proofs.lemmas.After.{Ends, after_all}
+use Rattle.regress_classes.proofs.lemmas.ClassStrings.{OfCodePoints, PropertyInRange, property_at-in_range, class_set_at-in_range}
+use Rattle.regress_lexer.proofs.lemmas.InRange.{Finds, finds_none, finds_some, finds_cond, finds_then, finds_map, escape_at-in_range}
+use Rattle.regress_syntax.proofs.lemmas.NameEnds.{IsName, name_characters}
+use Rattle.regress_lexer.proofs.lemmas.Sources.{EachProduction, no_more, ◌also◌, first_production-has}
 
 -- All elements of the source are code points.
 pub record AreCodePoints (t : Source) : Type 0 where
@@ -30,9 +30,9 @@ pub record AreCodePoints (t : Source) : Type 0 where
 pub rest_of : {c : ℕ} {rest : Source} → AreCodePoints (c ∷ rest) → AreCodePoints rest
 rest_of {c} {rest} all = record { each = All-tail IsCodePoint c rest all.each }
 
-pub behind_found : {A : Type 0} (found : Found A) (t : Source) (x : A × Source) → Ends found t → found ≡ Some x → AreCodePoints t →
+pub after_found : {A : Type 0} (found : Found A) (t : Source) (x : A × Source) → Ends found t → found ≡ Some x → AreCodePoints t →
     AreCodePoints x.1
-behind_found found t x ends e all = record { each = behind_all t x.1 (ends.each x e) all.each }
+after_found found t x ends e all = record { each = after_all t x.1 (ends.each x e) all.each }
 
 finds_any : {A : Type 0} (found : Found A) → Finds (λ _. Unit {0}) found
 finds_any found = record { each = λ x e. tt }
@@ -73,8 +73,8 @@ module _ (n : ℕ) (table : Table) where
       (λ _. finds_cond _ (is_at 33 (drop 1 t)) _ _ (λ _. finds_some _ _ tt)
       (λ _. finds_map IsName (IsGoodHead n) (λ name. opens (capture (Some name))) (group_name_at table t) (λ name h. h) (name_characters table t)))
 
-  behind_mark_at-good : (t : Source) → Finds (IsGoodHead n) (behind_mark_at table t)
-  behind_mark_at-good t =
+  after_question_mark_at-good : (t : Source) → Finds (IsGoodHead n) (after_question_mark_at table t)
+  after_question_mark_at-good t =
       finds_cond _ (is_at colon t) _ _ (λ _. finds_some _ _ tt)
       (λ _. finds_cond _ (is_at 61 t) _ _ (λ _. finds_some _ _ tt)
       (λ _. finds_cond _ (is_at 33 t) _ _ (λ _. finds_some _ _ tt)
@@ -83,7 +83,7 @@ module _ (n : ℕ) (table : Table) where
       (finds_any (modifiers_at t))))))
 
   group_at-good : (t : Source) → Finds (IsGoodHead n) (group_at table t)
-  group_at-good t = finds_cond _ (is_at question_mark t) _ _ (λ _. behind_mark_at-good (drop 1 t)) (λ _. finds_some _ _ tt)
+  group_at-good t = finds_cond _ (is_at question_mark t) _ _ (λ _. after_question_mark_at-good (drop 1 t)) (λ _. finds_some _ _ tt)
 
 -- ---- references by number
 
@@ -101,7 +101,7 @@ number-least c t e =
 
 -- ---- items
 
-module _ (ctx : Context) (lawful : IsLawful ctx.setting.table) (n : ℕ) (within : ctx.groups ≤ n) where
+module _ (ctx : Context) (lawful : IsValidTable ctx.setting.table) (n : ℕ) (within : ctx.groups ≤ n) where
   character_at-good : (c : ℕ) (t : Source) → AreCodePoints (c ∷ t) → Finds (IsGoodAtom n) (character_at ctx c t)
   character_at-good c t all =
       finds_map IsCodePoint (IsGoodAtom n) (literal ctx.setting.flags) (escape_at ctx.setting.flags.unicode (c ∷ t)) (λ d h. h)
@@ -121,25 +121,25 @@ module _ (ctx : Context) (lawful : IsLawful ctx.setting.table) (n : ℕ) (within
       finds_then PropertyInRange (IsGoodAtom n) (property_at ctx.setting.flags.unicode_sets ctx.setting.table t) _
       (property_at-in_range ctx.setting.table lawful ctx.setting.flags.unicode_sets t) (property_atom-good negated)
 
-  numbered_at-good : (c : ℕ) (t : Source) → AreCodePoints (c ∷ t) → is_between 49 57 c ≡ true → Finds (IsGoodAtom n) (numbered_at ctx c t)
-  numbered_at-good c t all first =
+  number_reference_at-good : (c : ℕ) (t : Source) → AreCodePoints (c ∷ t) → is_between 49 57 c ≡ true → Finds (IsGoodAtom n) (number_reference_at ctx c t)
+  number_reference_at-good c t all first =
       finds_cond _ (nat_le (number 10 (front is_decimal (c ∷ t))) ctx.groups) _ _
       (λ e. finds_some _ _ (number-least c t first, grind (arith, nat_tests, within)))
       (λ _. finds_cond _ ctx.setting.flags.unicode _ _ (λ _. finds_none _) (λ _. character_at-good c t all))
 
-  named_at-good : (t : Source) → Finds (IsGoodAtom n) (named_at ctx t)
-  named_at-good t =
+  name_reference_at-good : (t : Source) → Finds (IsGoodAtom n) (name_reference_at ctx t)
+  name_reference_at-good t =
       finds_then _ _ (group_name_at ctx.setting.table t) _ (finds_any (group_name_at ctx.setting.table t))
       (λ x _. finds_cond _ (has_name x.0 ctx.names) _ _ (λ _. finds_some _ _ tt) (λ _. finds_none _))
 
-  escape_rows-good : (c : ℕ) (t : Source) → AreCodePoints (c ∷ t) → EachRow (Finds (IsGoodAtom n)) (escape_rows ctx c t)
-  escape_rows-good c t all =
+  escape_productions-good : (c : ℕ) (t : Source) → AreCodePoints (c ∷ t) → EachProduction (Finds (IsGoodAtom n)) (escape_productions ctx c t)
+  escape_productions-good c t all =
       (λ _. finds_some _ _ tt)
       also (λ _. finds_some _ _ tt)
       also (λ _. finds_some _ _ (omega arith))
       also (λ _. property_atom_at-good _ t)
-      also numbered_at-good c t all
-      also (λ _. named_at-good t)
+      also number_reference_at-good c t all
+      also (λ _. name_reference_at-good t)
       also (λ _. character_at-good c t all)
       also no_more
 
@@ -150,10 +150,10 @@ module _ (ctx : Context) (lawful : IsLawful ctx.setting.table) (n : ℕ) (within
           Finds (IsGoodAtom n)
           (elim letter as (λ _. Found Atom) [
             | Some named ↦ Some (class_escape ctx.setting.flags named.0 named.1, t)
-            | None ↦ first_row (escape_rows ctx c t)
+            | None ↦ first_production (escape_productions ctx c t)
           ])
       by_letter (Some named) = finds_some _ _ tt
-      by_letter None = first_row-has (Finds (IsGoodAtom n)) (escape_rows ctx c t) (finds_none _) (escape_rows-good c t all)
+      by_letter None = first_production-has (Finds (IsGoodAtom n)) (escape_productions ctx c t) (finds_none _) (escape_productions-good c t all)
 
   escaped_at-good : (t : Source) → AreCodePoints t → Finds (IsGoodAtom n) (escaped_at ctx t)
   escaped_at-good [] all = finds_none _
@@ -172,8 +172,8 @@ module _ (ctx : Context) (lawful : IsLawful ctx.setting.table) (n : ℕ) (within
       (λ _. finds_map (λ (_ : Bool × List Bounds). Unit {0}) (IsGoodAtom n) (λ (inverted, members). class ctx.setting.flags inverted members) _
       (λ x holds. tt) (finds_any (class_at ctx.setting.table ctx.setting.flags.unicode t)))
 
-  atom_rows-good : (c : ℕ) (t : Source) → IsCodePoint c → AreCodePoints t → EachRow (Finds (IsGoodAtom n)) (atom_rows ctx c t)
-  atom_rows-good c t h all =
+  atom_productions-good : (c : ℕ) (t : Source) → IsCodePoint c → AreCodePoints t → EachProduction (Finds (IsGoodAtom n)) (atom_productions ctx c t)
+  atom_productions-good c t h all =
       (λ _. finds_some _ _ tt)
       also (λ _. finds_some _ _ tt)
       also (λ _. finds_some _ _ tt)
@@ -184,7 +184,7 @@ module _ (ctx : Context) (lawful : IsLawful ctx.setting.table) (n : ℕ) (within
       also no_more
 
   atom_by-good : (c : ℕ) (t : Source) → IsCodePoint c → AreCodePoints t → Finds (IsGoodAtom n) (atom_by ctx c t)
-  atom_by-good c t h all = first_row-has (Finds (IsGoodAtom n)) (atom_rows ctx c t) (finds_none _) (atom_rows-good c t h all)
+  atom_by-good c t h all = first_production-has (Finds (IsGoodAtom n)) (atom_productions ctx c t) (finds_none _) (atom_productions-good c t h all)
 
   -- The start of an item is valid.
   pub head_at-good : (t : Source) → AreCodePoints t → Finds (IsGoodHead n) (head_at ctx t)

@@ -10,11 +10,11 @@ use Rattle.regress_tree.specs.Reading.{Direction, forwards, backwards}
 use Rattle.regress_base.specs.Table.{Table}
 use Rattle.regress_base.specs.declared.types.Quantifier.{Quantifier}
 use Rattle.regress_tree.specs.Tree.{Tree, Trees, no_trees, more_trees}
-use Rattle.regress_tree.specs.WellFormed.{Capture, captures, captures_in_row, HasGroups}
-use Rattle.regress_tree.proofs.laws.Turned.{captures-row_reverse}
-use Rattle.regress_syntax.specs.Syntax.{Name, Atom, literal, dot, anchor, boundary, class_escape, class, class_set, string_property, back_reference, Group, grouping, modified, capture, look, Pattern, Terms, Item, one, either, no_terms, more_terms, atom, group, opened_by, counts, counts_of_times, counts_of_terms, counts_of_term, counts_of_item, names, names_of_group, names_of_terms, names_of_item}
+use Rattle.regress_tree.specs.WellFormed.{Capture, captures, captures_of_trees, HasGroups}
+use Rattle.regress_tree.proofs.lemmas.Turned.{captures-reverse_trees}
+use Rattle.regress_syntax.specs.Syntax.{Name, Atom, literal, dot, anchor, boundary, class_escape, class, class_set, string_property, back_reference, Group, grouping, modified, capture, look, Pattern, Terms, Item, one, either, no_terms, more_terms, atom, group, opened_by, counts, counts_of_quantifier, counts_of_terms, counts_of_term, counts_of_item, names, names_of_group, names_of_terms, names_of_item}
 use Rattle.regress_syntax.specs.Meaning.{is_in_class, direction_of_group, referred}
-use Rattle.regress_parse.specs.TreeOf.{turned, joined, tree_of_group, tree_of_times, references, alternation, tree_of_atom, tree_of_pattern, trees_of_terms, tree_of_item, tree_of}
+use Rattle.regress_parse.specs.TreeOf.{turned, joined, tree_of_group, tree_of_quantified, references, alternation, tree_of_atom, tree_of_pattern, trees_of_terms, tree_of_item, tree_of}
 use Rattle.regress_parse.specs.ClassParts.{class_parts}
 use Rattle.regress_parse.proofs.ClassTreeLemmas.{tree_of_class-parts}
 use Rattle.regress_parse.proofs.PartLemmas.{alternation-has, references-have, class_parts-have}
@@ -44,7 +44,7 @@ length-names_of_group (capture name) = refl
 length-names_of_group (look negate direction) = refl
 
 -- A quantifier opens no group.
-groups_of_times : (q : Option Quantifier) → (counts_of_times q).groups ≡ 0
+groups_of_times : (q : Option Quantifier) → (counts_of_quantifier q).groups ≡ 0
 groups_of_times None = refl
 groups_of_times (Some q) = refl
 
@@ -82,9 +82,9 @@ captures-tree_of_group start end (modified change) body = refl
 captures-tree_of_group start end (capture name) body = refl
 captures-tree_of_group start end (look negate direction) body = refl
 
-captures-tree_of_times : (q : Option Quantifier) (start end : ℕ) (body : Tree) → captures (tree_of_times q start end body) ≡ captures body
-captures-tree_of_times None start end body = refl
-captures-tree_of_times (Some q) start end body = refl
+captures-tree_of_quantified : (q : Option Quantifier) (start end : ℕ) (body : Tree) → captures (tree_of_quantified q start end body) ≡ captures body
+captures-tree_of_quantified None start end body = refl
+captures-tree_of_quantified (Some q) start end body = refl
 
 abbrev CapturesNothing : Tree → Type 0
 CapturesNothing t = captures t ≡ []
@@ -110,11 +110,11 @@ captures-tree_of_atom table all (back_reference flags to) =
 
 -- ---- the tree has the groups of its pattern, in either direction
 
-captures-turned : (d : Direction) (ts : Trees) → IsPermutation (captures_in_row ts) (captures_in_row (turned d ts))
-captures-turned forwards ts = IsPermutation-refl (captures_in_row ts)
-captures-turned backwards ts = captures-row_reverse ts
+captures-turned : (d : Direction) (ts : Trees) → IsPermutation (captures_of_trees ts) (captures_of_trees (turned d ts))
+captures-turned forwards ts = IsPermutation-refl (captures_of_trees ts)
+captures-turned backwards ts = captures-reverse_trees ts
 
-captures-joined : (d : Direction) (row : Trees) → IsPermutation (captures_in_row row) (captures (joined d row))
+captures-joined : (d : Direction) (list : Trees) → IsPermutation (captures_of_trees list) (captures (joined d list))
 captures-joined d no_trees = IsPermutation-refl []
 captures-joined d (more_trees t no_trees) =
     subst (IsPermutation (captures t ++ [])) (append-nil (captures t)) (IsPermutation-refl (captures t ++ []))
@@ -142,11 +142,11 @@ module _ (table : Table) (all : List (Option Name)) where
         (permuted-tree_of_pattern d (n + (counts_of_terms ts).groups) p)
 
     permuted-trees_of_terms : (d : Direction) (n : ℕ) (ts : Terms) →
-        IsPermutation (numbered n (names_of_terms ts)) (captures_in_row (trees_of_terms table all d n ts))
+        IsPermutation (numbered n (names_of_terms ts)) (captures_of_trees (trees_of_terms table all d n ts))
     permuted-trees_of_terms d n no_terms = IsPermutation-refl []
     permuted-trees_of_terms d n (more_terms x q xs) =
         both_permuted n _ _ _ _ _ (length-names_of_term x q)
-        (subst (IsPermutation _) (sym (captures-tree_of_times q n (n + (counts_of_item x).groups) (tree_of_item table all d n x)))
+        (subst (IsPermutation _) (sym (captures-tree_of_quantified q n (n + (counts_of_item x).groups) (tree_of_item table all d n x)))
         (permuted-tree_of_item d n x))
         (permuted-trees_of_terms d (n + (counts_of_term x q).groups) xs)
 

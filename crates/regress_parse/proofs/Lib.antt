@@ -1,6 +1,6 @@
-pub mod laws
+pub mod lemmas
 pub mod AtomLemmas
-pub mod EscapeRows
+pub mod EscapeProductions
 pub mod ReaderLemmas
 pub mod GrammarLemmas
 pub mod CountLemmas
@@ -8,12 +8,12 @@ mod SettledLemmas
 pub mod StringLemmas
 pub mod ClassTreeLemmas
 pub mod BuildLemmas
-pub mod SoFarLemmas
+pub mod TermLoopInvariant
 pub mod AlternativesLemmas
 pub mod TermLemmas
 pub mod ParserLemmas
 pub mod AcceptedLemmas
-pub mod FormerRule
+pub mod NumbersOnlyRule
 pub mod PartLemmas
 pub mod MeaningLemmas
 pub mod GroupLemmas

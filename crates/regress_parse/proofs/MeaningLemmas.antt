@@ -4,62 +4,62 @@ use Rattle.std.proofs.lemmas.Bool.Decides.{nat_tests}
 use Rattle.regress_base.specs.Brackets.{is_accepted}
 use Rattle.regress_base.specs.Intervals.{Bounds, is_member, intervals_of}
 use Rattle.regress_tree.specs.Reading.{Direction, Read, next_character, forwards, backwards, IsText, of_characters, of_bytes}
-use Rattle.regress_tree.specs.Steps.{State, Step, byte_state, distinct, stay, fail, moved, ◌or_◌, one_character}
+use Rattle.regress_tree.specs.Steps.{MatchState, Matcher, byte_state, dedup, stay, fail, moved, ◌or_◌, one_character}
 use Rattle.regress_base.specs.Listing.{lists}
 use Rattle.regress_tree.specs.References as References
-use Rattle.regress_tree.specs.Matching.{steps, steps_in_row}
+use Rattle.regress_tree.specs.Matching.{steps, steps_of_parts}
 use Rattle.regress_tree.specs.Setting.{Setting}
 use Rattle.regress_tree.specs.Strings.{any_string}
 use Rattle.regress_tree.specs.Assertions.{is_line_terminator, is_word_character, differ}
 use Rattle.regress_base.specs.declared.types.Quantifier.{Quantifier}
 use Rattle.regress_base.specs.Table.{class_of}
-use Rattle.regress_base.specs.Table.{stands_for}
+use Rattle.regress_base.specs.Table.{denotes}
 use Rattle.regress_tree.specs.Tree.{Tree, Trees, leaf, no_trees, more_trees, empty, match_any, match_any_except_line_terminator, char, char_set, bracket, back_ref, string_set}
 use Rattle.regress_syntax.specs.Syntax.{Atom, literal, dot, anchor, boundary, class_escape, class, class_set, string_property, back_reference, Group, grouping, modified, capture, look, Name, Pattern, Terms, Item, one, either, no_terms, more_terms, atom, group, opened_by, counts_of_item, counts_of_term, counts_of_terms, names}
-use Rattle.regress_syntax.specs.Meaning.{is_in_class, longest_first, along, direction_of_group, group_steps, referred, any_reference, times_steps, atom_steps, pattern_steps, terms_steps, item_steps}
-use Rattle.regress_classes.specs.ClassRows.{members_of}
+use Rattle.regress_syntax.specs.Meaning.{is_in_class, longest_first, along, direction_of_group, group_steps, referred, any_reference, quantified_steps, atom_steps, pattern_steps, terms_steps, item_steps}
+use Rattle.regress_classes.specs.ClassProductions.{members_of}
 use Rattle.regress_classes.specs.ClassSets.{Value, has_strings}
 use Rattle.regress_parse.specs.ClassParts.{strings_part, bracket_part, empty_part}
 use Rattle.regress_parse.proofs.ClassTreeLemmas.{tree_of_class-parts}
-use Rattle.regress_parse.specs.TreeOf.{turned, joined, tree_of_group, tree_of_times, leaf_of_members, references, alternation, tree_of_class, tree_of_atom, tree_of_pattern, trees_of_terms, tree_of_item, tree_of}
+use Rattle.regress_parse.specs.TreeOf.{turned, joined, tree_of_group, tree_of_quantified, leaf_of_members, references, alternation, tree_of_class, tree_of_atom, tree_of_pattern, trees_of_terms, tree_of_item, tree_of}
 use Rattle.regress_parse.specs.Accepted.{Means}
-use Rattle.regress_tree.proofs.laws.Assertions.{Simulates-anchor, Simulates-boundary}
-use Rattle.regress_tree.proofs.laws.Classes.{agreeing_simulates, is_accepted-scalar}
-use Rattle.regress_tree.proofs.laws.Literals.{class_simulates, char_simulates}
-use Rattle.regress_tree.proofs.laws.References.{Simulates-back_reference}
-use Rattle.regress_tree.proofs.laws.Repetition.{Simulates-repeat}
-use Rattle.regress_tree.proofs.laws.ByteStates.{distinct-byte_state}
-use Rattle.regress_tree.proofs.laws.Outcomes.{flat_map-stay}
-use Rattle.regress_tree.proofs.laws.Simulation.{Simulates, Simulates-within, Simulates-same_right, Simulates-stay, Simulates-fail, Simulates-then, Simulates-or, Simulates-one_character, Simulates-capture, Simulates-look}
-use Rattle.regress_tree.proofs.laws.Strings.{Simulates-any_string}
-use Rattle.regress_tree.proofs.laws.Turned.{steps-row_reverse}
+use Rattle.regress_tree.proofs.lemmas.Assertions.{Simulates-anchor, Simulates-boundary}
+use Rattle.regress_tree.proofs.lemmas.Classes.{agreeing_simulates, is_accepted-scalar}
+use Rattle.regress_tree.proofs.lemmas.Literals.{class_simulates, char_simulates}
+use Rattle.regress_tree.proofs.lemmas.References.{Simulates-back_reference}
+use Rattle.regress_tree.proofs.lemmas.Repetition.{Simulates-repeat}
+use Rattle.regress_tree.proofs.lemmas.ByteStates.{distinct-byte_state}
+use Rattle.regress_tree.proofs.lemmas.Outcomes.{flat_map-stay}
+use Rattle.regress_tree.proofs.lemmas.Simulation.{Simulates, Simulates-within, Simulates-same_right, Simulates-stay, Simulates-fail, Simulates-then, Simulates-or, Simulates-one_character, Simulates-capture, Simulates-look}
+use Rattle.regress_tree.proofs.lemmas.Strings.{Simulates-any_string}
+use Rattle.regress_tree.proofs.lemmas.Turned.{steps-reverse_trees}
 
 module _ (setting : Setting) (bytes : List ℕ) (d : Direction) where
   -- Reversing a list of one tree changes nothing.
-  steps-turned_one : (e : Direction) (t : Tree) (s : State) →
-      steps_in_row setting bytes d (turned e (more_trees t no_trees)) s ≡ steps setting bytes d t s
-  steps-turned_one forwards t s = flat_map-stay (steps setting bytes d t s)
-  steps-turned_one backwards t s = flat_map-stay (steps setting bytes d t s)
+  steps-reversed_one : (e : Direction) (t : Tree) (s : MatchState) →
+      steps_of_parts setting bytes d (turned e (more_trees t no_trees)) s ≡ steps setting bytes d t s
+  steps-reversed_one forwards t s = flat_map-stay (steps setting bytes d t s)
+  steps-reversed_one backwards t s = flat_map-stay (steps setting bytes d t s)
 
-  steps-turned_none : (e : Direction) (s : State) → steps_in_row setting bytes d (turned e no_trees) s ≡ stay s
-  steps-turned_none forwards s = refl
-  steps-turned_none backwards s = refl
+  steps-reversed_none : (e : Direction) (s : MatchState) → steps_of_parts setting bytes d (turned e no_trees) s ≡ stay s
+  steps-reversed_none forwards s = refl
+  steps-reversed_none backwards s = refl
 
   -- A list joined to one tree matches what the list does, in the order of the direction.
-  steps-joined : (e : Direction) (row : Trees) (s : State) →
-      steps setting bytes d (joined e row) s ≡ steps_in_row setting bytes d (turned e row) s
-  steps-joined e no_trees s = sym (steps-turned_none e s)
-  steps-joined e (more_trees t no_trees) s = sym (steps-turned_one e t s)
+  steps-joined : (e : Direction) (list : Trees) (s : MatchState) →
+      steps setting bytes d (joined e list) s ≡ steps_of_parts setting bytes d (turned e list) s
+  steps-joined e no_trees s = sym (steps-reversed_none e s)
+  steps-joined e (more_trees t no_trees) s = sym (steps-reversed_one e t s)
   steps-joined e (more_trees t (more_trees u us)) s = refl
 
   -- The parts of a list match in the order of the direction.
-  steps-turned : (e : Direction) (t : Tree) (ts : Trees) (s : State) →
-      steps_in_row setting bytes d (turned e (more_trees t ts)) s
-      ≡ along e (steps setting bytes d t) (steps_in_row setting bytes d (turned e ts)) s
+  steps-turned : (e : Direction) (t : Tree) (ts : Trees) (s : MatchState) →
+      steps_of_parts setting bytes d (turned e (more_trees t ts)) s
+      ≡ along e (steps setting bytes d t) (steps_of_parts setting bytes d (turned e ts)) s
   steps-turned forwards t ts s = refl
-  steps-turned backwards t ts s = steps-row_reverse setting bytes d t ts s
+  steps-turned backwards t ts s = steps-reverse_trees setting bytes d t ts s
 
-Simulates-along : (text : List ℕ) (d e : Direction) (f g h k : Step) → Simulates text e f g → Simulates text e h k →
+Simulates-along : (text : List ℕ) (d e : Direction) (f g h k : Matcher) → Simulates text e f g → Simulates text e h k →
     Simulates text e (along d f h) (along d g k)
 Simulates-along text forwards e f g h k first second = Simulates-then text e f g h k first second
 Simulates-along text backwards e f g h k first second = Simulates-then text e h k f g second first
@@ -67,25 +67,25 @@ Simulates-along text backwards e f g h k first second = Simulates-then text e h 
 module _ (setting : Setting) (text : List ℕ) where
   -- Over the bytes of the text, the tree (or the list, in the order of the direction) does what the step does over its
   -- characters.
-  abbrev pub TreeSimulates : Direction → Step → Tree → Type 0
+  abbrev pub TreeSimulates : Direction → Matcher → Tree → Type 0
   TreeSimulates d f t = Simulates text d f (steps setting (encode_utf8_all text) d t)
 
-  abbrev RowSimulates : Direction → Step → Trees → Type 0
-  RowSimulates d f ts = Simulates text d f (steps_in_row setting (encode_utf8_all text) d (turned d ts))
+  abbrev ListSimulates : Direction → Matcher → Trees → Type 0
+  ListSimulates d f ts = Simulates text d f (steps_of_parts setting (encode_utf8_all text) d (turned d ts))
 
-  joined_simulates : (d : Direction) (f : Step) (row : Trees) → RowSimulates d f row → TreeSimulates d f (joined d row)
-  joined_simulates d f row sim = Simulates-same_right text d _ _ _ (steps-joined setting (encode_utf8_all text) d d row) sim
+  joined_simulates : (d : Direction) (f : Matcher) (list : Trees) → ListSimulates d f list → TreeSimulates d f (joined d list)
+  joined_simulates d f list sim = Simulates-same_right text d _ _ _ (steps-joined setting (encode_utf8_all text) d d list) sim
 
-  none_simulate : (d : Direction) → RowSimulates d stay no_trees
-  none_simulate d = Simulates-same_right text d _ _ _ (steps-turned_none setting (encode_utf8_all text) d d) (Simulates-stay text d)
+  none_simulate : (d : Direction) → ListSimulates d stay no_trees
+  none_simulate d = Simulates-same_right text d _ _ _ (steps-reversed_none setting (encode_utf8_all text) d d) (Simulates-stay text d)
 
-  more_simulate : (d : Direction) (f g : Step) (t : Tree) (ts : Trees) → TreeSimulates d f t → RowSimulates d g ts →
-      RowSimulates d (along d f g) (more_trees t ts)
+  more_simulate : (d : Direction) (f g : Matcher) (t : Tree) (ts : Trees) → TreeSimulates d f t → ListSimulates d g ts →
+      ListSimulates d (along d f g) (more_trees t ts)
   more_simulate d f g t ts first others =
       Simulates-same_right text d _ _ _ (steps-turned setting (encode_utf8_all text) d d t ts)
       (Simulates-along text d d _ _ _ _ first others)
 
-  group_simulates : (d : Direction) (start end : ℕ) (kind : Group) (f : Step) (body : Tree) →
+  group_simulates : (d : Direction) (start end : ℕ) (kind : Group) (f : Matcher) (body : Tree) →
       TreeSimulates (direction_of_group kind d) f body → TreeSimulates d (group_steps start kind f) (tree_of_group start end kind body)
   group_simulates d start end grouping f body sim = sim
   group_simulates d start end (modified change) f body sim = sim
@@ -93,8 +93,8 @@ module _ (setting : Setting) (text : List ℕ) where
   group_simulates d start end (look negate forwards) f body sim = Simulates-look text d forwards negate _ _ sim
   group_simulates d start end (look negate backwards) f body sim = Simulates-look text d backwards negate _ _ sim
 
-  times_simulate : (d : Direction) (q : Option Quantifier) (start end : ℕ) (f : Step) (body : Tree) → TreeSimulates d f body →
-      TreeSimulates d (times_steps (length text) q start end f) (tree_of_times q start end body)
+  times_simulate : (d : Direction) (q : Option Quantifier) (start end : ℕ) (f : Matcher) (body : Tree) → TreeSimulates d f body →
+      TreeSimulates d (quantified_steps (length text) q start end f) (tree_of_quantified q start end body)
   times_simulate d None start end f body sim = sim
   times_simulate d (Some q) start end f body sim = Simulates-repeat text d q start end _ _ sim
 
@@ -108,23 +108,23 @@ module _ (setting : Setting) (text : List ℕ) (is_text : IsText text) where
   -- The set of a literal, whatever its members are.
   module _ (d : Direction) (icase unicode : Bool) (c : ℕ) where
     set_simulates : (members : List ℕ) → class_of setting.table icase unicode c ≡ members →
-        TreeSimulates setting text d (one_character d (of_characters text) (stands_for setting.table icase unicode c))
+        TreeSimulates setting text d (one_character d (of_characters text) (denotes setting.table icase unicode c))
         (leaf (char_set members))
     set_simulates members e =
         subst
         (λ xs.
-        TreeSimulates setting text d (one_character d (of_characters text) (stands_for setting.table icase unicode c)) (leaf (char_set xs)))
+        TreeSimulates setting text d (one_character d (of_characters text) (denotes setting.table icase unicode c)) (leaf (char_set xs)))
         e (class_simulates setting text is_text d setting.table icase unicode c)
 
     members_simulate : (members : List ℕ) → class_of setting.table icase unicode c ≡ members →
-        TreeSimulates setting text d (one_character d (of_characters text) (stands_for setting.table icase unicode c))
+        TreeSimulates setting text d (one_character d (of_characters text) (denotes setting.table icase unicode c))
         (leaf (leaf_of_members members))
     members_simulate [] e = set_simulates [] e
     members_simulate (x ∷ []) e = char_simulates setting text is_text d setting.table icase unicode c x e
     members_simulate (x ∷ y ∷ rest) e = set_simulates (x ∷ y ∷ rest) e
 
   literal_simulates : (d : Direction) (icase unicode : Bool) (c : ℕ) →
-      TreeSimulates setting text d (one_character d (of_characters text) (stands_for setting.table icase unicode c))
+      TreeSimulates setting text d (one_character d (of_characters text) (denotes setting.table icase unicode c))
       (leaf (cond icase (leaf_of_members (class_of setting.table true unicode c)) (char c)))
   literal_simulates d true unicode c = members_simulate d true unicode c (class_of setting.table true unicode c) refl
   literal_simulates d false unicode c = Simulates-one_character text is_text d (λ x. x == c)
@@ -137,42 +137,42 @@ module _ (setting : Setting) (text : List ℕ) (is_text : IsText text) where
       (λ x scalar_value. is_accepted-scalar inverted p x scalar_value ∙ sym (e x))
 
   -- The empty set has no character.
-  moved-none : (s : State) (found : Option Read) → moved (lists []) s found ≡ []
+  moved-none : (s : MatchState) (found : Option Read) → moved (lists []) s found ≡ []
   moved-none s None = refl
   moved-none s (Some read) = refl
 
   -- ---- alternations
 
   -- the outcomes of the first part, then those of the next ones
-  abbrev any_part : Direction → List Tree → Step
+  abbrev any_part : Direction → List Tree → Matcher
   any_part d [] = fail
   any_part d (t ∷ ts) = steps setting (encode_utf8_all text) d t or_ any_part d ts
 
-  abbrev PartsSimulate : Direction → Step → List Tree → Type 0
+  abbrev PartsSimulate : Direction → Matcher → List Tree → Type 0
   PartsSimulate d f ts = Simulates text d f (any_part d ts)
 
-  steps-alternation : (d : Direction) (ts : List Tree) (s : State) →
+  steps-alternation : (d : Direction) (ts : List Tree) (s : MatchState) →
       steps setting (encode_utf8_all text) d (alternation ts) s ≡ any_part d ts s
   unfolding one_character
-  steps-alternation d [] s = moved-none s (next_character d (of_bytes (encode_utf8_all text)) s.place)
+  steps-alternation d [] s = moved-none s (next_character d (of_bytes (encode_utf8_all text)) s.position)
   steps-alternation d (t ∷ []) s = sym (append-nil (steps setting (encode_utf8_all text) d t s))
   steps-alternation d (t ∷ next ∷ ts) s =
       ap (λ others. steps setting (encode_utf8_all text) d t s ++ others) (steps-alternation d (next ∷ ts) s)
 
-  alternation_simulates : (d : Direction) (f : Step) (ts : List Tree) → PartsSimulate d f ts → TreeSimulates setting text d f (alternation ts)
+  alternation_simulates : (d : Direction) (f : Matcher) (ts : List Tree) → PartsSimulate d f ts → TreeSimulates setting text d f (alternation ts)
   alternation_simulates d f ts sim = Simulates-same_right text d _ _ _ (steps-alternation d ts) sim
 
-  one_simulates : (d : Direction) (f : Step) (t : Tree) → TreeSimulates setting text d f t → PartsSimulate d f (t ∷ [])
+  one_simulates : (d : Direction) (f : Matcher) (t : Tree) → TreeSimulates setting text d f t → PartsSimulate d f (t ∷ [])
   one_simulates d f t sim =
       Simulates-same_right text d _ _ _ (λ s. append-nil (steps setting (encode_utf8_all text) d t s)) sim
 
-  any_part-append : (d : Direction) (ts us : List Tree) (s : State) → any_part d (ts ++ us) s ≡ (any_part d ts or_ any_part d us) s
+  any_part-append : (d : Direction) (ts us : List Tree) (s : MatchState) → any_part d (ts ++ us) s ≡ (any_part d ts or_ any_part d us) s
   any_part-append d [] us s = refl
   any_part-append d (t ∷ ts) us s =
       ap (λ others. steps setting (encode_utf8_all text) d t s ++ others) (any_part-append d ts us s)
       ∙ sym (append_assoc (steps setting (encode_utf8_all text) d t s) (any_part d ts s) (any_part d us s))
 
-  all_simulate : (d : Direction) (f g : Step) (ts us : List Tree) → PartsSimulate d f ts → PartsSimulate d g us →
+  all_simulate : (d : Direction) (f g : Matcher) (ts us : List Tree) → PartsSimulate d f ts → PartsSimulate d g us →
       PartsSimulate d (f or_ g) (ts ++ us)
   all_simulate d f g ts us h k =
       Simulates-same_right text d _ _ _ (any_part-append d ts us) (Simulates-or text d _ _ _ _ h k)
@@ -180,14 +180,14 @@ module _ (setting : Setting) (text : List ℕ) (is_text : IsText text) where
   -- ---- references
 
   reference_simulates : (d : Direction) (icase : Bool) (k : ℕ) →
-      TreeSimulates setting text d (References.back_reference d (of_characters text) (stands_for setting.table icase setting.flags.unicode) (k - 1))
+      TreeSimulates setting text d (References.back_reference d (of_characters text) (denotes setting.table icase setting.flags.unicode) (k - 1))
       (leaf (back_ref k icase))
   reference_simulates d icase k =
-      Simulates-back_reference text is_text d (stands_for setting.table icase setting.flags.unicode) (k - 1)
+      Simulates-back_reference text is_text d (denotes setting.table icase setting.flags.unicode) (k - 1)
 
   references_simulate : (d : Direction) (icase : Bool) (ks : List ℕ) →
       PartsSimulate d
-      (any_reference (λ k. References.back_reference d (of_characters text) (stands_for setting.table icase setting.flags.unicode) (k - 1)) ks)
+      (any_reference (λ k. References.back_reference d (of_characters text) (denotes setting.table icase setting.flags.unicode) (k - 1)) ks)
       (references icase ks)
   references_simulate d icase [] = Simulates-fail text d
   references_simulate d icase (k ∷ []) = one_simulates d _ (leaf (back_ref k icase)) (reference_simulates d icase k)
@@ -197,12 +197,12 @@ module _ (setting : Setting) (text : List ℕ) (is_text : IsText text) where
   -- ---- classes with the flag v
 
   strings_simulate : (d : Direction) (icase : Bool) (strings : List (List ℕ)) →
-      TreeSimulates setting text d (any_string d (of_characters text) (stands_for setting.table icase setting.flags.unicode) strings)
+      TreeSimulates setting text d (any_string d (of_characters text) (denotes setting.table icase setting.flags.unicode) strings)
       (leaf (string_set strings icase))
-  strings_simulate d icase strings = Simulates-any_string text is_text d (stands_for setting.table icase setting.flags.unicode) strings
+  strings_simulate d icase strings = Simulates-any_string text is_text d (denotes setting.table icase setting.flags.unicode) strings
 
   strings_part_simulates : (d : Direction) (icase : Bool) (strings : List (List ℕ)) →
-      PartsSimulate d (any_string d (of_characters text) (stands_for setting.table icase setting.flags.unicode) strings)
+      PartsSimulate d (any_string d (of_characters text) (denotes setting.table icase setting.flags.unicode) strings)
       (strings_part icase strings)
   unfolding any_string
   strings_part_simulates d icase [] = Simulates-fail text d
@@ -210,14 +210,14 @@ module _ (setting : Setting) (text : List ℕ) (is_text : IsText text) where
       one_simulates d _ (leaf (string_set (s ∷ ss) icase)) (strings_simulate d icase (s ∷ ss))
 
   -- An empty bracket matches no character.
-  taken-none : (s : State) (found : Option Read) → moved (is_accepted false []) s found ≡ []
+  taken-none : (s : MatchState) (found : Option Read) → moved (is_accepted false []) s found ≡ []
   unfolding is_member
   taken-none s None = refl
   taken-none s (Some read) = refl
 
-  bracket-none : (d : Direction) (s : State) → steps setting (encode_utf8_all text) d (leaf (bracket false [])) s ≡ []
+  bracket-none : (d : Direction) (s : MatchState) → steps setting (encode_utf8_all text) d (leaf (bracket false [])) s ≡ []
   unfolding one_character
-  bracket-none d s = taken-none s (next_character d (of_bytes (encode_utf8_all text)) s.place)
+  bracket-none d s = taken-none s (next_character d (of_bytes (encode_utf8_all text)) s.position)
 
   empty_part_simulates : (d : Direction) (has_empty : Bool) → PartsSimulate d (cond has_empty stay fail) (empty_part has_empty)
   empty_part_simulates d true = one_simulates d stay (leaf empty) (Simulates-stay text d)
@@ -239,7 +239,7 @@ module _ (setting : Setting) (text : List ℕ) (is_text : IsText text) where
 
     class_set_simulates : (icase negated : Bool) (value : Value) → ((x : ℕ) → q x ≡ differ negated (p x)) →
         TreeSimulates setting text d
-        (any_string d (of_characters text) (stands_for setting.table icase setting.flags.unicode) (longest_first value.strings)
+        (any_string d (of_characters text) (denotes setting.table icase setting.flags.unicode) (longest_first value.strings)
         or_ one_character d (of_characters text) q or_ cond value.has_empty stay fail)
         (tree_of_class icase negated value (intervals_of p))
     class_set_simulates icase negated value e =
@@ -283,10 +283,10 @@ module _ (setting : Setting) (names : List (Option Name)) (text : List ℕ) (is_
         (pattern_simulates d (n + (counts_of_terms ts).groups) p)
 
     terms_simulate : (d : Direction) (n : ℕ) (ts : Terms) →
-        RowSimulates setting text d (terms_steps setting names text d n ts) (trees_of_terms setting.table names d n ts)
+        ListSimulates setting text d (terms_steps setting names text d n ts) (trees_of_terms setting.table names d n ts)
     terms_simulate d n no_terms = none_simulate setting text d
     terms_simulate d n (more_terms x q xs) =
-        more_simulate setting text d _ _ (tree_of_times q n (n + (counts_of_item x).groups) (tree_of_item setting.table names d n x))
+        more_simulate setting text d _ _ (tree_of_quantified q n (n + (counts_of_item x).groups) (tree_of_item setting.table names d n x))
         (trees_of_terms setting.table names d (n + (counts_of_term x q).groups) xs)
         (times_simulate setting text d q n (n + (counts_of_item x).groups) _ (tree_of_item setting.table names d n x) (item_simulates d n x))
         (terms_simulate d (n + (counts_of_term x q).groups) xs)
@@ -305,5 +305,5 @@ pub tree_of-means : (setting : Setting) (p : Pattern) → Means setting (tree_of
 tree_of-means setting p text s is_text in' =
     let body = tree_of_pattern setting.table (names p) forwards 0 p in
     let sim = pattern_simulates setting (names p) text is_text forwards 0 p in
-    ap distinct (flat_map-stay (steps setting (encode_utf8_all text) forwards body (byte_state text s)) ∙ sim.same s in')
+    ap dedup (flat_map-stay (steps setting (encode_utf8_all text) forwards body (byte_state text s)) ∙ sim.same s in')
     ∙ distinct-byte_state text (pattern_steps setting (names p) text forwards 0 p s) (Simulates-within text forwards _ _ sim s in')

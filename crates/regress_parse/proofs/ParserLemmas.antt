@@ -3,9 +3,9 @@ use Rattle.std.proofs.Common.{◌≡◌, ◌∙◌, ℕ, Some, refl, sym, ap, su
 use Rattle.std.specs.Option.{IsSomeAnd}
 use Rattle.regress_tree.specs.declared.ir.node.Node.{Node}
 use Rattle.regress_tree.specs.Reading.{Direction}
-use Rattle.regress_lexical.specs.Source.{Source, Found}
+use Rattle.regress_lexer.specs.Source.{Source, Found}
 use Rattle.regress_syntax.specs.Syntax.{Counts}
-use Rattle.regress_lexical.proofs.laws.Sources.{some_and}
+use Rattle.regress_lexer.proofs.lemmas.Sources.{some_and}
 use Rattle.regress_parse.specs.declared.parser.Parser.{Parser}
 use Rattle.regress_parse.specs.Parsing.{Part, text, Builds}
 

@@ -2,12 +2,12 @@
 use Rattle.std.proofs.Common.{◌≡◌, ℕ, zero, suc, ◌+◌, ◌*◌, ◌<◌, ◌≤◌, ⊎_elim, true, false, cond, length, drop, Option, Some, refl, sym, ap, ◌∙◌, arith, length-drop}
 use Rattle.std.proofs.lemmas.Option.{none-some, same_Some, cond_some}
 use Rattle.regress_base.specs.declared.types.Quantifier.{Quantifier}
-use Rattle.regress_lexical.specs.Source.{Source, Found, ◌>>=◌, closing, bar, is_at, ends_alternative}
+use Rattle.regress_lexer.specs.Source.{Source, Found, ◌>>=◌, closing, bar, is_at, ends_alternative}
 use Rattle.regress_syntax.specs.Syntax.{Group, Pattern, Terms, Item, one, either, no_terms, more_terms, atom}
-use Rattle.regress_syntax.specs.Rows.{Context, context_inside, Head, single, opens, head_of_item, allows, head_at, times_at}
-use Rattle.regress_lexical.proofs.laws.Sources.{found_then, then_same, chosen, cond_same, at_front, Shortens}
-use Rattle.regress_syntax.proofs.laws.Rows.{head_at-shortens, times_at-shortens}
-use Rattle.regress_parse.specs.Reader.{Term, closed, item_behind, item_by, quantified, term_by, read_terms, read_pattern, enough, pattern_at, terms_at, item_at, term_at}
+use Rattle.regress_syntax.specs.Productions.{Context, context_inside, Head, single, opens, head_of_item, allows, head_at, optional_quantifier_at}
+use Rattle.regress_lexer.proofs.lemmas.Sources.{found_then, then_same, chosen, cond_same, at_front, Shortens}
+use Rattle.regress_syntax.proofs.lemmas.Productions.{head_at-shortens, optional_quantifier_at-shortens}
+use Rattle.regress_parse.specs.Reader.{Term, closed, item_after_head, item_by, quantified, term_by, parse_terms, parse_pattern, fuel, pattern_at, terms_at, item_at, term_at}
 
 -- parsing functions for patterns, in every context, and what they keep
 abbrev Inner : Type 0
@@ -25,24 +25,24 @@ closed-shortens kind x y e =
     let same = (cond_some (is_at closing x.1) _ y e).1 in
     omega (arith, ap (λ (z : Item × Source). length z.1) same, length-drop 1 x.1)
 
-item_behind-shortens : (inner : Inner) → InnerShortens inner → (ctx : Context) (x : Head × Source) (y : Item × Source) →
-    item_behind inner ctx x ≡ Some y → length y.1 ≤ length x.1
-item_behind-shortens inner h ctx (single a, t) y e = omega (arith, ap (λ (z : Item × Source). length z.1) (same_Some (atom a, t) y e))
-item_behind-shortens inner h ctx (opens kind, t) y e =
+item_after_head-shortens : (inner : Inner) → InnerShortens inner → (ctx : Context) (x : Head × Source) (y : Item × Source) →
+    item_after_head inner ctx x ≡ Some y → length y.1 ≤ length x.1
+item_after_head-shortens inner h ctx (single a, t) y e = omega (arith, ap (λ (z : Item × Source). length z.1) (same_Some (atom a, t) y e))
+item_after_head-shortens inner h ctx (opens kind, t) y e =
     let found = found_then (inner (context_inside kind ctx) t) (closed kind) y e in
     omega (arith, h (context_inside kind ctx) t found.0 found.1, closed-shortens kind found.0 y found.2)
 
 item_by-shortens : (inner : Inner) → InnerShortens inner → (ctx : Context) (t : Source) (y : Item × Source) →
     item_by inner ctx t ≡ Some y → length y.1 < length t
 item_by-shortens inner h ctx t y e =
-    let found = found_then (head_at ctx t) (item_behind inner ctx) y e in
-    omega (arith, head_at-shortens ctx t found.0 found.1, item_behind-shortens inner h ctx found.0 y found.2)
+    let found = found_then (head_at ctx t) (item_after_head inner ctx) y e in
+    omega (arith, head_at-shortens ctx t found.0 found.1, item_after_head-shortens inner h ctx found.0 y found.2)
 
 quantified-shortens : (ctx : Context) (x : Item × Source) (y : Term × Source) → quantified ctx x ≡ Some y → length y.1 ≤ length x.1
 quantified-shortens ctx x y e =
     let allowed = allows ctx.setting.flags.unicode (head_of_item x.0) in
-    let found = found_then (times_at ctx allowed x.1) (λ (q : Option Quantifier × Source). Some ((x.0, q.0), q.1)) y e in
-    omega (arith, times_at-shortens ctx allowed x.1 found.0 found.1, ap (λ (z : Term × Source). length z.1) (same_Some _ y found.2))
+    let found = found_then (optional_quantifier_at ctx allowed x.1) (λ (q : Option Quantifier × Source). Some ((x.0, q.0), q.1)) y e in
+    omega (arith, optional_quantifier_at-shortens ctx allowed x.1 found.0 found.1, ap (λ (z : Term × Source). length z.1) (same_Some _ y found.2))
 
 term_by-shortens : (inner : Inner) → InnerShortens inner → (ctx : Context) (t : Source) (y : Term × Source) →
     term_by inner ctx t ≡ Some y → length y.1 < length t
@@ -50,14 +50,14 @@ term_by-shortens inner h ctx t y e =
     let found = found_then (item_by inner ctx t) (quantified ctx) y e in
     omega (arith, item_by-shortens inner h ctx t found.0 found.1, quantified-shortens ctx found.0 y found.2)
 
-item_behind-same : (f g : Inner) (n : ℕ) → Agree f g n → (ctx : Context) (x : Head × Source) → length x.1 < n →
-    item_behind f ctx x ≡ item_behind g ctx x
-item_behind-same f g n agree ctx (single a, t) shorter = refl
-item_behind-same f g n agree ctx (opens kind, t) shorter = ap (λ found. found >>= closed kind) (agree (context_inside kind ctx) t shorter)
+item_after_head-same : (f g : Inner) (n : ℕ) → Agree f g n → (ctx : Context) (x : Head × Source) → length x.1 < n →
+    item_after_head f ctx x ≡ item_after_head g ctx x
+item_after_head-same f g n agree ctx (single a, t) shorter = refl
+item_after_head-same f g n agree ctx (opens kind, t) shorter = ap (λ found. found >>= closed kind) (agree (context_inside kind ctx) t shorter)
 
 item_by-same : (f g : Inner) (ctx : Context) (t : Source) → Agree f g (length t) → item_by f ctx t ≡ item_by g ctx t
 item_by-same f g ctx t agree =
-    then_same (head_at ctx t) _ _ (λ x found. item_behind-same f g (length t) agree ctx x (head_at-shortens ctx t x found))
+    then_same (head_at ctx t) _ _ (λ x found. item_after_head-same f g (length t) agree ctx x (head_at-shortens ctx t x found))
 
 term_by-same : (f g : Inner) (ctx : Context) (t : Source) → Agree f g (length t) → term_by f ctx t ≡ term_by g ctx t
 term_by-same f g ctx t agree = ap (λ found. found >>= quantified ctx) (item_by-same f g ctx t agree)
@@ -91,87 +91,87 @@ others_by-shortens read h x y e =
     (chosen (is_at bar x.1) _ _ _ e)
 
 mutual
-  unfolding read_terms
+  unfolding parse_terms
 
-  read_terms-shortens : (n : ℕ) (ctx : Context) → Shortens (read_terms n ctx)
-  read_terms-shortens zero ctx t y e = absurd (none-some y e)
-  read_terms-shortens (suc n) ctx t y e =
+  parse_terms-shortens : (n : ℕ) (ctx : Context) → Shortens (parse_terms n ctx)
+  parse_terms-shortens zero ctx t y e = absurd (none-some y e)
+  parse_terms-shortens (suc n) ctx t y e =
       ⊎_elim
       (λ (ends : (ends_alternative t ≡ true) × (Some (no_terms, t) ≡ Some y)).
       omega (arith, ap (λ (z : Terms × Source). length z.1) (same_Some _ _ ends.1)))
       (λ (goes_on : (ends_alternative t ≡ false) × (_ ≡ Some y)).
-      let first = found_then (term_by (read_pattern n) ctx t) (more_by (read_terms n ctx)) y goes_on.1 in
+      let first = found_then (term_by (parse_pattern n) ctx t) (more_by (parse_terms n ctx)) y goes_on.1 in
       omega (
         arith,
-        term_by-shortens (read_pattern n) (read_pattern-shortens n) ctx t first.0 first.1,
-        more_by-shortens (read_terms n ctx) (read_terms-shortens n ctx) first.0 y first.2,
+        term_by-shortens (parse_pattern n) (parse_pattern-shortens n) ctx t first.0 first.1,
+        more_by-shortens (parse_terms n ctx) (parse_terms-shortens n ctx) first.0 y first.2,
       ))
       (chosen (ends_alternative t) _ _ _ e)
 
-  read_pattern-shortens : (n : ℕ) (ctx : Context) → Shortens (read_pattern n ctx)
-  read_pattern-shortens zero ctx t y e = absurd (none-some y e)
-  read_pattern-shortens (suc n) ctx t y e =
-      let first = found_then (read_terms n ctx t) (others_by (read_pattern n ctx)) y e in
+  parse_pattern-shortens : (n : ℕ) (ctx : Context) → Shortens (parse_pattern n ctx)
+  parse_pattern-shortens zero ctx t y e = absurd (none-some y e)
+  parse_pattern-shortens (suc n) ctx t y e =
+      let first = found_then (parse_terms n ctx t) (others_by (parse_pattern n ctx)) y e in
       omega (
         arith,
-        read_terms-shortens n ctx t first.0 first.1,
-        others_by-shortens (read_pattern n ctx) (read_pattern-shortens n ctx) first.0 y first.2,
+        parse_terms-shortens n ctx t first.0 first.1,
+        others_by-shortens (parse_pattern n ctx) (parse_pattern-shortens n ctx) first.0 y first.2,
       )
 
 -- A larger bound changes nothing once the bound suffices.
 mutual
-  unfolding read_terms
+  unfolding parse_terms
 
-  read_terms-same : (n m : ℕ) (ctx : Context) (t : Source) → 2 * length t < n → 2 * length t < m → read_terms n ctx t ≡ read_terms m ctx t
-  read_terms-same zero m ctx t h k = absurd (omega arith)
-  read_terms-same (suc n) zero ctx t h k = absurd (omega arith)
-  read_terms-same (suc n) (suc m) ctx t h k =
+  parse_terms-same : (n m : ℕ) (ctx : Context) (t : Source) → 2 * length t < n → 2 * length t < m → parse_terms n ctx t ≡ parse_terms m ctx t
+  parse_terms-same zero m ctx t h k = absurd (omega arith)
+  parse_terms-same (suc n) zero ctx t h k = absurd (omega arith)
+  parse_terms-same (suc n) (suc m) ctx t h k =
       cond_same (ends_alternative t) _ _ _ _ (λ ends. refl)
       (λ goes_on.
-      ap (λ found. found >>= more_by (read_terms n ctx))
-      (term_by-same (read_pattern n) (read_pattern m) ctx t (λ c u shorter. read_pattern-same n m c u (omega arith) (omega arith)))
-      ∙ then_same (term_by (read_pattern m) ctx t) _ _
+      ap (λ found. found >>= more_by (parse_terms n ctx))
+      (term_by-same (parse_pattern n) (parse_pattern m) ctx t (λ c u shorter. parse_pattern-same n m c u (omega arith) (omega arith)))
+      ∙ then_same (term_by (parse_pattern m) ctx t) _ _
       (λ x found. ap (λ found. found >>= λ (y : Terms × Source). Some (more_terms x.0.0 x.0.1 y.0, y.1))
-      (let shorter = term_by-shortens (read_pattern m) (read_pattern-shortens m) ctx t x found in
-      read_terms-same n m ctx x.1 (omega arith) (omega arith))))
+      (let shorter = term_by-shortens (parse_pattern m) (parse_pattern-shortens m) ctx t x found in
+      parse_terms-same n m ctx x.1 (omega arith) (omega arith))))
 
-  read_pattern-same : (n m : ℕ) (ctx : Context) (t : Source) → 2 * length t + 1 < n → 2 * length t + 1 < m →
-      read_pattern n ctx t ≡ read_pattern m ctx t
-  read_pattern-same zero m ctx t h k = absurd (omega arith)
-  read_pattern-same (suc n) zero ctx t h k = absurd (omega arith)
-  read_pattern-same (suc n) (suc m) ctx t h k =
-      ap (λ found. found >>= others_by (read_pattern n ctx)) (read_terms-same n m ctx t (omega arith) (omega arith))
-      ∙ then_same (read_terms m ctx t) _ _
+  parse_pattern-same : (n m : ℕ) (ctx : Context) (t : Source) → 2 * length t + 1 < n → 2 * length t + 1 < m →
+      parse_pattern n ctx t ≡ parse_pattern m ctx t
+  parse_pattern-same zero m ctx t h k = absurd (omega arith)
+  parse_pattern-same (suc n) zero ctx t h k = absurd (omega arith)
+  parse_pattern-same (suc n) (suc m) ctx t h k =
+      ap (λ found. found >>= others_by (parse_pattern n ctx)) (parse_terms-same n m ctx t (omega arith) (omega arith))
+      ∙ then_same (parse_terms m ctx t) _ _
       (λ x found. cond_same (is_at bar x.1) _ _ _ _
       (λ more. ap (λ found. found >>= λ (y : Pattern × Source). Some (either x.0 y.0, y.1))
-      (let shorter = read_terms-shortens m ctx t x found in
+      (let shorter = parse_terms-shortens m ctx t x found in
       let front = at_front bar x.1 more in
-      read_pattern-same n m ctx (drop 1 x.1) (omega (arith, length-drop 1 x.1)) (omega (arith, length-drop 1 x.1))))
+      parse_pattern-same n m ctx (drop 1 x.1) (omega (arith, length-drop 1 x.1)) (omega (arith, length-drop 1 x.1))))
       (λ last. refl))
 
-pattern_at-enough : (n : ℕ) (ctx : Context) (t : Source) → 2 * length t + 1 < n → read_pattern n ctx t ≡ pattern_at ctx t
+pattern_at-fuel : (n : ℕ) (ctx : Context) (t : Source) → 2 * length t + 1 < n → parse_pattern n ctx t ≡ pattern_at ctx t
 unfolding pattern_at
-pattern_at-enough n ctx t h = read_pattern-same n (enough t) ctx t h (omega arith)
+pattern_at-fuel n ctx t h = parse_pattern-same n (fuel t) ctx t h (omega arith)
 
-terms_at-enough : (n : ℕ) (ctx : Context) (t : Source) → 2 * length t < n → read_terms n ctx t ≡ terms_at ctx t
+terms_at-fuel : (n : ℕ) (ctx : Context) (t : Source) → 2 * length t < n → parse_terms n ctx t ≡ terms_at ctx t
 unfolding terms_at
-terms_at-enough n ctx t h = read_terms-same n (enough t) ctx t h (omega arith)
+terms_at-fuel n ctx t h = parse_terms-same n (fuel t) ctx t h (omega arith)
 
 pub pattern_at-shortens : (ctx : Context) → Shortens (pattern_at ctx)
 unfolding pattern_at
-pattern_at-shortens ctx t y e = read_pattern-shortens (enough t) ctx t y e
+pattern_at-shortens ctx t y e = parse_pattern-shortens (fuel t) ctx t y e
 
 pub terms_at-shortens : (ctx : Context) → Shortens (terms_at ctx)
 unfolding terms_at
-terms_at-shortens ctx t y e = read_terms-shortens (enough t) ctx t y e
+terms_at-shortens ctx t y e = parse_terms-shortens (fuel t) ctx t y e
 
 pub term_at-shortens : (ctx : Context) (t : Source) (y : Term × Source) → term_at ctx t ≡ Some y → length y.1 < length t
 unfolding item_at term_at
 term_at-shortens ctx t y e = term_by-shortens pattern_at pattern_at-shortens ctx t y e
 
 -- the terms after a first one
-abbrev pub more_of : Context → Term × Source → Found Terms
-more_of ctx = more_by (terms_at ctx)
+abbrev pub optional_of : Context → Term × Source → Found Terms
+optional_of ctx = more_by (terms_at ctx)
 
 -- the alternatives after a first one
 abbrev pub others_of : Context → Terms × Source → Found Pattern
@@ -179,31 +179,31 @@ others_of ctx = others_by (pattern_at ctx)
 
 -- The equations of the parsing function, without a bound.
 pub terms_at-is : (ctx : Context) (t : Source) →
-    terms_at ctx t ≡ cond (ends_alternative t) (Some (no_terms, t)) (term_at ctx t >>= more_of ctx)
-unfolding read_terms terms_at item_at term_at
+    terms_at ctx t ≡ cond (ends_alternative t) (Some (no_terms, t)) (term_at ctx t >>= optional_of ctx)
+unfolding parse_terms terms_at item_at term_at
 terms_at-is ctx t =
-    let n = enough t in
-    sym (terms_at-enough (suc n) ctx t (omega arith))
+    let n = fuel t in
+    sym (terms_at-fuel (suc n) ctx t (omega arith))
     ∙ cond_same (ends_alternative t) _ _ _ _ (λ ends. refl)
     (λ goes_on.
-    ap (λ found. found >>= more_by (read_terms n ctx))
-    (term_by-same (read_pattern n) pattern_at ctx t (λ c u shorter. pattern_at-enough n c u (omega arith)))
+    ap (λ found. found >>= more_by (parse_terms n ctx))
+    (term_by-same (parse_pattern n) pattern_at ctx t (λ c u shorter. pattern_at-fuel n c u (omega arith)))
     ∙ then_same (term_by pattern_at ctx t) _ _
     (λ x found. ap (λ found. found >>= λ (y : Terms × Source). Some (more_terms x.0.0 x.0.1 y.0, y.1))
-    (let shorter = term_at-shortens ctx t x found in terms_at-enough n ctx x.1 (omega arith))))
+    (let shorter = term_at-shortens ctx t x found in terms_at-fuel n ctx x.1 (omega arith))))
 
 pub pattern_at-is : (ctx : Context) (t : Source) → pattern_at ctx t ≡ terms_at ctx t >>= others_of ctx
-unfolding read_terms
+unfolding parse_terms
 pattern_at-is ctx t =
-    let n = enough t in
-    sym (pattern_at-enough (suc n) ctx t (omega arith))
-    ∙ ap (λ found. found >>= others_by (read_pattern n ctx)) (terms_at-enough n ctx t (omega arith))
+    let n = fuel t in
+    sym (pattern_at-fuel (suc n) ctx t (omega arith))
+    ∙ ap (λ found. found >>= others_by (parse_pattern n ctx)) (terms_at-fuel n ctx t (omega arith))
     ∙ then_same (terms_at ctx t) _ _
     (λ x found. cond_same (is_at bar x.1) _ _ _ _
     (λ more. ap (λ found. found >>= λ (y : Pattern × Source). Some (either x.0 y.0, y.1))
     (let shorter = terms_at-shortens ctx t x found in
     let front = at_front bar x.1 more in
-    pattern_at-enough n ctx (drop 1 x.1) (omega (arith, length-drop 1 x.1))))
+    pattern_at-fuel n ctx (drop 1 x.1) (omega (arith, length-drop 1 x.1))))
     (λ last. refl))
 
 pub item_at-is : (ctx : Context) (t : Source) → item_at ctx t ≡ item_by pattern_at ctx t

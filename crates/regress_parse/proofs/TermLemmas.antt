@@ -7,28 +7,28 @@ use Rattle.std.proofs.lemmas.Bool.Decides.{nat_tests}
 use Rattle.regress_tree.specs.declared.ir.node.Node.{Node}
 use Rattle.regress_tree.specs.Reading.{Direction}
 use Rattle.regress_tree.specs.Tree.{tree}
-use Rattle.regress_lexical.specs.declared.fault.Fault.{Fault}
-use Rattle.regress_lexical.specs.declared.fault.FaultKind.{FaultKind}
-use Rattle.regress_lexical.specs.declared.fault.FaultKind.TheVariants.{TooManyLoops}
+use Rattle.regress_lexer.specs.declared.fault.Fault.{Fault}
+use Rattle.regress_lexer.specs.declared.fault.FaultKind.{FaultKind}
+use Rattle.regress_lexer.specs.declared.fault.FaultKind.TheVariants.{TooManyLoops}
 use Rattle.std.proofs.lemmas.Option.{same_Some, cond_some}
 use Rattle.regress_base.specs.Table.{Table}
 use Rattle.regress_base.specs.declared.types.Quantifier.{Quantifier}
-use Rattle.regress_lexical.specs.Source.{Source, Found, ◌>>=◌, found_map, opening, closing, is_at, is_one_of, is_plain}
-use Rattle.regress_lexical.specs.Beginnings.{may_begin}
-use Rattle.regress_lexical.specs.Escapes.{begins_with_letter}
-use Rattle.regress_syntax.specs.Syntax.{Name, Atom, Group, Pattern, Item, literal, back_reference, by_number, atom, group, Counts, added, counts_of_item, levels_of_atom}
-use Rattle.regress_syntax.specs.Rows.{Context, context_inside, Head, single, opens, head_of_item, allows, begins_number, group_at, head_at, times_at}
-use Rattle.regress_lexical.proofs.laws.Sources.{found_then, from_each, to_each, on_kind_then, on_each_kind}
+use Rattle.regress_lexer.specs.Source.{Source, Found, ◌>>=◌, found_map, opening, closing, is_at, is_one_of, is_plain}
+use Rattle.regress_lexer.specs.FirstCodePoint.{may_begin}
+use Rattle.regress_lexer.specs.Escapes.{begins_with_letter}
+use Rattle.regress_syntax.specs.Syntax.{Name, Atom, Group, Pattern, Item, literal, back_reference, by_number, atom, group, Counts, added, counts_of_item, nesting_of_atom}
+use Rattle.regress_syntax.specs.Productions.{Context, context_inside, Head, single, opens, head_of_item, allows, begins_number, group_at, head_at, optional_quantifier_at}
+use Rattle.regress_lexer.proofs.lemmas.Sources.{found_then, from_each, to_each, on_kind_then, on_each_kind}
 use Rattle.regress_syntax.specs.Numbering.{group_number_at}
-use Rattle.regress_syntax.proofs.laws.Plain.{plain_head, no_times}
-use Rattle.regress_syntax.proofs.laws.References.{numbered-some}
-use Rattle.regress_syntax.proofs.laws.Scan.{one_level}
-use Rattle.regress_parse.specs.Reader.{Term, closed, item_behind, quantified, pattern_at, item_at, term_at}
+use Rattle.regress_syntax.proofs.lemmas.Plain.{plain_head, no_times}
+use Rattle.regress_syntax.proofs.lemmas.References.{numbered-some}
+use Rattle.regress_syntax.proofs.lemmas.Scan.{one_level}
+use Rattle.regress_parse.specs.Reader.{Term, closed, item_after_head, quantified, pattern_at, item_at, term_at}
 use Rattle.regress_base.specs.Limits.{max_loops, max_nesting_depth}
 use Rattle.regress_parse.specs.Parsing.{Exceeds, pattern_part, term_part, item_part, atom_at, ReadsAtom, Builds, Yields, text, counted}
 use Rattle.regress_parse.specs.TreeOf.{tree_of_atom}
 use Rattle.regress_parse.specs.declared.parser.Parser.{Parser}
-use Rattle.regress_parse.proofs.EscapeRows.{number_read}
+use Rattle.regress_parse.proofs.EscapeProductions.{number_read}
 use Rattle.regress_parse.proofs.CountLemmas.{Fits-inside, Exceeds-around, added-nothing}
 use Rattle.regress_parse.proofs.ParserLemmas.{built}
 use Rattle.regress_parse.proofs.ReaderLemmas.{item_at-is, term_at-is}
@@ -45,13 +45,13 @@ module _ (table : Table) (names : List (Option Name)) (ctx : Context) where
 
   -- ---- an item, after what it starts with
 
-  item_from_head : (t : Source) (x : Head × Source) → head_at ctx t ≡ Some x → item_at ctx t ≡ item_behind pattern_at ctx x
-  item_from_head t x head = item_at-is ctx t ∙ ap (λ found. found >>= item_behind pattern_at ctx) head
+  item_from_head : (t : Source) (x : Head × Source) → head_at ctx t ≡ Some x → item_at ctx t ≡ item_after_head pattern_at ctx x
+  item_from_head t x head = item_at-is ctx t ∙ ap (λ found. found >>= item_after_head pattern_at ctx) head
 
   closed_same : (kind : Group) (x : Pattern × Source) (y : Item × Source) → closed kind x ≡ Some y → group kind x.0 ≡ y.0
   closed_same kind x y e = ap (λ (z : Item × Source). z.0) (cond_some (is_at closing x.1) (group kind x.0, drop 1 x.1) y e).1
 
-  head-same : (x : Head × Source) (y : Item × Source) → item_behind pattern_at ctx x ≡ Some y → head_of_item y.0 ≡ x.0
+  head-same : (x : Head × Source) (y : Item × Source) → item_after_head pattern_at ctx x ≡ Some y → head_of_item y.0 ≡ x.0
   head-same (single a, t) y e = sym (ap (λ (z : Item × Source). head_of_item z.0) (same_Some (atom a, t) y e))
   head-same (opens kind, t) y e =
       let body = found_then (pattern_at (context_inside kind ctx) t) (closed kind) y e in
@@ -61,14 +61,14 @@ module _ (table : Table) (names : List (Option Name)) (ctx : Context) where
 
   -- An item with the quantifier that is parsed after it is a term.
   pub term_read : (t : Source) (head : Head × Source) (x : Item × Source) (allowed : Bool) (times : Found (Option Quantifier)) →
-      head_at ctx t ≡ Some head → item_behind pattern_at ctx head ≡ Some x → allowed ≡ allows ctx.setting.flags.unicode head.0 →
-      times_at ctx allowed x.1 ≡ times → term_at ctx t ≡ found_map (λ q. (x.0, q)) times
+      head_at ctx t ≡ Some head → item_after_head pattern_at ctx head ≡ Some x → allowed ≡ allows ctx.setting.flags.unicode head.0 →
+      optional_quantifier_at ctx allowed x.1 ≡ times → term_at ctx t ≡ found_map (λ q. (x.0, q)) times
   term_read t head x allowed times front item allowed_is found =
       let same : allows ctx.setting.flags.unicode (head_of_item x.0) ≡ allowed =
       ap (allows ctx.setting.flags.unicode) (head-same head x item) ∙ sym allowed_is in
       term_at-is ctx t
       ∙ ap (λ found. found >>= quantified ctx) (item_from_head t head front ∙ item)
-      ∙ ap (λ b. found_map (λ (q : Option Quantifier). (x.0, q)) (times_at ctx b x.1)) same
+      ∙ ap (λ b. found_map (λ (q : Option Quantifier). (x.0, q)) (optional_quantifier_at ctx b x.1)) same
       ∙ ap (found_map (λ (q : Option Quantifier). (x.0, q))) found
 
   -- A literal character that no quantifier follows is a term.
@@ -111,7 +111,7 @@ module _ (table : Table) (names : List (Option Name)) (ctx : Context) where
   pub no_term : (t : Source) → head_at ctx t ≡ None → term_at ctx t ≡ None
   no_term t front =
       term_at-is ctx t
-      ∙ ap (λ found. found >>= quantified ctx) (item_at-is ctx t ∙ ap (λ found. found >>= item_behind pattern_at ctx) front)
+      ∙ ap (λ found. found >>= quantified ctx) (item_at-is ctx t ∙ ap (λ found. found >>= item_after_head pattern_at ctx) front)
 
   -- ---- items without a nested pattern, and what opens a group
 
@@ -126,18 +126,18 @@ module _ (table : Table) (names : List (Option Name)) (ctx : Context) where
 
   pub atom_item : (t : Source) → is_at opening t ≡ false → item_at ctx t ≡ found_map atom (atom_at ctx t)
   atom_item t none =
-      item_at-is ctx t ∙ ap (λ found. found >>= item_behind pattern_at ctx) (atom_head t none) ∙ mapped (atom_at ctx t)
+      item_at-is ctx t ∙ ap (λ found. found >>= item_after_head pattern_at ctx) (atom_head t none) ∙ mapped (atom_at ctx t)
     where
-      mapped : (found : Found Atom) → found_map single found >>= item_behind pattern_at ctx ≡ found_map atom found
+      mapped : (found : Found Atom) → found_map single found >>= item_after_head pattern_at ctx ≡ found_map atom found
       mapped None = refl
       mapped (Some x) = refl
 
   pub opening_item : (t : Source) (head : Head × Source) → group_at ctx.setting.table t ≡ Some head →
-      item_at ctx (opening ∷ t) ≡ item_behind pattern_at ctx head
+      item_at ctx (opening ∷ t) ≡ item_after_head pattern_at ctx head
   opening_item t head found = item_from_head (opening ∷ t) head (opening_head t ∙ found)
 
   -- The start of a group, and what is parsed after it, are the group.
-  pub opened_same : (kind : Group) (t : Source) (x : Item × Source) → item_behind pattern_at ctx (opens kind, t) ≡ Some x →
+  pub opened_same : (kind : Group) (t : Source) (x : Item × Source) → item_after_head pattern_at ctx (opens kind, t) ≡ Some x →
       head_of_item x.0 ≡ opens kind
   opened_same kind t x found = head-same (opens kind, t) x found
 
@@ -145,33 +145,33 @@ module _ (table : Table) (names : List (Option Name)) (ctx : Context) where
   pub times-fail : (kind : FaultKind) (found : Found Item) (before : Counts) (depth : ℕ) →
       IfSome found (λ x. Exceeds kind before depth (item_part table names x.0)) →
       IfSome (found >>= quantified ctx) (λ x. Exceeds kind before depth (term_part table names x.0))
-  times-fail kind found before depth refused =
+  times-fail kind found before depth rejected =
       from_each (found >>= quantified ctx) _ (λ x read.
       let item = found_then found (quantified ctx) x read in
-      let times = found_then (times_at ctx (allows ctx.setting.flags.unicode (head_of_item item.0.0)) item.0.1)
+      let times = found_then (optional_quantifier_at ctx (allows ctx.setting.flags.unicode (head_of_item item.0.0)) item.0.1)
       (λ (q : Option Quantifier × Source). Some ((item.0.0, q.0), q.1)) x item.2 in
       let same : (item.0.0, times.0.0) ≡ x.0 = ap (λ (z : Term × Source). z.0) (same_Some _ x times.2) in
       subst (λ (z : Term). Exceeds kind before depth (term_part table names z)) same
       (Exceeds-around kind before before depth depth (term_part table names (item.0.0, times.0.0)) (item_part table names item.0.0)
-      (omega arith) (omega arith) (omega arith) (to_each found _ refused item.0 item.1)))
+      (omega arith) (omega arith) (omega arith) (to_each found _ rejected item.0 item.1)))
 
   -- what is parsed of the quantifier after an item
   pub times_read : (found : Found Item) (x : Item × Source) (allowed : Bool) (times : Found (Option Quantifier)) → found ≡ Some x →
-      allowed ≡ allows ctx.setting.flags.unicode (head_of_item x.0) → times_at ctx allowed x.1 ≡ times →
+      allowed ≡ allows ctx.setting.flags.unicode (head_of_item x.0) → optional_quantifier_at ctx allowed x.1 ≡ times →
       found >>= quantified ctx ≡ found_map (λ q. (x.0, q)) times
-  times_read found x allowed times read allowed_is behind =
+  times_read found x allowed times read allowed_is after =
       ap (λ found. found >>= quantified ctx) read
-      ∙ ap (λ b. found_map (λ (q : Option Quantifier). (x.0, q)) (times_at ctx b x.1)) (sym allowed_is)
-      ∙ ap (found_map (λ (q : Option Quantifier). (x.0, q))) behind
+      ∙ ap (λ b. found_map (λ (q : Option Quantifier). (x.0, q)) (optional_quantifier_at ctx b x.1)) (sym allowed_is)
+      ∙ ap (found_map (λ (q : Option Quantifier). (x.0, q))) after
 
   -- If the loop is past the limit, then so is the term.
   pub times-too_many : (kind : FaultKind) → kind ≡ TooManyLoops → (found : Found Term) (rest : Source) (x : Item) (q : Quantifier) (before : Counts)
       (depth : ℕ) → found ≡ Some ((x, Some q), rest) →
       max_loops < before.loops + (counts_of_item x).loops + 1 →
       IfSome found (λ x. Exceeds kind before depth (term_part table names x.0))
-  times-too_many kind told found rest x q before depth read many =
+  times-too_many kind reported found rest x q before depth read many =
       subst (λ found. IfSome found (λ x. Exceeds kind before depth (term_part table names x.0))) (sym read)
-      (inr (inl (told, omega (arith, many))))
+      (inr (inl (reported, omega (arith, many))))
 
   -- Where no quantifier can start, the item is the term.
   pub builds_alone : (d : Direction) (depth : ℕ) (before : Counts) (new : Parser) (node : Node) (x : Item) (rest : Source) →
@@ -204,7 +204,7 @@ module _ (table : Table) (names : List (Option Name)) (ctx : Context) where
       (sym (ap (term_at ctx) front ∙ plain_term c t plain free))
       (record {
         node = made;
-        fits = record { groups = omega (arith, old.groups_within); loops = omega (arith, old.loops_within); levels = omega (arith, deep) };
+        fits = record { groups = omega (arith, old.groups_within); loops = omega (arith, old.loops_within); nesting = omega (arith, deep) };
         counts = same ∙ sym (added-nothing (counted old));
         rest = rest;
       })
@@ -223,7 +223,7 @@ module _ (table : Table) (names : List (Option Name)) (ctx : Context) where
         fits = record {
           groups = omega (arith, old.groups_within);
           loops = omega (arith, old.loops_within);
-          levels = omega (arith, h.2.levels);
+          nesting = omega (arith, h.2.nesting);
         };
         counts = same ∙ sym (added-nothing (counted old));
         rest = refl;
@@ -233,7 +233,7 @@ module _ (table : Table) (names : List (Option Name)) (ctx : Context) where
       (λ kind deep. subst (λ (f : Found Item). IfSome f (λ y. Exceeds kind (counted old) depth (item_part table names y.0)))
       (sym (atom_item t none)) (over kind (atom_at ctx t) deep)) h
     where
-      over : (kind : FaultKind) (found : Found Atom) → IfSome found (λ x. left < levels_of_atom x.0) →
+      over : (kind : FaultKind) (found : Found Atom) → IfSome found (λ x. left < nesting_of_atom x.0) →
           IfSome (found_map atom found) (λ y. Exceeds kind (counted old) depth (item_part table names y.0))
       over kind None deep = tt
       over kind (Some x) deep = inr (inr (omega (arith, deep, all)))

@@ -2,17 +2,17 @@
 use Rattle.std.specs.Prelude.{◌≡◌, ◌⊎◌, ℕ, ◌<◌, ◌≤◌, List, [], length, map, encode_utf8_all}
 use Rattle.regress_base.specs.Limits.{max_capture_groups, max_loops, max_nesting_depth}
 use Rattle.regress_tree.specs.Reading.{IsText, forwards}
-use Rattle.regress_tree.specs.Steps.{State, IsStateOf, byte_state}
+use Rattle.regress_tree.specs.Steps.{MatchState, IsStateOf, byte_state}
 use Rattle.regress_tree.specs.Matching.{matches}
 use Rattle.regress_tree.specs.Setting.{Setting}
 use Rattle.regress_tree.specs.Tree.{Tree}
-use Rattle.regress_lexical.specs.declared.fault.FaultKind.{FaultKind}
-use Rattle.regress_lexical.specs.declared.fault.FaultKind.TheVariants.{TooManyGroups, TooManyLoops, TooDeep, DuplicateName}
-use Rattle.regress_lexical.specs.Source.{Source}
-use Rattle.regress_syntax.specs.Syntax.{Pattern, counts, names, levels}
+use Rattle.regress_lexer.specs.declared.fault.FaultKind.{FaultKind}
+use Rattle.regress_lexer.specs.declared.fault.FaultKind.TheVariants.{TooManyGroups, TooManyLoops, TooDeep, DuplicateName}
+use Rattle.regress_lexer.specs.Source.{Source}
+use Rattle.regress_syntax.specs.Syntax.{Pattern, counts, names, nesting}
 use Rattle.regress_syntax.specs.Meaning.{meaning}
 use Rattle.regress_syntax.specs.SameNames.{NoneConflict}
-use Rattle.regress_syntax.specs.Rows.{Context}
+use Rattle.regress_syntax.specs.Productions.{Context}
 use Rattle.regress_syntax.specs.Grammar.{IsPattern}
 
 -- The context of a whole pattern has its own groups and names.
@@ -27,7 +27,7 @@ IsDerived setting source p = IsPattern (own_context setting p) p source []
 pub record IsWithinLimits (p : Pattern) : Type 0 where
   pub groups : (counts p).groups ≤ max_capture_groups
   pub loops : (counts p).loops ≤ max_loops
-  pub levels : levels p ≤ max_nesting_depth
+  pub nesting : nesting p ≤ max_nesting_depth
 
 -- The pattern is derived from the source and within the limits, and no two of its groups with one name conflict.
 pub record IsAccepted (setting : Setting) (source : Source) (p : Pattern) : Type 0 where
@@ -45,8 +45,8 @@ abbrev pub Says : FaultKind → Pattern → Type 0
 Says kind p =
     ((kind ≡ TooManyGroups) × (max_capture_groups < (counts p).groups))
     ⊎ ((kind ≡ TooManyLoops) × (max_loops < (counts p).loops))
-    ⊎ ((kind ≡ TooDeep) × (max_nesting_depth < levels p))
-    ⊎ ((kind ≡ DuplicateName) × ((NoneConflict p → ⊥) ⊎ (max_nesting_depth < levels p)))
+    ⊎ ((kind ≡ TooDeep) × (max_nesting_depth < nesting p))
+    ⊎ ((kind ≡ DuplicateName) × ((NoneConflict p → ⊥) ⊎ (max_nesting_depth < nesting p)))
 
 -- What the syntax error states holds for every pattern that is derived from the source, unless the pattern has more
 -- groups than the limit.
@@ -59,7 +59,7 @@ IsTrueOf setting source kind =
 pub record MayExceed (source : Source) (kind : FaultKind) : Type 0 where
   pub groups : kind ≡ TooManyGroups → max_capture_groups < length source
   pub loops : kind ≡ TooManyLoops → max_loops < length source
-  pub levels : kind ≡ TooDeep → max_nesting_depth ≤ length source
+  pub nesting : kind ≡ TooDeep → max_nesting_depth ≤ length source
 
 -- At most one pattern is derived from the source, within the limits or not.
 abbrev pub OneIsDerived : Setting → Source → Type 0
@@ -72,6 +72,6 @@ OfAccepted setting source P = (p : Pattern) → IsAccepted setting source p → 
 -- On every text and from every state, the outcomes of the tree are those of the pattern, in the same order, as byte
 -- offsets.
 abbrev pub Means : Setting → Tree → Pattern → Type 0
-Means setting tree p = (text : List ℕ) (s : State) → IsText text → IsStateOf text s →
+Means setting tree p = (text : List ℕ) (s : MatchState) → IsText text → IsStateOf text s →
     matches setting (encode_utf8_all text) forwards tree (byte_state text s)
     ≡ map (byte_state text) (meaning setting text forwards p s)

@@ -1,7 +1,7 @@
 -- What is reported of a rejected pattern.
 use Rattle.std.specs.Prelude.{◌≡◌, ℕ, ◌≤◌, List, [], ◌++◌, codes, string_bytes, Result, Ok, Err}
-use Rattle.regress_lexical.specs.declared.fault.FaultKind.{FaultKind}
-use Rattle.regress_lexical.specs.declared.fault.FaultKind.TheVariants.{UnbalancedParenthesis, TooDeep, TooManyGroups, TooManyLoops, IncompleteEscape, UnterminatedEscape, InvalidEscape, InvalidUnicodeEscape, InvalidBracedQuantifier, InvalidAtom, QuantifierNotAllowed, InvalidQuantifier, UnbalancedBracket, ReversedRange, InvalidRange, UnbalancedSet, InvalidSetRange, UnexpectedInIntersection, UnexpectedInSubtraction, EmptyOperand, IncompleteSetEscape, StringsWithoutBrace, UnbalancedStrings, InvalidSetCharacter, InvalidNegatedClass, PropertyWithoutBrace, InvalidProperty, InvalidGroupName, InvalidModifier, InvalidReference, UnknownName, DuplicateName}
+use Rattle.regress_lexer.specs.declared.fault.FaultKind.{FaultKind}
+use Rattle.regress_lexer.specs.declared.fault.FaultKind.TheVariants.{UnbalancedParenthesis, TooDeep, TooManyGroups, TooManyLoops, IncompleteEscape, UnterminatedEscape, InvalidEscape, InvalidUnicodeEscape, InvalidBracedQuantifier, InvalidAtom, QuantifierNotAllowed, InvalidQuantifier, UnbalancedBracket, ReversedRange, InvalidRange, UnbalancedSet, InvalidSetRange, UnexpectedInIntersection, UnexpectedInSubtraction, EmptyOperand, IncompleteSetEscape, StringsWithoutBrace, UnbalancedStrings, InvalidSetCharacter, InvalidNegatedClass, PropertyWithoutBrace, InvalidProperty, InvalidGroupName, InvalidModifier, InvalidReference, UnknownName, DuplicateName}
 use Rattle.regress_parse.specs.declared.fault.ParseFault.{ParseFault}
 use Rattle.regress_parse.specs.declared.fault.ParseFault.TheVariants.{Syntax, Memory}
 use Rattle.regress_parse.specs.declared.fault.PlacedFault.{PlacedFault}
@@ -43,36 +43,36 @@ words (UnknownName name) = codes "Backreference to invalid named capture group: 
 words DuplicateName = codes "Duplicate capture group name"
 
 -- the name at the end of the text, in UTF-8
-abbrev pub name_behind : FaultKind → List ℕ
-name_behind (UnknownName name) = string_bytes name
-name_behind other = []
+abbrev pub name_suffix : FaultKind → List ℕ
+name_suffix (UnknownName name) = string_bytes name
+name_suffix other = []
 
 abbrev pub text_of : FaultKind → List ℕ
-text_of kind = words kind ++ name_behind kind
+text_of kind = words kind ++ name_suffix kind
 
 -- The result is a syntax error only if P holds.
-abbrev pub RefusedOnlyIf : {X : Type 0} → Result X ParseFault → Type 0 → Type 0
-RefusedOnlyIf (Ok x) P = Unit {0}
-RefusedOnlyIf (Err (Syntax e)) P = P
-RefusedOnlyIf (Err (Memory e)) P = Unit {0}
+abbrev pub RejectedOnlyIf : {X : Type 0} → Result X ParseFault → Type 0 → Type 0
+RejectedOnlyIf (Ok x) P = Unit {0}
+RejectedOnlyIf (Err (Syntax e)) P = P
+RejectedOnlyIf (Err (Memory e)) P = Unit {0}
 
 -- A syntax error has the text of a kind for which P holds.
-abbrev pub Tells : {X : Type 0} → Result X ParseFault → (FaultKind → Type 0) → Type 0
-Tells (Ok x) P = Unit {0}
-Tells (Err (Syntax e)) P = (kind : FaultKind) × (string_bytes e.text ≡ text_of kind) × P kind
-Tells (Err (Memory e)) P = Unit {0}
+abbrev pub ReportsKind : {X : Type 0} → Result X ParseFault → (FaultKind → Type 0) → Type 0
+ReportsKind (Ok x) P = Unit {0}
+ReportsKind (Err (Syntax e)) P = (kind : FaultKind) × (string_bytes e.text ≡ text_of kind) × P kind
+ReportsKind (Err (Memory e)) P = Unit {0}
 
 -- the error without its position
-abbrev pub without_place : PlacedFault → ParseFault
-without_place (PlacedSyntax e place) = Syntax e
-without_place (PlacedMemory e) = Memory e
+abbrev pub without_position : PlacedFault → ParseFault
+without_position (PlacedSyntax e position) = Syntax e
+without_position (PlacedMemory e) = Memory e
 
 abbrev pub unplaced : {X : Type 0} → Result X PlacedFault → Result X ParseFault
 unplaced (Ok x) = Ok x
-unplaced (Err fault) = Err (without_place fault)
+unplaced (Err fault) = Err (without_position fault)
 
 -- The position of a syntax error is at most the length of the pattern.
-abbrev pub IsPlacedWithin : {X : Type 0} → ℕ → Result X PlacedFault → Type 0
-IsPlacedWithin length (Ok x) = Unit {0}
-IsPlacedWithin length (Err (PlacedSyntax e place)) = place ≤ length
-IsPlacedWithin length (Err (PlacedMemory e)) = Unit {0}
+abbrev pub HasPositionWithin : {X : Type 0} → ℕ → Result X PlacedFault → Type 0
+HasPositionWithin length (Ok x) = Unit {0}
+HasPositionWithin length (Err (PlacedSyntax e position)) = position ≤ length
+HasPositionWithin length (Err (PlacedMemory e)) = Unit {0}

@@ -11,10 +11,10 @@ pub use Rattle.regress_unicode.specs.TableOf
 pub use Rattle.regress_tree.specs.Setting
 pub use Rattle.regress_tree.specs.Tree
 pub use Rattle.regress_tree.specs.WellFormed
-pub use Rattle.regress_lexical.specs.Source
+pub use Rattle.regress_lexer.specs.Source
 pub use Rattle.regress_syntax.specs.Syntax
-pub use Rattle.regress_syntax.specs.Rows
+pub use Rattle.regress_syntax.specs.Productions
 pub use Rattle.regress_syntax.specs.Grammar
 pub use Rattle.regress_syntax.specs.Meaning
-pub use Rattle.regress_syntax.specs.Misplaced
+pub use Rattle.regress_syntax.specs.FirstErrors
 pub use Rattle.regress_syntax.specs.Views

@@ -6,9 +6,9 @@ use Rattle.regress_base.specs.declared.types.Quantifier.{Quantifier}
 use Rattle.regress_tree.specs.Reading.{Direction, forwards, backwards}
 use Rattle.regress_base.specs.Table.{class_of}
 use Rattle.regress_base.specs.Table.{Table}
-use Rattle.regress_tree.specs.Tree.{Leaf, empty, goal, char, char_set, match_any, match_any_except_line_terminator, word_boundary, bracket, back_ref, string_set, Tree, Trees, leaf, cat, alt, wrapped, capture_group, loop, lookaround, no_trees, more_trees, row_reverse}
+use Rattle.regress_tree.specs.Tree.{Leaf, empty, goal, char, char_set, match_any, match_any_except_line_terminator, word_boundary, bracket, back_ref, string_set, Tree, Trees, leaf, cat, alt, wrapped, capture_group, loop, lookaround, no_trees, more_trees, reverse_trees}
 use Rattle.regress_tree.specs.Tree as tree
-use Rattle.regress_classes.specs.ClassRows.{members_of}
+use Rattle.regress_classes.specs.ClassProductions.{members_of}
 use Rattle.regress_classes.specs.ClassSets.{Value}
 use Rattle.regress_syntax.specs.Syntax.{Name, Atom, literal, dot, anchor, boundary, class_escape, class, class_set, string_property, back_reference, Group, grouping, modified, capture, look, Pattern, Terms, Item, one, either, no_terms, more_terms, atom, group, opened_by, counts_of_item, counts_of_terms, counts_of_term, names}
 use Rattle.regress_syntax.specs.Meaning.{is_in_class, longest_first, direction_of_group, referred}
@@ -16,7 +16,7 @@ use Rattle.regress_syntax.specs.Meaning.{is_in_class, longest_first, direction_o
 -- A list of parts is reversed where matching runs backwards.
 abbrev pub turned : Direction → Trees → Trees
 turned forwards ts = ts
-turned backwards ts = row_reverse ts
+turned backwards ts = reverse_trees ts
 
 -- the tree of an alternative: `Empty` for no part, the part itself for one, a `Cat` for several
 abbrev pub joined : Direction → Trees → Tree
@@ -36,9 +36,9 @@ tree_of_group start end (capture name) body = wrapped (capture_group start (opti
 tree_of_group start end (look negate direction) body = wrapped (lookaround negate (is_backwards direction) start end) body
 
 -- the tree of an item with the ids from start to end - 1, and its quantifier
-abbrev pub tree_of_times : Option Quantifier → (start end : ℕ) → Tree → Tree
-tree_of_times None start end body = body
-tree_of_times (Some q) start end body = wrapped (loop q start end) body
+abbrev pub tree_of_quantified : Option Quantifier → (start end : ℕ) → Tree → Tree
+tree_of_quantified None start end body = body
+tree_of_quantified (Some q) start end body = wrapped (loop q start end) body
 
 -- the leaf that matches one of these characters; a literal has at least one, itself
 abbrev pub leaf_of_members : List ℕ → Leaf
@@ -104,7 +104,7 @@ module _ (table : Table) (names : List (Option Name)) where
     pub trees_of_terms : Direction → ℕ → Terms → Trees
     trees_of_terms d n no_terms = no_trees
     trees_of_terms d n (more_terms x q xs) =
-        more_trees (tree_of_times q n (n + (counts_of_item x).groups) (tree_of_item d n x))
+        more_trees (tree_of_quantified q n (n + (counts_of_item x).groups) (tree_of_item d n x))
         (trees_of_terms d (n + (counts_of_term x q).groups) xs)
 
     pub tree_of_item : Direction → ℕ → Item → Tree

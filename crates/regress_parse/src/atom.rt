@@ -1,16 +1,16 @@
 //! Parses items that contain no pattern: every item but a group.
 ghost use Rattle.std.specs.Prelude.{◌≡◌, ◌∷◌, true, false, not, ◌&&◌, ◌||◌, ◌==◌, ◌≤◌, ◌<◌, length, drop, Some, None, IfOk, IfSome, IfNone, MatchBool};
-ghost use Rattle.regress_lexical.specs.Digits.{is_between};
-ghost use Rattle.regress_lexical.specs.Escapes.{begins_with_letter};
+ghost use Rattle.regress_lexer.specs.Digits.{is_between};
+ghost use Rattle.regress_lexer.specs.Escapes.{begins_with_letter};
 ghost use Rattle.regress_base.specs.Limits.{max_nesting_depth};
-ghost use Rattle.regress_lexical.specs.Fault.{FailsByNoLimit, FailsByLevelsOnlyIf};
-ghost use Rattle.regress_lexical.specs.Reads.{ReadsAs};
-ghost use Rattle.regress_lexical.specs.Source.{IsCodePoint, char, is_one_of};
-ghost use Rattle.regress_lexical.specs.Views.{source};
-ghost use Rattle.regress_syntax.specs.Rows.{atom_by, brace_by, is_lone_backslash, begins_number, has_names, escaped_at, numbered_at, named_at, character_at, brackets_at, property_atom_at};
+ghost use Rattle.regress_lexer.specs.Fault.{FailsByNoLimit, FailsByDepthOnlyIf};
+ghost use Rattle.regress_lexer.specs.Reads.{ParsesAs};
+ghost use Rattle.regress_lexer.specs.Source.{IsCodePoint, char, is_one_of};
+ghost use Rattle.regress_lexer.specs.Views.{source};
+ghost use Rattle.regress_syntax.specs.Productions.{atom_by, brace_by, is_lone_backslash, begins_number, has_names, escaped_at, number_reference_at, name_reference_at, character_at, brackets_at, property_atom_at};
 ghost use Rattle.regress_syntax.specs.Syntax.{atom, back_reference, by_number};
 ghost use Rattle.regress_syntax.specs.Views.{context_of};
-ghost use Rattle.regress_parse.specs.Parsing.{atom_at, is_anchor, IsNode, ReadsAtom, TakesAlone};
+ghost use Rattle.regress_parse.specs.Parsing.{atom_at, is_anchor, IsNode, ReadsAtom, TakesOneAtom};
 ghost use Rattle.regress_parse.specs.Reader.{term_at};
 
 use crate::build::{
@@ -18,17 +18,17 @@ use crate::build::{
     make_literal, make_property, make_references, make_strings, push_literal,
 };
 use regress_base::types::MAX_NESTING_DEPTH;
-use regress_classes::class::read_class;
+use regress_classes::class::parse_class;
 use regress_classes::class_escape::class_letter;
-use regress_classes::class_sets::read_class_set;
-use regress_classes::property::{Property, is_property_letter, read_property};
-use regress_lexical::cursor::is_plain;
-use regress_lexical::digits::{is_between, is_letter};
-use regress_lexical::escape::{escape_fault, read_escape};
-use regress_lexical::quantifier::{may_begin, read_quantifier};
-use regress_syntax::fault::{FaultKind, refused};
+use regress_classes::class_sets::parse_class_set;
+use regress_classes::property::{Property, is_property_letter, parse_property};
+use regress_lexer::cursor::is_plain;
+use regress_lexer::digits::{is_between, is_letter};
+use regress_lexer::escape::{escape_fault, parse_escape};
+use regress_lexer::quantifier::{may_begin, parse_quantifier};
+use regress_syntax::fault::{FaultKind, rejected};
 use regress_syntax::{
-    Cursor, Fault, Scope, has_references_by_name, read_group_number, read_reference,
+    Cursor, Fault, Scope, has_references_by_name, parse_group_number, parse_reference,
 };
 use regress_tree::ir::{AnchorType, Node, NodeList};
 use std::alloc::AllocError;
@@ -42,7 +42,7 @@ use std::alloc::AllocError;
 /// `left` is at most [`MAX_NESTING_DEPTH`].
 ///
 /// # Errors
-/// - [`Fault::Refused`] if no item starts at `cursor`, or if its classes nest deeper than `left`.
+/// - [`Fault::Rejected`] if no item starts at `cursor`, or if its classes nest deeper than `left`.
 /// - [`Fault::Memory`] if an allocation fails.
 ///
 /// After an error the position of `cursor` is unspecified.
@@ -50,15 +50,15 @@ use std::alloc::AllocError;
 /// # Complexity
 /// With the flag `v`, the depth of recursion is at most the nesting depth of the classes, and at most
 /// [`MAX_NESTING_DEPTH`].
-pub fn read_atom(cursor: &mut Cursor, scope: &Scope, left: u32) -> Result<Node, Fault>
+pub fn parse_atom(cursor: &mut Cursor, scope: &Scope, left: u32) -> Result<Node, Fault>
     requires { left ≤ max_nesting_depth }
     ensures value { ReadsAtom (context_of scope.now) left (not (is_anchor (source cursor.old))) (source cursor.new) result
         (atom_at (context_of scope.now) (source cursor.old)) }
-    ensures kind { FailsByLevelsOnlyIf result (left < length (source cursor.old)) }
+    ensures kind { FailsByDepthOnlyIf result (left < length (source cursor.old)) }
 {
     let front = cursor.rest;
     let Some(c) = cursor.next() else {
-        return Err(cursor.refuse(FaultKind::InvalidAtom));
+        return Err(cursor.reject(FaultKind::InvalidAtom));
     };
     if c == u32::from('[') {
         read_brackets(cursor, scope, left, front.len())
@@ -78,7 +78,7 @@ pub(crate) fn push_simple_term(
     parts: &mut NodeList,
 ) -> Result<bool, AllocError>
     ensures { IfOk result (λ taken. MatchBool taken
-        (TakesAlone (context_of scope.now) (source cursor.old) (source cursor.new) parts.old.items parts.new.items)
+        (TakesOneAtom (context_of scope.now) (source cursor.old) (source cursor.new) parts.old.items parts.new.items)
         ((source cursor.new ≡ source cursor.old) × (parts.new.items ≡ parts.old.items))) }
 {
     if let Some(c) = cursor.next_plain() {
@@ -111,7 +111,7 @@ fn next_reference(cursor: &mut Cursor, scope: &Scope) -> Option<u32>
     if !begins_number(*digit) {
         return None;
     }
-    let Some((group, rest)) = read_group_number(escaped, scope.groups.count()) else {
+    let Some((group, rest)) = parse_group_number(escaped, scope.groups.count()) else {
         return None;
     };
     if may_begin(rest) {
@@ -136,7 +136,7 @@ fn read_other(cursor: &mut Cursor, scope: &Scope, c: u32, front: &[u32]) -> Resu
     requires code_point { IsCodePoint c }
     requires no_class { (c == char "[") ≡ false }
     requires front { front.now ≡ c ∷ source cursor.now }
-    ensures value { ReadsAs (IsNode (context_of scope.now) 0 (not (c == char "^" || c == char "$"))) (source cursor.new) result
+    ensures value { ParsesAs (IsNode (context_of scope.now) 0 (not (c == char "^" || c == char "$"))) (source cursor.new) result
         (atom_by (context_of scope.now) c (source cursor.old)) }
     ensures kind { FailsByNoLimit result }
 {
@@ -153,7 +153,7 @@ fn read_other(cursor: &mut Cursor, scope: &Scope, c: u32, front: &[u32]) -> Resu
     } else if is_plain(c) {
         Ok(make_literal(cursor.alloc, c, scope)?)
     } else {
-        Err(refused(front.len(), FaultKind::InvalidAtom))
+        Err(rejected(front.len(), FaultKind::InvalidAtom))
     }
 }
 
@@ -166,13 +166,13 @@ fn read_brackets(
 ) -> Result<Node, Fault>
     requires { left ≤ max_nesting_depth }
     ensures value { ReadsAtom (context_of scope.now) left true (source cursor.new) result (brackets_at (context_of scope.now) (source cursor.old)) }
-    ensures kind { FailsByLevelsOnlyIf result (left ≤ length (source cursor.old)) }
+    ensures kind { FailsByDepthOnlyIf result (left ≤ length (source cursor.old)) }
 {
     if !scope.flags.unicode_sets {
-        let class = read_class(cursor, scope.tables, scope.flags.unicode, opened)?;
+        let class = parse_class(cursor, scope.tables, scope.flags.unicode, opened)?;
         return Ok(make_class(class.inverted, class.set, scope)?);
     }
-    let class = read_class_set(
+    let class = parse_class_set(
         cursor,
         scope.tables,
         scope.flags.unicode,
@@ -180,8 +180,8 @@ fn read_brackets(
         opened,
     )?;
     // The scan before parsing has rejected these already.
-    if class.value.others.levels > left {
-        return Err(refused(opened, FaultKind::TooDeep));
+    if class.value.others.nesting > left {
+        return Err(rejected(opened, FaultKind::TooDeep));
     }
     Ok(make_class_set(cursor.alloc, class.negated, class.value, scope)?)
 }
@@ -191,13 +191,13 @@ fn read_brackets(
 fn read_brace(cursor: &mut Cursor, scope: &Scope, c: u32, front: &[u32]) -> Result<Node, Fault>
     requires code_point { IsCodePoint c }
     requires front { front.now ≡ c ∷ source cursor.now }
-    ensures value { ReadsAs (IsNode (context_of scope.now) 0 true) (source cursor.new) result (brace_by (context_of scope.now) c (source cursor.old)) }
+    ensures value { ParsesAs (IsNode (context_of scope.now) 0 true) (source cursor.new) result (brace_by (context_of scope.now) c (source cursor.old)) }
     ensures kind { FailsByNoLimit result }
 {
     if scope.flags.unicode {
-        Err(refused(front.len(), FaultKind::InvalidAtom))
-    } else if read_quantifier(front).is_some() {
-        Err(refused(front.len(), FaultKind::InvalidBracedQuantifier))
+        Err(rejected(front.len(), FaultKind::InvalidAtom))
+    } else if parse_quantifier(front).is_some() {
+        Err(rejected(front.len(), FaultKind::InvalidBracedQuantifier))
     } else {
         Ok(make_literal(cursor.alloc, c, scope)?)
     }
@@ -205,11 +205,11 @@ fn read_brace(cursor: &mut Cursor, scope: &Scope, c: u32, front: &[u32]) -> Resu
 
 /// Parses an escape after its backslash. `begin` is the number of code points that remained before the backslash.
 fn read_escaped(cursor: &mut Cursor, scope: &Scope, begin: usize) -> Result<Node, Fault>
-    ensures value { ReadsAs (IsNode (context_of scope.now) 0 true) (source cursor.new) result (escaped_at (context_of scope.now) (source cursor.old)) }
+    ensures value { ParsesAs (IsNode (context_of scope.now) 0 true) (source cursor.new) result (escaped_at (context_of scope.now) (source cursor.old)) }
     ensures kind { FailsByNoLimit result }
 {
     let Some((c, rest)) = cursor.rest.split_first() else {
-        return Err(refused(begin, FaultKind::IncompleteEscape));
+        return Err(rejected(begin, FaultKind::IncompleteEscape));
     };
     let c = *c;
     if let Some((kind, negated)) = class_letter(c) {
@@ -264,11 +264,11 @@ fn begins_number(c: u32) -> bool
 fn read_numbered(cursor: &mut Cursor, scope: &Scope, c: u32, begin: usize) -> Result<Node, Fault>
     requires front { source cursor.now ≡ c ∷ drop 1 (source cursor.now) }
     requires digit { begins_number c ≡ true }
-    ensures value { ReadsAs (IsNode (context_of scope.now) 0 true) (source cursor.new) result
-        (numbered_at (context_of scope.now) c (drop 1 (source cursor.old))) }
+    ensures value { ParsesAs (IsNode (context_of scope.now) 0 true) (source cursor.new) result
+        (number_reference_at (context_of scope.now) c (drop 1 (source cursor.old))) }
     ensures kind { FailsByNoLimit result }
 {
-    if let Some((group, rest)) = read_group_number(cursor.rest, scope.groups.count()) {
+    if let Some((group, rest)) = parse_group_number(cursor.rest, scope.groups.count()) {
         cursor.rest = rest;
         return Ok(Node::BackRef {
             group,
@@ -276,17 +276,17 @@ fn read_numbered(cursor: &mut Cursor, scope: &Scope, c: u32, begin: usize) -> Re
         });
     }
     if scope.flags.unicode {
-        return Err(refused(begin, FaultKind::InvalidEscape));
+        return Err(rejected(begin, FaultKind::InvalidEscape));
     }
     read_character(cursor, scope, c, begin)
 }
 
 /// Parses a reference by name after its `\k`.
 fn read_named(cursor: &mut Cursor, scope: &Scope, begin: usize) -> Result<Node, Fault>
-    ensures value { ReadsAs (IsNode (context_of scope.now) 0 true) (source cursor.new) result (named_at (context_of scope.now) (source cursor.old)) }
+    ensures value { ParsesAs (IsNode (context_of scope.now) 0 true) (source cursor.new) result (name_reference_at (context_of scope.now) (source cursor.old)) }
     ensures kind { FailsByNoLimit result }
 {
-    let groups = read_reference(cursor, scope, begin)?;
+    let groups = parse_reference(cursor, scope, begin)?;
     Ok(make_references(cursor.alloc, groups, scope.flags.icase)?)
 }
 
@@ -311,12 +311,12 @@ fn begins_with_letter(source: &[u32]) -> bool
 /// Parses a character escape, which starts with `c` (ECMA-262, CharacterEscape).
 fn read_character(cursor: &mut Cursor, scope: &Scope, c: u32, begin: usize) -> Result<Node, Fault>
     requires { source cursor.now ≡ c ∷ drop 1 (source cursor.now) }
-    ensures value { ReadsAs (IsNode (context_of scope.now) 0 true) (source cursor.new) result
+    ensures value { ParsesAs (IsNode (context_of scope.now) 0 true) (source cursor.new) result
         (character_at (context_of scope.now) c (drop 1 (source cursor.old))) }
     ensures kind { FailsByNoLimit result }
 {
-    let Some((found, rest)) = read_escape(cursor.rest, scope.flags.unicode) else {
-        return Err(refused(begin, escape_fault(cursor.rest)));
+    let Some((found, rest)) = parse_escape(cursor.rest, scope.flags.unicode) else {
+        return Err(rejected(begin, escape_fault(cursor.rest)));
     };
     cursor.rest = rest;
     Ok(make_literal(cursor.alloc, found, scope)?)
@@ -329,13 +329,13 @@ fn read_property_atom(
     negated: bool,
     begin: usize,
 ) -> Result<Node, Fault>
-    ensures value { ReadsAs (IsNode (context_of scope.now) 0 true) (source cursor.new) result
+    ensures value { ParsesAs (IsNode (context_of scope.now) 0 true) (source cursor.new) result
         (property_atom_at (context_of scope.now) negated (source cursor.old)) }
     ensures kind { FailsByNoLimit result }
 {
-    match read_property(cursor, scope.flags.unicode_sets, scope.tables)? {
+    match parse_property(cursor, scope.flags.unicode_sets, scope.tables)? {
         Property::Points(set) => Ok(make_property(cursor.alloc, set, negated, scope)?),
-        Property::Strings(_) if negated => Err(refused(begin, FaultKind::InvalidEscape)),
+        Property::Strings(_) if negated => Err(rejected(begin, FaultKind::InvalidEscape)),
         Property::Strings(strings) => {
             let copies = Vec::from_clones(cursor.alloc, strings)?;
             Ok(make_strings(cursor.alloc, copies, scope.flags.icase)?)

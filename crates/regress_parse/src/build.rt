@@ -7,14 +7,14 @@ ghost use Rattle.regress_tree.specs.Tree.{tree, trees, leaf, bracket, string_set
 ghost use Rattle.regress_unicode.specs.TableOf.{table_of};
 ghost use Rattle.regress_classes.specs.ClassSets.{Value as WrittenValue};
 ghost use Rattle.regress_syntax.specs.Meaning.{is_in_class, longest_first};
-ghost use Rattle.regress_lexical.specs.Source.{IsCodePoint};
-ghost use Rattle.regress_classes.specs.ClassRows.{members_of};
+ghost use Rattle.regress_lexer.specs.Source.{IsCodePoint};
+ghost use Rattle.regress_classes.specs.ClassProductions.{members_of};
 ghost use Rattle.regress_syntax.specs.Syntax.{dot, anchor, boundary};
-ghost use Rattle.regress_syntax.specs.Rows.{point_property};
+ghost use Rattle.regress_syntax.specs.Productions.{point_property};
 ghost use Rattle.regress_syntax.specs.Views.{context_of, names_in, group_of};
 ghost use Rattle.regress_classes.specs.ClassViews.{IsValue, HasMembers, strings_of};
 ghost use Rattle.regress_parse.specs.ClassParts.{strings_part, bracket_part, empty_part};
-ghost use Rattle.regress_parse.specs.TreeOf.{turned, joined, leaf_of_members, leaf_of_literal, references, alternation, tree_of_class, tree_of_atom, tree_of_group, tree_of_times};
+ghost use Rattle.regress_parse.specs.TreeOf.{turned, joined, leaf_of_members, leaf_of_literal, references, alternation, tree_of_class, tree_of_atom, tree_of_group, tree_of_quantified};
 ghost use Rattle.regress_parse.specs.Parsing.{alternatives, Pushes};
 
 use regress_base::charclasses::CharacterClassType;
@@ -294,7 +294,7 @@ pub(crate) fn make_loop(
     enclosed_groups: Range<CaptureGroupID>,
 ) -> Result<Node, AllocError>
     ensures { IfOk result (λ node. tree node ≡
-        tree_of_times (Some quant) enclosed_groups.start enclosed_groups.end (tree item)) }
+        tree_of_quantified (Some quant) enclosed_groups.start enclosed_groups.end (tree item)) }
 {
     Ok(Node::Loop {
         loopee: Box::new(alloc, item)?,
@@ -356,14 +356,14 @@ pub(crate) fn make_cat(mut parts: NodeList, backwards: bool) -> Node
     ensures { tree result ≡ joined (direction_if backwards) (trees parts.items) }
 {
     if parts.len() > 1 {
-        turn(&mut parts, backwards);
+        reverse_if_backwards(&mut parts, backwards);
         return Node::Cat(parts);
     }
     parts.pop().unwrap_or(Node::Empty)
 }
 
 /// Reverses the parts if `backwards`.
-fn turn(parts: &mut NodeList, backwards: bool)
+fn reverse_if_backwards(parts: &mut NodeList, backwards: bool)
     ensures { trees parts.new.items ≡ turned (direction_if backwards) (trees parts.old.items) }
 {
     if backwards {

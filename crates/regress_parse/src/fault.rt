@@ -1,8 +1,8 @@
 //! Syntax errors with their texts.
 
 ghost use Rattle.std.specs.Prelude.{◌≡◌, alloc_error, string_bytes, IfOk};
-ghost use Rattle.regress_parse.specs.Fault.{words, text_of, without_place};
-ghost use Rattle.regress_parse.specs.Parsing.{IsPlaced};
+ghost use Rattle.regress_parse.specs.Fault.{words, text_of, without_position};
+ghost use Rattle.regress_parse.specs.Parsing.{HasMessageAndPosition};
 ghost use Rattle.regress_parse.specs.declared.fault.ParseFault.TheVariants.{Memory};
 ghost use Rattle.regress_parse.specs.declared.fault.PlacedFault.TheVariants.{Memory as PlacedMemory};
 
@@ -67,7 +67,7 @@ pub enum PlacedFault {
         error: Error,
         /// The position of the error: a code-point index of the pattern, at most its length. `docs/errors.md` specifies
         /// it for each text.
-        place: usize,
+        position: usize,
     },
     /// An allocation failed, whether or not the pattern is valid.
     #[error("out of memory")]
@@ -83,7 +83,7 @@ impl From<AllocError> for PlacedFault {
 }
 
 impl From<PlacedFault> for ParseFault {
-    ghost from_gives = { λ placed fault. fault ≡ without_place placed };
+    ghost from_gives = { λ placed fault. fault ≡ without_position placed };
 
     fn from(given: PlacedFault) -> ParseFault {
         match given {
@@ -95,14 +95,14 @@ impl From<PlacedFault> for ParseFault {
 
 /// Returns the error with its text, and its position in a pattern of `length` code points. If the text cannot be
 /// allocated, returns `Memory`.
-pub(crate) fn place(alloc: Global, fault: Fault, length: usize) -> PlacedFault
-    ensures { IsPlaced length fault result }
+pub(crate) fn position(alloc: Global, fault: Fault, length: usize) -> PlacedFault
+    ensures { HasMessageAndPosition length fault result }
 {
     match fault {
-        Fault::Refused(refusal) => match tell(alloc, &refusal.kind) {
+        Fault::Rejected(rejection) => match report(alloc, &rejection.kind) {
             Ok(error) => PlacedFault::Syntax {
                 error,
-                place: length.saturating_sub(refusal.left),
+                position: length.saturating_sub(rejection.left),
             },
             Err(fault) => PlacedFault::Memory(fault),
         },
@@ -111,7 +111,7 @@ pub(crate) fn place(alloc: Global, fault: Fault, length: usize) -> PlacedFault
 }
 
 /// Returns the error of this kind, with its text.
-fn tell(alloc: Global, kind: &FaultKind) -> Result<Error, AllocError>
+fn report(alloc: Global, kind: &FaultKind) -> Result<Error, AllocError>
     ensures { IfOk result (λ error. string_bytes error.text ≡ text_of kind.now) }
 {
     let mut text = String::from_str(alloc, words(kind))?;

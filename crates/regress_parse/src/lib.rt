@@ -6,8 +6,8 @@ mod build;
 mod fault;
 mod parser;
 mod pattern;
-mod rows;
+mod productions;
 
-pub use atom::{begins_anchor, read_atom};
+pub use atom::{begins_anchor, parse_atom};
 pub use fault::{Error, ParseFault, PlacedFault};
-pub use pattern::{try_parse, try_parse_with_place};
+pub use pattern::{try_parse, try_parse_with_position};

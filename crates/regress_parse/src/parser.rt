@@ -3,7 +3,7 @@ ghost use Rattle.std.specs.Prelude.{◌≤◌};
 ghost use Rattle.regress_base.specs.Limits.{max_capture_groups, max_loops};
 
 use regress_base::types::{CaptureGroupID, LoopID, MAX_CAPTURE_GROUPS, MAX_LOOPS};
-use regress_syntax::fault::{FaultKind, refused};
+use regress_syntax::fault::{FaultKind, rejected};
 use regress_syntax::{Cursor, Fault, Group, Scope};
 
 /// The remaining input, and the number of groups and loops before it.
@@ -18,7 +18,7 @@ pub(crate) struct Parser<'a> {
 
 /// The context of a part of the pattern.
 #[derive(Clone, Copy)]
-pub(crate) struct Around<'a> {
+pub(crate) struct PartContext<'a> {
     pub(crate) scope: Scope<'a>,
     /// Whether the part is matched backwards.
     pub(crate) backwards: bool,
@@ -26,29 +26,29 @@ pub(crate) struct Around<'a> {
     pub(crate) depth: u32,
 }
 
-impl<'a> Around<'a> {
+impl<'a> PartContext<'a> {
     ghost use Rattle.std.specs.Prelude.{◌≡◌};
     ghost use Rattle.regress_syntax.specs.Meaning.{direction_of_group};
-    ghost use Rattle.regress_syntax.specs.Rows.{context_inside};
+    ghost use Rattle.regress_syntax.specs.Productions.{context_inside};
     ghost use Rattle.regress_syntax.specs.Views.{group_of};
     ghost use Rattle.regress_parse.specs.Parsing.{context_in, direction_of};
 
     /// Returns the context of the parts inside a group, with the same nesting depth.
-    pub(crate) fn inside(&self, kind: &Group) -> Around<'a>
+    pub(crate) fn inside(&self, kind: &Group) -> PartContext<'a>
         ensures context { context_in result ≡ context_inside (group_of kind.now) (context_in self.now) }
         ensures direction { direction_of result ≡ direction_of_group (group_of kind.now) (direction_of self.now) }
         ensures depth { result.depth ≡ self.now.depth }
     {
         match kind {
             Group::Grouping | Group::Capture(_) => *self,
-            Group::Modified(change) => Around {
+            Group::Modified(change) => PartContext {
                 scope: Scope {
                     flags: change.apply(self.scope.flags),
                     ..self.scope
                 },
                 ..*self
             },
-            Group::Look { backwards, .. } => Around {
+            Group::Look { backwards, .. } => PartContext {
                 backwards: *backwards,
                 ..*self
             },
@@ -58,8 +58,8 @@ impl<'a> Around<'a> {
 
 impl Parser<'_> {
     ghost use Rattle.std.specs.Prelude.{◌≡◌, ◌+◌, ◌<◌, OnOk};
-    ghost use Rattle.regress_lexical.specs.Fault.{FailsBy};
-    ghost use Rattle.regress_lexical.specs.declared.fault.FaultKind.TheVariants.{TooManyGroups, TooManyLoops};
+    ghost use Rattle.regress_lexer.specs.Fault.{FailsBy};
+    ghost use Rattle.regress_lexer.specs.declared.fault.FaultKind.TheVariants.{TooManyGroups, TooManyLoops};
     ghost use Rattle.regress_syntax.specs.Syntax.{added, one_loop, opened_by, counts_of_group};
     ghost use Rattle.regress_syntax.specs.Views.{group_of};
     ghost use Rattle.regress_parse.specs.Parsing.{text, counted};
@@ -68,12 +68,12 @@ impl Parser<'_> {
     /// that remained at the group.
     pub(crate) fn count_group(&mut self, kind: &Group, left: usize) -> Result<(), Fault>
         ensures ok { OnOk result (counted self.new ≡ added (counted self.old) (counts_of_group (group_of kind.now))) }
-        ensures err { FailsBy result (λ told. (told ≡ TooManyGroups) × (max_capture_groups < self.old.group_count + opened_by (group_of kind.now))) }
+        ensures err { FailsBy result (λ reported. (reported ≡ TooManyGroups) × (max_capture_groups < self.old.group_count + opened_by (group_of kind.now))) }
         ensures text { text self.new ≡ text self.old }
     {
         if let Group::Capture(_) = kind {
             if usize::from(self.group_count) >= MAX_CAPTURE_GROUPS {
-                return Err(refused(left, FaultKind::TooManyGroups));
+                return Err(rejected(left, FaultKind::TooManyGroups));
             }
             self.group_count += 1;
         }
@@ -84,11 +84,11 @@ impl Parser<'_> {
     /// quantifier.
     pub(crate) fn count_loop(&mut self, left: usize) -> Result<(), Fault>
         ensures ok { OnOk result (counted self.new ≡ added (counted self.old) one_loop) }
-        ensures err { FailsBy result (λ told. (told ≡ TooManyLoops) × (max_loops < self.old.loop_count + 1)) }
+        ensures err { FailsBy result (λ reported. (reported ≡ TooManyLoops) × (max_loops < self.old.loop_count + 1)) }
         ensures text { text self.new ≡ text self.old }
     {
         if usize::from(self.loop_count) >= MAX_LOOPS {
-            return Err(refused(left, FaultKind::TooManyLoops));
+            return Err(rejected(left, FaultKind::TooManyLoops));
         }
         self.loop_count += 1;
         Ok(())

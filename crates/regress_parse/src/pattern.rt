@@ -4,21 +4,21 @@ ghost use Rattle.regress_unicode.specs.TableOf.{table_of};
 ghost use Rattle.regress_syntax.specs.SettingOf.{setting_of};
 ghost use Rattle.regress_tree.specs.Tree.{tree};
 ghost use Rattle.regress_tree.specs.WellFormed.{IsWellFormed};
-ghost use Rattle.regress_lexical.specs.Fault.{FailsBy};
-ghost use Rattle.regress_lexical.specs.Source.{IsCodePoint};
+ghost use Rattle.regress_lexer.specs.Fault.{FailsBy};
+ghost use Rattle.regress_lexer.specs.Source.{IsCodePoint};
 ghost use Rattle.regress_syntax.specs.Syntax.{Pattern, nothing_counted};
 ghost use Rattle.regress_syntax.specs.Scanning.{NotesFirst, IsLocated, FailsAt};
 ghost use Rattle.regress_syntax.specs.Views.{context_of};
 ghost use Rattle.regress_parse.specs.TreeOf.{tree_of};
 ghost use Rattle.regress_parse.specs.Accepted.{IsAccepted, NoneIsAccepted, IsTrueOf, MayExceed, OneIsDerived, OfAccepted, Means};
-ghost use Rattle.regress_parse.specs.Fault.{RefusedOnlyIf, Tells, unplaced, IsPlacedWithin};
-ghost use Rattle.regress_parse.specs.Settled.{TellsAt, IsSettled};
+ghost use Rattle.regress_parse.specs.Fault.{RejectedOnlyIf, ReportsKind, unplaced, HasPositionWithin};
+ghost use Rattle.regress_parse.specs.Settled.{ReportsKindAt, IsFinal};
 ghost use Rattle.regress_parse.specs.Parsing.{YieldsWhole, Reaches};
 
-use crate::fault::{ParseFault, PlacedFault, place};
-use crate::parser::{Around, Parser};
+use crate::fault::{ParseFault, PlacedFault, position};
+use crate::parser::{Parser, PartContext};
 use regress_base::types::Flags;
-use regress_syntax::{Cursor, Fault, FaultKind, Misplaced, Scope, scan_groups};
+use regress_syntax::{Cursor, Fault, FaultKind, FirstErrors, Scope, scan_groups};
 use regress_tree::ir::{Node, Regex};
 use regress_unicode::Tables;
 use std::alloc::Global;
@@ -76,9 +76,9 @@ pub fn try_parse(
     // limits, and a syntax error only for one that it does not.
     ensures accepted { IfOk result (λ r. (p : Pattern)
         × IsAccepted (setting_of flags tables.now) pattern.now p × (tree r.node ≡ tree_of (table_of tables.now) p)) }
-    ensures refused { RefusedOnlyIf result (NoneIsAccepted (setting_of flags tables.now) pattern.now) }
-    ensures told { Tells result (IsTrueOf (setting_of flags tables.now) pattern.now) }
-    ensures limits { Tells result (MayExceed pattern.now) }
+    ensures rejected { RejectedOnlyIf result (NoneIsAccepted (setting_of flags tables.now) pattern.now) }
+    ensures reported { ReportsKind result (IsTrueOf (setting_of flags tables.now) pattern.now) }
+    ensures limits { ReportsKind result (MayExceed pattern.now) }
     ensures only { OneIsDerived (setting_of flags tables.now) pattern.now }
 
     // Properties of the tree.
@@ -87,7 +87,7 @@ pub fn try_parse(
     ensures well_formed { IfOk result (λ r. IsWellFormed (tree r.node)) }
     ensures flags { IfOk result (λ r. r.flags ≡ flags) }
 {
-    Ok(try_parse_with_place(alloc, pattern, flags, tables)?)
+    Ok(try_parse_with_position(alloc, pattern, flags, tables)?)
 }
 
 /// Parses a pattern as [`try_parse`] does, and returns the position of a syntax error too.
@@ -107,15 +107,15 @@ pub fn try_parse(
 /// ```
 /// let tables = Tables::small(alloc)?;
 /// let points = code_points(alloc, "ab[c")?;
-/// match try_parse_with_place(alloc, &points, Flags::default(), &tables) {
-///     Err(PlacedFault::Syntax { error, place }) => {
+/// match try_parse_with_position(alloc, &points, Flags::default(), &tables) {
+///     Err(PlacedFault::Syntax { error, position }) => {
 ///         assert_eq!(rt; error.text.as_str(), "Unbalanced bracket");
-///         assert_eq!(rt; place, 2);
+///         assert_eq!(rt; position, 2);
 ///     }
 ///     _ => assert!(rt; false, "it is accepted"),
 /// }
 /// ```
-pub fn try_parse_with_place(
+pub fn try_parse_with_position(
     alloc: Global,
     pattern: &[u32],
     flags: Flags,
@@ -127,11 +127,11 @@ pub fn try_parse_with_place(
     // limits, and a syntax error only for one that it does not.
     ensures accepted { IfOk result (λ r. (p : Pattern)
         × IsAccepted (setting_of flags tables.now) pattern.now p × (tree r.node ≡ tree_of (table_of tables.now) p)) }
-    ensures refused { RefusedOnlyIf (unplaced result) (NoneIsAccepted (setting_of flags tables.now) pattern.now) }
-    ensures told { Tells (unplaced result) (IsTrueOf (setting_of flags tables.now) pattern.now) }
-    ensures limits { Tells (unplaced result) (MayExceed pattern.now) }
-    ensures place { IsPlacedWithin (length pattern.now) result }
-    ensures settled { TellsAt result (IsSettled (setting_of flags tables.now) pattern.now) }
+    ensures rejected { RejectedOnlyIf (unplaced result) (NoneIsAccepted (setting_of flags tables.now) pattern.now) }
+    ensures reported { ReportsKind (unplaced result) (IsTrueOf (setting_of flags tables.now) pattern.now) }
+    ensures limits { ReportsKind (unplaced result) (MayExceed pattern.now) }
+    ensures position { HasPositionWithin (length pattern.now) result }
+    ensures settled { ReportsKindAt result (IsFinal (setting_of flags tables.now) pattern.now) }
     ensures only { OneIsDerived (setting_of flags tables.now) pattern.now }
 
     // Properties of the tree.
@@ -142,7 +142,7 @@ pub fn try_parse_with_place(
 {
     match parse(alloc, pattern, flags, tables) {
         Ok(regex) => Ok(regex),
-        Err(fault) => Err(place(alloc, fault, pattern.len())),
+        Err(fault) => Err(position(alloc, fault, pattern.len())),
     }
 }
 
@@ -151,9 +151,9 @@ fn parse(alloc: Global, pattern: &[u32], flags: Flags, tables: &Tables) -> Resul
     requires { All IsCodePoint pattern.now }
     ensures accepted { IfOk result (λ r. (p : Pattern)
         × IsAccepted (setting_of flags tables.now) pattern.now p × (tree r.node ≡ tree_of (table_of tables.now) p)) }
-    ensures told { FailsBy result (IsTrueOf (setting_of flags tables.now) pattern.now) }
+    ensures reported { FailsBy result (IsTrueOf (setting_of flags tables.now) pattern.now) }
     ensures limits { FailsBy result (MayExceed pattern.now) }
-    ensures settled { FailsAt result (λ r. IsSettled (setting_of flags tables.now) pattern.now r.kind (length pattern.now - r.left)) }
+    ensures settled { FailsAt result (λ r. IsFinal (setting_of flags tables.now) pattern.now r.kind (length pattern.now - r.left)) }
     ensures only { OneIsDerived (setting_of flags tables.now) pattern.now }
     ensures meaning { let setting = setting_of flags tables.now in
         IfOk result (λ r. OfAccepted setting pattern.now (Means setting (tree r.node))) }
@@ -166,7 +166,7 @@ fn parse(alloc: Global, pattern: &[u32], flags: Flags, tables: &Tables) -> Resul
         tables,
         groups: &found.groups,
     };
-    let body = parse_body(alloc, pattern, &scope, found.misplaced)?;
+    let body = parse_body(alloc, pattern, &scope, found.first_errors)?;
     let parts = vec![in alloc; body, Node::Goal]?;
     Ok(Regex {
         node: Node::Cat(parts),
@@ -180,16 +180,16 @@ fn parse_body(
     alloc: Global,
     pattern: &[u32],
     scope: &Scope,
-    misplaced: Misplaced,
+    first_errors: FirstErrors,
 ) -> Result<Node, Fault>
     requires { All IsCodePoint pattern.now }
     ensures value { YieldsWhole (context_of scope.now) pattern.now result }
     ensures reached { FailsBy result (λ kind. Reaches kind nothing_counted 1 pattern.now) }
-    ensures located { (sets : Bool) → NotesFirst sets pattern.now misplaced → FailsAt result (IsLocated sets pattern.now) }
+    ensures located { (sets : Bool) → NotesFirst sets pattern.now first_errors → FailsAt result (IsLocated sets pattern.now) }
 {
     match parse_source(alloc, pattern, scope) {
         Ok(body) => Ok(body),
-        Err(fault) => Err(misplaced.locate(fault)),
+        Err(fault) => Err(first_errors.locate(fault)),
     }
 }
 
@@ -207,7 +207,7 @@ fn parse_source(alloc: Global, pattern: &[u32], scope: &Scope) -> Result<Node, F
         group_count: 0,
         loop_count: 0,
     };
-    let around = Around {
+    let around = PartContext {
         scope: *scope,
         backwards: false,
         depth: 0,
@@ -216,6 +216,6 @@ fn parse_source(alloc: Global, pattern: &[u32], scope: &Scope) -> Result<Node, F
     if parser.cursor.rest.is_empty() {
         Ok(body)
     } else {
-        Err(parser.cursor.refuse(FaultKind::UnbalancedParenthesis))
+        Err(parser.cursor.reject(FaultKind::UnbalancedParenthesis))
     }
 }

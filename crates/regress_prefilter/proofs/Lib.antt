@@ -1,3 +1,3 @@
-pub mod laws
-mod FrontLemmas
+pub mod lemmas
+mod FirstSetLemmas
 mod AnchorLemmas

@@ -5,9 +5,9 @@ use Rattle.regress_base.specs.declared.types.AnchorType.TheVariants.{StartOfLine
 use Rattle.regress_tree.specs.Matching.{steps}
 use Rattle.regress_tree.specs.Reading.{forwards}
 use Rattle.regress_tree.specs.Setting.{Setting}
-use Rattle.regress_tree.specs.Steps.{State}
+use Rattle.regress_tree.specs.Steps.{MatchState}
 use Rattle.regress_tree.specs.Tree.{Tree}
-use Rattle.regress_prefilter.specs.Fronts.{IsNeeded, IsNextMember}
+use Rattle.regress_prefilter.specs.Fronts.{BeginsWithByteOf, IsNextMember}
 use Rattle.regress_prefilter.specs.declared.candidates.Candidates.{Candidates}
 use Rattle.regress_prefilter.specs.declared.candidates.Candidates.TheVariants as candidates
 
@@ -18,13 +18,13 @@ is_start EndOfLine multiline = false
 
 -- In the forward direction the tree matches only at the start of a text.
 abbrev pub IsAnchored : Tree → Type 0
-IsAnchored t = (setting : Setting) (bytes : List ℕ) (s : State) → (s.place ≡ 0 → ⊥) → steps setting bytes forwards t s ≡ []
+IsAnchored t = (setting : Setting) (bytes : List ℕ) (s : MatchState) → (s.position ≡ 0 → ⊥) → steps setting bytes forwards t s ≡ []
 
 -- Every match of the tree in the forward direction begins at a candidate.
 abbrev pub AreCandidates : Candidates → Tree → Type 0
 AreCandidates candidates.Anywhere t = Unit {0}
 AreCandidates candidates.Start t = IsAnchored t
-AreCandidates (candidates.Bytes set) t = IsNeeded set t
+AreCandidates (candidates.Bytes set) t = BeginsWithByteOf set t
 
 -- the result is the next candidate
 abbrev pub Skips : Candidates → (text : List ℕ) → (from : ℕ) → Option ℕ → Type 0

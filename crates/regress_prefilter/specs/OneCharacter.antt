@@ -7,13 +7,13 @@ use Rattle.regress_tree.specs.Reading.{Read, read_after}
 use Rattle.regress_tree.specs.Tree.{Leaf, char, byte_sequence, byte_set, char_set, match_any, match_any_except_line_terminator, bracket, Tree, leaf}
 
 -- the character that was read, if the position after it is n
-abbrev pub up_to_place : ℕ → Option Read → Option ℕ
-up_to_place n None = None
-up_to_place n (Some read) = if read.place == n then Some read.character else None
+abbrev pub up_to_position : ℕ → Option Read → Option ℕ
+up_to_position n None = None
+up_to_position n (Some read) = if read.position == n then Some read.character else None
 
 -- the character whose UTF-8 encoding is exactly these bytes, if there is one
 abbrev pub sole_character : List ℕ → Option ℕ
-sole_character written = up_to_place (length written) (read_after written 0)
+sole_character written = up_to_position (length written) (read_after written 0)
 
 -- whether there is a character
 abbrev pub is_one : Option ℕ → Bool

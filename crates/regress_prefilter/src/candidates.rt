@@ -3,7 +3,7 @@ ghost use Rattle.std.specs.Prelude.{◌≡◌, ◌≤◌, true, IfSome, length};
 ghost use Rattle.regress_tree.specs.Tree.{tree, trees, cat};
 ghost use Rattle.regress_prefilter.specs.Candidates.{AreCandidates, IsAnchored, Skips, is_start};
 
-use crate::fronts::{first_bytes, next_candidate};
+use crate::first_sets::{first_bytes, next_candidate};
 use regress_base::bytesearch::ByteBitmap;
 use regress_tree::ir::{AnchorType, Node};
 
@@ -46,10 +46,10 @@ pub fn candidates_of(node: &Node) -> Candidates
 ///
 /// # Complexity
 /// Linear in the number of bytes from `from` to the result.
-pub fn next_place(candidates: &Candidates, text: &str, from: usize) -> Option<usize>
+pub fn next_candidate_from(candidates: &Candidates, text: &str, from: usize) -> Option<usize>
     requires { from ≤ length text.now }
     ensures skips { Skips candidates.now text.now from result }
-    ensures within { IfSome result (λ place. (from ≤ place) × (place ≤ length text.now)) }
+    ensures within { IfSome result (λ position. (from ≤ position) × (position ≤ length text.now)) }
 {
     match candidates {
         Candidates::Anywhere => Some(from),
@@ -84,14 +84,14 @@ fn is_anchored_other(node: &Node) -> bool
             anchor_type,
             multiline,
         } => is_start(*anchor_type, *multiline),
-        Node::Cat(parts) => is_anchored_row(parts),
+        Node::Cat(parts) => is_anchored_list(parts),
         Node::CaptureGroup { contents, .. } => is_anchored(contents),
         _ => false,
     }
 }
 
 #[cycle(is_anchored)]
-fn is_anchored_row(parts: &[Node]) -> bool
+fn is_anchored_list(parts: &[Node]) -> bool
     ensures { result ≡ true → IsAnchored (cat (trees parts.now)) }
 {
     match parts.split_first() {

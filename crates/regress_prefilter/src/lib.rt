@@ -2,7 +2,7 @@
 #![tactic(auto)]
 
 pub mod candidates;
-pub mod fronts;
+pub mod first_sets;
 
-pub use candidates::{Candidates, candidates_of, next_place};
-pub use fronts::{first_bytes, next_candidate};
+pub use candidates::{Candidates, candidates_of, next_candidate_from};
+pub use first_sets::{first_bytes, next_candidate};

@@ -5,28 +5,28 @@ use Rattle.std.proofs.lemmas.Bool.{cases_Bool, true≢false, false≢true, and_p
 use Rattle.std.proofs.lemmas.Str.{length-le-encodes}
 use Rattle.regress_base.specs.declared.types.Quantifier.{Quantifier}
 use Rattle.regress_tree.specs.Reading.{Direction}
-use Rattle.regress_tree.specs.Steps.{State, stay}
-use Rattle.regress_tree.specs.Lookaround.{look}
+use Rattle.regress_tree.specs.Steps.{MatchState, stay}
+use Rattle.regress_tree.specs.Lookaround.{lookaround_matcher}
 use Rattle.regress_tree.specs.Setting.{Setting}
 use Rattle.regress_tree.specs.Matching.{steps}
 use Rattle.regress_tree.specs.Tree.{Leaf, empty, byte_sequence, Wrapper, capture_group, loop, loop_one, lookaround, Tree, Trees, leaf, cat, alt, wrapped}
-use Rattle.regress_tree.specs.WellFormed.{captures, Position, one_character, inside, last, root, NotAsOneCharacter, AreUtf8, IsQuantifier, MayStand}
+use Rattle.regress_tree.specs.WellFormed.{captures, Position, one_character, inside, last, root, NotAsOneCharacter, AreUtf8, IsQuantifier, IsAllowed}
 use Rattle.regress_tree.specs.Units.{IsLess}
 use Rattle.regress_tree.specs.NodeTests.{is_none, is_empty}
-use Rattle.regress_tree.specs.Shapes.{is_cat, is_zero, some_in_row, is_byte_sequence_with, is_empty_wrapper, is_emptied_away}
-use Rattle.regress_tree.proofs.laws.Alike.{Alike-from_same}
-use Rattle.regress_tree.proofs.laws.Distinct.{same_state-refl}
-use Rattle.regress_tree.proofs.laws.ByteSequences.{these_bytes-none}
-use Rattle.regress_tree.proofs.laws.Groups.{HasGroups-none, captures-none}
-use Rattle.regress_tree.proofs.laws.Measures.{units-positive, IsLess-lighter}
-use Rattle.regress_tree.proofs.laws.Turns.{repeat-stay, repeat-none}
+use Rattle.regress_tree.specs.Shapes.{is_cat, is_zero, some_part, is_byte_sequence_with, is_empty_wrapper, is_emptied_away}
+use Rattle.regress_tree.proofs.lemmas.Alike.{Alike-from_same}
+use Rattle.regress_tree.proofs.lemmas.Distinct.{same_state-refl}
+use Rattle.regress_tree.proofs.lemmas.ByteSequences.{these_bytes-none}
+use Rattle.regress_tree.proofs.lemmas.Groups.{HasGroups-none, captures-none}
+use Rattle.regress_tree.proofs.lemmas.Measures.{units-positive, IsLess-lighter}
+use Rattle.regress_tree.proofs.lemmas.Iterations.{repeat-stay, repeat-none}
 use Rattle.regress_rewrite.specs.Law.{IsPart, MeansTheSame, Keeps, ObeysLaw}
-use Rattle.regress_rewrite.specs.Taken.{row_without, StandsForCat}
+use Rattle.regress_rewrite.specs.Taken.{list_without, ReplacesCat}
 use Rattle.regress_rewrite.specs.declared.rewrite.PassAction.{PassAction}
 use Rattle.regress_rewrite.specs.declared.rewrite.PassAction.TheVariants.{Remove}
 use Rattle.regress_rewrite.proofs.LawfulLemmas.{remove_lawful, cat_lawful}
 use Rattle.regress_rewrite.proofs.TakenLemmas.{without_keeps, without-less}
-use Rattle.regress_rewrite.proofs.laws.Segments.{is_empty-leaf}
+use Rattle.regress_rewrite.proofs.lemmas.Segments.{is_empty-leaf}
 
 -- What the tests on nodes imply.
 
@@ -48,12 +48,12 @@ module _ (d : Direction) where
     keeps : Keeps d t (leaf empty)
     less : IsLess (leaf empty) t
 
-  vanishes : (t : Tree) → MeansTheSame d t (leaf empty) → ((n : ℕ) (p : Position) → MayStand n t p → NotAsOneCharacter p) →
+  vanishes : (t : Tree) → MeansTheSame d t (leaf empty) → ((n : ℕ) (p : Position) → IsAllowed n t p → NotAsOneCharacter p) →
       captures t ≡ [] → IsLess (leaf empty) t → Vanishes t
   vanishes t same free none is_less = record {
     keeps = record {
       meaning = same;
-      stands = free;
+      occurs = free;
       captures = sym none;
       account = omega (arith, units-positive t);
       brackets = λ lacks. refl;
@@ -75,7 +75,7 @@ module _ (d : Direction) where
       (λ n p m. m.0) refl (IsLess-lighter (leaf empty) (alt (leaf empty) (leaf empty)) (omega arith) (omega arith))
 
   loop_vanishes : (q : Quantifier) (start end : ℕ) (body : Tree) →
-      ((setting : Setting) (bytes : List ℕ) (s : State) → steps setting bytes d (wrapped (loop q start end) body) s ≡ stay s) →
+      ((setting : Setting) (bytes : List ℕ) (s : MatchState) → steps setting bytes d (wrapped (loop q start end) body) s ≡ stay s) →
       captures body ≡ [] → Vanishes (wrapped (loop q start end) body)
   loop_vanishes q start end body stays none =
       vanishes (wrapped (loop q start end) body) (λ setting text is_text. Alike-from_same (stays setting (encode_utf8_all text)))
@@ -92,12 +92,12 @@ module _ (d : Direction) where
       loop_vanishes q start end body
       (λ setting bytes s. repeat-none (length bytes + 1) q start end is quantifier (steps setting bytes d body) s) none
 
-  look_of_empty : (behind : Bool) (start end : ℕ) → Vanishes (wrapped (lookaround false behind start end) (leaf empty))
-  unfolding look
-  look_of_empty behind start end =
-      vanishes (wrapped (lookaround false behind start end) (leaf empty)) (λ setting text is_text. Alike-from_same (λ s. refl))
+  look_of_empty : (backwards : Bool) (start end : ℕ) → Vanishes (wrapped (lookaround false backwards start end) (leaf empty))
+  unfolding lookaround_matcher
+  look_of_empty backwards start end =
+      vanishes (wrapped (lookaround false backwards start end) (leaf empty)) (λ setting text is_text. Alike-from_same (λ s. refl))
       (λ n p m. m.0) refl
-      (IsLess-lighter (leaf empty) (wrapped (lookaround false behind start end) (leaf empty)) (omega arith) (omega arith))
+      (IsLess-lighter (leaf empty) (wrapped (lookaround false backwards start end) (leaf empty)) (omega arith) (omega arith))
 
   wrapper_vanishes : (w : Wrapper) (body : Tree) → is_empty_wrapper w body ≡ true → IsPart (wrapped w body) → Vanishes (wrapped w body)
   wrapper_vanishes (capture_group id name) body is part = absurd (false≢true is)
@@ -115,10 +115,10 @@ module _ (d : Direction) where
             (captures-none start end body asked.1 (leb-true end start both.1))
       ]
   wrapper_vanishes (loop_one q) body is part = absurd (false≢true is)
-  wrapper_vanishes (lookaround true behind start end) body is part = absurd (false≢true is)
-  wrapper_vanishes (lookaround false behind start end) body is part =
-      subst (λ (t : Tree). Vanishes (wrapped (lookaround false behind start end) t)) (sym (is_empty-leaf body is))
-      (look_of_empty behind start end)
+  wrapper_vanishes (lookaround true backwards start end) body is part = absurd (false≢true is)
+  wrapper_vanishes (lookaround false backwards start end) body is part =
+      subst (λ (t : Tree). Vanishes (wrapped (lookaround false backwards start end) t)) (sym (is_empty-leaf body is))
+      (look_of_empty backwards start end)
 
   tree_vanishes : (t : Tree) → is_cat t ≡ false → is_emptied_away t ≡ true → IsPart t → Vanishes t
   tree_vanishes (leaf l) other is part = leaf_vanishes l is
@@ -137,11 +137,11 @@ module _ (d : Direction) where
       let gone = tree_vanishes t other is part in
       remove_lawful is_emptied_away true d t is left gone.keeps gone.less
 
-  empty_stays : (setting : Setting) (bytes : List ℕ) (t : Tree) → is_empty t ≡ true → (s : State) → steps setting bytes d t s ≡ stay s
+  empty_stays : (setting : Setting) (bytes : List ℕ) (t : Tree) → is_empty t ≡ true → (s : MatchState) → steps setting bytes d t s ≡ stay s
   empty_stays setting bytes t is s = ap (λ (u : Tree). steps setting bytes d u s) (is_empty-leaf t is)
 
-  pub parts_lawful : (action : PassAction) (old left : Trees) → some_in_row is_empty old ≡ true →
-      StandsForCat action (row_without is_empty old) left → ObeysLaw is_emptied_away true d (cat old) (cat left) action
-  parts_lawful action old left some stands =
-      cat_lawful is_emptied_away true d (cat old) some action (row_without is_empty old) left
-      (without_keeps is_empty (λ t is. ap captures (is_empty-leaf t is)) d empty_stays old) (without-less is_empty old some) stands
+  pub parts_lawful : (action : PassAction) (old left : Trees) → some_part is_empty old ≡ true →
+      ReplacesCat action (list_without is_empty old) left → ObeysLaw is_emptied_away true d (cat old) (cat left) action
+  parts_lawful action old left some occurs =
+      cat_lawful is_emptied_away true d (cat old) some action (list_without is_empty old) left
+      (without_keeps is_empty (λ t is. ap captures (is_empty-leaf t is)) d empty_stays old) (without-less is_empty old some) occurs

@@ -8,15 +8,15 @@ use Rattle.regress_tree.specs.Units.{IsLess}
 use Rattle.regress_rewrite.specs.declared.rewrite.PassAction.{PassAction}
 use Rattle.regress_rewrite.specs.declared.rewrite.PassAction.TheVariants.{Keep, Modified, Remove, Replace}
 use Rattle.regress_rewrite.specs.Law.{Keeps, after, ObeysLaw}
-use Rattle.regress_rewrite.specs.Taken.{StandsAlone, StandsForCat}
-use Rattle.regress_tree.proofs.laws.Measures.{IsLess-lighter}
-use Rattle.regress_tree.proofs.laws.Places.{among, IsLess-part}
-use Rattle.regress_rewrite.proofs.laws.Keeps.{Keeps-refl, Keeps-trans, Keeps-no_part, Keeps-one_part}
-use Rattle.regress_tree.proofs.laws.Falling.{IsLess-trans}
+use Rattle.regress_rewrite.specs.Taken.{IsOnlyPart, ReplacesCat}
+use Rattle.regress_tree.proofs.lemmas.Measures.{IsLess-lighter}
+use Rattle.regress_tree.proofs.lemmas.TreeContexts.{among, IsLess-part}
+use Rattle.regress_rewrite.proofs.lemmas.Keeps.{Keeps-refl, Keeps-trans, Keeps-no_part, Keeps-one_part}
+use Rattle.regress_tree.proofs.lemmas.Falling.{IsLess-trans}
 
 module _ (removes : Tree → Bool) (exact : Bool) (d : Direction) where
   -- what replaces a `Cat` of fewer than two parts is less
-  pub alone_keeps : (t : Tree) (ts : Trees) → StandsAlone t ts → Keeps d (cat ts) t × IsLess t (cat ts)
+  pub alone_keeps : (t : Tree) (ts : Trees) → IsOnlyPart t ts → Keeps d (cat ts) t × IsLess t (cat ts)
   alone_keeps t ts (inl none) =
       subst (λ (us : Trees). Keeps d (cat us) t × IsLess t (cat us)) (sym none.0)
       (subst (λ (u : Tree). Keeps d (cat no_trees) u × IsLess u (cat no_trees)) (sym none.1)
@@ -60,11 +60,11 @@ module _ (removes : Tree → Bool) (exact : Bool) (d : Direction) where
 
     -- the remaining parts of a `Cat` may be its parts, or replace it if there are fewer than two
     pub cat_lawful : (action : PassAction) (parts left : Trees) → Keeps d old (cat parts) → IsLess (cat parts) old →
-        StandsForCat action parts left → ObeysLaw removes exact d old (cat left) action
-    cat_lawful Keep parts left keeps is_less stands = absurd stands
-    cat_lawful Remove parts left keeps is_less stands = absurd stands
-    cat_lawful Modified parts left keeps is_less stands =
-        subst (λ (ts : Trees). ObeysLaw removes exact d old (cat ts) Modified) (sym stands) (modified_lawful (cat parts) keeps is_less)
-    cat_lawful (Replace node) parts left keeps is_less stands =
-        let alone = alone_keeps (tree node) parts stands in
+        ReplacesCat action parts left → ObeysLaw removes exact d old (cat left) action
+    cat_lawful Keep parts left keeps is_less occurs = absurd occurs
+    cat_lawful Remove parts left keeps is_less occurs = absurd occurs
+    cat_lawful Modified parts left keeps is_less occurs =
+        subst (λ (ts : Trees). ObeysLaw removes exact d old (cat ts) Modified) (sym occurs) (modified_lawful (cat parts) keeps is_less)
+    cat_lawful (Replace node) parts left keeps is_less occurs =
+        let alone = alone_keeps (tree node) parts occurs in
         replace_lawful (cat left) node (Keeps-trans d keeps alone.0) (IsLess-trans old (cat parts) (tree node) is_less alone.1)

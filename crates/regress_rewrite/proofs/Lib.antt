@@ -1,7 +1,7 @@
-pub mod laws
+pub mod lemmas
 pub mod LawfulLemmas
 pub mod TakenLemmas
-pub mod RowLemmas
+pub mod ListLemmas
 pub mod SweepLemmas
 pub mod PassesLemmas
 pub mod SpliceLemmas

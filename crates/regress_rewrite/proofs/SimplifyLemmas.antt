@@ -12,22 +12,22 @@ use Rattle.regress_base.specs.Brackets.{is_accepted}
 use Rattle.regress_base.specs.Intervals.{Bounds, code_point_max, is_member, IsCanonical, IsComplement}
 use Rattle.regress_base.specs.Limits.{max_char_set_length}
 use Rattle.regress_base.specs.declared.types.bracket.BracketContents.{BracketContents}
-use Rattle.regress_base.proofs.laws.Sets.{member_above}
+use Rattle.regress_base.proofs.lemmas.Sets.{member_above}
 use Rattle.regress_base.specs.Listing.{lists}
 use Rattle.regress_base.specs.Listing.{code_points}
-use Rattle.regress_base.proofs.laws.Listings.{lists-members, All-from_lists}
+use Rattle.regress_base.proofs.lemmas.Listings.{lists-members, All-from_lists}
 use Rattle.regress_tree.specs.declared.ir.node.Node.{Node}
 use Rattle.regress_tree.specs.Copies.{is_leaf}
 use Rattle.regress_tree.specs.Reading.{Direction}
 use Rattle.regress_tree.specs.Shapes.{code_point_count, gap_count, is_small_bracket, is_long_bracket, is_simplified_away}
 use Rattle.regress_tree.specs.Tree.{Tree, leaf, char_set, bracket, tree}
 use Rattle.regress_tree.specs.WellFormed.{Position, IsBracket, IsSmallSet}
-use Rattle.regress_tree.proofs.laws.Alike.{Alike-from_same}
-use Rattle.regress_tree.proofs.laws.Brackets.{gap_count-complement}
-use Rattle.regress_tree.proofs.laws.ByteSequences.{one_character-agree}
-use Rattle.regress_base.proofs.laws.Literals.{scalar_in_range}
-use Rattle.regress_tree.proofs.laws.Measures.{IsLess-lighter}
-use Rattle.regress_tree.proofs.laws.Positions.{AsOneCharacter-map}
+use Rattle.regress_tree.proofs.lemmas.Alike.{Alike-from_same}
+use Rattle.regress_tree.proofs.lemmas.Brackets.{gap_count-complement}
+use Rattle.regress_tree.proofs.lemmas.ByteSequences.{one_character-agree}
+use Rattle.regress_base.proofs.lemmas.Literals.{scalar_in_range}
+use Rattle.regress_tree.proofs.lemmas.Measures.{IsLess-lighter}
+use Rattle.regress_tree.proofs.lemmas.Positions.{AsOneCharacter-map}
 use Rattle.regress_rewrite.specs.declared.rewrite.PassAction.{PassAction}
 use Rattle.regress_rewrite.specs.declared.rewrite.PassAction.TheVariants.{Keep, Modified, Remove, Replace}
 use Rattle.regress_rewrite.specs.Law.{IsPart, Keeps, after, ObeysLaw}
@@ -59,12 +59,12 @@ module _ (ivs : List Bounds) (canonical : IsCanonical ivs) where
   listed-some c member none =
       absurd (false≢true (sym (ap (λ (cs : List ℕ). lists cs c) none) ∙ lists-members 0 ivs c canonical ∙ member))
 
-  listed-stands : (p : Position) → code_point_count ivs ≤ max_char_set_length → IsBracket false ivs p →
+  listed-occurs : (p : Position) → code_point_count ivs ≤ max_char_set_length → IsBracket false ivs p →
       IsSmallSet (flat_map code_points ivs) code_point_max p
-  listed-stands p small stands = record {
+  listed-occurs p small occurs = record {
     bounded = listed-bounded;
     small = omega (arith, length-code_points ivs);
-    some = AsOneCharacter-map p _ _ (λ some. listed-some some.0 some.2) stands.some;
+    some = AsOneCharacter-map p _ _ (λ some. listed-some some.0 some.2) occurs.some;
   }
 
   listed_keeps : (d : Direction) → code_point_count ivs ≤ max_char_set_length →
@@ -72,7 +72,7 @@ module _ (ivs : List Bounds) (canonical : IsCanonical ivs) where
   listed_keeps d small = record {
     meaning = λ setting text is_text. Alike-from_same (λ s.
         one_character-agree d (encode_utf8_all text) _ _ (λ c is_scalar. sym (lists-members 0 ivs c canonical)) s);
-    stands = λ n p m. listed-stands p small m;
+    occurs = λ n p m. listed-occurs p small m;
     captures = refl;
     account = omega arith;
     brackets = λ lacks. refl;
@@ -88,11 +88,11 @@ accepted-flipped true ivs others complement c within = complement c within
 
 module _ (invert : Bool) (ivs others : List Bounds) (canonical : IsCanonical others) (complement : IsComplement ivs others)
     (long : is_long_bracket (bracket invert ivs) ≡ true) where
-  flipped-stands : (p : Position) → IsBracket invert ivs p → IsBracket (not invert) others p
-  flipped-stands p stands = record {
+  flipped-occurs : (p : Position) → IsBracket invert ivs p → IsBracket (not invert) others p
+  flipped-occurs p occurs = record {
     canonical = canonical;
     some = AsOneCharacter-map p _ _
-        (λ some. (some.0, some.1, accepted-flipped invert ivs others complement some.0 some.1 ∙ some.2)) stands.some;
+        (λ some. (some.0, some.1, accepted-flipped invert ivs others complement some.0 some.1 ∙ some.2)) occurs.some;
   }
 
   long-away : is_simplified_away (leaf (bracket invert ivs)) ≡ true
@@ -103,7 +103,7 @@ module _ (invert : Bool) (ivs others : List Bounds) (canonical : IsCanonical oth
     meaning = λ setting text is_text. Alike-from_same (λ s.
         one_character-agree d (encode_utf8_all text) _ _
         (λ c is_scalar. sym (accepted-flipped invert ivs others complement c (scalar_in_range c is_scalar))) s);
-    stands = λ n p m. flipped-stands p m;
+    occurs = λ n p m. flipped-occurs p m;
     captures = refl;
     account = omega arith;
     brackets = λ lacks. absurd (false≢true (sym lacks ∙ long-away));

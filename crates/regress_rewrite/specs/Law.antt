@@ -5,7 +5,7 @@ use Rattle.regress_tree.specs.Steps.{Alike}
 use Rattle.regress_tree.specs.Tree.{Tree, leaf, empty, tree}
 use Rattle.regress_tree.specs.Matching.{steps}
 use Rattle.regress_tree.specs.Setting.{Setting}
-use Rattle.regress_tree.specs.WellFormed.{Position, MayStand, captures}
+use Rattle.regress_tree.specs.WellFormed.{Position, IsAllowed, captures}
 use Rattle.regress_tree.specs.Units.{account, IsLess}
 use Rattle.regress_tree.specs.Shapes.{LacksShape, is_simplified_away}
 use Rattle.regress_rewrite.specs.declared.rewrite.PassAction.{PassAction}
@@ -13,7 +13,7 @@ use Rattle.regress_rewrite.specs.declared.rewrite.PassAction.TheVariants.{Keep, 
 
 -- the tree may appear somewhere in a well-formed tree
 abbrev pub IsPart : Tree → Type 0
-IsPart t = (n : ℕ) × (p : Position) × MayStand n t p
+IsPart t = (n : ℕ) × (p : Position) × IsAllowed n t p
 
 -- The two trees have the same distinct outcomes from any state, on every UTF-8 text, with any flags and case mappings.
 abbrev pub MeansTheSame : Direction → Tree → Tree → Type 0
@@ -21,15 +21,15 @@ MeansTheSame d old new = (setting : Setting) (text : List ℕ) → IsText text �
     Alike (steps setting (encode_utf8_all text) d old) (steps setting (encode_utf8_all text) d new)
 
 -- the new tree may appear wherever the old one may
-abbrev pub StandsWhere : Tree → Tree → Type 0
-StandsWhere old new = (n : ℕ) (p : Position) → MayStand n old p → MayStand n new p
+abbrev pub IsAllowedWhere : Tree → Tree → Type 0
+IsAllowedWhere old new = (n : ℕ) (p : Position) → IsAllowed n old p → IsAllowed n new p
 
 -- what the law requires that a rewrite keeps, in a direction of matching
 pub record Keeps (d : Direction) (old new : Tree) : Type 0 where
   -- the new tree has the same meaning
   pub meaning : MeansTheSame d old new
   -- it may appear wherever the old one may
-  pub stands : StandsWhere old new
+  pub occurs : IsAllowedWhere old new
   -- it has the same capture groups, with their ids and names
   pub captures : captures new ≡ captures old
   -- it is no larger, with loops counted as if they were unrolled

@@ -1,8 +1,8 @@
 -- Splicing the parts of nested `Cat`s.
 use Rattle.std.specs.Prelude.{◌≡◌, ℕ, ◌+◌, true, false}
-use Rattle.regress_tree.specs.Tree.{Tree, Trees, leaf, cat, alt, wrapped, no_trees, more_trees, row_append, tree}
+use Rattle.regress_tree.specs.Tree.{Tree, Trees, leaf, cat, alt, wrapped, no_trees, more_trees, append_trees, tree}
 use Rattle.regress_tree.specs.Shapes.{has_cat, is_flattened_away}
-use Rattle.regress_rewrite.specs.Taken.{StandsAlone}
+use Rattle.regress_rewrite.specs.Taken.{IsOnlyPart}
 use Rattle.regress_rewrite.specs.declared.rewrite.PassAction.{PassAction}
 use Rattle.regress_rewrite.specs.declared.rewrite.PassAction.TheVariants.{Keep, Modified, Remove, Replace}
 
@@ -16,16 +16,16 @@ parts_of (wrapped w body) = more_trees (wrapped w body) no_trees
 -- the list with each `Cat` replaced by its parts
 abbrev pub spliced : Trees → Trees
 spliced no_trees = no_trees
-spliced (more_trees t ts) = row_append (parts_of t) (spliced ts)
+spliced (more_trees t ts) = append_trees (parts_of t) (spliced ts)
 
 -- the number of trees
-abbrev pub row_length : Trees → ℕ
-row_length no_trees = 0
-row_length (more_trees t ts) = 1 + row_length ts
+abbrev pub list_length : Trees → ℕ
+list_length no_trees = 0
+list_length (more_trees t ts) = 1 + list_length ts
 
 -- The action flattens a `Cat`, where `old` are its parts before the call, and `new` after it.
 abbrev pub Flattens : PassAction → Trees → Trees → Type 0
 Flattens Keep old new = (is_flattened_away (cat old) ≡ false) × (new ≡ old)
 Flattens Modified old new = (has_cat old ≡ true) × (new ≡ spliced old)
 Flattens Remove old new = ⊥
-Flattens (Replace node) old new = StandsAlone (tree node) old
+Flattens (Replace node) old new = IsOnlyPart (tree node) old

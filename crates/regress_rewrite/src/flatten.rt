@@ -1,12 +1,12 @@
 //! Flattening of nested `Cat`s.
 ghost use Rattle.std.specs.Prelude.{◌≡◌, ◌+◌, ◌≤◌, true, IfOk, IsOk, OnOk, OnErr, vec_len, vec_capacity};
 ghost use Rattle.regress_tree.specs.Reading.{Direction};
-ghost use Rattle.regress_tree.specs.Tree.{tree, trees, row_append};
+ghost use Rattle.regress_tree.specs.Tree.{tree, trees, append_trees};
 ghost use Rattle.regress_tree.specs.Shapes.{is_cat, is_flattened_away};
 ghost use Rattle.regress_rewrite.specs.Law.{ObeysLaw};
-ghost use Rattle.regress_rewrite.specs.Splice.{parts_of, spliced, row_length, Flattens};
+ghost use Rattle.regress_rewrite.specs.Splice.{parts_of, spliced, list_length, Flattens};
 
-use crate::remove_empties::stand_in;
+use crate::remove_empties::collapse;
 use crate::rewrite::PassAction;
 use regress_tree::ir::{Node, NodeList};
 use std::alloc::{AllocError, Global};
@@ -35,7 +35,7 @@ fn flatten_cat(alloc: Global, parts: &mut NodeList) -> Result<PassAction, AllocE
     ensures action { IfOk result (λ action. Flattens action (trees parts.old.items) (trees parts.new.items)) }
     ensures err { OnErr result (trees parts.new.items ≡ trees parts.old.items) }
 {
-    if let Some(node) = stand_in(parts) {
+    if let Some(node) = collapse(parts) {
         return Ok(PassAction::Replace(node));
     }
     if !parts.iter().any(is_cat) {
@@ -70,9 +70,9 @@ pub fn splice(alloc: Global, parts: &mut NodeList) -> Result<(), AllocError>
 
 /// Appends a part, or the parts of a `Cat`. It does not fail if the capacity suffices.
 fn append_parts(flat: &mut NodeList, part: Node) -> Result<(), AllocError>
-    ensures ok { OnOk result (trees flat.new.items ≡ row_append (trees flat.old.items) (parts_of (tree part))) }
+    ensures ok { OnOk result (trees flat.new.items ≡ append_trees (trees flat.old.items) (parts_of (tree part))) }
     ensures capacity { OnOk result (vec_capacity flat.old ≤ vec_capacity flat.new) }
-    ensures room { vec_len flat.old + row_length (parts_of (tree part)) ≤ vec_capacity flat.old → IsOk result }
+    ensures room { vec_len flat.old + list_length (parts_of (tree part)) ≤ vec_capacity flat.old → IsOk result }
 {
     let mut part = part;
     match &mut part {
@@ -85,7 +85,7 @@ fn append_parts(flat: &mut NodeList, part: Node) -> Result<(), AllocError>
 /// Returns the number of parts after each `Cat` is replaced by its parts. It fails if the number exceeds `usize::MAX`,
 /// for which there is no memory.
 fn spliced_len(parts: &[Node]) -> Result<usize, AllocError>
-    ensures { IfOk result (λ len. len ≡ row_length (spliced (trees parts.now))) }
+    ensures { IfOk result (λ len. len ≡ list_length (spliced (trees parts.now))) }
 {
     let mut len: usize = 0;
     for part in parts {
@@ -96,7 +96,7 @@ fn spliced_len(parts: &[Node]) -> Result<usize, AllocError>
 
 /// Returns the number of parts that replace a part.
 fn parts_len(part: &Node) -> usize
-    ensures { result ≡ row_length (parts_of (tree part.now)) }
+    ensures { result ≡ list_length (parts_of (tree part.now)) }
 {
     match part {
         Node::Cat(inner) => inner.len(),

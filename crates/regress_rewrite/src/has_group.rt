@@ -2,7 +2,7 @@
 ghost use Rattle.std.specs.Prelude.{◌≡◌, false};
 ghost use Rattle.regress_tree.specs.Tree.{tree, trees};
 ghost use Rattle.regress_tree.specs.Spine.{is_alt};
-ghost use Rattle.regress_tree.specs.Shapes.{has_group, on_wrapper, is_group, some_node_in_row};
+ghost use Rattle.regress_tree.specs.Shapes.{has_group, on_wrapper, is_group, some_node_in_list};
 
 use regress_tree::ir::Node;
 use regress_tree::ir::held::body;
@@ -45,7 +45,7 @@ fn other_has_group(node: &Node) -> bool
 /// Returns whether one of the nodes contains a capture group.
 #[cycle(search)]
 fn some_has_group(nodes: &[Node]) -> bool
-    ensures { result ≡ some_node_in_row (on_wrapper is_group) (trees nodes.now) }
+    ensures { result ≡ some_node_in_list (on_wrapper is_group) (trees nodes.now) }
 {
     for node in nodes {
         if has_group(node) {

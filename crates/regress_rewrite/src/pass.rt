@@ -7,15 +7,15 @@ ghost use Rattle.regress_tree.specs.WellFormed.{IsWellFormed, captures};
 ghost use Rattle.regress_tree.specs.Units.{account, IsLess};
 ghost use Rattle.regress_tree.specs.Shapes.{LacksShape, LacksInside, is_simplified_away};
 ghost use Rattle.regress_rewrite.specs.Law.{IsPart, MeansTheSame};
-ghost use Rattle.regress_rewrite.specs.Sweep.{Swept, SweptOf};
-ghost use Rattle.regress_rewrite.specs.Passes.{Applied, Passed, is_answered};
+ghost use Rattle.regress_rewrite.specs.Sweep.{Traversed, TraversedOf};
+ghost use Rattle.regress_rewrite.specs.Passes.{Applied, Passed, is_success};
 ghost use Rattle.regress_tree.specs.Spine.{reattach, spine_length, LeftsLackShape};
-ghost use Rattle.regress_tree.specs.Visits.{Visited, Inside, RowVisited, deeper};
+ghost use Rattle.regress_tree.specs.Visits.{Visited, Inside, ListVisited, deeper};
 ghost use Rattle.regress_tree.specs.Climbs.{ClimbedMut};
 
 use crate::rewrite::Rewrite;
 use regress_tree::ir::held::{body_mut, walk_inside};
-use regress_tree::ir::spine::{left_mut, relink, shift};
+use regress_tree::ir::spine::{left_mut, restore_spine, rotate_right_spine};
 use regress_tree::ir::{Node, NodeList, Regex, Walk};
 use std::alloc::AllocError;
 
@@ -80,7 +80,7 @@ pub fn run_pass<R: Rewrite>(r: &mut Regex, pass: &mut R) -> Result<bool, AllocEr
     ensures flags { r.new.flags ≡ r.old.flags }
 
     // The calls of the rewrite, in order. An error is that of the rewrite.
-    ensures passed { Passed R.step r.old.flags.unicode pass.old (tree r.old.node) (tree r.new.node) pass.new (is_answered result) }
+    ensures passed { Passed R.step r.old.flags.unicode pass.old (tree r.old.node) (tree r.new.node) pass.new (is_success result) }
 
     // What is removed, and what is unchanged.
     ensures changed { IfOk result (λ changed. MatchBool changed (tree r.new.node ≢ tree r.old.node) (tree r.new.node ≡ tree r.old.node)) }
@@ -90,87 +90,87 @@ pub fn run_pass<R: Rewrite>(r: &mut Regex, pass: &mut R) -> Result<bool, AllocEr
 {
     let walk = Walk::root(r.flags.unicode);
     let mut changed = false;
-    while sweep(&mut r.node, pass, &walk)? {
+    while traverse(&mut r.node, pass, &walk)? {
         changed = true;
     }
     Ok(changed)
 }
 
 /// Rewrites the children of a node and then the node, and returns whether anything changed.
-#[cycle(sweep)]
-fn sweep<R: Rewrite>(node: &mut Node, pass: &mut R, walk: &Walk) -> Result<bool, AllocError>
+#[cycle(traverse)]
+fn traverse<R: Rewrite>(node: &mut Node, pass: &mut R, walk: &Walk) -> Result<bool, AllocError>
     requires { IsPart (tree node.old) }
     ensures visited { Visited (Applied R.step walk.now.unicode) true walk.now.depth walk.now.in_lookbehind
-        (tree node.old) (tree node.new) (pass.old, true) (pass.new, is_answered result) }
-    ensures swept { SweptOf (LacksShape R.removes) R.is_exact (direction_of walk.now) (tree node.old) (tree node.new) result }
+        (tree node.old) (tree node.new) (pass.old, true) (pass.new, is_success result) }
+    ensures swept { TraversedOf (LacksShape R.removes) R.is_exact (direction_of walk.now) (tree node.old) (tree node.new) result }
 {
     let mut above = Node::Empty;
-    let mut levels = 0;
-    match sweep_down(node, &mut above, &mut levels, pass, walk) {
-        Ok(changed) => Ok(changed | rewrite_up(node, above, levels, pass, walk)?),
+    let mut nesting = 0;
+    match traverse_alternatives(node, &mut above, &mut nesting, pass, walk) {
+        Ok(changed) => Ok(changed | rewrite_alternatives(node, above, nesting, pass, walk)?),
         Err(e) => {
-            relink(node, above);
+            restore_spine(node, above);
             Err(e)
         }
     }
 }
 
 /// Descends the right sides of alternatives and traverses the left ones, and then the last alternative. The nodes of
-/// the descent are in `above`, the last one first, and `levels` is their number.
-#[cycle(sweep)]
-fn sweep_down<R: Rewrite>(
+/// the descent are in `above`, the last one first, and `nesting` is their number.
+#[cycle(traverse)]
+fn traverse_alternatives<R: Rewrite>(
     node: &mut Node,
     above: &mut Node,
-    levels: &mut usize,
+    nesting: &mut usize,
     pass: &mut R,
     walk: &Walk,
 ) -> Result<bool, AllocError>
     requires part { IsPart (tree node.old) }
     requires above { tree above.old ≡ leaf empty }
-    requires levels { levels.old ≡ 0 }
-    ensures swept { Swept (LacksShape R.removes (tree node.old))
+    requires nesting { nesting.old ≡ 0 }
+    ensures swept { Traversed (LacksShape R.removes (tree node.old))
         (LacksShape R.removes (tree node.new) × LeftsLackShape R.removes (tree above.new)) R.is_exact
         (direction_of walk.now) (tree node.old) (reattach (tree above.new) (tree node.new)) result }
-    ensures levels { OnOk result (levels.new ≡ spine_length (tree above.new)) }
+    ensures nesting { OnOk result (nesting.new ≡ spine_length (tree above.new)) }
     ensures visited { (u : Tree) (b : R × Bool) → ClimbedMut (Applied R.step walk.now.unicode) (tree above.new) walk.now.depth walk.now.in_lookbehind
-        (tree node.new) u (pass.new, is_answered result) b →
+        (tree node.new) u (pass.new, is_success result) b →
         Visited (Applied R.step walk.now.unicode) true walk.now.depth walk.now.in_lookbehind (tree node.old) u (pass.old, true) b }
 {
     let mut changed = false;
-    while *levels < usize::MAX && shift(node, above) {
-        *levels += 1;
+    while *nesting < usize::MAX && rotate_right_spine(node, above) {
+        *nesting += 1;
         if let Some(left) = left_mut(above) {
-            changed |= sweep(left, pass, &walk.inside(*levels))?;
+            changed |= traverse(left, pass, &walk.inside(*nesting))?;
         }
     }
-    Ok(changed | sweep_one(node, pass, &walk.inside(*levels))?)
+    Ok(changed | traverse_node(node, pass, &walk.inside(*nesting))?)
 }
 
 /// Rewrites the alternatives above a node, the last one first, each of which has the node as its right side.
-fn rewrite_up<R: Rewrite>(
+fn rewrite_alternatives<R: Rewrite>(
     node: &mut Node,
     above: Node,
-    levels: usize,
+    nesting: usize,
     pass: &mut R,
     walk: &Walk,
 ) -> Result<bool, AllocError>
     requires part { IsPart (reattach (tree above) (tree node.old)) }
-    requires levels { levels ≡ spine_length (tree above) }
+    requires nesting { nesting ≡ spine_length (tree above) }
     ensures climbed { ClimbedMut (Applied R.step walk.now.unicode) (tree above) walk.now.depth walk.now.in_lookbehind
-        (tree node.old) (tree node.new) (pass.old, true) (pass.new, is_answered result) }
-    ensures swept { Swept (LacksShape R.removes (reattach (tree above) (tree node.old)))
+        (tree node.old) (tree node.new) (pass.old, true) (pass.new, is_success result) }
+    ensures swept { Traversed (LacksShape R.removes (reattach (tree above) (tree node.old)))
         ((LacksShape R.removes (tree node.old) × LeftsLackShape R.removes (tree above)) → LacksShape R.removes (tree node.new))
         R.is_exact (direction_of walk.now) (reattach (tree above) (tree node.old)) (tree node.new) result }
 {
     let mut above = above;
-    let mut levels = levels;
+    let mut nesting = nesting;
     let mut changed = false;
-    while shift(&mut above, node) {
-        levels -= 1;
-        match rewrite(node, pass, &walk.inside(levels)) {
+    while rotate_right_spine(&mut above, node) {
+        nesting -= 1;
+        match rewrite(node, pass, &walk.inside(nesting)) {
             Ok(here) => changed |= here,
             Err(e) => {
-                relink(node, above);
+                restore_spine(node, above);
                 return Err(e);
             }
         }
@@ -179,40 +179,44 @@ fn rewrite_up<R: Rewrite>(
 }
 
 /// Traverses the children of a node, and rewrites the node.
-#[cycle(sweep)]
-fn sweep_one<R: Rewrite>(node: &mut Node, pass: &mut R, walk: &Walk) -> Result<bool, AllocError>
+#[cycle(traverse)]
+fn traverse_node<R: Rewrite>(node: &mut Node, pass: &mut R, walk: &Walk) -> Result<bool, AllocError>
     requires part { IsPart (tree node.old) }
     requires fresh { walk.now.skip_children ≡ false }
     ensures visited { Visited (Applied R.step walk.now.unicode) true walk.now.depth walk.now.in_lookbehind
-        (tree node.old) (tree node.new) (pass.old, true) (pass.new, is_answered result) }
-    ensures swept { SweptOf (LacksShape R.removes) R.is_exact (direction_of walk.now) (tree node.old) (tree node.new) result }
+        (tree node.old) (tree node.new) (pass.old, true) (pass.new, is_success result) }
+    ensures swept { TraversedOf (LacksShape R.removes) R.is_exact (direction_of walk.now) (tree node.old) (tree node.new) result }
 {
-    let changed = sweep_inside(node, pass, walk)?;
+    let changed = traverse_children(node, pass, walk)?;
     Ok(changed | rewrite(node, pass, walk)?)
 }
 
 /// Traverses the children of a node.
-#[cycle(sweep)]
-fn sweep_inside<R: Rewrite>(node: &mut Node, pass: &mut R, walk: &Walk) -> Result<bool, AllocError>
+#[cycle(traverse)]
+fn traverse_children<R: Rewrite>(
+    node: &mut Node,
+    pass: &mut R,
+    walk: &Walk,
+) -> Result<bool, AllocError>
     requires { IsPart (tree node.old) }
     ensures visited { Inside (Applied R.step walk.now.unicode) true walk.now.depth walk.now.in_lookbehind
-        (tree node.old) (tree node.new) (pass.old, true) (pass.new, is_answered result) }
-    ensures swept { SweptOf (LacksInside R.removes) R.is_exact (direction_of walk.now) (tree node.old) (tree node.new) result }
+        (tree node.old) (tree node.new) (pass.old, true) (pass.new, is_success result) }
+    ensures swept { TraversedOf (LacksInside R.removes) R.is_exact (direction_of walk.now) (tree node.old) (tree node.new) result }
 {
     let inner = walk_inside(walk, node);
     match node {
-        Node::Cat(parts) => sweep_parts(parts, pass, &inner),
-        Node::Alt(left, right) => sweep_sides(left, right, pass, &inner),
+        Node::Cat(parts) => traverse_parts(parts, pass, &inner),
+        Node::Alt(left, right) => traverse_sides(left, right, pass, &inner),
         _ => match body_mut(node) {
-            Some(body) => sweep(body, pass, &inner),
+            Some(body) => traverse(body, pass, &inner),
             None => Ok(false),
         },
     }
 }
 
 /// Traverses the sides of an `Alt`.
-#[cycle(sweep)]
-fn sweep_sides<R: Rewrite>(
+#[cycle(traverse)]
+fn traverse_sides<R: Rewrite>(
     left: &mut Node,
     right: &mut Node,
     pass: &mut R,
@@ -221,30 +225,30 @@ fn sweep_sides<R: Rewrite>(
     requires { IsPart (alt (tree left.old) (tree right.old)) }
     ensures visited { (depth : ℕ) → walk.now.depth ≡ deeper depth →
         Inside (Applied R.step walk.now.unicode) true depth walk.now.in_lookbehind (alt (tree left.old) (tree right.old))
-        (alt (tree left.new) (tree right.new)) (pass.old, true) (pass.new, is_answered result) }
-    ensures swept { SweptOf (LacksInside R.removes) R.is_exact (direction_of walk.now)
+        (alt (tree left.new) (tree right.new)) (pass.old, true) (pass.new, is_success result) }
+    ensures swept { TraversedOf (LacksInside R.removes) R.is_exact (direction_of walk.now)
         (alt (tree left.old) (tree right.old)) (alt (tree left.new) (tree right.new)) result }
 {
-    let changed = sweep(left, pass, walk)?;
-    Ok(changed | sweep(right, pass, walk)?)
+    let changed = traverse(left, pass, walk)?;
+    Ok(changed | traverse(right, pass, walk)?)
 }
 
 /// Traverses the parts of a `Cat`.
-#[cycle(sweep)]
-fn sweep_parts<R: Rewrite>(
+#[cycle(traverse)]
+fn traverse_parts<R: Rewrite>(
     parts: &mut NodeList,
     pass: &mut R,
     walk: &Walk,
 ) -> Result<bool, AllocError>
     requires { IsPart (cat (trees parts.old.items)) }
-    ensures visited { RowVisited (Applied R.step walk.now.unicode) true walk.now.depth walk.now.in_lookbehind
-        (trees parts.old.items) (trees parts.new.items) (pass.old, true) (pass.new, is_answered result) }
-    ensures swept { SweptOf (LacksInside R.removes) R.is_exact (direction_of walk.now)
+    ensures visited { ListVisited (Applied R.step walk.now.unicode) true walk.now.depth walk.now.in_lookbehind
+        (trees parts.old.items) (trees parts.new.items) (pass.old, true) (pass.new, is_success result) }
+    ensures swept { TraversedOf (LacksInside R.removes) R.is_exact (direction_of walk.now)
         (cat (trees parts.old.items)) (cat (trees parts.new.items)) result }
 {
     let mut changed = false;
     for i in 0..parts.len() {
-        changed |= sweep(&mut parts[i], pass, walk)?;
+        changed |= traverse(&mut parts[i], pass, walk)?;
     }
     Ok(changed)
 }
@@ -254,8 +258,8 @@ fn rewrite<R: Rewrite>(node: &mut Node, pass: &mut R, walk: &Walk) -> Result<boo
     requires part { IsPart (tree node.old) }
     requires fresh { walk.now.skip_children ≡ false }
     ensures applied { (skip : Bool) → Applied R.step walk.now.unicode (pass.old, true) (tree node.old) walk.now.depth walk.now.in_lookbehind
-        (pass.new, is_answered result) (tree node.new) skip }
-    ensures swept { SweptOf (λ t. R.removes t ≡ false) R.is_exact (direction_of walk.now) (tree node.old) (tree node.new) result }
+        (pass.new, is_success result) (tree node.new) skip }
+    ensures swept { TraversedOf (λ t. R.removes t ≡ false) R.is_exact (direction_of walk.now) (tree node.old) (tree node.new) result }
 {
     let action = pass.apply(node, walk)?;
     Ok(action.carry_out(node))

@@ -5,7 +5,7 @@ ghost use Rattle.regress_tree.specs.Tree.{tree, trees};
 ghost use Rattle.regress_tree.specs.NodeTests.{is_empty};
 ghost use Rattle.regress_tree.specs.Shapes.{is_emptied_away, is_short};
 ghost use Rattle.regress_rewrite.specs.Law.{IsPart, ObeysLaw};
-ghost use Rattle.regress_rewrite.specs.Taken.{row_without, StandsAlone, StandsForCat};
+ghost use Rattle.regress_rewrite.specs.Taken.{list_without, IsOnlyPart, ReplacesCat};
 
 use crate::rewrite::PassAction;
 use regress_tree::ir::{Node, NodeList};
@@ -55,10 +55,10 @@ fn has_empties(node: &Node) -> bool
 
 /// Removes the `Empty` parts of a `Cat`, and returns the action, which may replace the `Cat`.
 fn remove_empty_parts(parts: &mut NodeList) -> PassAction
-    ensures { StandsForCat result (row_without is_empty (trees parts.old.items)) (trees parts.new.items) }
+    ensures { ReplacesCat result (list_without is_empty (trees parts.old.items)) (trees parts.new.items) }
 {
-    leave_out_empties(parts);
-    match stand_in(parts) {
+    drop_empties(parts);
+    match collapse(parts) {
         Some(node) => PassAction::Replace(node),
         None => PassAction::Modified,
     }
@@ -66,8 +66,8 @@ fn remove_empty_parts(parts: &mut NodeList) -> PassAction
 
 /// Takes out the node that replaces a `Cat` of fewer than two parts: its one part, or `Empty`. Returns `None`, with the
 /// parts unchanged, if there are two or more.
-pub fn stand_in(parts: &mut NodeList) -> Option<Node>
-    ensures some { IfSome result (λ node. StandsAlone (tree node) (trees parts.old.items)) }
+pub fn collapse(parts: &mut NodeList) -> Option<Node>
+    ensures some { IfSome result (λ node. IsOnlyPart (tree node) (trees parts.old.items)) }
     ensures none { result ≡ None → ((trees parts.new.items ≡ trees parts.old.items) × (is_short (trees parts.old.items) ≡ false)) }
 {
     if parts.len() > 1 {
@@ -77,8 +77,8 @@ pub fn stand_in(parts: &mut NodeList) -> Option<Node>
 }
 
 /// Removes each part that is `Empty`. Linear in the parts.
-pub fn leave_out_empties(parts: &mut NodeList)
-    ensures { trees parts.new.items ≡ row_without is_empty (trees parts.old.items) }
+pub fn drop_empties(parts: &mut NodeList)
+    ensures { trees parts.new.items ≡ list_without is_empty (trees parts.old.items) }
 {
     parts.retain(|part| !part.is_empty());
 }

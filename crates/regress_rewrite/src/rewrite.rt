@@ -57,7 +57,7 @@ pub trait Rewrite {
     /// A relation of the rewrite's own that holds of each call, and that `run_pass` then states of all its calls: the
     /// rewrite before the call, the tree of the node, the walk, the result, the tree that the call left, and the
     /// rewrite after it. By default it states nothing.
-    ghost step: { Self → Tree → Walk → Result PassAction AllocError → Tree → Self → Type 0 } = { λ before t walk answer left after. Unit {0} };
+    ghost step: { Self → Tree → Walk → Result PassAction AllocError → Tree → Self → Type 0 } = { λ before t walk response left after. Unit {0} };
 
     /// Rewrites a node whose children are already rewritten, and returns what it did.
     ///

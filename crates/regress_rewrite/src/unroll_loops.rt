@@ -1,13 +1,13 @@
 //! Unrolling of loops: the required iterations become copies of the body.
 ghost use Rattle.std.specs.Prelude.{◌≡◌, ◌<◌, ◌≤◌, true, false, IfOk, OnOk, OnErr, vec_len, vec_capacity};
 ghost use Rattle.regress_tree.specs.Copies.{HasNoGroup};
-ghost use Rattle.regress_tree.specs.Measures.{levels};
+ghost use Rattle.regress_tree.specs.Measures.{nesting};
 ghost use Rattle.regress_tree.specs.Reading.{Direction};
-ghost use Rattle.regress_tree.specs.Shapes.{has_few_turns, has_string_set, is_unrolled_away, max_body_levels};
+ghost use Rattle.regress_tree.specs.Shapes.{has_few_iterations, has_string_set, is_unrolled_away, max_body_nesting};
 ghost use Rattle.regress_tree.specs.Tree.{tree, trees, copies};
 ghost use Rattle.regress_tree.specs.WellFormed.{IsQuantifier};
 ghost use Rattle.regress_rewrite.specs.Law.{IsPart, ObeysLaw};
-ghost use Rattle.regress_rewrite.specs.Unroll.{after_charge, after_charge_row, further_turns, unrolled_loop};
+ghost use Rattle.regress_rewrite.specs.Unroll.{remaining_budget, remaining_budget_of_parts, further_iterations, unrolled_loop};
 
 use crate::rewrite::PassAction;
 use regress_tree::ir::{Node, NodeList, Quantifier};
@@ -16,10 +16,10 @@ use std::mem;
 use std::ops::Range;
 
 /// The maximal size of a body that is copied: one for each node, and one more for each byte of a `ByteSequence`.
-pub const MAX_CHARGE: usize = 256;
+pub const MAX_COPIED_SIZE: usize = 256;
 
 /// The maximal nesting depth of a body that is copied, where a leaf has depth 1.
-pub const MAX_LEVELS: usize = 101;
+pub const MAX_NESTING: usize = 101;
 
 /// Unrolls a loop that [`may_unroll`] accepts, as [`unroll`] does, and keeps any other node.
 ///
@@ -50,8 +50,8 @@ pub fn may_unroll(node: &Node) -> bool
             quant,
             enclosed_groups,
         } => {
-            has_few_turns(quant, enclosed_groups)
-                && after_charge(loopee, MAX_LEVELS, MAX_CHARGE).is_some()
+            has_few_iterations(quant, enclosed_groups)
+                && remaining_budget(loopee, MAX_NESTING, MAX_COPIED_SIZE).is_some()
         }
         _ => false,
     }
@@ -59,8 +59,8 @@ pub fn may_unroll(node: &Node) -> bool
 
 /// Returns whether a loop contains no group and has a minimum of one to five iterations. It is unrolled if its body is
 /// small enough to be copied for each of them.
-pub fn has_few_turns(quant: &Quantifier, groups: &Range<u16>) -> bool
-    ensures { result ≡ has_few_turns quant.now groups.now.start groups.now.end }
+pub fn has_few_iterations(quant: &Quantifier, groups: &Range<u16>) -> bool
+    ensures { result ≡ has_few_iterations quant.now groups.now.start groups.now.end }
 {
     groups.is_empty() && matches!(quant.min, 1..=5)
 }
@@ -82,9 +82,9 @@ pub fn unroll(alloc: Global, node: &mut Node) -> Result<(), AllocError>
     let Node::Loop { loopee, quant, .. } = node else {
         unreachable!()
     };
-    let mut parts = copy_times(alloc, loopee, quant.min)?;
+    let mut parts = required_copies(alloc, loopee, quant.min)?;
     // The capacity suffices for the loop, so nothing fails from here on.
-    *quant = further_turns(quant);
+    *quant = further_iterations(quant);
     if quant.max != Some(0) {
         parts.push(mem::replace(node, Node::Empty))?;
     }
@@ -96,15 +96,15 @@ pub fn unroll(alloc: Global, node: &mut Node) -> Result<(), AllocError>
 ///
 /// # Preconditions
 /// `times` is at most 5. The body contains no capture group and no `StringSet`, and its nesting depth is at most
-/// [`MAX_LEVELS`].
+/// [`MAX_NESTING`].
 ///
 /// # Errors
 /// Returns [`AllocError`] if an allocation fails.
-pub fn copy_times(alloc: Global, body: &Node, times: usize) -> Result<NodeList, AllocError>
+pub fn required_copies(alloc: Global, body: &Node, times: usize) -> Result<NodeList, AllocError>
     requires times { times ≤ 5 }
     requires groups { HasNoGroup (tree body.now) }
     requires strings { has_string_set (tree body.now) ≡ false }
-    requires levels { levels (tree body.now) ≤ max_body_levels }
+    requires nesting { nesting (tree body.now) ≤ max_body_nesting }
     ensures copies { IfOk result (λ parts. trees parts.items ≡ copies times (tree body.now)) }
     ensures room { IfOk result (λ parts. vec_len parts < vec_capacity parts) }
 {
@@ -122,9 +122,9 @@ pub fn copy_times(alloc: Global, body: &Node, times: usize) -> Result<NodeList, 
 ///
 /// # Preconditions
 /// The minimum of `quant` is at most its maximum.
-pub fn further_turns(quant: &Quantifier) -> Quantifier
+pub fn further_iterations(quant: &Quantifier) -> Quantifier
     requires { IsQuantifier quant.now }
-    ensures { result ≡ further_turns quant.now }
+    ensures { result ≡ further_iterations quant.now }
 {
     Quantifier {
         min: 0,
@@ -134,25 +134,25 @@ pub fn further_turns(quant: &Quantifier) -> Quantifier
 }
 
 /// Returns the budget that remains after a copy of the node is charged: one for each node, and one more for each byte
-/// of a `ByteSequence`. It is `None` if the budget is too small, the nesting is deeper than `levels`, or the node
+/// of a `ByteSequence`. It is `None` if the budget is too small, the nesting is deeper than `nesting`, or the node
 /// contains a loop or a `StringSet`.
 ///
 /// The budget is charged from the root down, so at most one node more than the budget is looked at.
-#[cycle(after_charge)]
-fn after_charge(node: &Node, levels: usize, budget: usize) -> Option<usize>
-    ensures { result ≡ after_charge levels budget (tree node.now) }
+#[cycle(remaining_budget)]
+fn remaining_budget(node: &Node, nesting: usize, budget: usize) -> Option<usize>
+    ensures { result ≡ remaining_budget nesting budget (tree node.now) }
 {
-    let inside = levels.checked_sub(1)?;
+    let inside = nesting.checked_sub(1)?;
     let left = budget.checked_sub(1)?;
     match node {
-        Node::Cat(parts) => after_charge_row(parts, inside, left),
-        Node::Alt(first, second) => after_charge(
+        Node::Cat(parts) => remaining_budget_of_parts(parts, inside, left),
+        Node::Alt(first, second) => remaining_budget(
             second,
             inside,
-            after_charge(first, inside, left)?,
+            remaining_budget(first, inside, left)?,
         ),
         Node::CaptureGroup { contents, .. } | Node::LookaroundAssertion { contents, .. } => {
-            after_charge(contents, inside, left)
+            remaining_budget(contents, inside, left)
         }
         Node::ByteSequence(bytes) => left.checked_sub(bytes.len()),
         Node::Loop { .. } | Node::Loop1CharBody { .. } | Node::StringSet { .. } => None,
@@ -161,13 +161,13 @@ fn after_charge(node: &Node, levels: usize, budget: usize) -> Option<usize>
 }
 
 /// Returns the budget that remains after copies of all parts are charged.
-#[cycle(after_charge)]
-fn after_charge_row(parts: &[Node], levels: usize, budget: usize) -> Option<usize>
-    ensures { result ≡ after_charge_row levels budget (trees parts.now) }
+#[cycle(remaining_budget)]
+fn remaining_budget_of_parts(parts: &[Node], nesting: usize, budget: usize) -> Option<usize>
+    ensures { result ≡ remaining_budget_of_parts nesting budget (trees parts.now) }
 {
     let mut left = budget;
     for part in parts {
-        left = after_charge(part, levels, left)?;
+        left = remaining_budget(part, nesting, left)?;
     }
     Some(left)
 }

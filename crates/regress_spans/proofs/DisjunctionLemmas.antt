@@ -4,31 +4,31 @@ use Rattle.std.proofs.lemmas.List.{append_assoc, append-nil}
 use Rattle.std.proofs.lemmas.Bool.{false≢true}
 use Rattle.regress_base.specs.Limits.{max_nesting_depth}
 use Rattle.regress_tree.specs.Reading.{Direction}
-use Rattle.regress_lexical.specs.declared.fault.Fault.{Fault}
-use Rattle.regress_lexical.specs.Fault.{OnRefused}
-use Rattle.regress_lexical.specs.Source.{Source, bar, is_at}
-use Rattle.regress_syntax.specs.Syntax.{Pattern, one, either, levels}
-use Rattle.regress_syntax.specs.Rows.{Context}
+use Rattle.regress_lexer.specs.declared.fault.Fault.{Fault}
+use Rattle.regress_lexer.specs.Fault.{OnRejected}
+use Rattle.regress_lexer.specs.Source.{Source, bar, is_at}
+use Rattle.regress_syntax.specs.Syntax.{Pattern, one, either, nesting}
+use Rattle.regress_syntax.specs.Productions.{Context}
 use Rattle.regress_syntax.specs.Grammar.{IsPattern}
 use Rattle.regress_spans.specs.declared.span.Span.{Span}
-use Rattle.regress_spans.specs.Spans.{how_many, span_of_row, between, spans_of_pattern, spans_of_terms}
+use Rattle.regress_spans.specs.Spans.{how_many, span_of_alternative, between, spans_of_pattern, spans_of_terms}
 use Rattle.regress_spans.specs.Reading.{alternations, Adds, ReadsPattern, ReadsAlternative}
 use Rattle.regress_spans.proofs.ListLemmas.{alternations-push, alternative_joined}
 
 module _ (whole : ℕ) (ctx : Context) (d : Direction) where
   -- The remaining alternatives have these spans.
-  pub record PatternLeft (rest t : Source) (left : List Span) : Type 0 where
+  pub record RemainingPattern (rest t : Source) (left : List Span) : Type 0 where
     pub pattern : Pattern
     pub derived : IsPattern ctx pattern t rest
-    pub within : levels pattern ≤ max_nesting_depth
+    pub within : nesting pattern ≤ max_nesting_depth
     pub spans : left ≡ spans_of_pattern whole ctx d pattern t rest derived
 
   module _ (t0 : Source) (before : List Span) where
     -- The loop's invariant: `starts` has the starts of the alternatives so far, each of which another one follows.
     pub AlternativesSoFar : (t : Source) (now : List Span) (starts : List ℕ) → Type 0
     AlternativesSoFar t now starts =
-        (p : Pattern) (rest : Source) (h : IsPattern ctx p t0 rest) → levels p ≤ max_nesting_depth →
-        (left : List Span) × PatternLeft rest t left
+        (p : Pattern) (rest : Source) (h : IsPattern ctx p t0 rest) → nesting p ≤ max_nesting_depth →
+        (left : List Span) × RemainingPattern rest t left
         × (before ++ spans_of_pattern whole ctx d p t0 rest h ≡ now ++ (left ++ alternations whole starts rest))
 
     pub alternatives-start : AlternativesSoFar t0 before []
@@ -48,22 +48,22 @@ module _ (whole : ℕ) (ctx : Context) (d : Direction) where
         let here = so_far p rest h within in
         by here.0 here.1.pattern here.1.derived here.1.within here.1.spans here.2
       where
-        by : (left : List Span) (q : Pattern) (derived : IsPattern ctx q t rest) → levels q ≤ max_nesting_depth →
+        by : (left : List Span) (q : Pattern) (derived : IsPattern ctx q t rest) → nesting q ≤ max_nesting_depth →
             left ≡ spans_of_pattern whole ctx d q t rest derived → before ++ spans_of_pattern whole ctx d p t0 rest h ≡ now
             ++ (left ++ alternations whole starts rest) →
-            (left : List Span) × PatternLeft rest new left
+            (left : List Span) × RemainingPattern rest new left
             × (before ++ spans_of_pattern whole ctx d p t0 rest h ≡ now' ++ (left ++ alternations whole (starts ++ start ∷ []) rest))
         by left (one ts) derived within spans so_far =
             let a = reads ts rest derived.0 (omega (arith, within)) in
             absurd (false≢true (sym derived.1 ∙ ap (is_at bar) (sym a.rest) ∙ at_bar))
         by left (either ts q) derived within spans so_far =
-            let behind = derived.0 in
-            let a = reads ts (bar ∷ behind) derived.1 (omega (arith, within)) in
-            let others = spans_of_pattern whole ctx d q behind rest derived.2 in
-            let first = spans_of_terms whole ctx d ts t (bar ∷ behind) derived.1 ++ span_of_row (how_many ts) (between whole t (bar ∷ behind)) in
-            let at : new ≡ behind = moves ∙ ap (drop 1) a.rest in (
+            let after = derived.0 in
+            let a = reads ts (bar ∷ after) derived.1 (omega (arith, within)) in
+            let others = spans_of_pattern whole ctx d q after rest derived.2 in
+            let first = spans_of_terms whole ctx d ts t (bar ∷ after) derived.1 ++ span_of_alternative (how_many ts) (between whole t (bar ∷ after)) in
+            let at : new ≡ after = moves ∙ ap (drop 1) a.rest in (
               others,
-              subst (λ (u : Source). PatternLeft rest u others) (sym at)
+              subst (λ (u : Source). RemainingPattern rest u others) (sym at)
                   (record { pattern = q; derived = derived.2; within = omega (arith, within); spans = refl }),
               so_far
                   ∙ ap (λ (ss : List Span). now ++ (ss ++ alternations whole starts rest)) spans
@@ -83,7 +83,7 @@ module _ (whole : ℕ) (ctx : Context) (d : Direction) where
         let here = so_far p rest h within in
         by here.0 here.1.pattern here.1.derived here.1.within here.1.spans here.2
       where
-        by : (left : List Span) (q : Pattern) (derived : IsPattern ctx q t rest) → levels q ≤ max_nesting_depth →
+        by : (left : List Span) (q : Pattern) (derived : IsPattern ctx q t rest) → nesting q ≤ max_nesting_depth →
             left ≡ spans_of_pattern whole ctx d q t rest derived → before ++ spans_of_pattern whole ctx d p t0 rest h ≡ now
             ++ (left ++ alternations whole starts rest) →
             Adds before new now'' rest (spans_of_pattern whole ctx d p t0 rest h)
@@ -112,6 +112,6 @@ module _ (whole : ℕ) (ctx : Context) (d : Direction) where
         let here = so_far p rest h within in
         by here.1.pattern here.1.derived here.1.within
       where
-        by : (q : Pattern) (derived : IsPattern ctx q t rest) → levels q ≤ max_nesting_depth → OnRefused fault ⊥
+        by : (q : Pattern) (derived : IsPattern ctx q t rest) → nesting q ≤ max_nesting_depth → OnRejected fault ⊥
         by (one ts) derived within = reads ts rest derived.0 (omega (arith, within))
         by (either ts q) derived within = reads ts (bar ∷ derived.0) derived.1 (omega (arith, within))

@@ -9,15 +9,15 @@ use Rattle.regress_tree.specs.declared.ir.node.Node.{Node}
 use Rattle.regress_tree.specs.Tree.{tree}
 use Rattle.regress_tree.specs.Visits.{nodes}
 use Rattle.regress_tree.specs.Reading.{Direction}
-use Rattle.regress_lexical.specs.declared.fault.Fault.{Fault}
-use Rattle.regress_lexical.specs.Fault.{OnRefused}
-use Rattle.regress_lexical.specs.Source.{Source, Found, found_map, opening, closing, is_at}
-use Rattle.regress_lexical.proofs.laws.Sources.{found_then, to_each, on_refused_then}
-use Rattle.regress_syntax.specs.Syntax.{Atom, Group, grouping, Pattern, Item, atom, group, levels_of_atom, levels_of_item}
+use Rattle.regress_lexer.specs.declared.fault.Fault.{Fault}
+use Rattle.regress_lexer.specs.Fault.{OnRejected}
+use Rattle.regress_lexer.specs.Source.{Source, Found, found_map, opening, closing, is_at}
+use Rattle.regress_lexer.proofs.lemmas.Sources.{found_then, to_each, on_rejected_then}
+use Rattle.regress_syntax.specs.Syntax.{Atom, Group, grouping, Pattern, Item, atom, group, nesting_of_atom, nesting_of_item}
 use Rattle.regress_syntax.specs.Meaning.{direction_of_group}
-use Rattle.regress_syntax.specs.Rows.{Context, context_inside, Head, single, opens, head_of_item, group_allows, atom_allows, allows, group_at, head_at, times_at}
+use Rattle.regress_syntax.specs.Productions.{Context, context_inside, Head, single, opens, head_of_item, group_allows, atom_allows, allows, group_at, head_at, optional_quantifier_at}
 use Rattle.regress_syntax.specs.Grammar.{IsPattern, IsItem}
-use Rattle.regress_syntax.proofs.laws.Rows.{head_at-shortens}
+use Rattle.regress_syntax.proofs.lemmas.Productions.{head_at-shortens}
 use Rattle.regress_parse.specs.Parsing.{atom_at, ReadsAtom}
 use Rattle.regress_parse.specs.TreeOf.{tree_of_atom}
 use Rattle.regress_spans.specs.declared.span.Span.{Span}
@@ -50,8 +50,8 @@ single-is : (a b : Atom) (t rest : Source) → ◌≡◌ {A = Found Head} (Some 
 unfolding the_atom
 single-is a b t rest e = ap (λ (x : Head × Source). the_atom a x.0) (same_Some (single a, t) (single b, rest) e)
 
-behind-is : {A : Type 0} (x y : A × Source) → Some x ≡ Some y → x.1 ≡ y.1
-behind-is {A} x y e = ap (λ (z : A × Source). z.1) (same_Some x y e)
+after-is : {A : Type 0} (x y : A × Source) → Some x ≡ Some y → x.1 ≡ y.1
+after-is {A} x y e = ap (λ (z : A × Source). z.1) (same_Some x y e)
 
 module _ (ctx : Context) where
   -- The start of an item is a group if the source starts with `(`, and otherwise a single item.
@@ -81,10 +81,10 @@ module _ (ctx : Context) where
     -- ---- groups
 
     module _ (at : is_at opening t ≡ true) where
-      pub no_group-fails : (fault : Fault) (new : Source) (now : List Span) → OnRefused fault (group_at ctx.setting.table (drop 1 t) ≡ None) →
+      pub no_group-fails : (fault : Fault) (new : Source) (now : List Span) → OnRejected fault (group_at ctx.setting.table (drop 1 t) ≡ None) →
           ReadsItem whole ctx d t before new now (Err fault)
       no_group-fails fault new now none x rest h within =
-          on_refused_then fault (λ e. no_head x t rest h (opening_head t at ∙ e)) none
+          on_rejected_then fault (λ e. no_head x t rest h (opening_head t at ∙ e)) none
 
       -- The derived group is the one that was parsed.
       module _ (kind : Group) (there : Source) (found : group_at ctx.setting.table (drop 1 t) ≡ Some (opens kind, there)) where
@@ -92,21 +92,21 @@ module _ (ctx : Context) where
         each_group : (P : (x : Item) (rest : Source) → IsItem ctx x t rest → Type 0) →
             ((p : Pattern) (rest : Source) (head : head_at ctx t ≡ Some (opens kind, there)) (body : IsPattern (context_inside kind ctx) p there
             (closing ∷ rest)) →
-            levels_of_item (group kind p) ≤ max_nesting_depth → P (group kind p) rest (there, head, body)) →
-            (x : Item) (rest : Source) (h : IsItem ctx x t rest) → levels_of_item x ≤ max_nesting_depth → P x rest h
+            nesting_of_item (group kind p) ≤ max_nesting_depth → P (group kind p) rest (there, head, body)) →
+            (x : Item) (rest : Source) (h : IsItem ctx x t rest) → nesting_of_item x ≤ max_nesting_depth → P x rest h
         each_group P f (atom a) rest h within = absurd (apart a kind rest there (sym h ∙ opening_head t at ∙ found))
         each_group P f (group other p) rest h within =
             let e = sym (opening_head t at ∙ found) ∙ h.1 in
-            by other h.0 (opened-is kind other there h.0 e) (behind-is (opens kind, there) (opens other, h.0) e) h.1 h.2 within
+            by other h.0 (opened-is kind other there h.0 e) (after-is (opens kind, there) (opens other, h.0) e) h.1 h.2 within
           where
             by : (other : Group) (mid : Source) → kind ≡ other → there ≡ mid → (head : head_at ctx t ≡ Some (opens other, mid))
-                (body : IsPattern (context_inside other ctx) p mid (closing ∷ rest)) → levels_of_item (group other p) ≤ max_nesting_depth →
+                (body : IsPattern (context_inside other ctx) p mid (closing ∷ rest)) → nesting_of_item (group other p) ≤ max_nesting_depth →
                 P (group other p) rest (mid, head, body)
             by other mid same at =
                 subst (λ (k : Group). (head : head_at ctx t ≡ Some (opens k, mid)) (body : IsPattern (context_inside k ctx) p mid (closing ∷ rest)) →
-                levels_of_item (group k p) ≤ max_nesting_depth → P (group k p) rest (mid, head, body)) same
+                nesting_of_item (group k p) ≤ max_nesting_depth → P (group k p) rest (mid, head, body)) same
                 (subst (λ (u : Source). (head : head_at ctx t ≡ Some (opens kind, u)) (body : IsPattern (context_inside kind ctx) p u (closing ∷ rest)) →
-                levels_of_item (group kind p) ≤ max_nesting_depth → P (group kind p) rest (u, head, body)) at
+                nesting_of_item (group kind p) ≤ max_nesting_depth → P (group kind p) rest (u, head, body)) at
                 (f p rest))
 
         module _ (mid : Source) (now : List Span) where
@@ -114,13 +114,13 @@ module _ (ctx : Context) where
               ReadsPattern whole (context_inside kind ctx) (direction_of_group kind d) there before mid now (Err fault) →
               ReadsItem whole ctx d t before new now' (Err fault)
           group-fails fault new now' reads =
-              each_group (λ x rest h. OnRefused fault ⊥) (λ p rest head body within. reads p (closing ∷ rest) body (omega (arith, within)))
+              each_group (λ x rest h. OnRejected fault ⊥) (λ p rest head body within. reads p (closing ∷ rest) body (omega (arith, within)))
 
           module _ (reads : ReadsPattern whole (context_inside kind ctx) (direction_of_group kind d) there before mid now (Ok tt)) where
             pub no_closing-fails : (fault : Fault) (new : Source) (now' : List Span) → is_at closing mid ≡ false →
                 ReadsItem whole ctx d t before new now' (Err fault)
             no_closing-fails fault new now' none =
-                each_group (λ x rest h. OnRefused fault ⊥)
+                each_group (λ x rest h. OnRejected fault ⊥)
                 (λ p rest head body within.
                 let a = reads p (closing ∷ rest) body (omega (arith, within)) in
                 absurd (false≢true (sym none ∙ ap (is_at closing) a.rest)))
@@ -152,12 +152,12 @@ module _ (ctx : Context) where
       pub atom-fails : (fault : Fault) (new : Source) (now : List Span) (allowed : Bool) →
           ReadsAtom ctx max_nesting_depth allowed new (Err fault) (atom_at ctx t) → ReadsItem whole ctx d t before new now (Err fault)
       atom-fails fault new now allowed reads (atom a) rest h within =
-          on_refused_then fault
+          on_rejected_then fault
           (λ deep.
           let found = found_then (atom_at ctx t) (λ (x : Atom × Source). Some (single x.0, x.1)) (single a, rest) (sym (atom_head t none) ∙ h) in
           let same = single-is found.0.0 a found.0.1 rest found.2 in
           let over = to_each (atom_at ctx t) _ deep found.0 found.1 in
-          omega (arith, over, within, ap levels_of_atom same)) reads
+          omega (arith, over, within, ap nesting_of_atom same)) reads
       atom-fails fault new now allowed reads (group kind p) rest h within =
           let found = found_then (atom_at ctx t) (λ (x : Atom × Source). Some (single x.0, x.1)) (opens kind, h.0) (sym (atom_head t none) ∙ h.1) in
           absurd (apart found.0.0 kind found.0.1 h.0 found.2)
@@ -174,7 +174,7 @@ module _ (ctx : Context) where
       atom-reads new now allowed node reads added (atom a) rest h within =
           let e = sym (atom_head t none ∙ ap (found_map single) reads.1) ∙ h in
           let same = single-is reads.0 a new rest e in
-          let end : new ≡ rest = behind-is (single reads.0, new) (single a, rest) e in (
+          let end : new ≡ rest = after-is (single reads.0, new) (single a, rest) e in (
             sym reads.2.allows ∙ ap atom_allows same,
             record {
               rest = end;
@@ -190,35 +190,35 @@ module _ (ctx : Context) where
 
     pub item-fails : (fault : Fault) (mid new : Source) (now now' : List Span) → ReadsItem whole ctx d t before mid now (Err fault) →
         ReadsTerm whole ctx d t before new now' (Err fault)
-    item-fails fault mid new now now' reads x q behind rest h times within = reads x behind h within
+    item-fails fault mid new now now' reads x q after rest h times within = reads x after h within
 
     module _ (mid : Source) (now : List Span) (allowed : Bool) (reads : ReadsItem whole ctx d t before mid now (Ok allowed)) where
-      same_times : (x : Item) (behind : Source) (h : IsItem ctx x t behind) → levels_of_item x ≤ max_nesting_depth →
-          times_at ctx allowed mid ≡ times_at ctx (allows ctx.setting.flags.unicode (head_of_item x)) behind
-      same_times x behind h within =
-          let a = reads x behind h within in
-          ap (λ b. times_at ctx b mid) a.0 ∙ ap (times_at ctx (allows ctx.setting.flags.unicode (head_of_item x))) a.1.rest
+      same_times : (x : Item) (after : Source) (h : IsItem ctx x t after) → nesting_of_item x ≤ max_nesting_depth →
+          optional_quantifier_at ctx allowed mid ≡ optional_quantifier_at ctx (allows ctx.setting.flags.unicode (head_of_item x)) after
+      same_times x after h within =
+          let a = reads x after h within in
+          ap (λ b. optional_quantifier_at ctx b mid) a.0 ∙ ap (optional_quantifier_at ctx (allows ctx.setting.flags.unicode (head_of_item x))) a.1.rest
 
-      pub times-fail : (fault : Fault) (new : Source) (now' : List Span) → times_at ctx allowed mid ≡ None → ReadsTerm whole ctx d t before new now'
+      pub times-fail : (fault : Fault) (new : Source) (now' : List Span) → optional_quantifier_at ctx allowed mid ≡ None → ReadsTerm whole ctx d t before new now'
           (Err fault)
-      times-fail fault new now' none x q behind rest h times within =
-          absurd (none-some (q, rest) (sym none ∙ same_times x behind h within ∙ times))
+      times-fail fault new now' none x q after rest h times within =
+          absurd (none-some (q, rest) (sym none ∙ same_times x after h within ∙ times))
 
-      pub term-reads : (q : Option Quantifier) (new : Source) (now' : List Span) → times_at ctx allowed mid ≡ Some (q, new) →
+      pub term-reads : (q : Option Quantifier) (new : Source) (now' : List Span) → optional_quantifier_at ctx allowed mid ≡ Some (q, new) →
           now' ≡ now ++ span_of_times q (between whole t new) → ReadsTerm whole ctx d t before new now' (Ok tt)
-      term-reads q new now' found added x q' behind rest h times within =
-          let a = reads x behind h within in
-          let e = sym found ∙ same_times x behind h within ∙ times in
+      term-reads q new now' found added x q' after rest h times within =
+          let a = reads x after h within in
+          let e = sym found ∙ same_times x after h within ∙ times in
           let same : q ≡ q' = ap (λ (z : Option Quantifier × Source). z.0) (same_Some (q, new) (q', rest) e) in
-          let end : new ≡ rest = behind-is (q, new) (q', rest) e in
+          let end : new ≡ rest = after-is (q, new) (q', rest) e in
           record {
             rest = end;
             spans =
                 added
                 ∙ ap (λ (ss : List Span). ss ++ span_of_times q (between whole t new)) a.1.spans
-                ∙ append_assoc before (spans_of_item whole ctx d x t behind h) (span_of_times q (between whole t new))
-                ∙ ap (λ (u : Source). before ++ (spans_of_item whole ctx d x t behind h ++ span_of_times q (between whole t u))) end
-                ∙ ap (λ r. before ++ (spans_of_item whole ctx d x t behind h ++ span_of_times r (between whole t rest))) same;
+                ∙ append_assoc before (spans_of_item whole ctx d x t after h) (span_of_times q (between whole t new))
+                ∙ ap (λ (u : Source). before ++ (spans_of_item whole ctx d x t after h ++ span_of_times q (between whole t u))) end
+                ∙ ap (λ r. before ++ (spans_of_item whole ctx d x t after h ++ span_of_times r (between whole t rest))) same;
           }
 
 -- The same for an equal length, context and direction.

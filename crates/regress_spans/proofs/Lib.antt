@@ -1,4 +1,4 @@
-pub mod laws
+pub mod lemmas
 mod ListLemmas
 mod TreeLemmas
 mod TermsLemmas

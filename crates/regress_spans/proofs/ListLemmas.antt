@@ -3,9 +3,9 @@ use Rattle.std.proofs.Common.{◌≡◌, ℕ, ◌-◌, ◌==◌, Bool, true, fal
 use Rattle.std.specs.declared.alloc.Global.{Global}
 use Rattle.std.proofs.lemmas.List.{append_assoc, append-nil}
 use Rattle.regress_base.specs.declared.types.Quantifier.{Quantifier}
-use Rattle.regress_lexical.specs.Source.{Source}
+use Rattle.regress_lexer.specs.Source.{Source}
 use Rattle.regress_spans.specs.declared.span.Span.{Span}
-use Rattle.regress_spans.specs.Spans.{span_of_times, span_of_row}
+use Rattle.regress_spans.specs.Spans.{span_of_times, span_of_alternative}
 use Rattle.regress_spans.specs.Reading.{turned, alternations}
 
 pub alternations-push : (whole : ℕ) (lefts : List ℕ) (left : ℕ) (rest : Source) →
@@ -28,8 +28,8 @@ alternative_joined now first others all around =
     ∙ sym (append_assoc now first (others ++ (all ∷ [] ++ around)))
 
 -- The conditional span of an alternative is the one of the definition, and so is that of a quantifier.
-pub row_if : (n : ℕ) (s : Span) → cond (not (n == 1)) (s ∷ []) [] ≡ span_of_row n s
-row_if n s = by (n == 1)
+pub alternative_if : (n : ℕ) (s : Span) → cond (not (n == 1)) (s ∷ []) [] ≡ span_of_alternative n s
+alternative_if n s = by (n == 1)
   where
     by : (b : Bool) → cond (not b) (s ∷ []) [] ≡ cond b [] (s ∷ [])
     by true = refl

@@ -6,14 +6,14 @@ use Rattle.std.proofs.lemmas.Bool.{false≢true}
 use Rattle.std.proofs.lemmas.Option.{none-some}
 use Rattle.regress_base.specs.Limits.{max_nesting_depth}
 use Rattle.regress_tree.specs.Reading.{Direction, forwards, backwards}
-use Rattle.regress_lexical.specs.declared.fault.Fault.{Fault}
-use Rattle.regress_lexical.specs.Source.{Source, ends_alternative}
-use Rattle.regress_syntax.specs.Syntax.{Terms, Item, no_terms, more_terms, atom, group, levels_of_terms}
-use Rattle.regress_syntax.specs.Rows.{Context, Head, single, opens, head_at}
+use Rattle.regress_lexer.specs.declared.fault.Fault.{Fault}
+use Rattle.regress_lexer.specs.Source.{Source, ends_alternative}
+use Rattle.regress_syntax.specs.Syntax.{Terms, Item, no_terms, more_terms, atom, group, nesting_of_terms}
+use Rattle.regress_syntax.specs.Productions.{Context, Head, single, opens, head_at}
 use Rattle.regress_syntax.specs.Grammar.{AreTerms, IsItem}
-use Rattle.regress_syntax.proofs.laws.Rows.{no_head_at_end}
+use Rattle.regress_syntax.proofs.lemmas.Productions.{no_head_at_end}
 use Rattle.regress_spans.specs.declared.span.Span.{Span}
-use Rattle.regress_spans.specs.Spans.{in_order, how_many, span_of_times, span_of_row, between, spans_of_terms, spans_of_item}
+use Rattle.regress_spans.specs.Spans.{in_order, how_many, span_of_times, span_of_alternative, between, spans_of_terms, spans_of_item}
 use Rattle.regress_spans.specs.Reading.{turned, Does, ReadsAlternative, ReadsTerms, ReadsTerm}
 use Rattle.regress_spans.proofs.ListLemmas.{turned-push}
 
@@ -32,10 +32,10 @@ does_then (Err fault) f h = h
 
 module _ (whole : ℕ) (ctx : Context) where
   -- The remaining terms of the alternative, after the first `count` of `many`, have these spans.
-  pub record TermsLeft (d : Direction) (rest : Source) (many : ℕ) (t : Source) (left : List Span) (count : ℕ) : Type 0 where
+  pub record RemainingTerms (d : Direction) (rest : Source) (many : ℕ) (t : Source) (left : List Span) (count : ℕ) : Type 0 where
     pub terms : Terms
     pub derived : AreTerms ctx terms t rest
-    pub within : levels_of_terms terms ≤ max_nesting_depth
+    pub within : nesting_of_terms terms ≤ max_nesting_depth
     pub spans : left ≡ spans_of_terms whole ctx d terms t rest derived
     pub all : many ≡ count + how_many terms
 
@@ -46,15 +46,15 @@ module _ (whole : ℕ) (ctx : Context) where
     pub others : List Span
     pub added : now ≡ before ++ part
     pub spans : left ≡ in_order d part others
-    pub left_over : TermsLeft d rest many new others (count + 1)
+    pub left_over : RemainingTerms d rest many new others (count + 1)
 
   term-read : (d : Direction) (rest : Source) (many : ℕ) (t : Source) (left : List Span) (count : ℕ) (before : List Span)
       (new : Source) (now : List Span) (result : Result (Unit {0}) Fault) →
-      TermsLeft d rest many t left count → ends_alternative t ≡ false → ReadsTerm whole ctx d t before new now result →
+      RemainingTerms d rest many t left count → ends_alternative t ≡ false → ReadsTerm whole ctx d t before new now result →
       Does result (λ _. TermRead d rest many left count before new now)
   term-read d rest many t left count before new now result h goes_on reads = by h.terms h.derived h.within h.spans h.all
     where
-      by : (ts : Terms) (derived : AreTerms ctx ts t rest) → levels_of_terms ts ≤ max_nesting_depth →
+      by : (ts : Terms) (derived : AreTerms ctx ts t rest) → nesting_of_terms ts ≤ max_nesting_depth →
           left ≡ spans_of_terms whole ctx d ts t rest derived → many ≡ count + how_many ts →
           Does result (λ _. TermRead d rest many left count before new now)
       by no_terms derived within spans all = absurd (false≢true (sym goes_on ∙ derived.0))
@@ -66,7 +66,7 @@ module _ (whole : ℕ) (ctx : Context) where
             added = a.spans;
             spans = spans;
             left_over =
-                subst (λ (u : Source). TermsLeft d rest many u (spans_of_terms whole ctx d xs derived.1 rest derived.4) (count + 1)) (sym a.rest)
+                subst (λ (u : Source). RemainingTerms d rest many u (spans_of_terms whole ctx d xs derived.1 rest derived.4) (count + 1)) (sym a.rest)
                 (record {
                   terms = xs;
                   derived = derived.4;
@@ -78,7 +78,7 @@ module _ (whole : ℕ) (ctx : Context) where
           (reads x q derived.0 derived.1 derived.2 derived.3 (omega (arith, within)))
 
   terms-end : (d : Direction) (rest : Source) (many : ℕ) (t : Source) (left : List Span) (count : ℕ) →
-      TermsLeft d rest many t left count → ends_alternative t ≡ true → (t ≡ rest) × (left ≡ []) × (count ≡ many)
+      RemainingTerms d rest many t left count → ends_alternative t ≡ true → (t ≡ rest) × (left ≡ []) × (count ≡ many)
   terms-end d rest many t left count h ends = by h.terms h.derived h.spans h.all
     where
       by : (ts : Terms) (derived : AreTerms ctx ts t rest) → left ≡ spans_of_terms whole ctx d ts t rest derived → many ≡ count + how_many ts →
@@ -87,16 +87,16 @@ module _ (whole : ℕ) (ctx : Context) where
       by (more_terms x q xs) derived spans all = absurd (no_item ctx x t derived.0 derived.2 ends)
 
   module _ (t0 : Source) where
-    terms-start : (d : Direction) (ts : Terms) (rest : Source) (h : AreTerms ctx ts t0 rest) → levels_of_terms ts ≤ max_nesting_depth →
-        TermsLeft d rest (how_many ts) t0 (spans_of_terms whole ctx d ts t0 rest h) 0
+    terms-start : (d : Direction) (ts : Terms) (rest : Source) (h : AreTerms ctx ts t0 rest) → nesting_of_terms ts ≤ max_nesting_depth →
+        RemainingTerms d rest (how_many ts) t0 (spans_of_terms whole ctx d ts t0 rest h) 0
     terms-start d ts rest h within = record { terms = ts; derived = h; within = within; spans = refl; all = omega arith }
 
     -- ---- forwards: all spans are in one list
 
     pub ForwardsSoFar : (before : List Span) (t : Source) (now : List Span) (count : ℕ) → Type 0
     ForwardsSoFar before t now count =
-        (ts : Terms) (rest : Source) (h : AreTerms ctx ts t0 rest) → levels_of_terms ts ≤ max_nesting_depth →
-        (left : List Span) × TermsLeft forwards rest (how_many ts) t left count
+        (ts : Terms) (rest : Source) (h : AreTerms ctx ts t0 rest) → nesting_of_terms ts ≤ max_nesting_depth →
+        (left : List Span) × RemainingTerms forwards rest (how_many ts) t left count
         × (before ++ spans_of_terms whole ctx forwards ts t0 rest h ≡ now ++ left)
 
     pub forwards-start : (before : List Span) → ForwardsSoFar before t0 before 0
@@ -144,8 +144,8 @@ module _ (whole : ℕ) (ctx : Context) where
 
     pub BackwardsSoFar : (t : Source) (parts : List (Vec Span Global)) → Type 0
     BackwardsSoFar t parts =
-        (ts : Terms) (rest : Source) (h : AreTerms ctx ts t0 rest) → levels_of_terms ts ≤ max_nesting_depth →
-        (left : List Span) × TermsLeft backwards rest (how_many ts) t left (length parts)
+        (ts : Terms) (rest : Source) (h : AreTerms ctx ts t0 rest) → nesting_of_terms ts ≤ max_nesting_depth →
+        (left : List Span) × RemainingTerms backwards rest (how_many ts) t left (length parts)
         × (spans_of_terms whole ctx backwards ts t0 rest h ≡ left ++ turned parts)
 
     pub backwards-start : BackwardsSoFar t0 []
@@ -164,7 +164,7 @@ module _ (whole : ℕ) (ctx : Context) where
         let here = so_far ts rest h within in
         let r = term-read backwards rest (how_many ts) t here.0 (length parts) [] new part.items (Ok x) here.1 goes_on reads in (
           r.others,
-          subst (λ n. TermsLeft backwards rest (how_many ts) new r.others n) (sym (length_push parts part)) r.left_over,
+          subst (λ n. RemainingTerms backwards rest (how_many ts) new r.others n) (sym (length_push parts part)) r.left_over,
           here.2
               ∙ ap (λ (ss : List Span). ss ++ turned parts) r.spans
               ∙ append_assoc r.others r.part (turned parts)
@@ -198,7 +198,7 @@ module _ (whole : ℕ) (ctx : Context) where
     -- ---- an alternative: its terms, then its own node
 
     pub alternative-reads : (d : Direction) (before : List Span) (new : Source) (now now' : List Span) (count : ℕ) →
-        ReadsTerms whole ctx d t0 before new now (Ok count) → now' ≡ now ++ span_of_row count (between whole t0 new) →
+        ReadsTerms whole ctx d t0 before new now (Ok count) → now' ≡ now ++ span_of_alternative count (between whole t0 new) →
         ReadsAlternative whole ctx d t0 before new now' (Ok tt)
     alternative-reads d before new now now' count reads added ts rest h within =
         let a = reads ts rest h within in
@@ -206,8 +206,8 @@ module _ (whole : ℕ) (ctx : Context) where
           rest = a.1.rest;
           spans =
               added
-              ∙ ap (λ (ss : List Span). ss ++ span_of_row count (between whole t0 new)) a.1.spans
-              ∙ append_assoc before (spans_of_terms whole ctx d ts t0 rest h) (span_of_row count (between whole t0 new))
-              ∙ ap (λ n. before ++ (spans_of_terms whole ctx d ts t0 rest h ++ span_of_row n (between whole t0 new))) a.0
-              ∙ ap (λ (u : Source). before ++ (spans_of_terms whole ctx d ts t0 rest h ++ span_of_row (how_many ts) (between whole t0 u))) a.1.rest;
+              ∙ ap (λ (ss : List Span). ss ++ span_of_alternative count (between whole t0 new)) a.1.spans
+              ∙ append_assoc before (spans_of_terms whole ctx d ts t0 rest h) (span_of_alternative count (between whole t0 new))
+              ∙ ap (λ n. before ++ (spans_of_terms whole ctx d ts t0 rest h ++ span_of_alternative n (between whole t0 new))) a.0
+              ∙ ap (λ (u : Source). before ++ (spans_of_terms whole ctx d ts t0 rest h ++ span_of_alternative (how_many ts) (between whole t0 u))) a.1.rest;
         }

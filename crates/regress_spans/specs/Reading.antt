@@ -5,23 +5,23 @@ use Rattle.regress_base.specs.Limits.{max_nesting_depth}
 use Rattle.regress_base.specs.declared.types.Quantifier.{Quantifier}
 use Rattle.regress_tree.specs.Reading.{Direction, direction_if}
 use Rattle.regress_tree.specs.Tree.{Tree, leaf, alt}
-use Rattle.regress_lexical.specs.declared.fault.Fault.{Fault}
-use Rattle.regress_lexical.specs.Fault.{OnRefused}
-use Rattle.regress_lexical.specs.Source.{Source}
-use Rattle.regress_syntax.specs.Syntax.{Pattern, Terms, Item, levels, levels_of_terms, levels_of_item}
-use Rattle.regress_syntax.specs.Rows.{Context, head_of_item, allows, times_at}
+use Rattle.regress_lexer.specs.declared.fault.Fault.{Fault}
+use Rattle.regress_lexer.specs.Fault.{OnRejected}
+use Rattle.regress_lexer.specs.Source.{Source}
+use Rattle.regress_syntax.specs.Syntax.{Pattern, Terms, Item, nesting, nesting_of_terms, nesting_of_item}
+use Rattle.regress_syntax.specs.Productions.{Context, head_of_item, allows, optional_quantifier_at}
 use Rattle.regress_syntax.specs.Grammar.{IsPattern, AreTerms, IsItem}
 use Rattle.regress_syntax.specs.Views.{context_of}
-use Rattle.regress_spans.specs.declared.around.Around.{Around}
+use Rattle.regress_spans.specs.declared.around.PartContext.{PartContext}
 use Rattle.regress_spans.specs.declared.span.Span.{Span}
-use Rattle.regress_spans.specs.Spans.{span_of_times, span_of_row, how_many, between, spans_of_pattern, spans_of_terms, spans_of_item}
+use Rattle.regress_spans.specs.Spans.{span_of_times, span_of_alternative, how_many, between, spans_of_pattern, spans_of_terms, spans_of_item}
 
 -- the context of the productions
-abbrev pub context_in : Around → Context
+abbrev pub context_in : PartContext → Context
 context_in around = context_of around.scope
 
 -- the direction in which the part is matched
-abbrev pub direction_of : Around → Direction
+abbrev pub direction_of : PartContext → Direction
 direction_of around = direction_if around.backwards
 
 -- one node, or a chain of `Alt` nodes whose alternatives are leaves
@@ -45,11 +45,11 @@ alternations whole (left ∷ lefts) rest =
 -- The call succeeds with this property, or an allocation fails. It never rejects the pattern.
 abbrev pub Does : {X : Type 0} → Result X Fault → (X → Type 0) → Type 0
 Does (Ok x) P = P x
-Does (Err fault) P = OnRefused fault ⊥
+Does (Err fault) P = OnRejected fault ⊥
 
 -- The cursor is after the part, and the part's spans are appended.
-pub record Adds (before : List Span) (new : Source) (now : List Span) (behind : Source) (part : List Span) : Type 0 where
-  pub rest : new ≡ behind
+pub record Adds (before : List Span) (new : Source) (now : List Span) (after : Source) (part : List Span) : Type 0 where
+  pub rest : new ≡ after
   pub spans : now ≡ before ++ part
 
 -- What a call does if the grammar derives a pattern at its position, within the limit of the nesting depth; then the
@@ -57,29 +57,29 @@ pub record Adds (before : List Span) (new : Source) (now : List Span) (behind : 
 module _ (whole : ℕ) (ctx : Context) where
   abbrev pub ReadsPattern : Direction → Source → List Span → Source → List Span → Result (Unit {0}) Fault → Type 0
   ReadsPattern d t before new now result =
-      (p : Pattern) (rest : Source) (h : IsPattern ctx p t rest) → levels p ≤ max_nesting_depth →
+      (p : Pattern) (rest : Source) (h : IsPattern ctx p t rest) → nesting p ≤ max_nesting_depth →
       Does result (λ _. Adds before new now rest (spans_of_pattern whole ctx d p t rest h))
 
   abbrev pub ReadsAlternative : Direction → Source → List Span → Source → List Span → Result (Unit {0}) Fault → Type 0
   ReadsAlternative d t before new now result =
-      (ts : Terms) (rest : Source) (h : AreTerms ctx ts t rest) → levels_of_terms ts ≤ max_nesting_depth →
-      Does result (λ _. Adds before new now rest (spans_of_terms whole ctx d ts t rest h ++ span_of_row (how_many ts) (between whole t rest)))
+      (ts : Terms) (rest : Source) (h : AreTerms ctx ts t rest) → nesting_of_terms ts ≤ max_nesting_depth →
+      Does result (λ _. Adds before new now rest (spans_of_terms whole ctx d ts t rest h ++ span_of_alternative (how_many ts) (between whole t rest)))
 
   -- also returns the number of terms
   abbrev pub ReadsTerms : Direction → Source → List Span → Source → List Span → Result ℕ Fault → Type 0
   ReadsTerms d t before new now result =
-      (ts : Terms) (rest : Source) (h : AreTerms ctx ts t rest) → levels_of_terms ts ≤ max_nesting_depth →
+      (ts : Terms) (rest : Source) (h : AreTerms ctx ts t rest) → nesting_of_terms ts ≤ max_nesting_depth →
       Does result (λ count. (count ≡ how_many ts) × Adds before new now rest (spans_of_terms whole ctx d ts t rest h))
 
   abbrev pub ReadsTerm : Direction → Source → List Span → Source → List Span → Result (Unit {0}) Fault → Type 0
   ReadsTerm d t before new now result =
       (x : Item) (q : Option Quantifier) (mid rest : Source) (h : IsItem ctx x t mid) →
-      times_at ctx (allows ctx.setting.flags.unicode (head_of_item x)) mid ≡ Some (q, rest) → levels_of_item x ≤ max_nesting_depth →
+      optional_quantifier_at ctx (allows ctx.setting.flags.unicode (head_of_item x)) mid ≡ Some (q, rest) → nesting_of_item x ≤ max_nesting_depth →
       Does result (λ _. Adds before new now rest (spans_of_item whole ctx d x t mid h ++ span_of_times q (between whole t rest)))
 
   -- also returns whether a quantifier may follow the item
   abbrev pub ReadsItem : Direction → Source → List Span → Source → List Span → Result Bool Fault → Type 0
   ReadsItem d t before new now result =
-      (x : Item) (rest : Source) (h : IsItem ctx x t rest) → levels_of_item x ≤ max_nesting_depth →
+      (x : Item) (rest : Source) (h : IsItem ctx x t rest) → nesting_of_item x ≤ max_nesting_depth →
       Does result (λ allowed. (allowed ≡ allows ctx.setting.flags.unicode (head_of_item x))
       × Adds before new now rest (spans_of_item whole ctx d x t rest h))

@@ -5,10 +5,10 @@ use Rattle.regress_base.specs.declared.types.Quantifier.{Quantifier}
 use Rattle.regress_tree.specs.Reading.{Direction, forwards, backwards}
 use Rattle.regress_tree.specs.Setting.{Setting}
 use Rattle.regress_tree.specs.Visits.{nodes}
-use Rattle.regress_lexical.specs.Source.{Source, closing, bar}
+use Rattle.regress_lexer.specs.Source.{Source, closing, bar}
 use Rattle.regress_syntax.specs.Syntax.{Group, grouping, modified, capture, look, Pattern, Terms, Item, one, either, no_terms, more_terms, atom, group}
 use Rattle.regress_syntax.specs.Meaning.{direction_of_group}
-use Rattle.regress_syntax.specs.Rows.{Context, context_inside}
+use Rattle.regress_syntax.specs.Productions.{Context, context_inside}
 use Rattle.regress_syntax.specs.Grammar.{IsPattern, AreTerms, IsItem}
 use Rattle.regress_parse.specs.Accepted.{own_context, IsDerived}
 use Rattle.regress_parse.specs.TreeOf.{tree_of_atom}
@@ -22,9 +22,9 @@ pub record IsWithin (outer s : Span) : Type 0 where
 
 -- one span is inside the other, or they share no code point
 pub data IsInsideOrApart (s outer : Span) : Type 0 where
-  lies_inside : IsWithin outer s → IsInsideOrApart s outer
+  is_inside : IsWithin outer s → IsInsideOrApart s outer
   ends_before : s.end ≤ outer.start → IsInsideOrApart s outer
-  begins_behind : outer.end ≤ s.start → IsInsideOrApart s outer
+  begins_after : outer.end ≤ s.start → IsInsideOrApart s outer
 
 -- the span of the loop around an item, if a quantifier follows it
 abbrev pub span_of_times : Option Quantifier → Span → List Span
@@ -46,8 +46,8 @@ how_many no_terms = 0
 how_many (more_terms x q xs) = 1 + how_many xs
 
 -- A single term needs no further node. For no terms there is an `Empty`, for several a `Cat` around them.
-abbrev pub span_of_row : ℕ → Span → List Span
-span_of_row terms s = if terms == 1 then [] else s ∷ []
+abbrev pub span_of_alternative : ℕ → Span → List Span
+span_of_alternative terms s = if terms == 1 then [] else s ∷ []
 
 -- The spans of the first part and of the others, in the order of the tree: reversed where matching runs backwards.
 abbrev pub in_order : Direction → List Span → List Span → List Span
@@ -64,17 +64,17 @@ module _ (whole : ℕ) where
   abbrev mutual
     pub spans_of_pattern : (ctx : Context) → Direction → (p : Pattern) (t rest : Source) → IsPattern ctx p t rest → List Span
     spans_of_pattern ctx d (one ts) t rest (terms, last) =
-        spans_of_terms ctx d ts t rest terms ++ span_of_row (how_many ts) (between t rest)
+        spans_of_terms ctx d ts t rest terms ++ span_of_alternative (how_many ts) (between t rest)
     spans_of_pattern ctx d (either ts p) t rest (mid, terms, others) =
-        spans_of_terms ctx d ts t (bar ∷ mid) terms ++ span_of_row (how_many ts) (between t (bar ∷ mid))
+        spans_of_terms ctx d ts t (bar ∷ mid) terms ++ span_of_alternative (how_many ts) (between t (bar ∷ mid))
         ++ spans_of_pattern ctx d p mid rest others
         ++ between t rest ∷ []
 
     -- each item with its quantifier
     pub spans_of_terms : (ctx : Context) → Direction → (ts : Terms) (t rest : Source) → AreTerms ctx ts t rest → List Span
     spans_of_terms ctx d no_terms t rest ends = []
-    spans_of_terms ctx d (more_terms x q xs) t rest (mid, behind, item, times, others) =
-        in_order d (spans_of_item ctx d x t mid item ++ span_of_times q (between t behind)) (spans_of_terms ctx d xs behind rest others)
+    spans_of_terms ctx d (more_terms x q xs) t rest (mid, after, item, times, others) =
+        in_order d (spans_of_item ctx d x t mid item ++ span_of_times q (between t after)) (spans_of_terms ctx d xs after rest others)
 
     -- Each node of an item without a body has the span of the item.
     pub spans_of_item : (ctx : Context) → Direction → (x : Item) (t rest : Source) → IsItem ctx x t rest → List Span

@@ -1,13 +1,13 @@
 //! Appends spans to a list.
 ghost use Rattle.std.specs.Prelude.{◌≡◌, [], ◌∷◌, ◌++◌, OnOk, length, replicate, if◌then◌else◌};
-ghost use Rattle.regress_lexical.specs.Views.{source};
+ghost use Rattle.regress_lexer.specs.Views.{source};
 ghost use Rattle.regress_tree.specs.Tree.{tree};
 ghost use Rattle.regress_tree.specs.Visits.{nodes};
 ghost use Rattle.regress_spans.specs.Reading.{IsFlat, turned, alternations};
 
-use crate::around::Around;
+use crate::around::PartContext;
 use crate::span::Span;
-use regress_lexical::cursor::Cursor;
+use regress_lexer::cursor::Cursor;
 use regress_tree::ir::Node;
 use std::alloc::AllocError;
 
@@ -42,7 +42,7 @@ pub(crate) fn push_nodes(spans: &mut Vec<Span>, item: &Node, span: Span) -> Resu
 pub(crate) fn push_alternations(
     spans: &mut Vec<Span>,
     mut starts: Vec<usize>,
-    around: &Around,
+    around: &PartContext,
     cursor: &Cursor,
 ) -> Result<(), AllocError>
     ensures { OnOk result (spans.new.items ≡
@@ -55,7 +55,7 @@ pub(crate) fn push_alternations(
 }
 
 /// Appends the spans of the parts in reverse order of the parts.
-pub(crate) fn push_turned(
+pub(crate) fn push_reversed(
     spans: &mut Vec<Span>,
     mut parts: Vec<Vec<Span>>,
 ) -> Result<(), AllocError>

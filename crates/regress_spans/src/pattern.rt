@@ -4,23 +4,23 @@ ghost use Rattle.regress_unicode.specs.TableOf.{table_of};
 ghost use Rattle.regress_tree.specs.Tree.{tree};
 ghost use Rattle.regress_tree.specs.Visits.{nodes};
 ghost use Rattle.regress_tree.specs.WellFormed.{IsWellFormed};
-ghost use Rattle.regress_lexical.specs.Fault.{FailsOnlyIf};
-ghost use Rattle.regress_lexical.specs.Source.{IsCodePoint};
+ghost use Rattle.regress_lexer.specs.Fault.{FailsOnlyIf};
+ghost use Rattle.regress_lexer.specs.Source.{IsCodePoint};
 ghost use Rattle.regress_syntax.specs.Syntax.{Pattern};
 ghost use Rattle.regress_syntax.specs.SettingOf.{setting_of};
 ghost use Rattle.regress_parse.specs.Accepted.{IsAccepted, NoneIsAccepted, IsTrueOf, MayExceed, OneIsDerived, OfAccepted, Means};
-ghost use Rattle.regress_parse.specs.Fault.{RefusedOnlyIf, Tells, unplaced, IsPlacedWithin};
-ghost use Rattle.regress_parse.specs.Settled.{IsSettled, TellsAt};
+ghost use Rattle.regress_parse.specs.Fault.{RejectedOnlyIf, ReportsKind, unplaced, HasPositionWithin};
+ghost use Rattle.regress_parse.specs.Settled.{IsFinal, ReportsKindAt};
 ghost use Rattle.regress_parse.specs.TreeOf.{tree_of};
 ghost use Rattle.regress_spans.specs.Spans.{IsWithin, IsInsideOrApart, spans_of};
 ghost use Rattle.regress_spans.specs.Reading.{ReadsPattern};
 
-use crate::around::Around;
-use crate::reading::read_disjunction;
+use crate::around::PartContext;
+use crate::reading::parse_disjunction;
 use crate::span::Span;
 use regress_base::types::Flags;
-use regress_lexical::cursor::Cursor;
-use regress_parse::{PlacedFault, try_parse_with_place};
+use regress_lexer::cursor::Cursor;
+use regress_parse::{PlacedFault, try_parse_with_position};
 use regress_syntax::{Fault, Scope, scan_groups};
 use regress_tree::ir::Regex;
 use regress_unicode::Tables;
@@ -34,7 +34,7 @@ pub struct SpannedRegex {
     pub spans: Vec<Span>,
 }
 
-/// Parses a pattern as [`try_parse_with_place`] does, and returns a span for each node of the tree.
+/// Parses a pattern as [`try_parse_with_position`] does, and returns a span for each node of the tree.
 ///
 /// Spans are half-open ranges of 0-based code-point indices:
 ///
@@ -53,7 +53,7 @@ pub struct SpannedRegex {
 /// Each element of `pattern` is a code point, at most U+10FFFF.
 ///
 /// # Errors
-/// - [`PlacedFault::Syntax`] if the pattern is rejected, with the text and the position that [`try_parse_with_place`]
+/// - [`PlacedFault::Syntax`] if the pattern is rejected, with the text and the position that [`try_parse_with_position`]
 ///   reports.
 /// - [`PlacedFault::Memory`] if an allocation fails.
 ///
@@ -91,19 +91,19 @@ pub fn try_parse_with_spans(
     // Spans nest as the parts of the pattern do, and disjoint parts share no code point.
     ensures nested { IfOk result (λ r. AllPairs IsInsideOrApart r.spans.items) }
 
-    // The contract of `try_parse_with_place`.
-    ensures refused { RefusedOnlyIf (unplaced result) (NoneIsAccepted (setting_of flags tables.now) pattern.now) }
-    ensures told { Tells (unplaced result) (IsTrueOf (setting_of flags tables.now) pattern.now) }
-    ensures limits { Tells (unplaced result) (MayExceed pattern.now) }
-    ensures place { IsPlacedWithin (length pattern.now) result }
-    ensures settled { TellsAt result (IsSettled (setting_of flags tables.now) pattern.now) }
+    // The contract of `try_parse_with_position`.
+    ensures rejected { RejectedOnlyIf (unplaced result) (NoneIsAccepted (setting_of flags tables.now) pattern.now) }
+    ensures reported { ReportsKind (unplaced result) (IsTrueOf (setting_of flags tables.now) pattern.now) }
+    ensures limits { ReportsKind (unplaced result) (MayExceed pattern.now) }
+    ensures position { HasPositionWithin (length pattern.now) result }
+    ensures settled { ReportsKindAt result (IsFinal (setting_of flags tables.now) pattern.now) }
     ensures only { OneIsDerived (setting_of flags tables.now) pattern.now }
     ensures meaning { let setting = setting_of flags tables.now in
         IfOk result (λ r. OfAccepted setting pattern.now (Means setting (tree r.regex.node))) }
     ensures well_formed { IfOk result (λ r. IsWellFormed (tree r.regex.node)) }
     ensures flags { IfOk result (λ r. r.regex.flags ≡ flags) }
 {
-    match try_parse_with_place(alloc, pattern, flags, tables) {
+    match try_parse_with_position(alloc, pattern, flags, tables) {
         Ok(regex) => match find_spans(alloc, pattern, flags, tables) {
             Ok(spans) => Ok(SpannedRegex { regex, spans }),
             Err(fault) => Err(PlacedFault::Memory(fault)),
@@ -123,16 +123,16 @@ fn find_spans(
     ensures { IfOk result (λ spans. (p : Pattern) (accepted : IsAccepted (setting_of flags tables.now) pattern.now p) →
         spans.items ≡ spans_of (setting_of flags tables.now) pattern.now p accepted.derived) }
 {
-    match read_again(alloc, pattern, flags, tables) {
+    match parse_again(alloc, pattern, flags, tables) {
         Ok(spans) => Ok(spans),
         Err(Fault::Memory(fault)) => Err(fault),
         // An accepted pattern has no syntax error.
-        Err(Fault::Refused(_)) => Err(AllocError),
+        Err(Fault::Rejected(_)) => Err(AllocError),
     }
 }
 
 /// Returns the spans of a pattern, or an error if it is rejected or an allocation fails.
-fn read_again(
+fn parse_again(
     alloc: Global,
     pattern: &[u32],
     flags: Flags,
@@ -141,10 +141,10 @@ fn read_again(
     requires { All IsCodePoint pattern.now }
     ensures value { IfOk result (λ spans. (p : Pattern) (accepted : IsAccepted (setting_of flags tables.now) pattern.now p) →
         spans.items ≡ spans_of (setting_of flags tables.now) pattern.now p accepted.derived) }
-    ensures refused { FailsOnlyIf result (NoneIsAccepted (setting_of flags tables.now) pattern.now) }
+    ensures rejected { FailsOnlyIf result (NoneIsAccepted (setting_of flags tables.now) pattern.now) }
 {
     let found = scan_groups(alloc, pattern, flags.unicode_sets, tables)?;
-    let around = Around {
+    let around = PartContext {
         scope: Scope {
             flags,
             tables,
@@ -158,7 +158,7 @@ fn read_again(
         alloc,
     };
     let mut spans = Vec::new(alloc);
-    read_disjunction(&mut cursor, &around, &mut spans)?;
+    parse_disjunction(&mut cursor, &around, &mut spans)?;
     // The final `Goal`, and the root.
     spans.push(around.span(0, &cursor))?;
     spans.push(around.span(pattern.len(), &cursor))?;

@@ -18,7 +18,7 @@ use Rattle.std.specs.declared.cmp.Ordering.{Ordering}
 use Rattle.std.specs.declared.cmp.Ordering.TheVariants.{Less, Equal, Greater}
 use Rattle.regress_syntax.specs.SameNames.{same_name}
 use Rattle.regress_syntax.specs.Paths.{Path, CaptureAt, are_alternatives, conflict, are_apart}
-use Rattle.regress_syntax.specs.Scanning.{capture_of, level_of}
+use Rattle.regress_syntax.specs.Scanning.{capture_of, enclosing_disjunction_of}
 use Rattle.regress_syntax.specs.declared.scan.path.Level.{Level as CodeLevel}
 use Rattle.regress_syntax.specs.declared.scan.scanner.NamedGroup.{NamedGroup}
 
@@ -51,15 +51,15 @@ by_numbers = then_cmp (on (λ (l : CodeLevel). l.opening) nat_cmp) (on (λ (l : 
 by_numbers_total : IsTotalOrder by_numbers
 by_numbers_total = then_total (on_total (λ (l : CodeLevel). l.opening) nat_cmp_total) (on_total (λ (l : CodeLevel). l.alternative) nat_cmp_total)
 
-abbrev by_levels : List CodeLevel → List CodeLevel → Ordering
-by_levels = slice_cmp by_numbers
+abbrev by_nesting : List CodeLevel → List CodeLevel → Ordering
+by_nesting = slice_cmp by_numbers
 
-by_levels_total : IsTotalOrder by_levels
-by_levels_total = lists_total by_numbers_total
+by_nesting_total : IsTotalOrder by_nesting
+by_nesting_total = lists_total by_numbers_total
 
 -- no disjunction has the two paths in different alternatives
 abbrev are_together : List CodeLevel → List CodeLevel → Bool
-are_together p q = not (are_alternatives (map level_of p) (map level_of q))
+are_together p q = not (are_alternatives (map enclosing_disjunction_of p) (map enclosing_disjunction_of q))
 
 -- A number between two equal numbers is equal to them.
 numbers_between : (k m j : ℕ) (o o' : Ordering) → is_lt (ordering_then (nat_cmp m k) o) ≡ false → is_lt (ordering_then (nat_cmp j m) o') ≡ false →
@@ -76,10 +76,10 @@ then_assoc Equal o o' = refl
 then_assoc Greater o o' = refl
 
 -- the same for levels with equal numbers, and the remaining levels
-levels_between : (k m j : CodeLevel) (o o' : Ordering) → is_lt (ordering_then (by_numbers m k) o) ≡ false →
+nesting_between : (k m j : CodeLevel) (o o' : Ordering) → is_lt (ordering_then (by_numbers m k) o) ≡ false →
     is_lt (ordering_then (by_numbers j m) o') ≡ false → (k.opening == j.opening) ≡ true → (k.alternative == j.alternative) ≡ true →
     ((k.alternative == m.alternative) ≡ true) × (is_lt o ≡ false) × (is_lt o' ≡ false)
-levels_between k m j o o' h h' opening alternative =
+nesting_between k m j o o' h h' opening alternative =
     let outer = numbers_between k.opening m.opening j.opening _ _
     (ap is_lt (sym (then_assoc (nat_cmp m.opening k.opening) (nat_cmp m.alternative k.alternative) o)) ∙ h)
     (ap is_lt (sym (then_assoc (nat_cmp j.opening m.opening) (nat_cmp j.alternative m.alternative) o')) ∙ h') opening in
@@ -90,14 +90,14 @@ neither true b e = (refl, e)
 neither false b e = absurd (false≢true e)
 
 -- If no disjunction has two paths in different alternatives, the same holds of a path between them and one of the two.
-paths_between : (p q s : List CodeLevel) → is_lt (by_levels q p) ≡ false → is_lt (by_levels s q) ≡ false →
+paths_between : (p q s : List CodeLevel) → is_lt (by_nesting q p) ≡ false → is_lt (by_nesting s q) ≡ false →
     are_together p s ≡ true → (are_together p q ≡ true) ⊎ (are_together q s ≡ true)
 paths_between [] q s h h' e = inl refl
 paths_between (k ∷ p) [] s h h' e = inl refl
 paths_between (k ∷ p) (m ∷ q) [] h h' e = inr refl
 paths_between (k ∷ p) (m ∷ q) (j ∷ s) h h' e = by (paths_between p q s) (k.opening == m.opening) (m.opening == j.opening) refl refl
   where
-    by : (is_lt (by_levels q p) ≡ false → is_lt (by_levels s q) ≡ false → are_together p s ≡ true →
+    by : (is_lt (by_nesting q p) ≡ false → is_lt (by_nesting s q) ≡ false → are_together p s ≡ true →
         (are_together p q ≡ true) ⊎ (are_together q s ≡ true)) →
         (first second : Bool) → (k.opening == m.opening) ≡ first → (m.opening == j.opening) ≡ second →
         (are_together (k ∷ p) (m ∷ q) ≡ true) ⊎ (are_together (m ∷ q) (j ∷ s) ≡ true)
@@ -105,9 +105,9 @@ paths_between (k ∷ p) (m ∷ q) (j ∷ s) h h' e = by (paths_between p q s) (k
     by inside true false f g = inr (rw g refl)
     by inside true true f g =
         let outer : (k.opening == j.opening) ≡ true = grind (arith, nat_tests, f, g) in
-        let together : not (not (k.alternative == j.alternative) || are_alternatives (map level_of p) (map level_of s)) ≡ true = rw outer at e in
+        let together : not (not (k.alternative == j.alternative) || are_alternatives (map enclosing_disjunction_of p) (map enclosing_disjunction_of s)) ≡ true = rw outer at e in
         let parts = neither _ _ together in
-        let ties = levels_between k m j (by_levels q p) (by_levels s q) h h' outer parts.0 in
+        let ties = nesting_between k m j (by_nesting q p) (by_nesting s q) h h' outer parts.0 in
         let beside : (m.alternative == j.alternative) ≡ true = grind (arith, nat_tests, ties.0, parts.0) in
         elim (inside ties.1 ties.2 parts.1) [
           | inl first ↦ inl (rw (f, ties.0) first)
@@ -240,21 +240,21 @@ module _ {X : Type 0} (r : X → X → Bool) (both_ways : (x y : X) → r x y �
 -- ---- groups as values of the code
 
 pub conflict-captures : (a b : NamedGroup) → bytes_eq a.name.items b.name.items ≡ true →
-    are_together a.path.levels.items b.path.levels.items ≡ conflict (capture_of a) (capture_of b)
+    are_together a.path.nesting.items b.path.nesting.items ≡ conflict (capture_of a) (capture_of b)
 conflict-captures a b e =
-    rw (bytes_eq-sym a.name.items b.name.items e, reverse-reverse (map level_of a.path.levels.items), reverse-reverse (map level_of b.path.levels.items)) refl
+    rw (bytes_eq-sym a.name.items b.name.items e, reverse-reverse (map enclosing_disjunction_of a.path.nesting.items), reverse-reverse (map enclosing_disjunction_of b.path.nesting.items)) refl
 
 -- the order by which groups are sorted
 abbrev by_name_and_path : NamedGroup → NamedGroup → Ordering
 by_name_and_path =
     then_cmp (on (λ (g : NamedGroup). g.name.items) (slice_cmp nat_cmp))
-    (then_cmp (on (λ (g : NamedGroup). g.path.levels.items) by_levels) (then_cmp (on (λ (g : NamedGroup). g.left) nat_cmp)
+    (then_cmp (on (λ (g : NamedGroup). g.path.nesting.items) by_nesting) (then_cmp (on (λ (g : NamedGroup). g.left) nat_cmp)
     (on (λ (g : NamedGroup). g.number) nat_cmp)))
 
 is_order : IsStrictWeakOrder (λ x y. is_lt (by_name_and_path x y))
 is_order =
     ranks_by (then_total (on_total (λ (g : NamedGroup). g.name.items) nat_list_cmp_total)
-    (then_total (on_total (λ (g : NamedGroup). g.path.levels.items) by_levels_total)
+    (then_total (on_total (λ (g : NamedGroup). g.path.nesting.items) by_nesting_total)
     (then_total (on_total (λ (g : NamedGroup). g.left) nat_cmp_total) (on_total (λ (g : NamedGroup). g.number) nat_cmp_total))))
     (λ (g : NamedGroup). g)
 
@@ -264,14 +264,14 @@ groups_between : (x y z : NamedGroup) → is_lt (by_name_and_path y x) ≡ false
 groups_between x y z h h' e =
     let alike : bytes_eq z.name.items x.name.items ≡ true = (and_parts _ _ e).0 in
     let same : z.name.items ≡ x.name.items = (bytes_eq-Decides _ _).0 alike in
-    let paths : are_together x.path.levels.items z.path.levels.items ≡ true = conflict-captures x z (bytes_eq-sym z.name.items x.name.items alike) ∙ e in
-    let behind = ordering_then (by_levels z.path.levels.items y.path.levels.items) (ordering_then (nat_cmp z.left y.left) (nat_cmp z.number y.number)) in
-    let above : is_lt (ordering_then (slice_cmp nat_cmp x.name.items y.name.items) behind) ≡ false =
-    subst (λ (n : List ℕ). is_lt (ordering_then (slice_cmp nat_cmp n y.name.items) behind) ≡ false) same h' in
+    let paths : are_together x.path.nesting.items z.path.nesting.items ≡ true = conflict-captures x z (bytes_eq-sym z.name.items x.name.items alike) ∙ e in
+    let after = ordering_then (by_nesting z.path.nesting.items y.path.nesting.items) (ordering_then (nat_cmp z.left y.left) (nat_cmp z.number y.number)) in
+    let above : is_lt (ordering_then (slice_cmp nat_cmp x.name.items y.name.items) after) ≡ false =
+    subst (λ (n : List ℕ). is_lt (ordering_then (slice_cmp nat_cmp n y.name.items) after) ≡ false) same h' in
     let ties = names_tied x.name.items y.name.items _ _ h above in
     let first : bytes_eq x.name.items y.name.items ≡ true = bytes_eq-sym y.name.items x.name.items ties.0 in
     let second : bytes_eq y.name.items z.name.items ≡ true = subst (λ n. bytes_eq y.name.items n ≡ true) (sym same) ties.0 in
-    elim (paths_between x.path.levels.items y.path.levels.items z.path.levels.items (first_not_less _ _ ties.1) (first_not_less _ _ ties.2) paths) [
+    elim (paths_between x.path.nesting.items y.path.nesting.items z.path.nesting.items (first_not_less _ _ ties.1) (first_not_less _ _ ties.2) paths) [
       | inl together ↦ inl (sym (conflict-captures x y first) ∙ together)
       | inr together ↦ inr (sym (conflict-captures y z second) ∙ together)
     ]

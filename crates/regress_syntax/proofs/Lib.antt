@@ -1,12 +1,12 @@
-pub mod laws
+pub mod lemmas
 mod ConflictLemmas
-mod MisplacedLemmas
+mod FirstErrorsLemmas
 mod NameLemmas
 mod NumberingLemmas
 mod PathLemmas
 mod ReferenceLemmas
 mod ScanClasses
 mod ScanLemmas
-mod ScanRows
+mod ScanProductions
 mod ScanSets
 mod ScannerLemmas

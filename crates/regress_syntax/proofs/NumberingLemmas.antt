@@ -16,7 +16,7 @@ use Rattle.std.specs.declared.cmp.Ordering.TheVariants.{Less, Equal, Greater}
 use Rattle.std.specs.declared.alloc.Global.{Global}
 use Rattle.regress_syntax.specs.Syntax.{Name}
 use Rattle.regress_syntax.specs.Meaning.{groups_named}
-use Rattle.regress_syntax.specs.Rows.{has_names}
+use Rattle.regress_syntax.specs.Productions.{has_names}
 use Rattle.regress_syntax.specs.Numbering.{names_of, numbered, order_of, name_order, AreSortedByName}
 use Rattle.regress_syntax.specs.Scanning.{name_and_number, is_before}
 use Rattle.regress_syntax.specs.declared.scan.scanner.NamedGroup.{NamedGroup}
@@ -61,28 +61,28 @@ numbers_named name n (Some other ∷ names) = by (bytes_eq other name) (numbers_
     by false e = e
 
 -- the name of the group with this number is the name in the pair
-abbrev Stands : ℕ → List (Option Name) → Name × ℕ → Type 0
-Stands n names p = (j : ℕ) × (p.1 ≡ n + j) × (get_or names j None ≡ Some p.0)
+abbrev Occurs : ℕ → List (Option Name) → Name × ℕ → Type 0
+Occurs n names p = (j : ℕ) × (p.1 ≡ n + j) × (get_or names j None ≡ Some p.0)
 
-stands_behind : (n : ℕ) (first : Option Name) (names : List (Option Name)) (p : Name × ℕ) → Stands (n + 1) names p → Stands n (first ∷ names) p
-stands_behind n first names p h = (suc h.0, omega (arith, h.1), h.2)
+occurs_after : (n : ℕ) (first : Option Name) (names : List (Option Name)) (p : Name × ℕ) → Occurs (n + 1) names p → Occurs n (first ∷ names) p
+occurs_after n first names p h = (suc h.0, omega (arith, h.1), h.2)
 
-all_stand : (n : ℕ) (names : List (Option Name)) → All (Stands n names) (numbered n names)
-all_stand n [] = All-nil (Stands n [])
-all_stand n (None ∷ names) =
-    All-weaker (Stands (n + 1) names) (Stands n (None ∷ names)) (stands_behind n None names) (numbered (n + 1) names) (all_stand (n + 1) names)
-all_stand n (Some name ∷ names) =
-    All-cons (Stands n (Some name ∷ names)) (name, n) (numbered (n + 1) names) (0, omega arith, refl)
-    (All-weaker (Stands (n + 1) names) (Stands n (Some name ∷ names)) (stands_behind n (Some name) names) (numbered (n + 1) names) (all_stand (n + 1) names))
+all_occur : (n : ℕ) (names : List (Option Name)) → All (Occurs n names) (numbered n names)
+all_occur n [] = All-nil (Occurs n [])
+all_occur n (None ∷ names) =
+    All-weaker (Occurs (n + 1) names) (Occurs n (None ∷ names)) (occurs_after n None names) (numbered (n + 1) names) (all_occur (n + 1) names)
+all_occur n (Some name ∷ names) =
+    All-cons (Occurs n (Some name ∷ names)) (name, n) (numbered (n + 1) names) (0, omega arith, refl)
+    (All-weaker (Occurs (n + 1) names) (Occurs n (Some name ∷ names)) (occurs_after n (Some name) names) (numbered (n + 1) names) (all_occur (n + 1) names))
 
 abbrev IsFound : List (Option Name) → Name × ℕ → Type 0
 IsFound names p = get_or names (p.1 - 1) None ≡ Some p.0
 
-found_if : (names : List (Option Name)) (p : Name × ℕ) → Stands 1 names p → IsFound names p
+found_if : (names : List (Option Name)) (p : Name × ℕ) → Occurs 1 names p → IsFound names p
 found_if names p h = let e : p.1 - 1 ≡ h.0 = omega (arith, h.1) in ap (λ (k : ℕ). get_or names k None) e ∙ h.2
 
 name_found : (names : List (Option Name)) → All (IsFound names) (numbered 1 names)
-name_found names = All-weaker (Stands 1 names) (IsFound names) (found_if names) (numbered 1 names) (all_stand 1 names)
+name_found names = All-weaker (Occurs 1 names) (IsFound names) (found_if names) (numbered 1 names) (all_occur 1 names)
 
 -- ---- lists
 
@@ -283,18 +283,18 @@ module _ (order : ℕ → Ordering) where
       by Greater e high more = sym (filter_none (λ k. is_eq (order k)) xs (λ i d lt. above (order (get_or xs i d)) (high i d lt)))
 
   -- From the partition point on, the leading equal elements are all equal elements of the list.
-  pub found_by_order : (xs : List ℕ) (place : ℕ) → IsNonDecreasingBy (λ k. ordering_index (order k)) xs → place ≤ length xs →
-      IsPartitionPoint (λ k. is_lt (order k) ≡ true) (λ k. is_lt (order k) ≡ false) xs place →
-      take (prefix_len (λ k. is_eq (order k)) (drop place xs)) (drop place xs) ≡ filter (λ k. is_eq (order k)) xs
-  found_by_order xs place up within point =
-      let lower = take place xs in
-      let rest = drop place xs in
+  pub found_by_order : (xs : List ℕ) (position : ℕ) → IsNonDecreasingBy (λ k. ordering_index (order k)) xs → position ≤ length xs →
+      IsPartitionPoint (λ k. is_lt (order k) ≡ true) (λ k. is_lt (order k) ≡ false) xs position →
+      take (prefix_len (λ k. is_eq (order k)) (drop position xs)) (drop position xs) ≡ filter (λ k. is_eq (order k)) xs
+  found_by_order xs position up within point =
+      let lower = take position xs in
+      let rest = drop position xs in
       let none : filter (λ k. is_eq (order k)) lower ≡ [] =
       filter_none (λ k. is_eq (order k)) lower (λ i d lt.
-      let l : i < place = omega (arith, lt, length-take place xs) in
-      ap (λ k. is_eq (order k)) (get_or-take place xs i d l) ∙ less_or_not (order (get_or xs i d)) (point.0 i d (omega arith) l)) in
-      equal_first rest (IsNonDecreasingBy-drop (λ k. ordering_index (order k)) place xs up) (λ i d lt.
-      let l : place + i < length xs = omega (arith, lt, length-drop place xs) in
-      ap (λ k. is_lt (order k)) (get_or-drop place xs i d) ∙ point.1 (place + i) d (omega arith) l)
-      ∙ sym (ap (filter (λ k. is_eq (order k))) (sym (take-append-drop place xs)) ∙ filter-append (λ k. is_eq (order k)) lower rest
+      let l : i < position = omega (arith, lt, length-take position xs) in
+      ap (λ k. is_eq (order k)) (get_or-take position xs i d l) ∙ less_or_not (order (get_or xs i d)) (point.0 i d (omega arith) l)) in
+      equal_first rest (IsNonDecreasingBy-drop (λ k. ordering_index (order k)) position xs up) (λ i d lt.
+      let l : position + i < length xs = omega (arith, lt, length-drop position xs) in
+      ap (λ k. is_lt (order k)) (get_or-drop position xs i d) ∙ point.1 (position + i) d (omega arith) l)
+      ∙ sym (ap (filter (λ k. is_eq (order k))) (sym (take-append-drop position xs)) ∙ filter-append (λ k. is_eq (order k)) lower rest
       ∙ ap (λ (ks : List ℕ). ks ++ filter (λ k. is_eq (order k)) rest) none)

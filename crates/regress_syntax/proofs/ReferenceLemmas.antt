@@ -1,19 +1,19 @@
 -- Backreferences by number and by name.
 use Rattle.std.proofs.Common.{⊎_elim, ◌≡◌, ◌≢◌, ℕ, ◌+◌, ◌-◌, ◌^◌, min, Bool, true, false, cond, ◌||◌, List, [], ◌∷◌, length, Option, Some, None, refl, sym, ap, ◌∙◌, arith}
 use Rattle.std.proofs.lemmas.Bool.{cond-true, cond-false, cases_Bool, false≢true, ne_eqb}
-use Rattle.regress_lexical.specs.Source.{Source, ◌>>=◌}
-use Rattle.regress_lexical.specs.Digits.{is_decimal, number, front, behind}
-use Rattle.regress_lexical.specs.Escapes.{begins_with_digit}
-use Rattle.regress_lexical.specs.Quantifiers.{count_at}
-use Rattle.regress_lexical.proofs.laws.Digits.{front_digit}
+use Rattle.regress_lexer.specs.Source.{Source, ◌>>=◌}
+use Rattle.regress_lexer.specs.Digits.{is_decimal, number, front, after}
+use Rattle.regress_lexer.specs.Escapes.{begins_with_digit}
+use Rattle.regress_lexer.specs.Quantifiers.{count_at}
+use Rattle.regress_lexer.proofs.lemmas.Digits.{front_digit}
 use Rattle.regress_syntax.specs.Meaning.{groups_named}
 use Rattle.regress_syntax.specs.Names.{group_name_at}
-use Rattle.regress_syntax.specs.Rows.{Context, has_name, named_at}
+use Rattle.regress_syntax.specs.Productions.{Context, has_name, name_reference_at}
 use Rattle.regress_syntax.specs.Syntax.{Name, is_named, by_name, back_reference}
 
 -- A saturating count decides whether a number is at most the number of groups.
 pub count-is : (t : Source) → begins_with_digit t ≡ true →
-    count_at t ≡ Some (min (number 10 (front is_decimal t)) (2 ^ 64 - 1), behind is_decimal t)
+    count_at t ≡ Some (min (number 10 (front is_decimal t)) (2 ^ 64 - 1), after is_decimal t)
 count-is [] e = absurd (false≢true e)
 count-is (c ∷ t) e =
     let some : length (front is_decimal (c ∷ t)) ≢ 0 = λ none. omega (arith, none, ap length (front_digit c t e)) in
@@ -40,7 +40,7 @@ has_name-groups name n (other ∷ names) = by (is_named name other) (has_name-gr
 module _ (ctx : Context) where
   -- The result after `\k`, once a name is parsed.
   pub named-some : (t : Source) (name : Name) (rest : Source) → group_name_at ctx.setting.table t ≡ Some (name, rest) →
-      groups_named name 1 ctx.names ≢ [] → named_at ctx t ≡ Some (back_reference ctx.setting.flags (by_name name), rest)
+      groups_named name 1 ctx.names ≢ [] → name_reference_at ctx t ≡ Some (back_reference ctx.setting.flags (by_name name), rest)
   named-some t name rest found some =
       ap (λ found. found >>= λ (x : Name × Source).
       cond (has_name x.0 ctx.names) (Some (back_reference ctx.setting.flags (by_name x.0), x.1)) None) found
@@ -50,7 +50,7 @@ module _ (ctx : Context) where
       (cases_Bool (has_name name ctx.names)))
 
   pub named-unknown : (t : Source) (name : Name) (rest : Source) → group_name_at ctx.setting.table t ≡ Some (name, rest) →
-      groups_named name 1 ctx.names ≡ [] → named_at ctx t ≡ None
+      groups_named name 1 ctx.names ≡ [] → name_reference_at ctx t ≡ None
   named-unknown t name rest found none =
       ap (λ found. found >>= λ (x : Name × Source).
       cond (has_name x.0 ctx.names) (Some (back_reference ctx.setting.flags (by_name x.0), x.1)) None) found

@@ -5,15 +5,15 @@ use Rattle.std.proofs.lemmas.Bool.Decides.{nat_tests}
 use Rattle.regress_base.specs.Intervals.{Bounds}
 use Rattle.regress_base.specs.declared.charclasses.CharacterClassType.{CharacterClassType}
 use Rattle.regress_base.specs.Table.{Table}
-use Rattle.regress_lexical.specs.Source.{Source, Found, is_at, first_row}
-use Rattle.regress_lexical.specs.Digits.{is_decimal, is_letter, control, behind, front}
-use Rattle.regress_lexical.specs.Escapes.{escape_at}
+use Rattle.regress_lexer.specs.Source.{Source, Found, is_at, first_production}
+use Rattle.regress_lexer.specs.Digits.{is_decimal, is_letter, control, after, front}
+use Rattle.regress_lexer.specs.Escapes.{escape_at}
 use Rattle.regress_classes.specs.Properties.{Property, points_of, is_property_character, closed_property, property_at, property_word_at}
-use Rattle.regress_classes.specs.ClassRows.{ClassAtom, point, set, complement_if, class_letter, class_members, class_control_at, class_property_at, class_escape_rows, class_escape_by, class_escape_at, class_atom_at, atom_members, begins_range, range_of, range_at, class_part_at, class_parts_by, class_at}
-use Rattle.regress_syntax.specs.Scan.{plain, class, class_escape, marks, is_quiet}
-use Rattle.regress_lexical.proofs.laws.Digits.{and_both}
-use Rattle.regress_syntax.proofs.ScanLemmas.{Passes, Leads, Home, in_class, home, passes_same, passes_then, leads_none, leads_some, leads_behind, leads_then, leads_map, leads_cond, pass_quiet, pass_at, pass_backslash, pass_escaped, pass_behind, lead_escape_at}
-use Rattle.regress_lexical.proofs.laws.Sources.{EachRow, no_more, ◌also◌, first_row-has}
+use Rattle.regress_classes.specs.ClassProductions.{ClassAtom, point, set, complement_if, class_letter, class_members, class_control_at, class_property_at, class_escape_productions, class_escape_by, class_escape_at, class_atom_at, atom_members, begins_range, range_of, range_at, class_part_at, class_parts_by, class_at}
+use Rattle.regress_syntax.specs.Scan.{plain, class, class_escape, marks, is_insignificant}
+use Rattle.regress_lexer.proofs.lemmas.Digits.{and_both}
+use Rattle.regress_syntax.proofs.ScanLemmas.{Passes, Leads, Home, in_class, home, passes_same, passes_then, leads_none, leads_some, leads_after, leads_then, leads_map, leads_cond, pass_quiet, pass_at, pass_backslash, pass_escaped, pass_after, lead_escape_at}
+use Rattle.regress_lexer.proofs.lemmas.Sources.{EachProduction, no_more, ◌also◌, first_production-has}
 
 -- The scan passes over a class, whether its members are valid or not.
 lead_made : {A : Type 0} {sets : Bool} {table : Table} (w : Home) (f : List Bounds → A) (made : Option (List Bounds)) (t : Source) →
@@ -23,7 +23,7 @@ lead_made w f (Some members) t = leads_some (f members, t) passes_same
 
 -- ---- properties
 
-quiet_property : (c : ℕ) → is_property_character c ≡ true → is_quiet c ≡ true
+quiet_property : (c : ℕ) → is_property_character c ≡ true → is_insignificant c ≡ true
 quiet_property c e = grind (arith, nat_tests)
 
 module _ {sets : Bool} {table : Table} (w : Home) where
@@ -35,16 +35,16 @@ module _ {sets : Bool} {table : Table} (w : Home) where
   lead_property_word_at : (t : Source) → Leads sets table (home w) t (home w) (property_word_at t)
   lead_property_word_at t =
       leads_cond (length (front is_property_character t) == 0) _ _ (λ _. leads_none)
-      (λ _. leads_some (_, behind is_property_character t) (pass_behind w is_property_character quiet_property t))
+      (λ _. leads_some (_, after is_property_character t) (pass_after w is_property_character quiet_property t))
 
   pub lead_property_at : (of_sets : Bool) (from : Table) (t : Source) → Leads sets table (home w) t (home w) (property_at of_sets from t)
   unfolding property_at
   lead_property_at of_sets from t =
       leads_cond (is_at 123 t) _ _
-      (λ e. leads_behind (pass_at w 123 t refl e)
+      (λ e. leads_after (pass_at w 123 t refl e)
       (leads_then (property_word_at (drop 1 t)) _ (lead_property_word_at (drop 1 t))
       (λ x. leads_cond (is_at 61 x.1) _ _
-      (λ equals. leads_behind (pass_at w 61 x.1 refl equals)
+      (λ equals. leads_after (pass_at w 61 x.1 refl equals)
       (leads_then (property_word_at (drop 1 x.1)) _ (lead_property_word_at (drop 1 x.1)) (λ y. lead_closed_property _ y.1)))
       (λ _. lead_closed_property _ x.1))))
       (λ _. leads_none)
@@ -66,13 +66,13 @@ module _ {table : Table} where
   lead_class_property_at : (negated : Bool) (c : ℕ) (t : Source) →
       Leads false table (class_escape 0 0) (c ∷ t) (class 0 0) (class_property_at table negated t)
   lead_class_property_at negated c t =
-      leads_behind (pass_escaped (in_class 0 0) c t)
+      leads_after (pass_escaped (in_class 0 0) c t)
       (leads_then (property_at false table t) _ (lead_property_at (in_class 0 0) false table t)
       (λ x. lead_made (in_class 0 0) (λ members. set (complement_if negated members)) (points_of x.0) x.1))
 
-  class_escape_rows_lead : (unicode : Bool) (c : ℕ) (t : Source) →
-      EachRow (Leads false table (class_escape 0 0) (c ∷ t) (class 0 0)) (class_escape_rows table unicode c t)
-  class_escape_rows_lead unicode c t =
+  class_escape_productions_lead : (unicode : Bool) (c : ℕ) (t : Source) →
+      EachProduction (Leads false table (class_escape 0 0) (c ∷ t) (class 0 0)) (class_escape_productions table unicode c t)
+  class_escape_productions_lead unicode c t =
       (λ _. leads_some (point 8, t) (pass_escaped (in_class 0 0) c t))
       also (λ _. leads_some (point 45, t) (pass_escaped (in_class 0 0) c t))
       also (λ e. subst (λ k. Leads false table (class_escape 0 0) (k ∷ t) (class 0 0) (class_control_at t)) (sym (eqb-true c 99 (and_both _ _ e).0))
@@ -89,11 +89,11 @@ module _ {table : Table} where
           Leads false table (class_escape 0 0) (c ∷ t) (class 0 0)
           (elim letter as (λ _. Found ClassAtom) [
             | Some named ↦ Some (set (class_members named), t)
-            | None ↦ first_row (class_escape_rows table unicode c t)
+            | None ↦ first_production (class_escape_productions table unicode c t)
           ])
       by (Some named) = leads_some (set (class_members named), t) (pass_escaped (in_class 0 0) c t)
-      by None = first_row-has (Leads false table (class_escape 0 0) (c ∷ t) (class 0 0)) (class_escape_rows table unicode c t) leads_none
-          (class_escape_rows_lead unicode c t)
+      by None = first_production-has (Leads false table (class_escape 0 0) (c ∷ t) (class 0 0)) (class_escape_productions table unicode c t) leads_none
+          (class_escape_productions_lead unicode c t)
 
   lead_class_escape_at : (unicode : Bool) (t : Source) → Leads false table (class_escape 0 0) t (class 0 0) (class_escape_at table unicode t)
   lead_class_escape_at unicode [] = leads_none
@@ -115,7 +115,7 @@ module _ {table : Table} where
       leads_cond (c == 93) _ _ (λ _. leads_none)
       (λ goes_on. leads_cond (c == 92) _ _
       (λ e. subst (λ k. Leads false table (class 0 0) (k ∷ t) (class 0 0) (class_escape_at table unicode t)) (sym (eqb-true c 92 e))
-      (leads_behind (pass_backslash (in_class 0 0) t) (lead_class_escape_at unicode t)))
+      (leads_after (pass_backslash (in_class 0 0) t) (lead_class_escape_at unicode t)))
       (λ e. leads_some (point c, t) (pass_member c t goes_on e)))
 
   lead_range_at : (unicode : Bool) (first : ClassAtom) (t : Source) → Leads false table (class 0 0) t (class 0 0) (range_at table unicode first t)
@@ -131,7 +131,7 @@ module _ {table : Table} where
   lead_class_part_at unicode t =
       leads_then (class_atom_at table unicode t) _ (lead_class_atom_at unicode t)
       (λ x. leads_cond (begins_range x.1) _ _
-      (λ e. leads_behind (pass_hyphen x.1 e) (lead_range_at unicode x.0 (drop 1 x.1)))
+      (λ e. leads_after (pass_hyphen x.1 e) (lead_range_at unicode x.0 (drop 1 x.1)))
       (λ _. leads_some (atom_members x.0, x.1) passes_same))
 
   pass_bracket : (t : Source) → is_at 93 t ≡ true → Passes false table (class 0 0) t plain (drop 1 t)
@@ -159,7 +159,7 @@ pass_caret {sets} {table} w t = by (is_at 94 t) refl
 pub lead_class_at : {table : Table} (unicode : Bool) (t : Source) → Leads false table (class 0 0) t plain (class_at table unicode t)
 unfolding class_at
 lead_class_at {table} unicode t =
-    leads_behind (pass_caret (in_class 0 0) t)
+    leads_after (pass_caret (in_class 0 0) t)
     (leads_then (class_parts_by table unicode (length (cond (is_at 94 t) (drop 1 t) t) + 1) (cond (is_at 94 t) (drop 1 t) t)) _
     (lead_class_parts_by (length (cond (is_at 94 t) (drop 1 t) t) + 1) unicode (cond (is_at 94 t) (drop 1 t) t))
     (λ x. leads_some (_, x.1) passes_same))

@@ -6,29 +6,29 @@ use Rattle.std.proofs.lemmas.Option.{none-some, same_Some}
 use Rattle.std.specs.List.{list_all}
 use Rattle.regress_base.specs.Intervals.{code_point_max}
 use Rattle.regress_base.specs.Table.{Table}
-use Rattle.regress_lexical.specs.Source.{Source, Found, ◌>>=◌, found_map, opening, closing, bar, question_mark, is_at, is_plain}
-use Rattle.regress_lexical.specs.Digits.{is_between, is_decimal, is_letter, is_octal, is_hex, control, number, front, behind, hex_at}
-use Rattle.regress_lexical.specs.Escapes.{braced_hex_at, unit_at, second_half_at, paired, with_second_half, unicode_at, or_itself, octal_digits, letter_escape, begins_with_digit, is_syntax_character, control_at, other_escape, escape_at}
-use Rattle.regress_lexical.specs.Quantifiers.{Times, count_at, closed_brace, most_at, times_by, greedy_or_lazy, quantifier_at}
+use Rattle.regress_lexer.specs.Source.{Source, Found, ◌>>=◌, found_map, opening, closing, bar, question_mark, is_at, is_plain}
+use Rattle.regress_lexer.specs.Digits.{is_between, is_decimal, is_letter, is_octal, is_hex, control, number, front, after, hex_at}
+use Rattle.regress_lexer.specs.Escapes.{braced_hex_at, unit_at, trail_surrogate_at, paired, with_trail_surrogate, unicode_at, or_identity_escape, octal_digits, letter_escape, begins_with_digit, is_syntax_character, control_at, other_escape, escape_at}
+use Rattle.regress_lexer.specs.Quantifiers.{RepeatBounds, count_at, closed_brace, maximum_at, quantifier_prefix_by, greedy_or_lazy, quantifier_at}
 use Rattle.regress_syntax.specs.Marks.{Mark}
-use Rattle.regress_syntax.specs.Scan.{Mode, plain, escape, class, class_escape, is_quiet, marks}
-use Rattle.regress_lexical.proofs.laws.Digits.{and_both}
+use Rattle.regress_syntax.specs.Scan.{Mode, plain, escape, class, class_escape, is_insignificant, marks}
+use Rattle.regress_lexer.proofs.lemmas.Digits.{and_both}
 
 -- ---- code points that the scan ignores
 
-pub quiet_hex : (c : ℕ) → is_hex c ≡ true → is_quiet c ≡ true
+pub quiet_hex : (c : ℕ) → is_hex c ≡ true → is_insignificant c ≡ true
 quiet_hex c e = grind (arith, nat_tests)
 
-pub quiet_octal : (c : ℕ) → is_octal c ≡ true → is_quiet c ≡ true
+pub quiet_octal : (c : ℕ) → is_octal c ≡ true → is_insignificant c ≡ true
 quiet_octal c e = grind (arith, nat_tests)
 
-pub quiet_decimal : (c : ℕ) → is_decimal c ≡ true → is_quiet c ≡ true
+pub quiet_decimal : (c : ℕ) → is_decimal c ≡ true → is_insignificant c ≡ true
 quiet_decimal c e = grind (arith, nat_tests)
 
-pub quiet_letter : (c : ℕ) → is_letter c ≡ true → is_quiet c ≡ true
+pub quiet_letter : (c : ℕ) → is_letter c ≡ true → is_insignificant c ≡ true
 quiet_letter c e = grind (arith, nat_tests)
 
-pub quiet_plain : (c : ℕ) → is_plain c ≡ true → is_quiet c ≡ true
+pub quiet_plain : (c : ℕ) → is_plain c ≡ true → is_insignificant c ≡ true
 quiet_plain c e = grind (arith, nat_tests)
 
 pub unquiet : (p a b c d e : Bool) → not (p || a || b || c || d || e) ≡ true →
@@ -65,9 +65,9 @@ home in_text = plain
 home (in_class depth deepest) = class depth deepest
 
 -- the mode after a backslash there
-abbrev pub behind_backslash : Home → Mode
-behind_backslash in_text = escape
-behind_backslash (in_class depth deepest) = class_escape depth deepest
+abbrev pub after_backslash : Home → Mode
+after_backslash in_text = escape
+after_backslash (in_class depth deepest) = class_escape depth deepest
 
 pub gives_none : {A : Type 0} {ms : List Mark} {of : A → Source → List Mark} → Gives ms of None
 gives_none = record { each = λ x e. absurd (none-some x e) }
@@ -111,14 +111,14 @@ module _ {sets : Bool} {table : Table} where
   pub leads_some : {A : Type 0} {m : Mode} {t : Source} {n : Mode} (x : A × Source) → Passes sets table m t n x.1 → Leads sets table m t n (Some x)
   leads_some {A} {m} {t} {n} x h = record { each = λ y e. subst (λ (z : A × Source). Passes sets table m t n z.1) (same_Some x y e) h }
 
-  pub leads_behind : {A : Type 0} {m n o : Mode} {t s : Source} {found : Found A} → Passes sets table m t n s → Leads sets table n s o found →
+  pub leads_after : {A : Type 0} {m n o : Mode} {t s : Source} {found : Found A} → Passes sets table m t n s → Leads sets table n s o found →
       Leads sets table m t o found
-  leads_behind h k = record { each = λ x e. passes_then h (k.each x e) }
+  leads_after h k = record { each = λ x e. passes_then h (k.each x e) }
 
   pub leads_then : {A B : Type 0} {m n o : Mode} {t : Source} (found : Found A) (next : A × Source → Found B) →
       Leads sets table m t n found → ((x : A × Source) → Leads sets table n x.1 o (next x)) → Leads sets table m t o (found >>= next)
   leads_then None next h k = leads_none
-  leads_then (Some x) next h k = leads_behind (h.each x refl) (k x)
+  leads_then (Some x) next h k = leads_after (h.each x refl) (k x)
 
   pub leads_map : {A B : Type 0} {m n : Mode} {t : Source} (f : A → B) (found : Found A) → Leads sets table m t n found →
       Leads sets table m t n (found_map f found)
@@ -132,7 +132,7 @@ module _ {sets : Bool} {table : Table} where
 
   -- ---- single code points
 
-  pub pass_quiet : (w : Home) (c : ℕ) (t : Source) → is_quiet c ≡ true → Passes sets table (home w) (c ∷ t) (home w) t
+  pub pass_quiet : (w : Home) (c : ℕ) (t : Source) → is_insignificant c ≡ true → Passes sets table (home w) (c ∷ t) (home w) t
   unfolding marks
   pass_quiet in_text c t e =
       let no = unquiet (c == 92) (c == 91) (c == 93) (c == opening) (c == closing) (c == bar) e in
@@ -141,23 +141,23 @@ module _ {sets : Bool} {table : Table} where
       let no = unquiet (c == 92) (c == 91) (c == 93) (c == opening) (c == closing) (c == bar) e in
       record { same = rw (no.0, no.1, no.2) refl }
 
-  pub pass_at : (w : Home) (k : ℕ) (t : Source) → is_quiet k ≡ true → is_at k t ≡ true → Passes sets table (home w) t (home w) (drop 1 t)
+  pub pass_at : (w : Home) (k : ℕ) (t : Source) → is_insignificant k ≡ true → is_at k t ≡ true → Passes sets table (home w) t (home w) (drop 1 t)
   pass_at w k [] quiet e = absurd (false≢true e)
-  pass_at w k (c ∷ t) quiet e = pass_quiet w c t (subst (λ d. is_quiet d ≡ true) (sym (eqb-true c k e)) quiet)
+  pass_at w k (c ∷ t) quiet e = pass_quiet w c t (subst (λ d. is_insignificant d ≡ true) (sym (eqb-true c k e)) quiet)
 
-  pub pass_backslash : (w : Home) (t : Source) → Passes sets table (home w) (92 ∷ t) (behind_backslash w) t
+  pub pass_backslash : (w : Home) (t : Source) → Passes sets table (home w) (92 ∷ t) (after_backslash w) t
   unfolding marks
   pass_backslash in_text t = record { same = refl }
   pass_backslash (in_class depth deepest) t = record { same = refl }
 
-  pub pass_escaped : (w : Home) (c : ℕ) (t : Source) → Passes sets table (behind_backslash w) (c ∷ t) (home w) t
+  pub pass_escaped : (w : Home) (c : ℕ) (t : Source) → Passes sets table (after_backslash w) (c ∷ t) (home w) t
   unfolding marks
   pass_escaped in_text c t = record { same = refl }
   pass_escaped (in_class depth deepest) c t = record { same = refl }
 
   -- ---- runs of code points
 
-  pub pass_taken : (w : Home) (p : ℕ → Bool) → ((c : ℕ) → p c ≡ true → is_quiet c ≡ true) → (n : ℕ) (t : Source) →
+  pub pass_taken : (w : Home) (p : ℕ → Bool) → ((c : ℕ) → p c ≡ true → is_insignificant c ≡ true) → (n : ℕ) (t : Source) →
       list_all p (take n t) ≡ true → Passes sets table (home w) t (home w) (drop n t)
   pass_taken w p quiet zero t e = passes_same
   pass_taken w p quiet (suc n) [] e = passes_same
@@ -165,19 +165,19 @@ module _ {sets : Bool} {table : Table} where
       let both = and_both (p c) (list_all p (take n t)) e in
       passes_then (pass_quiet w c t (quiet c both.0)) (pass_taken w p quiet n t both.1)
 
-  pub pass_behind : (w : Home) (p : ℕ → Bool) → ((c : ℕ) → p c ≡ true → is_quiet c ≡ true) → (t : Source) →
-      Passes sets table (home w) t (home w) (behind p t)
-  unfolding behind
-  pass_behind w p quiet [] = passes_same
-  pass_behind w p quiet (c ∷ t) = by (p c) refl (pass_behind w p quiet t)
+  pub pass_after : (w : Home) (p : ℕ → Bool) → ((c : ℕ) → p c ≡ true → is_insignificant c ≡ true) → (t : Source) →
+      Passes sets table (home w) t (home w) (after p t)
+  unfolding after
+  pass_after w p quiet [] = passes_same
+  pass_after w p quiet (c ∷ t) = by (p c) refl (pass_after w p quiet t)
     where
-      by : (q : Bool) → p c ≡ q → Passes sets table (home w) t (home w) (behind p t) →
-          Passes sets table (home w) (c ∷ t) (home w) (cond q (behind p t) (c ∷ t))
+      by : (q : Bool) → p c ≡ q → Passes sets table (home w) t (home w) (after p t) →
+          Passes sets table (home w) (c ∷ t) (home w) (cond q (after p t) (c ∷ t))
       by true e more = passes_then (pass_quiet w c t (quiet c e)) more
       by false e more = passes_same
 
   -- The code points among the first n that pass a test are passed.
-  pub pass_front : (w : Home) (p : ℕ → Bool) → ((c : ℕ) → p c ≡ true → is_quiet c ≡ true) → (n : ℕ) (t : Source) →
+  pub pass_front : (w : Home) (p : ℕ → Bool) → ((c : ℕ) → p c ≡ true → is_insignificant c ≡ true) → (n : ℕ) (t : Source) →
       Passes sets table (home w) t (home w) (drop (length (front p (take n t))) t)
   unfolding front
   pass_front w p quiet zero t = passes_same
@@ -199,9 +199,9 @@ module _ {sets : Bool} {table : Table} where
 
   lead_braced_hex_at : (w : Home) (t : Source) → Leads sets table (home w) t (home w) (braced_hex_at t)
   lead_braced_hex_at w t =
-      leads_cond (not (length (front is_hex t) == 0) && is_at 125 (behind is_hex t) && nat_le (number 16 (front is_hex t)) code_point_max) _ _
-      (λ e. leads_some (number 16 (front is_hex t), drop 1 (behind is_hex t))
-      (passes_then (pass_behind w is_hex quiet_hex t) (pass_at w 125 (behind is_hex t) refl (and_both _ _ (and_both _ _ e).0).1)))
+      leads_cond (not (length (front is_hex t) == 0) && is_at 125 (after is_hex t) && nat_le (number 16 (front is_hex t)) code_point_max) _ _
+      (λ e. leads_some (number 16 (front is_hex t), drop 1 (after is_hex t))
+      (passes_then (pass_after w is_hex quiet_hex t) (pass_at w 125 (after is_hex t) refl (and_both _ _ (and_both _ _ e).0).1)))
       (λ _. leads_none)
 
   -- The start of an escape with `\u` is passed.
@@ -215,10 +215,10 @@ module _ {sets : Bool} {table : Table} where
   lead_unit_at : (w : Home) (t : Source) → Leads sets table (home w) t (home w) (unit_at t)
   lead_unit_at w t =
       leads_cond (is_at 92 t && is_at 117 (drop 1 t)) _ _
-      (λ e. let both = and_both _ _ e in leads_behind (pass_unicode w t both.0 both.1) (lead_hex_at w 4 (drop 2 t)))
+      (λ e. let both = and_both _ _ e in leads_after (pass_unicode w t both.0 both.1) (lead_hex_at w 4 (drop 2 t)))
       (λ _. leads_none)
 
-  lead_second_half_at : (w : Home) (t : Source) → Leads sets table (home w) t (home w) (second_half_at t)
+  lead_second_half_at : (w : Home) (t : Source) → Leads sets table (home w) t (home w) (trail_surrogate_at t)
   lead_second_half_at w t =
       leads_then (unit_at t) _ (lead_unit_at w t)
       (λ x. leads_cond (is_between 0xDC00 0xDFFF x.0) _ _ (λ _. leads_some x passes_same) (λ _. leads_none))
@@ -228,21 +228,21 @@ module _ {sets : Bool} {table : Table} where
   lead_halves w high t None h = leads_some (high, t) passes_same
   lead_halves w high t (Some low) h = leads_some (paired high low.0, low.1) (h.each low refl)
 
-  lead_with_second_half : (w : Home) (x : ℕ × Source) → Leads sets table (home w) x.1 (home w) (with_second_half x)
+  lead_with_second_half : (w : Home) (x : ℕ × Source) → Leads sets table (home w) x.1 (home w) (with_trail_surrogate x)
   lead_with_second_half w (high, t) =
       leads_cond (is_between 0xD800 0xDBFF high) _ _
-      (λ _. lead_halves w high t (second_half_at t) (lead_second_half_at w t))
+      (λ _. lead_halves w high t (trail_surrogate_at t) (lead_second_half_at w t))
       (λ _. leads_some (high, t) passes_same)
 
   pub lead_unicode_at : (w : Home) (t : Source) → Leads sets table (home w) t (home w) (unicode_at t)
   unfolding unicode_at
   lead_unicode_at w t =
       leads_cond (is_at 123 t) _ _
-      (λ e. leads_behind (pass_at w 123 t refl e) (lead_braced_hex_at w (drop 1 t)))
-      (λ _. leads_then (hex_at 4 t) with_second_half (lead_hex_at w 4 t) (lead_with_second_half w))
+      (λ e. leads_after (pass_at w 123 t refl e) (lead_braced_hex_at w (drop 1 t)))
+      (λ _. leads_then (hex_at 4 t) with_trail_surrogate (lead_hex_at w 4 t) (lead_with_second_half w))
 
   lead_or_itself : (w : Home) (unicode : Bool) (c : ℕ) (t : Source) (found : Found ℕ) → Leads sets table (home w) t (home w) found →
-      Leads sets table (home w) t (home w) (or_itself unicode c t found)
+      Leads sets table (home w) t (home w) (or_identity_escape unicode c t found)
   lead_or_itself w unicode c t None h =
       leads_cond unicode _ _ (λ _. leads_none) (λ _. leads_some (c, t) passes_same)
   lead_or_itself w unicode c t (Some x) h = h
@@ -278,41 +278,41 @@ module _ {sets : Bool} {table : Table} where
   lead_escape_by w unicode c t None = lead_other_escape w unicode c t
   lead_escape_by w unicode c t (Some x) = leads_some (x, t) passes_same
 
-  pub lead_escape_at : (w : Home) (unicode : Bool) (t : Source) → Leads sets table (behind_backslash w) t (home w) (escape_at unicode t)
+  pub lead_escape_at : (w : Home) (unicode : Bool) (t : Source) → Leads sets table (after_backslash w) t (home w) (escape_at unicode t)
   unfolding escape_at
   lead_escape_at w unicode [] = leads_none
-  lead_escape_at w unicode (c ∷ t) = leads_behind (pass_escaped w c t) (lead_escape_by w unicode c t (letter_escape c))
+  lead_escape_at w unicode (c ∷ t) = leads_after (pass_escaped w c t) (lead_escape_by w unicode c t (letter_escape c))
 
   -- ---- quantifiers, outside of classes
 
   lead_count_at : (t : Source) → Leads sets table plain t plain (count_at t)
   lead_count_at t =
       leads_cond (length (front is_decimal t) == 0) _ _ (λ _. leads_none)
-      (λ _. leads_some (_, behind is_decimal t) (pass_behind in_text is_decimal quiet_decimal t))
+      (λ _. leads_some (_, after is_decimal t) (pass_after in_text is_decimal quiet_decimal t))
 
-  lead_closed_brace : (times : Times) (t : Source) → Leads sets table plain t plain (closed_brace times t)
+  lead_closed_brace : (times : RepeatBounds) (t : Source) → Leads sets table plain t plain (closed_brace times t)
   lead_closed_brace times t =
       leads_cond (is_at 125 t) _ _ (λ e. leads_some (times, drop 1 t) (pass_at in_text 125 t refl e)) (λ _. leads_none)
 
-  lead_most_at : (x : ℕ × Source) → Leads sets table plain x.1 plain (most_at x)
+  lead_most_at : (x : ℕ × Source) → Leads sets table plain x.1 plain (maximum_at x)
   lead_most_at (least, t) =
       leads_cond (is_at 44 t) _ _
-      (λ e. leads_behind (pass_at in_text 44 t refl e)
+      (λ e. leads_after (pass_at in_text 44 t refl e)
       (leads_cond (is_at 125 (drop 1 t)) _ _ (λ _. lead_closed_brace (least, None) (drop 1 t))
       (λ _. leads_then (count_at (drop 1 t)) (λ x. closed_brace (least, Some x.0) x.1) (lead_count_at (drop 1 t))
       (λ x. lead_closed_brace (least, Some x.0) x.1))))
       (λ _. lead_closed_brace (least, Some least) t)
 
-  lead_times_by : (c : ℕ) (t : Source) → Leads sets table plain (c ∷ t) plain (times_by c t)
+  lead_times_by : (c : ℕ) (t : Source) → Leads sets table plain (c ∷ t) plain (quantifier_prefix_by c t)
   lead_times_by c t =
       leads_cond (c == 42) _ _ (λ e. leads_some ((0, None), t) (pass_at in_text 42 (c ∷ t) refl e))
       (λ _. leads_cond (c == 43) _ _ (λ e. leads_some ((1, None), t) (pass_at in_text 43 (c ∷ t) refl e))
       (λ _. leads_cond (c == question_mark) _ _ (λ e. leads_some ((0, Some 1), t) (pass_at in_text 63 (c ∷ t) refl e))
       (λ _. leads_cond (c == 123) _ _
-      (λ e. leads_behind (pass_at in_text 123 (c ∷ t) refl e) (leads_then (count_at t) most_at (lead_count_at t) lead_most_at))
+      (λ e. leads_after (pass_at in_text 123 (c ∷ t) refl e) (leads_then (count_at t) maximum_at (lead_count_at t) lead_most_at))
       (λ _. leads_none))))
 
-  lead_greedy_or_lazy : (x : Times × Source) → Leads sets table plain x.1 plain (greedy_or_lazy x)
+  lead_greedy_or_lazy : (x : RepeatBounds × Source) → Leads sets table plain x.1 plain (greedy_or_lazy x)
   lead_greedy_or_lazy (times, t) = leads_some (_, cond (is_at question_mark t) (drop 1 t) t) (by (is_at question_mark t) refl)
     where
       by : (q : Bool) → is_at question_mark t ≡ q → Passes sets table plain t plain (cond q (drop 1 t) t)
@@ -322,4 +322,4 @@ module _ {sets : Bool} {table : Table} where
   pub lead_quantifier_at : (t : Source) → Leads sets table plain t plain (quantifier_at t)
   unfolding quantifier_at
   lead_quantifier_at [] = leads_none
-  lead_quantifier_at (c ∷ t) = leads_then (times_by c t) greedy_or_lazy (lead_times_by c t) lead_greedy_or_lazy
+  lead_quantifier_at (c ∷ t) = leads_then (quantifier_prefix_by c t) greedy_or_lazy (lead_times_by c t) lead_greedy_or_lazy

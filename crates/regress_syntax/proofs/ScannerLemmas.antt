@@ -7,14 +7,14 @@ use Rattle.std.proofs.lemmas.List.Elements.{filter-append}
 use Rattle.std.proofs.lemmas.List.{map-append, length-map}
 use Rattle.regress_base.specs.Limits.{max_nesting_depth}
 use Rattle.regress_base.specs.Table.{Table}
-use Rattle.regress_lexical.specs.declared.fault.FaultKind.TheVariants.{DuplicateName, TooManyGroups}
-use Rattle.regress_lexical.specs.Source.{Source}
+use Rattle.regress_lexer.specs.declared.fault.FaultKind.TheVariants.{DuplicateName, TooManyGroups}
+use Rattle.regress_lexer.specs.Source.{Source}
 use Rattle.regress_syntax.specs.Marks.{Mark, opens, captures, closes, next, nests}
 use Rattle.regress_syntax.specs.SameNames.{same_name}
-use Rattle.regress_syntax.specs.Paths.{Path, Place, enter, CaptureAt, groups_by, at_the_start, conflict, are_apart, are_marks_apart}
-use Rattle.regress_syntax.specs.Scan.{MarksShow, named_by, Mode, plain, escape, class, class_escape, marks, mode_behind, mark_at, deepest}
+use Rattle.regress_syntax.specs.Paths.{Path, Position, enter, CaptureAt, groups_by, at_the_start, conflict, are_apart, are_marks_apart}
+use Rattle.regress_syntax.specs.Scan.{MarksShow, named_by, Mode, plain, escape, class, class_escape, marks, mode_after, mark_at, deepest}
 use Rattle.regress_syntax.specs.Numbering.{names_of}
-use Rattle.regress_syntax.specs.Scanning.{depth_of, bears_name, capture_of, path_of, place_of, Behind}
+use Rattle.regress_syntax.specs.Scanning.{depth_of, bears_name, capture_of, path_of, position_of, After}
 use Rattle.regress_syntax.specs.declared.scan.scanner.Scanner.{Scanner}
 use Rattle.regress_syntax.specs.declared.scan.scanner.NamedGroup.{NamedGroup}
 
@@ -81,55 +81,55 @@ deepest_above n (opens ∷ ms) = omega arith
 deepest_above n (captures name ∷ ms) = omega arith
 deepest_above n (closes ∷ ms) = omega arith
 deepest_above n (next ∷ ms) = omega arith
-deepest_above n (nests levels ∷ ms) = omega (arith, deepest_above n ms)
+deepest_above n (nests nesting ∷ ms) = omega (arith, deepest_above n ms)
 
 -- ---- after a mark
 
-pub behind_opens : (all rest : List Mark) (old new : Scanner) →
+pub after_opens : (all rest : List Mark) (old new : Scanner) →
     new ≡ record old { path = new.path; opened = new.opened; deepest = new.deepest } →
-    place_of new ≡ enter (place_of old) → new.deepest ≡ max old.deepest (length (path_of old.path) + 1) →
-    Behind all (opens ∷ rest) old → Behind all rest new
-behind_opens all rest old new same place counted behind =
-    let more : length (path_of new.path) ≡ length (path_of old.path) + 1 = omega (arith, ap (λ (p : Place). length p.path) place) in
+    position_of new ≡ enter (position_of old) → new.deepest ≡ max old.deepest (length (path_of old.path) + 1) →
+    After all (opens ∷ rest) old → After all rest new
+after_opens all rest old new same position counted after =
+    let more : length (path_of new.path) ≡ length (path_of old.path) + 1 = omega (arith, ap (λ (p : Position). length p.path) position) in
     record {
-      names = behind.names ∙ ap (λ (s : Scanner). names_of s.names.items ++ named_by rest) (sym same);
-      named = λ few. behind.named few
-          ∙ ap₂ (λ (s : Scanner) (p : Place). map capture_of s.named.items ++ filter bears_name (groups_by p rest)) (sym same) (sym place);
+      names = after.names ∙ ap (λ (s : Scanner). names_of s.names.items ++ named_by rest) (sym same);
+      named = λ few. after.named few
+          ∙ ap₂ (λ (s : Scanner) (p : Position). map capture_of s.named.items ++ filter bears_name (groups_by p rest)) (sym same) (sym position);
       some = omega (arith, more);
       opened = omega (arith, more, counted);
-      levels = omega (arith, more, counted, behind.levels, ap (λ n. deepest n rest) more, deepest_above (length (path_of old.path) + 1) rest);
+      nesting = omega (arith, more, counted, after.nesting, ap (λ n. deepest n rest) more, deepest_above (length (path_of old.path) + 1) rest);
     }
 
 -- A group's path is that of the position before its parenthesis.
-pub behind_captures : (all rest : List Mark) (given : Option (Vec ℕ Global)) (old mid new : Scanner) →
+pub after_captures : (all rest : List Mark) (given : Option (Vec ℕ Global)) (old mid new : Scanner) →
     mid ≡ record old { names = mid.names; named = mid.named } → names_of mid.names.items ≡ names_of old.names.items ++ names_of (given ∷ []) →
     (length (path_of old.path) ≤ max_nesting_depth → map capture_of mid.named.items ≡ map capture_of old.named.items
     ++ filter bears_name (record { path = path_of old.path; name = option_map (λ name. name.items) given } ∷ [])) →
-    new ≡ record mid { path = new.path; opened = new.opened; deepest = new.deepest } → place_of new ≡ enter (place_of mid) →
+    new ≡ record mid { path = new.path; opened = new.opened; deepest = new.deepest } → position_of new ≡ enter (position_of mid) →
     new.deepest ≡ max mid.deepest (length (path_of mid.path) + 1) →
-    Behind all (captures (option_map (λ name. name.items) given) ∷ rest) old → Behind all rest new
-behind_captures all rest given old mid new added names named same place counted behind =
-    let kept : place_of mid ≡ place_of old = ap place_of added in
+    After all (captures (option_map (λ name. name.items) given) ∷ rest) old → After all rest new
+after_captures all rest given old mid new added names named same position counted after =
+    let kept : position_of mid ≡ position_of old = ap position_of added in
     let before : mid.deepest ≡ old.deepest = ap (λ (s : Scanner). s.deepest) added in
-    let held : length (path_of mid.path) ≡ length (path_of old.path) = ap (λ (p : Place). length p.path) kept in
-    let more : length (path_of new.path) ≡ length (path_of old.path) + 1 = omega (arith, ap (λ (p : Place). length p.path) place, held) in
+    let held : length (path_of mid.path) ≡ length (path_of old.path) = ap (λ (p : Position). length p.path) kept in
+    let more : length (path_of new.path) ≡ length (path_of old.path) + 1 = omega (arith, ap (λ (p : Position). length p.path) position, held) in
     let count : new.deepest ≡ max old.deepest (length (path_of old.path) + 1) = omega (arith, counted, before, held) in
     let group : CaptureAt = record { path = path_of old.path; name = option_map (λ name. name.items) given } in
-    let others = groups_by (enter (place_of old)) rest in
+    let others = groups_by (enter (position_of old)) rest in
     record {
-      names = behind.names ∙ sym (append_assoc (names_of old.names.items) (names_of (given ∷ [])) (named_by rest))
+      names = after.names ∙ sym (append_assoc (names_of old.names.items) (names_of (given ∷ [])) (named_by rest))
           ∙ ap (λ ns. ns ++ named_by rest) (sym (ap (λ (s : Scanner). names_of s.names.items) same ∙ names));
       named = λ few.
-          behind.named few
+          after.named few
           ∙ ap (λ gs. map capture_of old.named.items ++ gs) (filter-append bears_name (group ∷ []) others)
           ∙ sym (append_assoc (map capture_of old.named.items) (filter bears_name (group ∷ [])) (filter bears_name others))
           ∙ ap (λ gs. gs ++ filter bears_name others)
-          (sym (ap (λ (s : Scanner). map capture_of s.named.items) same ∙ named (omega (arith, few, behind.levels, behind.opened))))
-          ∙ ap (λ (p : Place). map capture_of new.named.items ++ filter bears_name (groups_by p rest))
-          (sym (place ∙ ap enter kept));
+          (sym (ap (λ (s : Scanner). map capture_of s.named.items) same ∙ named (omega (arith, few, after.nesting, after.opened))))
+          ∙ ap (λ (p : Position). map capture_of new.named.items ++ filter bears_name (groups_by p rest))
+          (sym (position ∙ ap enter kept));
       some = omega (arith, more);
       opened = omega (arith, more, count);
-      levels = omega (arith, more, count, behind.levels, ap (λ n. deepest n rest) more, deepest_above (length (path_of old.path) + 1) rest);
+      nesting = omega (arith, more, count, after.nesting, ap (λ n. deepest n rest) more, deepest_above (length (path_of old.path) + 1) rest);
     }
 
 -- ---- at the end of a pattern
@@ -139,44 +139,44 @@ counted : (n d : ℕ) → min n (2 ^ 64 - 1) ≡ min d (2 ^ 64 - 1) → (d ≤ m
     (max_nesting_depth < d → max_nesting_depth < n)
 counted n d same = (λ few. omega (arith, same), λ many. omega (arith, same))
 
-pub levels_behind : (all : List Mark) (scanner : Scanner) → Behind all [] scanner → scanner.deepest ≤ max_nesting_depth → deepest 1 all ≤ max_nesting_depth
-levels_behind all scanner behind few = (counted (deepest 1 all) _ behind.levels).0 (omega (arith, behind.opened))
+pub open_groups_after : (all : List Mark) (scanner : Scanner) → After all [] scanner → scanner.deepest ≤ max_nesting_depth → deepest 1 all ≤ max_nesting_depth
+open_groups_after all scanner after few = (counted (deepest 1 all) _ after.nesting).0 (omega (arith, after.opened))
 
-pub apart_behind : (all : List Mark) (scanner : Scanner) → Behind all [] scanner → deepest 1 all ≤ max_nesting_depth →
+pub apart_after : (all : List Mark) (scanner : Scanner) → After all [] scanner → deepest 1 all ≤ max_nesting_depth →
     are_marks_apart all ≡ are_apart (map capture_of scanner.named.items)
-apart_behind all scanner behind few =
-    are_apart-named (groups_by at_the_start all) ∙ ap are_apart (behind.named few ∙ append-nil (map capture_of scanner.named.items))
+apart_after all scanner after few =
+    are_apart-named (groups_by at_the_start all) ∙ ap are_apart (after.named few ∙ append-nil (map capture_of scanner.named.items))
 
 -- A conflict that the code finds is one, or the pattern is nested too deeply.
-pub refused_behind : (all : List Mark) (scanner : Scanner) → Behind all [] scanner → are_apart (map capture_of scanner.named.items) ≡ false →
+pub rejected_after : (all : List Mark) (scanner : Scanner) → After all [] scanner → are_apart (map capture_of scanner.named.items) ≡ false →
     MarksShow all DuplicateName
-refused_behind all scanner behind conflicts =
+rejected_after all scanner after conflicts =
     inl (
       refl,
       ⊎_elim (λ (many : max_nesting_depth < deepest 1 all). inr many)
-          (λ (few : deepest 1 all ≤ max_nesting_depth). inl (apart_behind all scanner behind few ∙ conflicts))
+          (λ (few : deepest 1 all ≤ max_nesting_depth). inl (apart_after all scanner after few ∙ conflicts))
           (cases_lt max_nesting_depth (deepest 1 all)),
     )
 
 -- There are more groups than 32 bits can number.
-pub many_behind : (all : List Mark) (scanner : Scanner) → Behind all [] scanner → 2 ^ 32 - 1 < length scanner.names.items → MarksShow all TooManyGroups
-many_behind all scanner behind many =
+pub many_after : (all : List Mark) (scanner : Scanner) → After all [] scanner → 2 ^ 32 - 1 < length scanner.names.items → MarksShow all TooManyGroups
+many_after all scanner after many =
     let same : length (named_by all) ≡ length scanner.names.items =
-    ap length (behind.names ∙ append-nil (names_of scanner.names.items)) ∙ length-map scanner.names.items _ in
+    ap length (after.names ∙ append-nil (names_of scanner.names.items)) ∙ length-map scanner.names.items _ in
     inr (inr (refl, omega (arith, same, many)))
 
 -- ---- from one code point to the next
 
 -- A code point opens at most one class.
-pub depth-mode_behind : (sets : Bool) (mode : Mode) (c : ℕ) → depth_of (mode_behind sets mode c) ≤ depth_of mode + 1
-depth-mode_behind sets plain c = by (c == 92) (c == 91)
+pub depth-mode_after : (sets : Bool) (mode : Mode) (c : ℕ) → depth_of (mode_after sets mode c) ≤ depth_of mode + 1
+depth-mode_after sets plain c = by (c == 92) (c == 91)
   where
     by : (backslash bracket : Bool) → depth_of (cond backslash escape (cond bracket (class 0 0) plain)) ≤ 0 + 1
     by true bracket = omega arith
     by false true = omega arith
     by false false = omega arith
-depth-mode_behind sets escape c = omega arith
-depth-mode_behind sets (class depth deepest) c = by (c == 92) (c == 91 && sets) (c == 93 && depth == 0) (c == 93)
+depth-mode_after sets escape c = omega arith
+depth-mode_after sets (class depth deepest) c = by (c == 92) (c == 91 && sets) (c == 93 && depth == 0) (c == 93)
   where
     by : (backslash opened outermost bracket : Bool) →
         depth_of (cond backslash (class_escape depth deepest) (cond opened (class (depth + 1) (max deepest (depth + 1)))
@@ -186,33 +186,33 @@ depth-mode_behind sets (class depth deepest) c = by (c == 92) (c == 91 && sets) 
     by false false true bracket = omega arith
     by false false false true = omega arith
     by false false false false = omega arith
-depth-mode_behind sets (class_escape depth deepest) c = omega arith
+depth-mode_after sets (class_escape depth deepest) c = omega arith
 
 -- The invariant holds after a mark.
 pub at_mark : (sets : Bool) (table : Table) (mode : Mode) (c : ℕ) (rest t : Source) (all : List Mark) (mark : Mark) (scanner : Scanner) →
     rest ≡ c ∷ t → mark_at sets table mode c t ≡ Some mark →
-    Behind all (marks sets table mode rest) scanner → Behind all (mark ∷ marks sets table (mode_behind sets mode c) t) scanner
+    After all (marks sets table mode rest) scanner → After all (mark ∷ marks sets table (mode_after sets mode c) t) scanner
 unfolding marks
-at_mark sets table mode c rest t all mark scanner split marked behind =
-    let whole : marks sets table mode rest ≡ mark ∷ marks sets table (mode_behind sets mode c) t =
+at_mark sets table mode c rest t all mark scanner split marked after =
+    let whole : marks sets table mode rest ≡ mark ∷ marks sets table (mode_after sets mode c) t =
     ap (marks sets table mode) split
-    ∙ ap (λ (found : Option Mark). option_to_list found ++ marks sets table (mode_behind sets mode c) t) marked in
-    subst (λ (ms : List Mark). Behind all ms scanner) whole behind
+    ∙ ap (λ (found : Option Mark). option_to_list found ++ marks sets table (mode_after sets mode c) t) marked in
+    subst (λ (ms : List Mark). After all ms scanner) whole after
 
 -- The invariant holds after a code point that is no mark.
 pub at_no_mark : (sets : Bool) (table : Table) (mode : Mode) (c : ℕ) (rest t : Source) (all : List Mark) (scanner : Scanner) →
     rest ≡ c ∷ t → mark_at sets table mode c t ≡ None →
-    Behind all (marks sets table mode rest) scanner → Behind all (marks sets table (mode_behind sets mode c) t) scanner
+    After all (marks sets table mode rest) scanner → After all (marks sets table (mode_after sets mode c) t) scanner
 unfolding marks
-at_no_mark sets table mode c rest t all scanner split marked behind =
-    let whole : marks sets table mode rest ≡ marks sets table (mode_behind sets mode c) t =
+at_no_mark sets table mode c rest t all scanner split marked after =
+    let whole : marks sets table mode rest ≡ marks sets table (mode_after sets mode c) t =
     ap (marks sets table mode) split
-    ∙ ap (λ (found : Option Mark). option_to_list found ++ marks sets table (mode_behind sets mode c) t) marked in
-    subst (λ (ms : List Mark). Behind all ms scanner) whole behind
+    ∙ ap (λ (found : Option Mark). option_to_list found ++ marks sets table (mode_after sets mode c) t) marked in
+    subst (λ (ms : List Mark). After all ms scanner) whole after
 
 -- At the end of the source all marks are passed.
 pub all_passed : (sets : Bool) (table : Table) (mode : Mode) (rest : Source) (all : List Mark) (scanner : Scanner) → length rest ≡ 0 →
-    Behind all (marks sets table mode rest) scanner → Behind all [] scanner
+    After all (marks sets table mode rest) scanner → After all [] scanner
 unfolding marks
-all_passed sets table mode [] all scanner e behind = behind
-all_passed sets table mode (c ∷ t) all scanner e behind = absurd (omega arith)
+all_passed sets table mode [] all scanner e after = after
+all_passed sets table mode (c ∷ t) all scanner e after = absurd (omega arith)

@@ -1,9 +1,9 @@
 -- The grammar: which source a syntax tree derives (ECMA-262, Patterns). The productions without recursion are functions
--- of the source, in `Rows`.
+-- of the source, in `Productions`.
 use Rattle.std.specs.Prelude.{◌≡◌, true, false, ◌∷◌, Some}
-use Rattle.regress_lexical.specs.Source.{Source, closing, bar, is_at, ends_alternative}
+use Rattle.regress_lexer.specs.Source.{Source, closing, bar, is_at, ends_alternative}
 use Rattle.regress_syntax.specs.Syntax.{Pattern, Terms, Item, one, either, no_terms, more_terms, atom, group}
-use Rattle.regress_syntax.specs.Rows.{Context, context_inside, single, opens, head_of_item, allows, head_at, times_at}
+use Rattle.regress_syntax.specs.Productions.{Context, context_inside, single, opens, head_of_item, allows, head_at, optional_quantifier_at}
 
 -- The source begins with a pattern that has this syntax tree, and `rest` follows it (ECMA-262, Disjunction).
 abbrev mutual
@@ -15,8 +15,8 @@ abbrev mutual
   pub AreTerms : Context → Terms → Source → Source → Type 0
   AreTerms ctx no_terms t rest = (ends_alternative t ≡ true) × (t ≡ rest)
   AreTerms ctx (more_terms x q xs) t rest =
-      (mid : Source) × (behind : Source) × IsItem ctx x t mid
-      × (times_at ctx (allows ctx.setting.flags.unicode (head_of_item x)) mid ≡ Some (q, behind)) × AreTerms ctx xs behind rest
+      (mid : Source) × (after : Source) × IsItem ctx x t mid
+      × (optional_quantifier_at ctx (allows ctx.setting.flags.unicode (head_of_item x)) mid ≡ Some (q, after)) × AreTerms ctx xs after rest
 
   -- a single token, or the opening of a group, its body and `)` (ECMA-262, Term without its Quantifier)
   pub IsItem : Context → Item → Source → Source → Type 0

@@ -1,13 +1,13 @@
 pub mod Names
 pub mod SettingOf
 pub mod Syntax
-pub mod Rows
+pub mod Productions
 pub mod Grammar
 pub mod Marks
 pub mod SameNames
 pub mod Paths
 pub mod Scan
-pub mod Misplaced
+pub mod FirstErrors
 pub mod Numbering
 pub mod Scanning
 pub mod Meaning

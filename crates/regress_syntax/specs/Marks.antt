@@ -12,7 +12,7 @@ pub data Mark : Type 0 where
   -- `|`
   next : Mark
   -- a class, with the nesting depth of the classes inside it
-  nests : (levels : ℕ) → Mark
+  nests : (nesting : ℕ) → Mark
 
 abbrev pub mark_of_group : Group → Mark
 mark_of_group (capture name) = captures name
@@ -20,7 +20,7 @@ mark_of_group kind = opens
 
 -- Only a class under the flag v has a mark, with its nesting depth.
 abbrev pub marks_of_atom : Atom → List Mark
-marks_of_atom (class_set flags negated value) = nests value.levels ∷ []
+marks_of_atom (class_set flags negated value) = nests value.nesting ∷ []
 marks_of_atom a = []
 
 abbrev mutual

@@ -5,22 +5,22 @@ use Rattle.regress_base.specs.Intervals.{Bounds, is_member}
 use Rattle.regress_base.specs.declared.types.Flags.{Flags}
 use Rattle.regress_base.specs.declared.types.Quantifier.{Quantifier}
 use Rattle.regress_tree.specs.Reading.{Direction, forwards, backwards, of_characters}
-use Rattle.regress_tree.specs.Steps.{Step, distinct, stay, fail, ◌then_◌, ◌or_◌, one_character, hold_at}
+use Rattle.regress_tree.specs.Steps.{Matcher, dedup, stay, fail, ◌then_◌, ◌or_◌, one_character, hold_at}
 use Rattle.regress_tree.specs.Steps as Steps
 use Rattle.regress_tree.specs.Lookaround as Lookaround
 use Rattle.regress_tree.specs.References as References
 use Rattle.regress_tree.specs.Strings.{any_string}
 use Rattle.regress_tree.specs.Setting.{Setting}
-use Rattle.regress_base.specs.Table.{Table, stands_for, is_in_closure}
+use Rattle.regress_base.specs.Table.{Table, denotes, is_in_closure}
 use Rattle.regress_tree.specs.Assertions.{is_line_terminator, is_word_character, at_anchor, differ, at_boundary}
-use Rattle.regress_tree.specs.Repetition.{repeat}
-use Rattle.regress_classes.specs.ClassRows.{members_of}
+use Rattle.regress_tree.specs.Repetition.{repeat_matcher}
+use Rattle.regress_classes.specs.ClassProductions.{members_of}
 use Rattle.regress_syntax.specs.Syntax.{Name, is_named, Target, by_number, by_name, Atom, literal, dot, anchor, boundary, class_escape, class, class_set, string_property, back_reference, Group, grouping, modified, capture, look, Pattern, Terms, Item, one, either, no_terms, more_terms, atom, group, opened_by, counts_of_item, counts_of_terms, counts_of_term, names}
 
 -- A character matches the literal c: it is equal to c or, with the flag i, has the same canonical form (ECMA-262,
 -- Canonicalize).
 abbrev pub is_literal : Table → Flags → ℕ → ℕ → Bool
-is_literal table flags = stands_for table flags.icase flags.unicode
+is_literal table flags = denotes table flags.icase flags.unicode
 
 -- A character matches `.`: any but a line terminator, and with the flag s any at all (ECMA-262, CompileAtom).
 abbrev pub is_any : Flags → ℕ → Bool
@@ -37,7 +37,7 @@ is_in_class table flags inverted members x =
     differ inverted (if flags.icase then is_in_closure table members x else is_member members x)
 
 -- a sequence of two steps, in reverse order where matching runs backwards (ECMA-262, CompileSubpattern of Alternative)
-abbrev pub along : Direction → Step → Step → Step
+abbrev pub along : Direction → Matcher → Matcher → Matcher
 along forwards f g = f then_ g
 along backwards f g = g then_ f
 
@@ -49,7 +49,7 @@ direction_of_group (capture name) d = d
 direction_of_group (look negate direction) d = direction
 
 -- a group around a body, where n capture groups were opened before it
-abbrev pub group_steps : ℕ → Group → Step → Step
+abbrev pub group_steps : ℕ → Group → Matcher → Matcher
 group_steps n grouping body = body
 group_steps n (modified change) body = body
 group_steps n (capture name) body = Steps.capture n body
@@ -68,16 +68,16 @@ referred all (by_number k) = k ∷ []
 referred all (by_name name) = groups_named name 1 all
 
 -- references to these groups, tried in order as alternatives are
-abbrev pub any_reference : (ℕ → Step) → List ℕ → Step
+abbrev pub any_reference : (ℕ → Matcher) → List ℕ → Matcher
 any_reference refer [] = fail
 any_reference refer (k ∷ []) = refer k
 any_reference refer (k ∷ next ∷ ks) = refer k or_ any_reference refer (next ∷ ks)
 
 -- A quantified item, whose captures are those of the groups start to end - 1 (ECMA-262, RepeatMatcher). Length + 1
 -- iterations suffice, since no more can each consume something in a text of this length.
-abbrev pub times_steps : (length : ℕ) → Option Quantifier → (start end : ℕ) → Step → Step
-times_steps length None start end body = body
-times_steps length (Some q) start end body = repeat (length + 1) q start end body
+abbrev pub quantified_steps : (length : ℕ) → Option Quantifier → (start end : ℕ) → Matcher → Matcher
+quantified_steps length None start end body = body
+quantified_steps length (Some q) start end body = repeat_matcher (length + 1) q start end body
 
 -- the strings of fewer than n code points: those of n - 1 first, then the shorter ones
 abbrev pub shorter_than : ℕ → List (List ℕ) → List (List ℕ)
@@ -92,11 +92,11 @@ longest_first ss = shorter_than (length (concat ss) + 1) ss
 -- The names are those of all groups of the whole pattern.
 module _ (setting : Setting) (names : List (Option Name)) (text : List ℕ) where
   -- the strings tried in order, each matched character by character as a backreference is
-  abbrev pub one_of_strings : Direction → Flags → List (List ℕ) → Step
+  abbrev pub one_of_strings : Direction → Flags → List (List ℕ) → Matcher
   one_of_strings d flags =
-      any_string d (of_characters text) (stands_for setting.table flags.icase setting.flags.unicode)
+      any_string d (of_characters text) (denotes setting.table flags.icase setting.flags.unicode)
 
-  abbrev pub atom_steps : Direction → Atom → Step
+  abbrev pub atom_steps : Direction → Atom → Matcher
   atom_steps d (literal flags c) = one_character d (of_characters text) (is_literal setting.table flags c)
   atom_steps d (dot flags) = one_character d (of_characters text) (is_any flags)
   atom_steps d (anchor flags kind) = hold_at (at_anchor (of_characters text) kind flags.multiline)
@@ -113,25 +113,25 @@ module _ (setting : Setting) (names : List (Option Name)) (text : List ℕ) wher
   atom_steps d (string_property flags written) = one_of_strings d flags written
   -- No group changes the flag u, so the flag is that of the setting.
   atom_steps d (back_reference flags to) =
-      any_reference (λ k. References.back_reference d (of_characters text) (stands_for setting.table flags.icase setting.flags.unicode) (k - 1))
+      any_reference (λ k. References.back_reference d (of_characters text) (denotes setting.table flags.icase setting.flags.unicode) (k - 1))
       (referred names to)
 
   -- the outcomes, with duplicates, of a part of the pattern that follows n opened capture groups
   abbrev mutual
-    pub pattern_steps : Direction → ℕ → Pattern → Step
+    pub pattern_steps : Direction → ℕ → Pattern → Matcher
     pattern_steps d n (one ts) = terms_steps d n ts
     pattern_steps d n (either ts p) = terms_steps d n ts or_ pattern_steps d (n + (counts_of_terms ts).groups) p
 
-    pub terms_steps : Direction → ℕ → Terms → Step
+    pub terms_steps : Direction → ℕ → Terms → Matcher
     terms_steps d n no_terms = stay
     terms_steps d n (more_terms x q xs) =
-        along d (times_steps (length text) q n (n + (counts_of_item x).groups) (item_steps d n x))
+        along d (quantified_steps (length text) q n (n + (counts_of_item x).groups) (item_steps d n x))
         (terms_steps d (n + (counts_of_term x q).groups) xs)
 
-    pub item_steps : Direction → ℕ → Item → Step
+    pub item_steps : Direction → ℕ → Item → Matcher
     item_steps d n (atom a) = atom_steps d a
     item_steps d n (group kind p) = group_steps n kind (pattern_steps (direction_of_group kind d) (n + opened_by kind) p)
 
 -- what a pattern matches: its distinct outcomes in order of preference (ECMA-262, CompilePattern)
-abbrev pub meaning : Setting → List ℕ → Direction → Pattern → Step
-meaning setting text d p s = distinct (pattern_steps setting (names p) text d 0 p s)
+abbrev pub meaning : Setting → List ℕ → Direction → Pattern → Matcher
+meaning setting text d p s = dedup (pattern_steps setting (names p) text d 0 p s)

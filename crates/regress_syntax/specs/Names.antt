@@ -3,28 +3,28 @@ use Rattle.std.specs.Prelude.{ℕ, zero, suc, ◌+◌, Bool, ◌&&◌, ◌||◌,
 use lib.Utf8.{scalar}
 use Rattle.regress_base.specs.Intervals.{is_member}
 use Rattle.regress_base.specs.Table.{Table}
-use Rattle.regress_lexical.specs.Source.{Source, Found, ◌>>=◌, found_map, char, is_one_of, is_at}
-use Rattle.regress_lexical.specs.Escapes.{unicode_at}
+use Rattle.regress_lexer.specs.Source.{Source, Found, ◌>>=◌, found_map, char, is_one_of, is_at}
+use Rattle.regress_lexer.specs.Escapes.{unicode_at}
 use Rattle.regress_syntax.specs.Syntax.{Name}
 
-abbrev pub is_sign : ℕ → Bool
-is_sign c = is_one_of "$_" c
+abbrev pub is_dollar_or_underscore : ℕ → Bool
+is_dollar_or_underscore c = is_one_of "$_" c
 
 abbrev pub begins_name : Table → ℕ → Bool
-begins_name table c = scalar c && (is_sign c || is_member table.id_start c)
+begins_name table c = scalar c && (is_dollar_or_underscore c || is_member table.id_start c)
 
 -- The joiners U+200C and U+200D may continue a name too (ECMA-262, RegExpIdentifierPart).
 abbrev pub continues_name : Table → ℕ → Bool
-continues_name table c = scalar c && (is_sign c || c == 0x200C || c == 0x200D || is_member table.id_continue c)
+continues_name table c = scalar c && (is_dollar_or_underscore c || c == 0x200C || c == 0x200D || is_member table.id_continue c)
 
 -- one character: a literal one, or an escape with `\u` that has a value
-abbrev pub written_at : Source → Found ℕ
-written_at [] = None
-written_at (c ∷ t) = if c == char "\\" then (if is_at (char "u") t then unicode_at (drop 1 t) else None) else Some (c, t)
+abbrev pub literal_or_escape_at : Source → Found ℕ
+literal_or_escape_at [] = None
+literal_or_escape_at (c ∷ t) = if c == char "\\" then (if is_at (char "u") t then unicode_at (drop 1 t) else None) else Some (c, t)
 
 -- one character that passes the test
 abbrev pub name_character_at : (ℕ → Bool) → Source → Found ℕ
-name_character_at p t = written_at t >>= λ (c, rest). if p c then Some (c, rest) else None
+name_character_at p t = literal_or_escape_at t >>= λ (c, rest). if p c then Some (c, rest) else None
 
 -- The rest of a name, up to an unescaped `>`. The first argument bounds its length.
 unfoldable pub rest_of_name_by : ℕ → Table → Source → Found Name

@@ -6,8 +6,8 @@ use Rattle.std.specs.Ordering.{nat_cmp, is_eq, ordering_index}
 use Rattle.std.specs.declared.cmp.Ordering.{Ordering}
 use Rattle.std.specs.declared.cmp.Ordering.TheVariants.{Greater}
 use Rattle.std.specs.declared.alloc.Global.{Global}
-use Rattle.regress_lexical.specs.Source.{Source, Found}
-use Rattle.regress_lexical.specs.Digits.{is_decimal, number, front, behind}
+use Rattle.regress_lexer.specs.Source.{Source, Found}
+use Rattle.regress_lexer.specs.Digits.{is_decimal, number, front, after}
 use Rattle.regress_syntax.specs.Syntax.{Name}
 use Rattle.regress_syntax.specs.Meaning.{groups_named}
 
@@ -38,4 +38,4 @@ pub record AreSortedByName (names : List (Option Name)) (sorted : List ℕ) : Ty
 abbrev pub group_number_at : (groups : ℕ) → Source → Found ℕ
 group_number_at groups t =
     let group = number 10 (front is_decimal t) in
-    if nat_le group groups then Some (group, behind is_decimal t) else None
+    if nat_le group groups then Some (group, after is_decimal t) else None

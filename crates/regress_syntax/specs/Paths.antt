@@ -19,17 +19,17 @@ abbrev pub Path : Type 0
 Path = List Level
 
 -- a position in a pattern, with the number of parentheses opened before it
-pub record Place : Type 0 where
+pub record Position : Type 0 where
   pub path : Path
   pub opened : ℕ
 
 -- the start of the pattern, in the first alternative of its disjunction
-abbrev pub at_the_start : Place
+abbrev pub at_the_start : Position
 at_the_start = record { path = record { opening = 0; alternative = 0 } ∷ []; opened = 0 }
 
 -- the position after an opening parenthesis
-abbrev pub enter : Place → Place
-enter place = record { path = record { opening = place.opened + 1; alternative = 0 } ∷ place.path; opened = place.opened + 1 }
+abbrev pub enter : Position → Position
+enter position = record { path = record { opening = position.opened + 1; alternative = 0 } ∷ position.path; opened = position.opened + 1 }
 
 -- the path without its innermost disjunction; the whole pattern is never left
 abbrev pub outside : Path → Path
@@ -48,13 +48,13 @@ pub record CaptureAt : Type 0 where
   pub name : Option Name
 
 -- the capture groups of the marks, in order, from a position on
-abbrev pub groups_by : Place → List Mark → List CaptureAt
-groups_by place [] = []
-groups_by place (opens ∷ ms) = groups_by (enter place) ms
-groups_by place (captures name ∷ ms) = record { path = place.path; name = name } ∷ groups_by (enter place) ms
-groups_by place (closes ∷ ms) = groups_by (record place { path = outside place.path }) ms
-groups_by place (next ∷ ms) = groups_by (record place { path = next_alternative place.path }) ms
-groups_by place (nests levels ∷ ms) = groups_by place ms
+abbrev pub groups_by : Position → List Mark → List CaptureAt
+groups_by position [] = []
+groups_by position (opens ∷ ms) = groups_by (enter position) ms
+groups_by position (captures name ∷ ms) = record { path = position.path; name = name } ∷ groups_by (enter position) ms
+groups_by position (closes ∷ ms) = groups_by (record position { path = outside position.path }) ms
+groups_by position (next ∷ ms) = groups_by (record position { path = next_alternative position.path }) ms
+groups_by position (nests nesting ∷ ms) = groups_by position ms
 
 -- ---- groups of one name
 

@@ -3,14 +3,14 @@ use Rattle.std.specs.Prelude.{◌≡◌, ◌⊎◌, ◌<◌, ℕ, ◌+◌, ◌-�
 use Rattle.std.specs.Option.{option_to_list}
 use Rattle.regress_base.specs.Limits.{max_capture_groups, max_nesting_depth}
 use Rattle.regress_base.specs.Table.{Table}
-use Rattle.regress_lexical.specs.declared.fault.FaultKind.{FaultKind}
-use Rattle.regress_lexical.specs.declared.fault.FaultKind.TheVariants.{DuplicateName, TooDeep, TooManyGroups}
-use Rattle.regress_lexical.specs.Source.{Source, char, opening, closing, bar, question_mark, is_at}
+use Rattle.regress_lexer.specs.declared.fault.FaultKind.{FaultKind}
+use Rattle.regress_lexer.specs.declared.fault.FaultKind.TheVariants.{DuplicateName, TooDeep, TooManyGroups}
+use Rattle.regress_lexer.specs.Source.{Source, char, opening, closing, bar, question_mark, is_at}
 use Rattle.regress_syntax.specs.Names.{group_name_at}
 use Rattle.regress_syntax.specs.Syntax.{Name, Pattern}
 use Rattle.regress_syntax.specs.Marks.{Mark, opens, captures, closes, next, nests, marks_of}
 use Rattle.regress_syntax.specs.Paths.{are_marks_apart}
-use Rattle.regress_syntax.specs.Rows.{Context}
+use Rattle.regress_syntax.specs.Productions.{Context}
 use Rattle.regress_syntax.specs.Grammar.{IsPattern}
 
 -- The mode of a scan: plain text, a class, or after the backslash of an escape in one of these. In a class it has the
@@ -29,20 +29,20 @@ opened_at table t =
     else captures None
 
 -- the mode after a code point; `sets` is the flag v, with which classes nest
-abbrev pub mode_behind : (sets : Bool) → Mode → ℕ → Mode
-mode_behind sets plain c = if c == char "\\" then escape else if c == char "[" then class 0 0 else plain
-mode_behind sets escape c = plain
-mode_behind sets (class depth deepest) c =
+abbrev pub mode_after : (sets : Bool) → Mode → ℕ → Mode
+mode_after sets plain c = if c == char "\\" then escape else if c == char "[" then class 0 0 else plain
+mode_after sets escape c = plain
+mode_after sets (class depth deepest) c =
     if c == char "\\" then class_escape depth deepest
     else if c == char "[" && sets then class (depth + 1) (max deepest (depth + 1))
     else if c == char "]" && depth == 0 then plain
     else if c == char "]" then class (depth - 1) deepest
     else class depth deepest
-mode_behind sets (class_escape depth deepest) c = class depth deepest
+mode_after sets (class_escape depth deepest) c = class depth deepest
 
 -- a code point that is no mark and never changes the mode, in plain text or in a class
-abbrev pub is_quiet : ℕ → Bool
-is_quiet c = not (c == char "\\" || c == char "[" || c == char "]" || c == opening || c == closing || c == bar)
+abbrev pub is_insignificant : ℕ → Bool
+is_insignificant c = not (c == char "\\" || c == char "[" || c == char "]" || c == opening || c == closing || c == bar)
 
 -- the mark that a code point is, if any; the source is what follows it
 abbrev pub mark_at : (sets : Bool) → Table → Mode → ℕ → Source → Option Mark
@@ -58,7 +58,7 @@ mark_at sets table (class_escape depth deepest) c t = None
 -- the marks of a source, scanned from a mode on
 unfoldable pub marks : (sets : Bool) → Table → Mode → Source → List Mark
 marks sets table mode [] = []
-marks sets table mode (c ∷ t) = option_to_list (mark_at sets table mode c t) ++ marks sets table (mode_behind sets mode c) t
+marks sets table mode (c ∷ t) = option_to_list (mark_at sets table mode c t) ++ marks sets table (mode_after sets mode c) t
 
 -- What the scan guarantees: in whatever context of groups and names, every syntax tree that the grammar derives from
 -- the source has the marks that the scan finds.
@@ -76,7 +76,7 @@ named_by (opens ∷ ms) = named_by ms
 named_by (captures name ∷ ms) = name ∷ named_by ms
 named_by (closes ∷ ms) = named_by ms
 named_by (next ∷ ms) = named_by ms
-named_by (nests levels ∷ ms) = named_by ms
+named_by (nests nesting ∷ ms) = named_by ms
 
 -- The greatest nesting depth that the marks reach, from depth n on. The whole pattern counts one and is never closed.
 abbrev pub deepest : ℕ → List Mark → ℕ
@@ -85,7 +85,7 @@ deepest n (opens ∷ ms) = max n (deepest (n + 1) ms)
 deepest n (captures name ∷ ms) = max n (deepest (n + 1) ms)
 deepest n (closes ∷ ms) = max n (deepest (max 1 (n - 1)) ms)
 deepest n (next ∷ ms) = max n (deepest n ms)
-deepest n (nests levels ∷ ms) = max (n + levels) (deepest n ms)
+deepest n (nests nesting ∷ ms) = max (n + nesting) (deepest n ms)
 
 -- What an error of this kind implies for the marks. In a pattern that is nested too deeply, groups that do not conflict
 -- may be reported.

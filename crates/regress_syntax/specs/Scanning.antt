@@ -6,7 +6,7 @@ use Rattle.regress_base.specs.Limits.{max_nesting_depth}
 use Rattle.regress_syntax.specs.Numbering.{names_of, numbered}
 use Rattle.regress_syntax.specs.Syntax.{Name}
 use Rattle.regress_syntax.specs.Marks.{Mark, opens, captures, closes, next, nests}
-use Rattle.regress_syntax.specs.Paths.{Level, Path, Place, CaptureAt, groups_by, at_the_start}
+use Rattle.regress_syntax.specs.Paths.{Level, Path, Position, CaptureAt, groups_by, at_the_start}
 use Rattle.regress_syntax.specs.Scan.{Mode, plain, escape, class, class_escape, named_by, deepest}
 use Rattle.regress_syntax.specs.declared.scan.mark.Mode.{Mode as CodeMode}
 use Rattle.regress_syntax.specs.declared.scan.mark.Mode.TheVariants as modes
@@ -16,14 +16,14 @@ use Rattle.regress_syntax.specs.declared.scan.path.Level.{Level as CodeLevel}
 use Rattle.regress_syntax.specs.declared.scan.path.Path.{Path as CodePath}
 use Rattle.regress_syntax.specs.declared.scan.scanner.Scanner.{Scanner}
 use Rattle.regress_syntax.specs.declared.scan.scanner.NamedGroup.{NamedGroup}
-use Rattle.regress_lexical.specs.declared.fault.FaultKind.{FaultKind}
-use Rattle.regress_lexical.specs.declared.fault.FaultKind.TheVariants.{UnbalancedParenthesis, TooDeep}
-use Rattle.regress_lexical.specs.declared.fault.Fault.{Fault}
-use Rattle.regress_lexical.specs.declared.fault.Fault.TheVariants.{Refused, Memory}
-use Rattle.regress_lexical.specs.declared.fault.Refusal.{Refusal}
-use Rattle.regress_lexical.specs.Source.{Source}
-use Rattle.regress_syntax.specs.Misplaced.{Flaw, unopened, too_deep, kind_of, left_at}
-use Rattle.regress_syntax.specs.declared.scan.misplaced.Misplaced.{Misplaced}
+use Rattle.regress_lexer.specs.declared.fault.FaultKind.{FaultKind}
+use Rattle.regress_lexer.specs.declared.fault.FaultKind.TheVariants.{UnbalancedParenthesis, TooDeep}
+use Rattle.regress_lexer.specs.declared.fault.Fault.{Fault}
+use Rattle.regress_lexer.specs.declared.fault.Fault.TheVariants.{Rejected, Memory}
+use Rattle.regress_lexer.specs.declared.fault.Rejection.{Rejection}
+use Rattle.regress_lexer.specs.Source.{Source}
+use Rattle.regress_syntax.specs.FirstErrors.{Flaw, unopened, too_deep, kind_of, remaining_at}
+use Rattle.regress_syntax.specs.declared.scan.first_errors.FirstErrors.{FirstErrors}
 
 -- ---- marks
 
@@ -36,7 +36,7 @@ mark_of code_marks.Opens = opens
 mark_of (code_marks.Captures name) = captures (option_map (λ name. name.items) name)
 mark_of code_marks.Closes = closes
 mark_of code_marks.Next = next
-mark_of (code_marks.Nests levels) = nests levels
+mark_of (code_marks.Nests nesting) = nests nesting
 
 -- the number of classes that are open inside the outermost one
 abbrev pub depth_of : Mode → ℕ
@@ -47,15 +47,15 @@ depth_of (class_escape depth deepest) = depth
 
 -- ---- paths and positions
 
-abbrev pub level_of : CodeLevel → Level
-level_of level = record { opening = level.opening; alternative = level.alternative }
+abbrev pub enclosing_disjunction_of : CodeLevel → Level
+enclosing_disjunction_of level = record { opening = level.opening; alternative = level.alternative }
 
 -- innermost first
 abbrev pub path_of : CodePath → Path
-path_of path = reverse (map level_of path.levels.items)
+path_of path = reverse (map enclosing_disjunction_of path.nesting.items)
 
-abbrev pub place_of : Scanner → Place
-place_of scanner = record { path = path_of scanner.path; opened = scanner.opened }
+abbrev pub position_of : Scanner → Position
+position_of scanner = record { path = path_of scanner.path; opened = scanner.opened }
 
 -- the greatest index of an alternative
 abbrev pub highest : Path → ℕ
@@ -63,16 +63,16 @@ highest [] = 0
 highest (level ∷ path) = max level.alternative (highest path)
 
 -- the greatest number in a position
-abbrev pub highest_at : Place → ℕ
-highest_at place = max place.opened (highest place.path)
+abbrev pub highest_at : Position → ℕ
+highest_at position = max position.opened (highest position.path)
 
 -- the number of open groups after a mark, the whole pattern included
-abbrev pub levels_after : Mark → ℕ → ℕ
-levels_after opens n = n + 1
-levels_after (captures name) n = n + 1
-levels_after closes n = max 1 (n - 1)
-levels_after next n = n
-levels_after (nests levels) n = n
+abbrev pub open_groups_after_mark : Mark → ℕ → ℕ
+open_groups_after_mark opens n = n + 1
+open_groups_after_mark (captures name) n = n + 1
+open_groups_after_mark closes n = max 1 (n - 1)
+open_groups_after_mark next n = n
+open_groups_after_mark (nests nesting) n = n
 
 -- ---- groups
 
@@ -96,47 +96,47 @@ abbrev pub bears_name : CaptureAt → Bool
 bears_name group = is_some group.name
 
 -- The scanner's invariant: what it has found, with what the remaining marks add, is what all marks determine.
-pub record Behind (all rest : List Mark) (scanner : Scanner) : Type 0 where
+pub record After (all rest : List Mark) (scanner : Scanner) : Type 0 where
   pub names : named_by all ≡ names_of scanner.names.items ++ named_by rest
   -- Past the limit of the nesting depth, paths are cut short.
   pub named : deepest 1 all ≤ max_nesting_depth → filter bears_name (groups_by at_the_start all)
-      ≡ map capture_of scanner.named.items ++ filter bears_name (groups_by (place_of scanner) rest)
+      ≡ map capture_of scanner.named.items ++ filter bears_name (groups_by (position_of scanner) rest)
   pub some : 1 ≤ length (path_of scanner.path)
   pub opened : length (path_of scanner.path) ≤ scanner.deepest
   -- The depth saturates at `usize::MAX`.
-  pub levels : min (deepest 1 all) (2 ^ 64 - 1) ≡ min (max scanner.deepest (deepest (length (path_of scanner.path)) rest)) (2 ^ 64 - 1)
+  pub nesting : min (deepest 1 all) (2 ^ 64 - 1) ≡ min (max scanner.deepest (deepest (length (path_of scanner.path)) rest)) (2 ^ 64 - 1)
 
 -- ---- misplaced positions
 
 -- the position that was noted for a flaw, as the number of code points that remain from it on
-abbrev pub noted : Flaw → Misplaced → Option ℕ
-noted unopened misplaced = misplaced.unopened
-noted too_deep misplaced = misplaced.too_deep
+abbrev pub noted : Flaw → FirstErrors → Option ℕ
+noted unopened first_errors = first_errors.unopened
+noted too_deep first_errors = first_errors.too_deep
 
 -- The first flaw of each kind in the source was noted, and nothing else.
-abbrev pub NotesFirst : (sets : Bool) → Source → Misplaced → Type 0
-NotesFirst sets t misplaced = (flaw : Flaw) → left_at flaw sets plain 1 t ≡ noted flaw misplaced
+abbrev pub NotesFirst : (sets : Bool) → Source → FirstErrors → Type 0
+NotesFirst sets t first_errors = (flaw : Flaw) → remaining_at flaw sets plain 1 t ≡ noted flaw first_errors
 
 -- An error for one of the flaws is at the first such flaw of the source, if there is one.
-abbrev pub IsLocated : (sets : Bool) → Source → Refusal → Type 0
-IsLocated sets t r = (flaw : Flaw) (left : ℕ) → r.kind ≡ kind_of flaw → left_at flaw sets plain 1 t ≡ Some left → r.left ≡ left
+abbrev pub IsLocated : (sets : Bool) → Source → Rejection → Type 0
+IsLocated sets t r = (flaw : Flaw) (left : ℕ) → r.kind ≡ kind_of flaw → remaining_at flaw sets plain 1 t ≡ Some left → r.left ≡ left
 
 -- the property holds of a syntax error; running out of memory is no syntax error
-abbrev pub OnRefusal : Fault → (Refusal → Type 0) → Type 0
-OnRefusal (Refused r) P = P r
-OnRefusal (Memory e) P = Unit {0}
+abbrev pub OnRejection : Fault → (Rejection → Type 0) → Type 0
+OnRejection (Rejected r) P = P r
+OnRejection (Memory e) P = Unit {0}
 
-abbrev pub FailsAt : {X : Type 0} → Result X Fault → (Refusal → Type 0) → Type 0
+abbrev pub FailsAt : {X : Type 0} → Result X Fault → (Rejection → Type 0) → Type 0
 FailsAt (Ok x) P = Unit {0}
-FailsAt (Err fault) P = OnRefusal fault P
+FailsAt (Err fault) P = OnRejection fault P
 
 -- the position that was noted for errors of this kind
-abbrev pub noted_for : Misplaced → FaultKind → Option ℕ
-noted_for misplaced UnbalancedParenthesis = misplaced.unopened
-noted_for misplaced TooDeep = misplaced.too_deep
-noted_for misplaced other = None
+abbrev pub noted_for : FirstErrors → FaultKind → Option ℕ
+noted_for first_errors UnbalancedParenthesis = first_errors.unopened
+noted_for first_errors TooDeep = first_errors.too_deep
+noted_for first_errors other = None
 
 -- the error, at the position that was noted for its kind
-abbrev pub located : Misplaced → Fault → Fault
-located misplaced (Refused r) = Refused (record r { left = unwrap_or (noted_for misplaced r.kind) r.left })
-located misplaced (Memory e) = Memory e
+abbrev pub located : FirstErrors → Fault → Fault
+located first_errors (Rejected r) = Rejected (record r { left = unwrap_or (noted_for first_errors r.kind) r.left })
+located first_errors (Memory e) = Memory e

@@ -8,7 +8,7 @@ use Rattle.regress_base.specs.declared.types.AnchorType.{AnchorType}
 use Rattle.regress_base.specs.declared.types.Quantifier.{Quantifier}
 use Rattle.regress_tree.specs.Reading.{Direction}
 use Rattle.regress_classes.specs.ClassSets.{Value}
-use Rattle.regress_lexical.specs.Modifiers.{Change}
+use Rattle.regress_lexer.specs.Modifiers.{Change}
 
 -- the name of a group, as a list of characters
 abbrev pub Name : Type 0
@@ -87,9 +87,9 @@ counts_of_group kind = record { groups = opened_by kind; loops = 0 }
 abbrev pub one_loop : Counts
 one_loop = record { groups = 0; loops = 1 }
 
-abbrev pub counts_of_times : Option Quantifier → Counts
-counts_of_times None = nothing_counted
-counts_of_times (Some q) = one_loop
+abbrev pub counts_of_quantifier : Option Quantifier → Counts
+counts_of_quantifier None = nothing_counted
+counts_of_quantifier (Some q) = one_loop
 
 abbrev mutual
   pub counts : Pattern → Counts
@@ -98,14 +98,14 @@ abbrev mutual
 
   pub counts_of_terms : Terms → Counts
   counts_of_terms no_terms = nothing_counted
-  counts_of_terms (more_terms x q xs) = added (added (counts_of_item x) (counts_of_times q)) (counts_of_terms xs)
+  counts_of_terms (more_terms x q xs) = added (added (counts_of_item x) (counts_of_quantifier q)) (counts_of_terms xs)
 
   pub counts_of_item : Item → Counts
   counts_of_item (atom a) = nothing_counted
   counts_of_item (group kind p) = added (counts_of_group kind) (counts p)
 
 abbrev pub counts_of_term : Item → Option Quantifier → Counts
-counts_of_term x q = added (counts_of_item x) (counts_of_times q)
+counts_of_term x q = added (counts_of_item x) (counts_of_quantifier q)
 
 -- a list with the name of a capture group, `None` if it has no name; empty for other groups
 abbrev pub names_of_group : Group → List (Option Name)
@@ -129,28 +129,28 @@ abbrev mutual
   names_of_item (group kind p) = names_of_group kind ++ names p
 
 -- the nesting depth of the classes in an item
-abbrev pub levels_of_atom : Atom → ℕ
-levels_of_atom (literal flags c) = 0
-levels_of_atom (dot flags) = 0
-levels_of_atom (anchor flags kind) = 0
-levels_of_atom (boundary flags inverted) = 0
-levels_of_atom (class_escape flags kind negated) = 0
-levels_of_atom (class flags inverted members) = 0
-levels_of_atom (class_set flags negated value) = value.levels
-levels_of_atom (string_property flags written) = 0
-levels_of_atom (back_reference flags to) = 0
+abbrev pub nesting_of_atom : Atom → ℕ
+nesting_of_atom (literal flags c) = 0
+nesting_of_atom (dot flags) = 0
+nesting_of_atom (anchor flags kind) = 0
+nesting_of_atom (boundary flags inverted) = 0
+nesting_of_atom (class_escape flags kind negated) = 0
+nesting_of_atom (class flags inverted members) = 0
+nesting_of_atom (class_set flags negated value) = value.nesting
+nesting_of_atom (string_property flags written) = 0
+nesting_of_atom (back_reference flags to) = 0
 
 -- The nesting depth: the whole pattern counts one, and so does each group around the innermost item, and each class
 -- around it but the outermost.
 abbrev mutual
-  pub levels : Pattern → ℕ
-  levels (one ts) = 1 + levels_of_terms ts
-  levels (either ts p) = max (1 + levels_of_terms ts) (levels p)
+  pub nesting : Pattern → ℕ
+  nesting (one ts) = 1 + nesting_of_terms ts
+  nesting (either ts p) = max (1 + nesting_of_terms ts) (nesting p)
 
-  pub levels_of_terms : Terms → ℕ
-  levels_of_terms no_terms = 0
-  levels_of_terms (more_terms x q xs) = max (levels_of_item x) (levels_of_terms xs)
+  pub nesting_of_terms : Terms → ℕ
+  nesting_of_terms no_terms = 0
+  nesting_of_terms (more_terms x q xs) = max (nesting_of_item x) (nesting_of_terms xs)
 
-  pub levels_of_item : Item → ℕ
-  levels_of_item (atom a) = levels_of_atom a
-  levels_of_item (group kind p) = levels p
+  pub nesting_of_item : Item → ℕ
+  nesting_of_item (atom a) = nesting_of_atom a
+  nesting_of_item (group kind p) = nesting p

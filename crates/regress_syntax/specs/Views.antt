@@ -1,5 +1,5 @@
 -- What the values of the code represent: groups and the context.
-use Rattle.regress_lexical.specs.Views.{change_of}
+use Rattle.regress_lexer.specs.Views.{change_of}
 use Rattle.std.specs.Prelude.{◌≡◌, ℕ, List, map, Option, option_map}
 use Rattle.regress_tree.specs.Reading.{direction_if}
 use Rattle.regress_syntax.specs.SettingOf.{setting_of}
@@ -9,7 +9,7 @@ use Rattle.regress_syntax.specs.declared.group.Group.TheVariants as groups
 use Rattle.regress_syntax.specs.declared.groups.Groups.{Groups}
 use Rattle.regress_syntax.specs.Meaning.{referred}
 use Rattle.regress_syntax.specs.Syntax.{Name, Target, Atom, back_reference, Group, grouping, modified, capture, look}
-use Rattle.regress_syntax.specs.Rows.{Context}
+use Rattle.regress_syntax.specs.Productions.{Context}
 
 -- the name of each group
 abbrev pub names_in : Groups → List (Option Name)

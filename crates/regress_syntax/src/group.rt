@@ -1,15 +1,15 @@
 //! What follows an opening parenthesis: the kind of group that it begins.
-ghost use Rattle.regress_lexical.specs.Fault.{FailsByNoLimit};
-ghost use Rattle.regress_lexical.specs.Reads.{Reads, AlwaysReads};
-ghost use Rattle.regress_syntax.specs.Rows.{opens, named_group_at, modified_at, angle_at, behind_mark_at, group_at};
+ghost use Rattle.regress_lexer.specs.Fault.{FailsByNoLimit};
+ghost use Rattle.regress_lexer.specs.Reads.{Reads, ParsesWithoutAllocating};
+ghost use Rattle.regress_syntax.specs.Productions.{opens, named_group_at, modified_at, angle_at, after_question_mark_at, group_at};
 ghost use Rattle.regress_syntax.specs.Views.{group_of};
-ghost use Rattle.regress_lexical.specs.Views.{source};
+ghost use Rattle.regress_lexer.specs.Views.{source};
 ghost use Rattle.regress_unicode.specs.TableOf.{table_of};
 
-use crate::names::{Name, read_group_name};
-use regress_lexical::cursor::Cursor;
-use regress_lexical::fault::{Fault, FaultKind};
-use regress_lexical::modifiers::{Change, read_modifiers};
+use crate::names::{Name, parse_group_name};
+use regress_lexer::cursor::Cursor;
+use regress_lexer::fault::{Fault, FaultKind};
+use regress_lexer::modifiers::{Change, parse_modifiers};
 use regress_unicode::Tables;
 
 /// The kind of group that an opening parenthesis begins.
@@ -28,7 +28,7 @@ pub enum Group {
 
 impl Group {
     ghost use Rattle.std.specs.Prelude.{◌≡◌};
-    ghost use Rattle.regress_syntax.specs.Rows.{group_allows};
+    ghost use Rattle.regress_syntax.specs.Productions.{group_allows};
     ghost use Rattle.regress_syntax.specs.Views.{group_of};
 
     /// Returns whether a quantifier may follow a group of this kind. `unicode` is the flag u.
@@ -56,20 +56,20 @@ impl Group {
 /// - [`FaultKind::InvalidModifier`] if what follows `(?` is neither `:`, `=`, `!`, `<`, a list of modifiers with its
 ///   `:`, nor the end of the pattern.
 /// - [`Fault::Memory`] if an allocation fails.
-pub fn read_group(cursor: &mut Cursor, tables: &Tables) -> Result<Group, Fault>
+pub fn parse_group(cursor: &mut Cursor, tables: &Tables) -> Result<Group, Fault>
     ensures value { Reads (λ kind. opens (group_of kind)) (source cursor.new) result (group_at (table_of tables.now) (source cursor.old)) }
     ensures kind { FailsByNoLimit result }
 {
     if cursor.try_consume('?') {
-        read_behind_mark(cursor, tables)
+        parse_after_question_mark(cursor, tables)
     } else {
         Ok(Group::Capture(None))
     }
 }
 
 /// Parses what follows `(?`.
-fn read_behind_mark(cursor: &mut Cursor, tables: &Tables) -> Result<Group, Fault>
-    ensures value { Reads (λ kind. opens (group_of kind)) (source cursor.new) result (behind_mark_at (table_of tables.now) (source cursor.old)) }
+fn parse_after_question_mark(cursor: &mut Cursor, tables: &Tables) -> Result<Group, Fault>
+    ensures value { Reads (λ kind. opens (group_of kind)) (source cursor.new) result (after_question_mark_at (table_of tables.now) (source cursor.old)) }
     ensures kind { FailsByNoLimit result }
 {
     if cursor.try_consume(':') {
@@ -85,14 +85,14 @@ fn read_behind_mark(cursor: &mut Cursor, tables: &Tables) -> Result<Group, Fault
             backwards: false,
         })
     } else if cursor.is_at('<') {
-        read_behind_angle(cursor, tables)
+        parse_after_angle(cursor, tables)
     } else {
-        read_modified(cursor)
+        parse_modified_group(cursor)
     }
 }
 
 /// Parses a lookbehind or a named group, starting at its `<`.
-fn read_behind_angle(cursor: &mut Cursor, tables: &Tables) -> Result<Group, Fault>
+fn parse_after_angle(cursor: &mut Cursor, tables: &Tables) -> Result<Group, Fault>
     ensures value { Reads (λ kind. opens (group_of kind)) (source cursor.new) result (angle_at (table_of tables.now) (source cursor.old)) }
     ensures kind { FailsByNoLimit result }
 {
@@ -111,35 +111,35 @@ fn read_behind_angle(cursor: &mut Cursor, tables: &Tables) -> Result<Group, Faul
                 backwards: true,
             })
         }
-        _ => read_named_group(cursor, tables),
+        _ => parse_named_group(cursor, tables),
     }
 }
 
 /// Parses the name of a capture group, starting at its `<`.
-fn read_named_group(cursor: &mut Cursor, tables: &Tables) -> Result<Group, Fault>
+fn parse_named_group(cursor: &mut Cursor, tables: &Tables) -> Result<Group, Fault>
     ensures value { Reads (λ kind. opens (group_of kind)) (source cursor.new) result (named_group_at (table_of tables.now) (source cursor.old)) }
     ensures kind { FailsByNoLimit result }
 {
-    match read_group_name(cursor.alloc, cursor.rest, tables)? {
+    match parse_group_name(cursor.alloc, cursor.rest, tables)? {
         Some((name, rest)) => {
             cursor.rest = rest;
             Ok(Group::Capture(Some(name)))
         }
-        None => Err(cursor.refuse(FaultKind::InvalidGroupName)),
+        None => Err(cursor.reject(FaultKind::InvalidGroupName)),
     }
 }
 
 /// Parses modifiers and their `:`. At the end of the pattern the error is that of a missing name.
-fn read_modified(cursor: &mut Cursor) -> Result<Group, Fault>
-    ensures value { AlwaysReads (λ kind. opens (group_of kind)) (source cursor.new) result (modified_at (source cursor.old)) }
+fn parse_modified_group(cursor: &mut Cursor) -> Result<Group, Fault>
+    ensures value { ParsesWithoutAllocating (λ kind. opens (group_of kind)) (source cursor.new) result (modified_at (source cursor.old)) }
     ensures kind { FailsByNoLimit result }
 {
-    match read_modifiers(cursor.rest) {
+    match parse_modifiers(cursor.rest) {
         Some((change, rest)) => {
             cursor.rest = rest;
             Ok(Group::Modified(change))
         }
-        None if cursor.rest.is_empty() => Err(cursor.refuse(FaultKind::InvalidGroupName)),
-        None => Err(cursor.refuse(FaultKind::InvalidModifier)),
+        None if cursor.rest.is_empty() => Err(cursor.reject(FaultKind::InvalidGroupName)),
+        None => Err(cursor.reject(FaultKind::InvalidModifier)),
     }
 }

@@ -1,7 +1,7 @@
 //! The capture groups of a pattern.
 ghost use Rattle.std.specs.Prelude.{◌≡◌};
 ghost use Rattle.regress_syntax.specs.Numbering.{names_of, AreSortedByName};
-ghost use Rattle.regress_syntax.specs.Rows.{has_names};
+ghost use Rattle.regress_syntax.specs.Productions.{has_names};
 ghost use Rattle.std.proofs.Props.{props};
 
 mod named;
@@ -19,7 +19,7 @@ pub struct Groups {
     named: bool,
     /// The numbers, from 1, of the groups that have names: sorted by name, and ascending for equal names.
     sorted: Vec<u32>,
-    ghost told: { named ≡ has_names (names_of names.items) } by { Prim.hlevel props },
+    ghost reported: { named ≡ has_names (names_of names.items) } by { Prim.hlevel props },
     ghost by_name: { AreSortedByName (names_of names.items) sorted.items } by { Prim.hlevel props },
 }
 

@@ -10,12 +10,12 @@ mod scan;
 mod scope;
 mod times;
 
-pub use group::{Group, read_group};
+pub use group::{Group, parse_group};
 pub use groups::Groups;
 pub use names::Name;
-pub use references::{has_references_by_name, read_group_number, read_reference};
+pub use references::{has_references_by_name, parse_group_number, parse_reference};
 pub use regress_classes::{Value, class_escape_set};
-pub use regress_lexical::{Change, Cursor, Fault, FaultKind, Refusal, fault};
-pub use scan::{Findings, Misplaced, scan as scan_groups};
+pub use regress_lexer::{Change, Cursor, Fault, FaultKind, Rejection, fault};
+pub use scan::{Findings, FirstErrors, scan as scan_groups};
 pub use scope::Scope;
-pub use times::read_times;
+pub use times::parse_optional_quantifier;

@@ -1,18 +1,18 @@
 //! Backreferences, by number and by name.
 ghost use Rattle.std.specs.Prelude.{◌≡◌, ◌||◌, true, IfOk, string_bytes, encode_utf8_all};
-ghost use Rattle.regress_lexical.specs.Escapes.{begins_with_digit};
-ghost use Rattle.regress_lexical.specs.Fault.{FailsByNoLimit};
-ghost use Rattle.regress_lexical.specs.Reads.{answered, ReadsAs};
+ghost use Rattle.regress_lexer.specs.Escapes.{begins_with_digit};
+ghost use Rattle.regress_lexer.specs.Fault.{FailsByNoLimit};
+ghost use Rattle.regress_lexer.specs.Reads.{returned, ParsesAs};
 ghost use Rattle.regress_syntax.specs.Numbering.{group_number_at};
-ghost use Rattle.regress_syntax.specs.Rows.{has_names, named_at};
+ghost use Rattle.regress_syntax.specs.Productions.{has_names, name_reference_at};
 ghost use Rattle.regress_syntax.specs.Views.{context_of, AreReferences};
-ghost use Rattle.regress_lexical.specs.Views.{source};
+ghost use Rattle.regress_lexer.specs.Views.{source};
 
-use crate::names::read_group_name;
+use crate::names::parse_group_name;
 use crate::scope::Scope;
-use regress_lexical::cursor::Cursor;
-use regress_lexical::digits::{Read, read_count};
-use regress_lexical::fault::{Fault, FaultKind, refused};
+use regress_lexer::cursor::Cursor;
+use regress_lexer::digits::{Read, parse_number};
+use regress_lexer::fault::{Fault, FaultKind, rejected};
 use std::alloc::{AllocError, Global};
 
 /// Parses a decimal group number, which is the longest run of digits at the start of `source`.
@@ -22,11 +22,11 @@ use std::alloc::{AllocError, Global};
 ///
 /// # Preconditions
 /// `source` begins with a decimal digit.
-pub fn read_group_number<'a>(source: &'a [u32], groups: u16) -> Read<'a, u32>
+pub fn parse_group_number<'a>(source: &'a [u32], groups: u16) -> Read<'a, u32>
     requires { begins_with_digit source.now ≡ true }
-    ensures { answered result ≡ group_number_at groups source.now }
+    ensures { returned result ≡ group_number_at groups source.now }
 {
-    let (number, rest) = read_count(source)?;
+    let (number, rest) = parse_number(source)?;
     if number > usize::from(groups) {
         return None;
     }
@@ -52,23 +52,23 @@ pub fn has_references_by_name(scope: &Scope) -> bool
 /// - [`FaultKind::InvalidReference`] if no well-formed name in angle brackets follows.
 /// - [`FaultKind::UnknownName`] if no group has the name; its position is that of the name.
 /// - [`Fault::Memory`] if an allocation fails.
-pub fn read_reference<'a>(
+pub fn parse_reference<'a>(
     cursor: &mut Cursor,
     scope: &Scope<'a>,
     begin: usize,
 ) -> Result<&'a [u32], Fault>
-    ensures value { ReadsAs (λ numbers. AreReferences (context_of scope.now) numbers.now) (source cursor.new) result (named_at (context_of scope.now) (source cursor.old)) }
+    ensures value { ParsesAs (λ numbers. AreReferences (context_of scope.now) numbers.now) (source cursor.new) result (name_reference_at (context_of scope.now) (source cursor.old)) }
     ensures kind { FailsByNoLimit result }
 {
-    let Some((name, rest)) = read_group_name(cursor.alloc, cursor.rest, scope.tables)? else {
-        return Err(refused(begin, FaultKind::InvalidReference));
+    let Some((name, rest)) = parse_group_name(cursor.alloc, cursor.rest, scope.tables)? else {
+        return Err(rejected(begin, FaultKind::InvalidReference));
     };
     let numbers = scope.groups.numbers_of(&name);
     if numbers.is_empty() {
         let name = name_text(cursor.alloc, &name)?;
         // The position of the name itself, after its `<`.
         let left = cursor.rest.len().saturating_sub(1);
-        return Err(refused(left, FaultKind::UnknownName(name)));
+        return Err(rejected(left, FaultKind::UnknownName(name)));
     }
     cursor.rest = rest;
     Ok(numbers)

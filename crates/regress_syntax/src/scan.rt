@@ -2,21 +2,21 @@
 ghost use Rattle.std.specs.Prelude.{◌≡◌, ◌≤◌, min, length, IfOk};
 ghost use Rattle.regress_base.specs.Limits.{max_capture_groups, max_nesting_depth};
 ghost use Rattle.regress_unicode.specs.TableOf.{table_of};
-ghost use Rattle.regress_lexical.specs.Fault.{FailsBy};
+ghost use Rattle.regress_lexer.specs.Fault.{FailsBy};
 ghost use Rattle.regress_syntax.specs.Paths.{NoMarksConflict};
 ghost use Rattle.regress_syntax.specs.Scan.{GivesMarks, plain, marks, named_by, deepest, MarksShow};
 ghost use Rattle.regress_syntax.specs.Scanning.{NotesFirst, IsLocated, FailsAt};
 ghost use Rattle.regress_syntax.specs.Views.{names_in};
 
+mod first_errors;
 mod mark;
-mod misplaced;
 mod path;
 mod scanner;
 
 use crate::groups::Groups;
-use mark::{Mode, read_mark, skip_quiet};
-pub use misplaced::Misplaced;
-use regress_lexical::fault::Fault;
+pub use first_errors::FirstErrors;
+use mark::{Mode, find_mark, skip_insignificant};
+use regress_lexer::fault::Fault;
 use regress_unicode::Tables;
 use scanner::Scanner;
 use std::alloc::Global;
@@ -27,7 +27,7 @@ pub struct Findings {
     /// The capture groups of the pattern.
     pub groups: Groups,
     /// The positions at which the pattern has errors that no continuation can repair.
-    pub misplaced: Misplaced,
+    pub first_errors: FirstErrors,
 }
 
 /// Finds the capture groups of `pattern` and their names by a scan of its code points, without parsing it.
@@ -52,14 +52,17 @@ pub fn scan(alloc: Global, pattern: &[u32], sets: bool, tables: &Tables) -> Resu
     ensures names { IfOk result (λ found. names_in found.groups ≡ named_by (marks sets (table_of tables.now) plain pattern.now)) }
     ensures count { IfOk result (λ found. found.groups.count ≡ min (length (names_in found.groups)) max_capture_groups) }
     ensures apart { IfOk result (λ found. NoMarksConflict (marks sets (table_of tables.now) plain pattern.now)) }
-    ensures levels { IfOk result (λ _. deepest 1 (marks sets (table_of tables.now) plain pattern.now) ≤ max_nesting_depth) }
-    ensures misplaced { IfOk result (λ found. NotesFirst sets pattern.now found.misplaced) }
-    ensures refused { FailsBy result (MarksShow (marks sets (table_of tables.now) plain pattern.now)) }
+    ensures nesting { IfOk result (λ _. deepest 1 (marks sets (table_of tables.now) plain pattern.now) ≤ max_nesting_depth) }
+    ensures first_errors { IfOk result (λ found. NotesFirst sets pattern.now found.first_errors) }
+    ensures rejected { FailsBy result (MarksShow (marks sets (table_of tables.now) plain pattern.now)) }
     ensures located { FailsAt result (IsLocated sets pattern.now) }
     ensures whole { GivesMarks sets (table_of tables.now) pattern.now }
 {
-    let (groups, misplaced) = find_groups(alloc, pattern, sets, tables)?;
-    Ok(Findings { groups, misplaced })
+    let (groups, first_errors) = find_groups(alloc, pattern, sets, tables)?;
+    Ok(Findings {
+        groups,
+        first_errors,
+    })
 }
 
 /// Returns the capture groups and the misplaced positions, with the errors of `scan`.
@@ -68,30 +71,30 @@ fn find_groups(
     pattern: &[u32],
     sets: bool,
     tables: &Tables,
-) -> Result<(Groups, Misplaced), Fault>
+) -> Result<(Groups, FirstErrors), Fault>
     ensures names { IfOk result (λ found. names_in found.0 ≡ named_by (marks sets (table_of tables.now) plain pattern.now)) }
     ensures count { IfOk result (λ found. found.0.count ≡ min (length (names_in found.0)) max_capture_groups) }
     ensures apart { IfOk result (λ _. NoMarksConflict (marks sets (table_of tables.now) plain pattern.now)) }
-    ensures levels { IfOk result (λ _. deepest 1 (marks sets (table_of tables.now) plain pattern.now) ≤ max_nesting_depth) }
-    ensures misplaced { IfOk result (λ found. NotesFirst sets pattern.now found.1) }
-    ensures refused { FailsBy result (MarksShow (marks sets (table_of tables.now) plain pattern.now)) }
+    ensures nesting { IfOk result (λ _. deepest 1 (marks sets (table_of tables.now) plain pattern.now) ≤ max_nesting_depth) }
+    ensures first_errors { IfOk result (λ found. NotesFirst sets pattern.now found.1) }
+    ensures rejected { FailsBy result (MarksShow (marks sets (table_of tables.now) plain pattern.now)) }
     ensures located { FailsAt result (IsLocated sets pattern.now) }
 {
     let mut scanner = Scanner::new(alloc)?;
-    let mut misplaced = Misplaced::none();
+    let mut first_errors = FirstErrors::none();
     let mut mode = Mode::Plain;
     let mut rest = pattern;
-    while let Some((c, behind)) = skip_quiet(rest).split_first() {
-        let left = behind.len() + 1;
-        misplaced.note(mode, scanner.levels(), *c, sets, left);
-        if let Some(mark) = read_mark(alloc, mode, *c, behind, sets, tables)? {
+    while let Some((c, after)) = skip_insignificant(rest).split_first() {
+        let left = after.len() + 1;
+        first_errors.note(mode, scanner.nesting(), *c, sets, left);
+        if let Some(mark) = find_mark(alloc, mode, *c, after, sets, tables)? {
             scanner.pass(mark, left)?;
         }
-        mode = mode.behind(*c, sets);
-        rest = behind;
+        mode = mode.after(*c, sets);
+        rest = after;
     }
     match scanner.finish() {
-        Ok(groups) => Ok((groups, misplaced)),
-        Err(fault) => Err(misplaced.locate(fault)),
+        Ok(groups) => Ok((groups, first_errors)),
+        Err(fault) => Err(first_errors.locate(fault)),
     }
 }

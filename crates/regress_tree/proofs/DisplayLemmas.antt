@@ -14,7 +14,7 @@ use Rattle.regress_tree.specs.Visits.{deeper}
 use Rattle.regress_tree.specs.Copies.{is_leaf}
 use Rattle.regress_tree.specs.Tree.{Tree, leaf, cat, alt, wrapped, tree, trees}
 use Rattle.regress_tree.specs.declared.ir.node.Node.{Node}
-use Rattle.regress_tree.specs.Display.{node_text, line, printed_at, printed_in_row}
+use Rattle.regress_tree.specs.Display.{node_text, line, printed_at, printed_in_list}
 
 -- a number padded with zeros to four digits
 pub padded_to_four : (n : ℕ) → padded_integral (format_spec 32 0 4 4 (2 ^ 64 - 1)) false [] (digits 16 true n)
@@ -30,7 +30,7 @@ repeat_more (suc n) text = simp unary_clauses (append_assoc text (repeat n text)
 -- the lines of what is inside a node at that depth
 abbrev pub below : ℕ → Tree → List ℕ
 below depth (leaf l) = []
-below depth (cat parts) = printed_in_row (deeper depth) parts
+below depth (cat parts) = printed_in_list (deeper depth) parts
 below depth (alt left right) = printed_at (deeper depth) left ++ printed_at (deeper depth) right
 below depth (wrapped w body) = printed_at (deeper depth) body
 
@@ -56,8 +56,8 @@ module _ {W : Type 0} (took : W → List ℕ → W → Type 0) where
 
   -- One more part of a list, and then the others, are written.
   pub part_written : (depth : ℕ) (parts : List Node) (i : ℕ) (part : Node) (f g h : Formatter W) → i < length parts → part ≡ get_or parts i part →
-      HasWritten took f (printed_at depth (tree part)) g → HasWritten took g (printed_in_row depth (trees (drop (i + 1) parts))) h →
-      HasWritten took f (printed_in_row depth (trees (drop i parts))) h
+      HasWritten took f (printed_at depth (tree part)) g → HasWritten took g (printed_in_list depth (trees (drop (i + 1) parts))) h →
+      HasWritten took f (printed_in_list depth (trees (drop i parts))) h
   part_written depth parts i part f g h within is own rest =
       let cut = drop_more parts i part within ∙ ap (λ n. n ∷ drop (i + 1) parts) (sym is) in
       rw cut (has_written_append took _ _ _ _ _ own rest)

@@ -98,28 +98,28 @@ times-outside start end (c ∷ cs) within k out =
 
 -- ---- the summary of the ids
 
-within-told : (start end : ℕ) (cs : List Capture) → start ≤ least_id cs → past_ids cs ≤ end → Within start end cs
-within-told start end [] low high = tt
-within-told start end (c ∷ cs) low high =
-    (omega arith, omega arith, within-told start end cs (omega arith) (omega arith))
+within-reported : (start end : ℕ) (cs : List Capture) → start ≤ least_id cs → past_ids cs ≤ end → Within start end cs
+within-reported start end [] low high = tt
+within-reported start end (c ∷ cs) low high =
+    (omega arith, omega arith, within-reported start end cs (omega arith) (omega arith))
 
-told-within : (start end : ℕ) (cs : List Capture) → start ≤ 65536 → Within start end cs → (start ≤ least_id cs) × (past_ids cs ≤ end)
-told-within start end [] h within = (h, omega arith)
-told-within start end (c ∷ cs) h within =
-    let rest = told-within start end cs h within.2 in
+reported-within : (start end : ℕ) (cs : List Capture) → start ≤ 65536 → Within start end cs → (start ≤ least_id cs) × (past_ids cs ≤ end)
+reported-within start end [] h within = (h, omega arith)
+reported-within start end (c ∷ cs) h within =
+    let rest = reported-within start end cs h within.2 in
     (omega (arith, within.0, rest.0), omega (arith, within.1, rest.1))
 
 within-from : (start end : ℕ) (cs : List Capture) → ((k : ℕ) → times k cs ≢ 0 → (start ≤ k) × (k < end)) → Within start end cs
-within-from start end [] tells = tt
-within-from start end (c ∷ cs) tells =
-    let here = tells c.id (λ none. omega (arith, none, times-here c.id c cs refl)) in
-    (here.0, here.1, within-from start end cs (λ k some. tells k (λ none. some (omega (arith, none, times-cons k c cs)))))
+within-from start end [] reports = tt
+within-from start end (c ∷ cs) reports =
+    let here = reports c.id (λ none. omega (arith, none, times-here c.id c cs refl)) in
+    (here.0, here.1, within-from start end cs (λ k some. reports k (λ none. some (omega (arith, none, times-cons k c cs)))))
 
 module _ (cs : List Capture) (differ : Differ cs) where
   -- There are at most as many distinct ids as values below the end.
   pub differ-length : (end : ℕ) → past_ids cs ≤ end → length cs ≤ end
   differ-length end high =
-      let within : Within 0 (0 + end) cs = within-told 0 (0 + end) cs (omega arith) (omega arith) in
+      let within : Within 0 (0 + end) cs = within-reported 0 (0 + end) cs (omega arith) (omega arith) in
       omega (arith, total-all 0 end cs within, total-le 0 end cs differ)
 
   full-has : (start end : ℕ) → Within start end cs → length cs ≡ end - start → HasIds start end cs
@@ -173,37 +173,37 @@ has-length start end cs has =
 
 -- ---- the test of a range is correct, for distinct ids
 
-module _ (g : Tally) (cs : List Capture) (referred : ℕ) (tells : IsTally g cs referred) where
+module _ (g : Tally) (cs : List Capture) (referred : ℕ) (reports : IsTally g cs referred) where
   pub fill-has : Differ cs → (start end : ℕ) → end ≤ 65536 → fill start end g ≡ true → HasIds start end cs
   fill-has differ start end small full =
       let a = and_parts (nat_le start g.least) _ full in
       let b = and_parts (nat_le g.past end) _ a.1 in
-      let low : start ≤ least_id cs = omega (arith, leb-true start g.least a.0, tells.least) in
-      let high : past_ids cs ≤ end = omega (arith, leb-true g.past end b.0, tells.past) in
+      let low : start ≤ least_id cs = omega (arith, leb-true start g.least a.0, reports.least) in
+      let high : past_ids cs ≤ end = omega (arith, leb-true g.past end b.0, reports.past) in
       let count : g.count ≡ end - start = eqb-true g.count (end - start) b.1 in
-      let many : length cs ≡ end - start = omega (arith, tells.count) in
-      full-has cs differ start end (within-told start end cs low high) many
+      let many : length cs ≡ end - start = omega (arith, reports.count) in
+      full-has cs differ start end (within-reported start end cs low high) many
 
   pub has-fill : (start end : ℕ) → start ≤ 65536 → end ≤ 65536 → HasIds start end cs → fill start end g ≡ true
   has-fill start end small small' has =
-      let told = told-within start end cs small (has-within start end cs has) in
+      let reported = reported-within start end cs small (has-within start end cs has) in
       let many = has-length start end cs has in
-      and_from (nat_le start g.least) _ (le-leb start g.least (omega (arith, told.0, tells.least)))
-      (and_from (nat_le g.past end) _ (le-leb g.past end (omega (arith, told.1, tells.past)))
-      (eq-eqb g.count (end - start) (omega (arith, many, tells.count))))
+      and_from (nat_le start g.least) _ (le-leb start g.least (omega (arith, reported.0, reports.least)))
+      (and_from (nat_le g.past end) _ (le-leb g.past end (omega (arith, reported.1, reports.past)))
+      (eq-eqb g.count (end - start) (omega (arith, many, reports.count))))
 
   -- All ids are less than the number of groups.
   pub all-has : Differ cs → fill 0 g.count g ≡ true → (g.count ≡ length cs) × HasIds 0 (length cs) cs
   all-has differ full =
-      let most = differ-length cs differ 65536 (omega (arith, tells.past, tells.past_in_range)) in
-      let count : g.count ≡ length cs = omega (arith, tells.count) in
+      let most = differ-length cs differ 65536 (omega (arith, reports.past, reports.past_in_range)) in
+      let count : g.count ≡ length cs = omega (arith, reports.count) in
       (count, fill-has differ 0 (length cs) most (subst (λ n. fill 0 n g ≡ true) count full))
 
   pub has-all : HasIds 0 (length cs) cs → (g.count ≡ length cs) × (fill 0 g.count g ≡ true)
   has-all has =
       let differ : Differ cs = λ k. at_most_one (nat_le 0 k && nat_lt k (length cs)) (times k cs) (has k) in
-      let most = differ-length cs differ 65536 (omega (arith, tells.past, tells.past_in_range)) in
-      let count : g.count ≡ length cs = omega (arith, tells.count) in
+      let most = differ-length cs differ 65536 (omega (arith, reports.past, reports.past_in_range)) in
+      let count : g.count ≡ length cs = omega (arith, reports.count) in
       (count, subst (λ n. fill 0 n g ≡ true) (sym count) (has-fill 0 (length cs) (omega arith) most has))
     where
       at_most_one : (b : Bool) (n : ℕ) → n ≡ (if b then 1 else 0) → n ≤ 1

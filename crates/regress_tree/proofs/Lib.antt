@@ -1,4 +1,4 @@
-pub mod laws
+pub mod lemmas
 mod BracketLemmas
 mod DisplayLemmas
 mod DuplicateLemmas
@@ -8,6 +8,6 @@ mod LoopLemmas
 mod NodeLemmas
 mod PassLemmas
 mod RootLemmas
-mod StandingLemmas
+mod OccurringLemmas
 mod SurveyLemmas
 mod TextLemmas

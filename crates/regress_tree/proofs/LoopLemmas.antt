@@ -5,17 +5,17 @@ use Rattle.std.proofs.lemmas.List.{drop_more, flat_map_more, map-append, take_al
 
 -- The remaining list begins with the element.
 pub left_is : {A : Type 0} (xs : List A) (i : ℕ) (x : A) → i < length xs → x ≡ get_or xs i x → drop i xs ≡ x ∷ drop (i + 1) xs
-left_is xs i x in_row is = drop_more xs i x in_row ∙ ap (λ y. y ∷ drop (i + 1) xs) (sym is)
+left_is xs i x in_list is = drop_more xs i x in_list ∙ ap (λ y. y ∷ drop (i + 1) xs) (sym is)
 
 module _ {A B : Type 0} (f : A → B) (xs : List A) (i : ℕ) (copies : List A) (so_far : map f copies ≡ map f (take i xs)) where
   -- one more copy, which is equal to its element
   pub copied_next : (x copy : A) → i < length xs → x ≡ get_or xs i x → f copy ≡ f x → map f (copies ++ copy ∷ []) ≡ map f (take (i + 1) xs)
-  copied_next x copy in_row is same =
+  copied_next x copy in_list is same =
       map-append f copies (copy ∷ [])
       ∙ ap (λ ys. ys ++ f copy ∷ []) so_far
       ∙ ap (λ y. map f (take i xs) ++ y ∷ []) (same ∙ ap f is)
       ∙ sym (map-append f (take i xs) (get_or xs i x ∷ []))
-      ∙ ap (map f) (sym (take_more xs i x in_row))
+      ∙ ap (map f) (sym (take_more xs i x in_list))
 
   pub copied_all : length xs ≤ i → map f copies ≡ map f xs
   copied_all done = so_far ∙ ap (map f) (take_all i xs done)
@@ -23,13 +23,13 @@ module _ {A B : Type 0} (f : A → B) (xs : List A) (i : ℕ) (copies : List A) 
 -- the joined results so far, with one more
 pub joined_next : {A B : Type 0} (f : A → List B) (before : List B) (xs : List A) (i : ℕ) (d : A) → i < length xs →
     (before ++ flat_map f (take i xs)) ++ f (get_or xs i d) ≡ before ++ flat_map f (take (i + 1) xs)
-joined_next f before xs i d in_row =
-    flat_map_more f before (take i xs) (get_or xs i d) ∙ ap (λ ys. before ++ flat_map f ys) (sym (take_more xs i d in_row))
+joined_next f before xs i d in_list =
+    flat_map_more f before (take i xs) (get_or xs i d) ∙ ap (λ ys. before ++ flat_map f ys) (sym (take_more xs i d in_list))
 
 -- Whether all elements pass a test, by the remaining ones.
-module _ {A : Type 0} (p : A → Bool) (xs : List A) (i : ℕ) (d : A) (in_row : i < length xs) where
+module _ {A : Type 0} (p : A → Bool) (xs : List A) (i : ℕ) (d : A) (in_list : i < length xs) where
   all_left : list_all p (drop i xs) ≡ (p (get_or xs i d) && list_all p (drop (i + 1) xs))
-  all_left = ap (list_all p) (drop_more xs i d in_row)
+  all_left = ap (list_all p) (drop_more xs i d in_list)
 
   pub all_next : p (get_or xs i d) ≡ true → list_all p (drop i xs) ≡ list_all p xs → list_all p (drop (i + 1) xs) ≡ list_all p xs
   all_next so whole = ap (λ b. b && list_all p (drop (i + 1) xs)) (sym so) ∙ sym all_left ∙ whole

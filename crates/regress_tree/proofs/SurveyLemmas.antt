@@ -5,7 +5,7 @@ use Rattle.std.proofs.lemmas.Bool.{cases_eq, ne_eqb, eq-eqb}
 use Rattle.regress_tree.specs.declared.ir.groups.GroupIds.{GroupIds}
 use Rattle.regress_tree.specs.declared.ir.groups.Tally.{Tally}
 use Rattle.regress_tree.specs.WellFormed.{Capture}
-use Rattle.regress_tree.specs.Survey.{holds, times_held, times, least_id, past_ids, IsTally, joined, one, IsSurveyed, IsRefused}
+use Rattle.regress_tree.specs.Survey.{holds, times_held, times, least_id, past_ids, IsTally, joined, one, IsSurveyed, IsRejected}
 use Rattle.regress_tree.proofs.IdLemmas.{times-append, Differ}
 
 -- ---- the summary of two parts
@@ -45,23 +45,23 @@ IsTally-one id c same small = record {
 module _ {A B : Type 0} {cs ds : List Capture} {r q : ℕ} {before mid after : GroupIds} {g h : Tally} where
   pub IsSurveyed-then : IsSurveyed A cs r before mid g → IsSurveyed B ds q mid after h → IsSurveyed (A × B) (cs ++ ds) (max r q) before after (joined g h)
   IsSurveyed-then a b = record {
-    stands = (a.stands, b.stands);
+    occurs = (a.occurs, b.occurs);
     ids = λ k. omega (arith, a.ids k, b.ids k, times-append k cs ds);
-    told = IsTally-joined g h cs ds r q a.told b.told;
+    reported = IsTally-joined g h cs ds r q a.reported b.reported;
   }
 
 -- The second part fails,
-pub IsRefused-second : {A B : Type 0} {cs ds : List Capture} {r : ℕ} {before mid : GroupIds} {g : Tally} → IsSurveyed A cs r before mid g →
-    IsRefused B ds mid → IsRefused (A × B) (cs ++ ds) before
-IsRefused-second {cs = cs} {ds = ds} a b = record {
-  refuted = λ stands differ. b.refuted stands.1 (λ k. omega (arith, a.ids k, differ k, times-append k cs ds));
+pub IsRejected-second : {A B : Type 0} {cs ds : List Capture} {r : ℕ} {before mid : GroupIds} {g : Tally} → IsSurveyed A cs r before mid g →
+    IsRejected B ds mid → IsRejected (A × B) (cs ++ ds) before
+IsRejected-second {cs = cs} {ds = ds} a b = record {
+  refuted = λ occurs differ. b.refuted occurs.1 (λ k. omega (arith, a.ids k, differ k, times-append k cs ds));
 }
 
 -- or the first.
-pub IsRefused-first : {A : Type 0} {cs : List Capture} {before : GroupIds} (B : Type 0) (ds : List Capture) → IsRefused A cs before →
-    IsRefused (A × B) (cs ++ ds) before
-IsRefused-first {cs = cs} B ds a = record {
-  refuted = λ stands differ. a.refuted stands.0 (λ k. omega (arith, differ k, times-append k cs ds));
+pub IsRejected-first : {A : Type 0} {cs : List Capture} {before : GroupIds} (B : Type 0) (ds : List Capture) → IsRejected A cs before →
+    IsRejected (A × B) (cs ++ ds) before
+IsRejected-first {cs = cs} B ds a = record {
+  refuted = λ occurs differ. a.refuted occurs.0 (λ k. omega (arith, differ k, times-append k cs ds));
 }
 
 -- ---- equal statements
@@ -70,17 +70,17 @@ pub IsSurveyed-as : {A : Type 0} {cs : List Capture} {r : ℕ} {before after : G
     (A → B) → cs ≡ ds → r ≡ q → IsSurveyed A cs r before after g → IsSurveyed B ds q before after g
 IsSurveyed-as {r = r} {before = before} {after = after} {g = g} B ds q from same same' p =
     subst (λ s. IsSurveyed B ds s before after g) same'
-    (subst (λ l. IsSurveyed B l r before after g) same (record { stands = from p.stands; ids = p.ids; told = p.told }))
+    (subst (λ l. IsSurveyed B l r before after g) same (record { occurs = from p.occurs; ids = p.ids; reported = p.reported }))
 
-pub IsRefused-as : {A : Type 0} {cs : List Capture} {before : GroupIds} (B : Type 0) (ds : List Capture) → (B → A) → cs ≡ ds →
-    IsRefused A cs before → IsRefused B ds before
-IsRefused-as {before = before} B ds to same fails =
-    subst (λ l. IsRefused B l before) same (record { refuted = λ stands differ. fails.refuted (to stands) differ })
+pub IsRejected-as : {A : Type 0} {cs : List Capture} {before : GroupIds} (B : Type 0) (ds : List Capture) → (B → A) → cs ≡ ds →
+    IsRejected A cs before → IsRejected B ds before
+IsRejected-as {before = before} B ds to same fails =
+    subst (λ l. IsRejected B l before) same (record { refuted = λ occurs differ. fails.refuted (to occurs) differ })
 
 -- ---- parts without a group
 
 pub IsSurveyed-none : {A : Type 0} {r : ℕ} {ids : GroupIds} {g : Tally} → A → IsTally g [] r → IsSurveyed A [] r ids ids g
-IsSurveyed-none stands told = record { stands = stands; ids = λ k. omega arith; told = told }
+IsSurveyed-none occurs reported = record { occurs = occurs; ids = λ k. omega arith; reported = reported }
 
 -- A part that passes has distinct ids.
 pub differ-held : (before after : GroupIds) (cs : List Capture) → ((k : ℕ) → times_held after k ≡ times_held before k + times k cs) → Differ cs

@@ -46,15 +46,15 @@ pub one-are : (bytes : List ℕ) → AreUtf8 bytes one_character → length (cha
 one-are bytes are =
     ap length (sym (chars_from_encodes are.characters bytes (utf8-from bytes one_character are) (sym are.encoded))) ∙ are.one
 
-pub tells-utf8 : {X E : Type 0} (P : X → Type 0) (Q : E → Type 0) (r : Result X E) (told : Bool) (bytes : List ℕ) →
-    MatchResult r (λ s. P s × IsUtf8 bytes) (λ e. ¬ IsUtf8 bytes × Q e) → told ≡ is_ok r → IsTrue told ↔ AreUtf8 bytes inside
-tells-utf8 P Q (Ok s) told bytes cases e = (λ _. are-utf8 bytes cases.1, λ _. e)
-tells-utf8 P Q (Err s) told bytes cases e =
+pub reports-utf8 : {X E : Type 0} (P : X → Type 0) (Q : E → Type 0) (r : Result X E) (reported : Bool) (bytes : List ℕ) →
+    MatchResult r (λ s. P s × IsUtf8 bytes) (λ e. ¬ IsUtf8 bytes × Q e) → reported ≡ is_ok r → IsTrue reported ↔ AreUtf8 bytes inside
+reports-utf8 P Q (Ok s) reported bytes cases e = (λ _. are-utf8 bytes cases.1, λ _. e)
+reports-utf8 P Q (Err s) reported bytes cases e =
     (λ said. absurd (false≢true (sym e ∙ said)), λ are. absurd (cases.0 (utf8-from bytes inside are)))
 
-pub tells-one : (bytes : List ℕ) (count : ℕ) → IsUtf8 bytes → count ≡ length (chars bytes) →
+pub reports-one : (bytes : List ℕ) (count : ℕ) → IsUtf8 bytes → count ≡ length (chars bytes) →
     IsTrue (count == 1) ↔ AreUtf8 bytes one_character
-tells-one bytes count utf8 e =
+reports-one bytes count utf8 e =
     (λ said. are-one bytes utf8 (sym e ∙ eqb-true count 1 said), λ are. eq-eqb count 1 (e ∙ one-are bytes are))
 
 -- What holds for all elements of a mapped list holds for the mapped element.

@@ -21,16 +21,16 @@ further (suc k) depth = deeper (further k depth)
 
 -- Calls on n trees along the right sides, each of which leaves its tree unchanged. `Call` is as in `Visits`.
 abbrev pub Climbed : {State : Type 0} → (State → Tree → ℕ → Bool → State → Tree → Bool → Type 0) →
-    ℕ → (depth : ℕ) (behind : Bool) → Tree → State → State → Type 0
-Climbed Call zero depth behind t a b = a ≡ b
-Climbed {State} Call (suc k) depth behind t a c =
-    (b : State) × (skip : Bool) × Call a (down k t) (further k depth) behind b (down k t) skip × Climbed Call k depth behind t b c
+    ℕ → (depth : ℕ) (lookbehind : Bool) → Tree → State → State → Type 0
+Climbed Call zero depth lookbehind t a b = a ≡ b
+Climbed {State} Call (suc k) depth lookbehind t a c =
+    (b : State) × (skip : Bool) × Call a (down k t) (further k depth) lookbehind b (down k t) skip × Climbed Call k depth lookbehind t b c
 
 -- Calls on the trees of a reversed spine, each with what the calls so far have left as its right side: they leave the
 -- tree u.
 abbrev pub ClimbedMut : {State : Type 0} → (State → Tree → ℕ → Bool → State → Tree → Bool → Type 0) →
-    (above : Tree) (depth : ℕ) (behind : Bool) (t u : Tree) (a b : State) → Type 0
-ClimbedMut {State} Call (alt left above) depth behind t v a c =
-    (b : State) × (u : Tree) × (skip : Bool) × Call a (alt left t) (further (spine_length above) depth) behind b u skip
-    × ClimbedMut Call above depth behind u v b c
-ClimbedMut Call none depth behind t u a b = (t ≡ u) × (a ≡ b)
+    (above : Tree) (depth : ℕ) (lookbehind : Bool) (t u : Tree) (a b : State) → Type 0
+ClimbedMut {State} Call (alt left above) depth lookbehind t v a c =
+    (b : State) × (u : Tree) × (skip : Bool) × Call a (alt left t) (further (spine_length above) depth) lookbehind b u skip
+    × ClimbedMut Call above depth lookbehind u v b c
+ClimbedMut Call none depth lookbehind t u a b = (t ≡ u) × (a ≡ b)

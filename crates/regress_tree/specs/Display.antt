@@ -85,13 +85,13 @@ line depth text = indent depth ++ text ++ codes "\n"
 abbrev mutual
   pub printed_at : ℕ → Tree → List ℕ
   printed_at depth (leaf l) = line depth (leaf_text l)
-  printed_at depth (cat parts) = line depth (codes "Cat") ++ printed_in_row (deeper depth) parts
+  printed_at depth (cat parts) = line depth (codes "Cat") ++ printed_in_list (deeper depth) parts
   printed_at depth (alt left right) = line depth (codes "Alt") ++ (printed_at (deeper depth) left ++ printed_at (deeper depth) right)
   printed_at depth (wrapped w body) = line depth (wrapper_text w) ++ printed_at (deeper depth) body
 
-  pub printed_in_row : ℕ → Trees → List ℕ
-  printed_in_row depth no_trees = []
-  printed_in_row depth (more_trees t ts) = printed_at depth t ++ printed_in_row depth ts
+  pub printed_in_list : ℕ → Trees → List ℕ
+  printed_in_list depth no_trees = []
+  printed_in_list depth (more_trees t ts) = printed_at depth t ++ printed_in_list depth ts
 
 -- the lines of a whole tree
 abbrev pub printed : Tree → List ℕ

@@ -7,13 +7,13 @@ use Rattle.regress_tree.specs.Tree.{Tree, Trees, leaf, cat, alt, wrapped, no_tre
 abbrev mutual
   pub gathered : {X : Type 0} → (Tree → List X) → Tree → List X
   gathered own (leaf l) = own (leaf l)
-  gathered own (cat parts) = own (cat parts) ++ gathered_in_row own parts
+  gathered own (cat parts) = own (cat parts) ++ gathered_in_list own parts
   gathered own (alt left right) = own (alt left right) ++ (gathered own left ++ gathered own right)
   gathered own (wrapped w body) = own (wrapped w body) ++ gathered own body
 
-  pub gathered_in_row : {X : Type 0} → (Tree → List X) → Trees → List X
-  gathered_in_row own no_trees = []
-  gathered_in_row own (more_trees t ts) = gathered own t ++ gathered_in_row own ts
+  pub gathered_in_list : {X : Type 0} → (Tree → List X) → Trees → List X
+  gathered_in_list own no_trees = []
+  gathered_in_list own (more_trees t ts) = gathered own t ++ gathered_in_list own ts
 
 -- the capture group that a node itself is, if it is one
 abbrev pub own_group : Tree → List Capture

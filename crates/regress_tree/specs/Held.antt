@@ -10,13 +10,13 @@ use Rattle.std.specs.declared.boxed.Box.{Box}
 use Rattle.regress_tree.specs.contracts.ir.node.Node.{the_row}
 use Rattle.regress_tree.specs.declared.ir.node.Node.{Node}
 use Rattle.regress_tree.specs.Tree.{Wrapper, Tree, wrapped, tree}
-use Rattle.regress_tree.specs.Visits.{turned_by}
+use Rattle.regress_tree.specs.Visits.{is_backwards_in}
 
 abbrev pub is_wrapper : Tree → Bool
 is_wrapper (wrapped w body) = true
 is_wrapper t = false
 
-pub record IsAround (t body : Tree) : Type 0 where
+pub record HasBody (t body : Tree) : Type 0 where
   pub wrapper : Wrapper
   pub is : t ≡ wrapped wrapper body
 
@@ -26,14 +26,14 @@ with_body (wrapped w old) body = wrapped w body
 with_body t body = t
 
 -- whether the body of a tree is matched backwards, given whether the tree is
-abbrev pub behind_in : Tree → Bool → Bool
-behind_in (wrapped w body) behind = turned_by w behind
-behind_in t behind = behind
+abbrev pub body_is_backwards : Tree → Bool → Bool
+body_is_backwards (wrapped w body) lookbehind = is_backwards_in w lookbehind
+body_is_backwards t lookbehind = lookbehind
 
 -- the type of a box of a node, in the logic
-abbrev pub box_row : RattleType
-box_row = box.the_row the_row global.the_row ghosts
+abbrev pub box_list : RattleType
+box_list = box.the_row the_row global.the_row ghosts
 
 -- The final value of a node whose body was borrowed.
-abbrev pub HoldsAfter : Option (MutBor (Box Node Global)) → Node → Node → Box Node Global → Type 0
-HoldsAfter lent old new body = OnSome lent (tree new ≡ with_body (tree old) (tree body.value))
+abbrev pub BodyAfter : Option (MutBor (Box Node Global)) → Node → Node → Box Node Global → Type 0
+BodyAfter lent old new body = OnSome lent (tree new ≡ with_body (tree old) (tree body.value))

@@ -7,11 +7,11 @@ use Rattle.regress_tree.specs.Tree.{Tree, Trees, leaf, cat, alt, wrapped, no_tre
 abbrev mutual
   pub inherited : {X : Type 0} → (X → Tree → X) → X → Tree → List (X × Tree)
   inherited handed x (leaf l) = (x, leaf l) ∷ []
-  inherited handed x (cat parts) = (x, cat parts) ∷ inherited_in_row handed (handed x (cat parts)) parts
+  inherited handed x (cat parts) = (x, cat parts) ∷ inherited_in_list handed (handed x (cat parts)) parts
   inherited handed x (alt left right) =
       (x, alt left right) ∷ (inherited handed (handed x (alt left right)) left ++ inherited handed (handed x (alt left right)) right)
   inherited handed x (wrapped w body) = (x, wrapped w body) ∷ inherited handed (handed x (wrapped w body)) body
 
-  pub inherited_in_row : {X : Type 0} → (X → Tree → X) → X → Trees → List (X × Tree)
-  inherited_in_row handed x no_trees = []
-  inherited_in_row handed x (more_trees t ts) = inherited handed x t ++ inherited_in_row handed x ts
+  pub inherited_in_list : {X : Type 0} → (X → Tree → X) → X → Trees → List (X × Tree)
+  inherited_in_list handed x no_trees = []
+  inherited_in_list handed x (more_trees t ts) = inherited handed x t ++ inherited_in_list handed x ts

@@ -2,13 +2,13 @@
 use Rattle.std.specs.Prelude.{ℕ, ◌+◌, ◌-◌, true, not, ◌==◌, List, length, if◌then◌else◌}
 use Rattle.regress_base.specs.Brackets.{is_accepted}
 use Rattle.regress_base.specs.Listing.{lists}
-use Rattle.regress_base.specs.Table.{stands_for}
+use Rattle.regress_base.specs.Table.{denotes}
 use Rattle.regress_tree.specs.Setting.{Setting}
 use Rattle.regress_tree.specs.Reading.{Direction, forwards, backwards, of_bytes}
-use Rattle.regress_tree.specs.Steps.{Step, distinct, stay, ◌then_◌, ◌or_◌, one_character, these_bytes, hold_at, capture}
+use Rattle.regress_tree.specs.Steps.{Matcher, dedup, stay, ◌then_◌, ◌or_◌, one_character, these_bytes, hold_at, capture}
 use Rattle.regress_tree.specs.Assertions.{is_line_terminator, is_word_character, at_anchor, at_boundary}
-use Rattle.regress_tree.specs.Repetition.{repeat}
-use Rattle.regress_tree.specs.Lookaround.{look}
+use Rattle.regress_tree.specs.Repetition.{repeat_matcher}
+use Rattle.regress_tree.specs.Lookaround.{lookaround_matcher}
 use Rattle.regress_tree.specs.References.{back_reference}
 use Rattle.regress_tree.specs.Strings.{any_string}
 use Rattle.regress_tree.specs.Tree.{Leaf, empty, goal, char, byte_sequence, byte_set, char_set, match_any, match_any_except_line_terminator, anchor, word_boundary, bracket, back_ref, string_set, Wrapper, capture_group, loop, loop_one, lookaround, Tree, Trees, leaf, cat, alt, wrapped, no_trees, more_trees}
@@ -20,7 +20,7 @@ direction_in w d = d
 
 module _ (setting : Setting) (bytes : List ℕ) where
   -- the outcomes of a leaf
-  abbrev pub leaf_steps : Direction → Leaf → Step
+  abbrev pub leaf_steps : Direction → Leaf → Matcher
   leaf_steps d empty = stay
   leaf_steps d goal = stay
   leaf_steps d (char c) = one_character d (of_bytes bytes) (λ x. x == c)
@@ -34,30 +34,30 @@ module _ (setting : Setting) (bytes : List ℕ) where
       hold_at (at_boundary (of_bytes bytes) (is_word_character setting.table unicode_icase) invert)
   leaf_steps d (bracket invert intervals) = one_character d (of_bytes bytes) (is_accepted invert intervals)
   leaf_steps d (back_ref group icase) =
-      back_reference d (of_bytes bytes) (stands_for setting.table icase setting.flags.unicode) (group - 1)
+      back_reference d (of_bytes bytes) (denotes setting.table icase setting.flags.unicode) (group - 1)
   leaf_steps d (string_set strings icase) =
-      any_string d (of_bytes bytes) (stands_for setting.table icase setting.flags.unicode) strings
+      any_string d (of_bytes bytes) (denotes setting.table icase setting.flags.unicode) strings
 
   -- the outcomes of a wrapper, by the step of its body
-  abbrev pub wrapper_steps : Wrapper → Step → Step
+  abbrev pub wrapper_steps : Wrapper → Matcher → Matcher
   wrapper_steps (capture_group id name) body = capture id body
-  wrapper_steps (loop quantifier start end) body = repeat (length bytes + 1) quantifier start end body
-  wrapper_steps (loop_one quantifier) body = repeat (length bytes + 1) quantifier 0 0 body
-  wrapper_steps (lookaround negate looks_back start end) body = look negate body
+  wrapper_steps (loop quantifier start end) body = repeat_matcher (length bytes + 1) quantifier start end body
+  wrapper_steps (loop_one quantifier) body = repeat_matcher (length bytes + 1) quantifier 0 0 body
+  wrapper_steps (lookaround negate looks_back start end) body = lookaround_matcher negate body
 
   -- the outcomes of a tree, with duplicates
   abbrev mutual
-    pub steps : Direction → Tree → Step
+    pub steps : Direction → Tree → Matcher
     steps d (leaf l) = leaf_steps d l
     -- the parts in the order of the list, in both directions
-    steps d (cat parts) = steps_in_row d parts
+    steps d (cat parts) = steps_of_parts d parts
     steps d (alt left right) = steps d left or_ steps d right
     steps d (wrapped w body) = wrapper_steps w (steps (direction_in w d) body)
 
-    pub steps_in_row : Direction → Trees → Step
-    steps_in_row d no_trees = stay
-    steps_in_row d (more_trees t ts) = steps d t then_ steps_in_row d ts
+    pub steps_of_parts : Direction → Trees → Matcher
+    steps_of_parts d no_trees = stay
+    steps_of_parts d (more_trees t ts) = steps d t then_ steps_of_parts d ts
 
   -- what a tree matches: its distinct outcomes in their order
-  abbrev pub matches : Direction → Tree → Step
-  matches d t s = distinct (steps d t s)
+  abbrev pub matches : Direction → Tree → Matcher
+  matches d t s = dedup (steps d t s)

@@ -14,22 +14,22 @@ module _ (m : Measure) where
   abbrev mutual
     pub total : Tree → ℕ
     total (leaf l) = m.of_leaf l
-    total (cat parts) = m.of_cat + total_in_row parts
+    total (cat parts) = m.of_cat + total_in_list parts
     total (alt left right) = m.of_alt + (total left + total right)
     total (wrapped w body) = m.of_wrapper w + total body
 
-    pub total_in_row : Trees → ℕ
-    total_in_row no_trees = 0
-    total_in_row (more_trees t ts) = total t + total_in_row ts
+    pub total_in_list : Trees → ℕ
+    total_in_list no_trees = 0
+    total_in_list (more_trees t ts) = total t + total_in_list ts
 
 -- The nesting depth of a tree: one more than that of the deepest part.
 abbrev mutual
-  pub levels : Tree → ℕ
-  levels (leaf l) = 1
-  levels (cat parts) = 1 + levels_of_deepest parts
-  levels (alt left right) = 1 + max (levels left) (levels right)
-  levels (wrapped w body) = 1 + levels body
+  pub nesting : Tree → ℕ
+  nesting (leaf l) = 1
+  nesting (cat parts) = 1 + nesting_of_deepest parts
+  nesting (alt left right) = 1 + max (nesting left) (nesting right)
+  nesting (wrapped w body) = 1 + nesting body
 
-  pub levels_of_deepest : Trees → ℕ
-  levels_of_deepest no_trees = 0
-  levels_of_deepest (more_trees t ts) = max (levels t) (levels_of_deepest ts)
+  pub nesting_of_deepest : Trees → ℕ
+  nesting_of_deepest no_trees = 0
+  nesting_of_deepest (more_trees t ts) = max (nesting t) (nesting_of_deepest ts)

@@ -1,7 +1,7 @@
 -- Tests on a single node.
 use Rattle.std.specs.Prelude.{Bool, true, false, not, ◌&&◌, ◌==◌, List, [], ◌∷◌}
 use Rattle.regress_base.specs.Intervals.{Bounds, code_point_max}
-use Rattle.regress_tree.specs.Tree.{Leaf, empty, goal, char, byte_sequence, byte_set, char_set, match_any, match_any_except_line_terminator, bracket, Tree, leaf, cat, row_reverse}
+use Rattle.regress_tree.specs.Tree.{Leaf, empty, goal, char, byte_sequence, byte_set, char_set, match_any, match_any_except_line_terminator, bracket, Tree, leaf, cat, reverse_trees}
 
 -- The list is empty.
 abbrev pub is_none : {X : Type 0} → List X → Bool
@@ -69,6 +69,6 @@ is_byte_sequence (leaf l) = is_byte_sequence_leaf l
 is_byte_sequence t = false
 
 -- a `Cat` with its parts reversed, or any other node unchanged
-abbrev pub parts_turned : Tree → Tree
-parts_turned (cat parts) = cat (row_reverse parts)
-parts_turned t = t
+abbrev pub parts_reversed : Tree → Tree
+parts_reversed (cat parts) = cat (reverse_trees parts)
+parts_reversed t = t

@@ -16,7 +16,7 @@ direction_if backwards' = if backwards' then backwards else forwards
 -- a decoded character, and the position on its other side
 pub record Read : Type 0 where
   pub character : ℕ
-  pub place : ℕ
+  pub position : ℕ
 
 -- How a text is decoded from a position.
 pub record Reading : Type 0 where
@@ -39,8 +39,8 @@ IsText = All IsScalar
 -- A text as its characters: position k is after the first k of them.
 abbrev pub of_characters : List ℕ → Reading
 of_characters text = record {
-  after = λ k. option_map (λ c. record { character = c; place = k + 1 }) (slice_get text k);
-  before = λ k. if k == 0 then None else option_map (λ c. record { character = c; place = k - 1 }) (slice_get text (k - 1));
+  after = λ k. option_map (λ c. record { character = c; position = k + 1 }) (slice_get text k);
+  before = λ k. if k == 0 then None else option_map (λ c. record { character = c; position = k - 1 }) (slice_get text (k - 1));
   length = length text;
 }
 
@@ -54,13 +54,13 @@ module _ (bytes : List ℕ) where
 
   -- the character that begins at byte k, and the byte offset after it
   unfoldable pub read_after : ℕ → Option Read
-  read_after k = option_map (λ c. record { character = c; place = k + len_utf8 c }) (character_at k)
+  read_after k = option_map (λ c. record { character = c; position = k + len_utf8 c }) (character_at k)
 
   -- the character of n bytes that ends at byte k
   abbrev pub read_before_by : ℕ → ℕ → Option Read
   read_before_by n k =
       if nat_le n k
-      then option_and_then (λ c. if len_utf8 c == n then Some (record { character = c; place = k - n }) else None) (character_at (k - n))
+      then option_and_then (λ c. if len_utf8 c == n then Some (record { character = c; position = k - n }) else None) (character_at (k - n))
       else None
 
   -- the character that ends at byte k, and the byte offset at which it begins
@@ -73,5 +73,5 @@ abbrev pub of_bytes : List ℕ → Reading
 of_bytes bytes = record { after = read_after bytes; before = read_before bytes; length = length bytes }
 
 -- the byte offset of position k of a text
-unfoldable pub byte_place : List ℕ → ℕ → ℕ
-byte_place text k = length (encode_utf8_all (take k text))
+unfoldable pub byte_position : List ℕ → ℕ → ℕ
+byte_position text k = length (encode_utf8_all (take k text))

@@ -5,7 +5,7 @@ use lib.Utf8.{scalar}
 use Rattle.regress_base.specs.Intervals.{Bounds, code_point_max}
 use Rattle.regress_base.specs.Limits.{max_char_set_length}
 use Rattle.regress_base.specs.declared.types.Quantifier.{Quantifier}
-use Rattle.regress_tree.specs.Measures.{levels}
+use Rattle.regress_tree.specs.Measures.{nesting}
 use Rattle.regress_tree.specs.NodeTests.{is_none, is_empty, is_goal, match_always_fails, matches_exactly_one_char}
 use Rattle.regress_tree.specs.Units.{charge}
 use Rattle.regress_tree.specs.Tree.{Leaf, char, byte_sequence, char_set, bracket, string_set, Wrapper, capture_group, loop, loop_one, lookaround, Tree, Trees, leaf, cat, alt, wrapped, no_trees, more_trees}
@@ -15,18 +15,18 @@ module _ (test : Tree → Bool) where
   abbrev mutual
     pub some_node : Tree → Bool
     some_node (leaf l) = test (leaf l)
-    some_node (cat parts) = test (cat parts) || some_node_in_row parts
+    some_node (cat parts) = test (cat parts) || some_node_in_list parts
     some_node (alt left right) = test (alt left right) || (some_node left || some_node right)
     some_node (wrapped w body) = test (wrapped w body) || some_node body
 
-    pub some_node_in_row : Trees → Bool
-    some_node_in_row no_trees = false
-    some_node_in_row (more_trees t ts) = some_node t || some_node_in_row ts
+    pub some_node_in_list : Trees → Bool
+    some_node_in_list no_trees = false
+    some_node_in_list (more_trees t ts) = some_node t || some_node_in_list ts
 
   -- Some node below the root passes the test.
   abbrev pub some_node_inside : Tree → Bool
   some_node_inside (leaf l) = false
-  some_node_inside (cat parts) = some_node_in_row parts
+  some_node_inside (cat parts) = some_node_in_list parts
   some_node_inside (alt left right) = some_node left || some_node right
   some_node_inside (wrapped w body) = some_node body
 
@@ -35,8 +35,8 @@ module _ (shape : Tree → Bool) where
   abbrev pub LacksShape : Tree → Type 0
   LacksShape t = some_node shape t ≡ false
 
-  abbrev pub RowLacksShape : Trees → Type 0
-  RowLacksShape ts = some_node_in_row shape ts ≡ false
+  abbrev pub ListLacksShape : Trees → Type 0
+  ListLacksShape ts = some_node_in_list shape ts ≡ false
 
   -- No node below the root has the shape.
   abbrev pub LacksInside : Tree → Type 0
@@ -58,28 +58,28 @@ on_loop test (wrapped (loop quantifier start end) body) = test quantifier start 
 on_loop test t = false
 
 -- The root of some tree of the list passes the test.
-abbrev pub some_in_row : (Tree → Bool) → Trees → Bool
-some_in_row test no_trees = false
-some_in_row test (more_trees t ts) = test t || some_in_row test ts
+abbrev pub some_part : (Tree → Bool) → Trees → Bool
+some_part test no_trees = false
+some_part test (more_trees t ts) = test t || some_part test ts
 
-abbrev pub first_in_row : (Tree → Bool) → Trees → Bool
-first_in_row test no_trees = false
-first_in_row test (more_trees t ts) = test t
+abbrev pub first_in_list : (Tree → Bool) → Trees → Bool
+first_in_list test no_trees = false
+first_in_list test (more_trees t ts) = test t
 
-abbrev pub last_in_row : (Tree → Bool) → Trees → Bool
-last_in_row test no_trees = false
-last_in_row test (more_trees t no_trees) = test t
-last_in_row test (more_trees t (more_trees u us)) = last_in_row test (more_trees u us)
+abbrev pub last_in_list : (Tree → Bool) → Trees → Bool
+last_in_list test no_trees = false
+last_in_list test (more_trees t no_trees) = test t
+last_in_list test (more_trees t (more_trees u us)) = last_in_list test (more_trees u us)
 
 -- The tree is `Goal`, or a `Cat` whose last part is `Goal`.
 abbrev pub ends_in_goal : Tree → Bool
-ends_in_goal (cat parts) = last_in_row is_goal parts
+ends_in_goal (cat parts) = last_in_list is_goal parts
 ends_in_goal t = is_goal t
 
 -- Two adjacent trees of the list pass the test.
 abbrev pub has_neighbours : (Tree → Bool) → Trees → Bool
 has_neighbours test no_trees = false
-has_neighbours test (more_trees t ts) = (test t && first_in_row test ts) || has_neighbours test ts
+has_neighbours test (more_trees t ts) = (test t && first_in_list test ts) || has_neighbours test ts
 
 abbrev pub is_group : Wrapper → Bool
 is_group (capture_group id name) = true
@@ -140,7 +140,7 @@ is_cat t = false
 
 -- Some tree of the list is a `Cat`.
 abbrev pub has_cat : Trees → Bool
-has_cat = some_in_row is_cat
+has_cat = some_part is_cat
 
 -- The list has fewer than two trees.
 abbrev pub is_short : Trees → Bool
@@ -157,26 +157,26 @@ is_flattened_away t = false
 abbrev pub max_body_charge : ℕ
 max_body_charge = 256
 
-abbrev pub max_body_levels : ℕ
-max_body_levels = 101
+abbrev pub max_body_nesting : ℕ
+max_body_nesting = 101
 
 -- There are no loops and no `StringSet`, and charge and nesting depth are within the bounds.
-abbrev pub is_within : (most_levels budget : ℕ) (loops strings : Bool) (charge levels : ℕ) → Bool
-is_within most_levels budget loops strings charge levels =
-    (not loops && not strings) && (nat_le charge budget && nat_le levels most_levels)
+abbrev pub is_within : (most_nesting budget : ℕ) (loops strings : Bool) (charge nesting : ℕ) → Bool
+is_within most_nesting budget loops strings charge nesting =
+    (not loops && not strings) && (nat_le charge budget && nat_le nesting most_nesting)
 
 -- The loop has no groups, and its minimum is one to five iterations.
-abbrev pub has_few_turns : Quantifier → (start end : ℕ) → Bool
-has_few_turns quantifier start end = nat_le end start && (nat_le 1 quantifier.min && nat_le quantifier.min 5)
+abbrev pub has_few_iterations : Quantifier → (start end : ℕ) → Bool
+has_few_iterations quantifier start end = nat_le end start && (nat_le 1 quantifier.min && nat_le quantifier.min 5)
 
 -- Such a loop is unrolled if its body is within the bounds, since the body is copied for each iteration of the minimum.
-abbrev pub may_unroll_by : Quantifier → (start end : ℕ) (loops strings : Bool) (charge levels : ℕ) → Bool
-may_unroll_by quantifier start end loops strings charge levels =
-    has_few_turns quantifier start end && is_within max_body_levels max_body_charge loops strings charge levels
+abbrev pub may_unroll_by : Quantifier → (start end : ℕ) (loops strings : Bool) (charge nesting : ℕ) → Bool
+may_unroll_by quantifier start end loops strings charge nesting =
+    has_few_iterations quantifier start end && is_within max_body_nesting max_body_charge loops strings charge nesting
 
 abbrev pub may_unroll : Quantifier → (start end : ℕ) → Tree → Bool
 may_unroll quantifier start end body =
-    may_unroll_by quantifier start end (has_loop body) (has_string_set body) (charge body) (levels body)
+    may_unroll_by quantifier start end (has_loop body) (has_string_set body) (charge body) (nesting body)
 
 -- the shape that unrolling removes
 abbrev pub is_unrolled_away : Tree → Bool
@@ -223,14 +223,14 @@ is_empty_wrapper w body = false
 -- an `Empty` part.
 abbrev pub is_emptied_away : Tree → Bool
 is_emptied_away (leaf l) = is_byte_sequence_with is_none l
-is_emptied_away (cat parts) = some_in_row is_empty parts
+is_emptied_away (cat parts) = some_part is_empty parts
 is_emptied_away (alt left right) = is_empty left && is_empty right
 is_emptied_away (wrapped w body) = is_empty_wrapper w body
 
 -- a `Cat` with a part that always fails, an `Alt` with such a side, or a `Loop` with such a body and a minimum of at
 -- least one iteration
 abbrev pub fails_by_part : Tree → Bool
-fails_by_part (cat parts) = some_in_row match_always_fails parts
+fails_by_part (cat parts) = some_part match_always_fails parts
 fails_by_part (alt left right) = match_always_fails left || match_always_fails right
 fails_by_part t = on_loop (λ quantifier start end body. nat_le 1 quantifier.min && match_always_fails body) t
 

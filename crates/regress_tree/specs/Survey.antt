@@ -6,7 +6,7 @@ use Rattle.regress_tree.specs.declared.ir.groups.GroupIds.{GroupIds}
 use Rattle.regress_tree.specs.declared.ir.groups.Tally.{Tally}
 use Rattle.regress_tree.specs.NodeTests.{is_goal}
 use Rattle.regress_tree.specs.Tree.{Leaf, back_ref, Tree, Trees, leaf, cat, alt, wrapped, no_trees, more_trees}
-use Rattle.regress_tree.specs.WellFormed.{Capture, captures, Position, MayStand}
+use Rattle.regress_tree.specs.WellFormed.{Capture, captures, Position, IsAllowed}
 
 -- ---- sets of ids
 
@@ -45,13 +45,13 @@ reference_of l = 0
 abbrev mutual
   pub reference : Tree → ℕ
   reference (leaf l) = reference_of l
-  reference (cat parts) = reference_in_row parts
+  reference (cat parts) = reference_in_list parts
   reference (alt left right) = max (reference left) (reference right)
   reference (wrapped w body) = reference body
 
-  pub reference_in_row : Trees → ℕ
-  reference_in_row no_trees = 0
-  reference_in_row (more_trees t ts) = max (reference t) (reference_in_row ts)
+  pub reference_in_list : Trees → ℕ
+  reference_in_list no_trees = 0
+  reference_in_list (more_trees t ts) = max (reference t) (reference_in_list ts)
 
 -- The summary of these groups, with the greatest back reference.
 pub record IsTally (g : Tally) (cs : List Capture) (referred : ℕ) : Type 0 where
@@ -80,24 +80,24 @@ fill start end g = nat_le start g.least && (nat_le g.past end && (g.count == end
 
 -- The part is allowed, the ids of its groups differ from each other and from those collected before, and they are now
 -- collected too.
-pub record IsSurveyed (Stands : Type 0) (cs : List Capture) (referred : ℕ) (before after : GroupIds) (g : Tally) : Type 0 where
-  pub stands : Stands
+pub record IsSurveyed (Occurs : Type 0) (cs : List Capture) (referred : ℕ) (before after : GroupIds) (g : Tally) : Type 0 where
+  pub occurs : Occurs
   pub ids : (k : ℕ) → times_held after k ≡ times_held before k + times k cs
-  pub told : IsTally g cs referred
+  pub reported : IsTally g cs referred
 
 -- The part is not allowed, or some id occurs twice.
-pub record IsRefused (Stands : Type 0) (cs : List Capture) (before : GroupIds) : Type 0 where
-  pub refuted : Stands → ((k : ℕ) → times_held before k + times k cs ≤ 1) → ⊥
+pub record IsRejected (Occurs : Type 0) (cs : List Capture) (before : GroupIds) : Type 0 where
+  pub refuted : Occurs → ((k : ℕ) → times_held before k + times k cs ≤ 1) → ⊥
 
 -- The tree is allowed in that position in a tree with enough capture groups.
-abbrev pub StandsAt : Position → Tree → Type 0
-StandsAt p t = (n : ℕ) × MayStand n t p
+abbrev pub IsAllowedInside : Position → Tree → Type 0
+IsAllowedInside p t = (n : ℕ) × IsAllowed n t p
 
 abbrev pub SurveyedAt : Position → Tree → GroupIds → GroupIds → Tally → Type 0
-SurveyedAt p t = IsSurveyed (StandsAt p t) (captures t) (reference t)
+SurveyedAt p t = IsSurveyed (IsAllowedInside p t) (captures t) (reference t)
 
-abbrev pub RefusedAt : Position → Tree → GroupIds → Type 0
-RefusedAt p t = IsRefused (StandsAt p t) (captures t)
+abbrev pub RejectedAt : Position → Tree → GroupIds → Type 0
+RejectedAt p t = IsRejected (IsAllowedInside p t) (captures t)
 
 -- ---- the goal at the end
 

@@ -47,14 +47,14 @@ mutual
     more_trees : (first : Tree) (rest : Trees) → Trees
 
 -- a `List` as `Trees`
-abbrev pub row : List Tree → Trees
-row [] = no_trees
-row (t ∷ ts) = more_trees t (row ts)
+abbrev pub list : List Tree → Trees
+list [] = no_trees
+list (t ∷ ts) = more_trees t (list ts)
 
 -- the two lists joined
-abbrev pub row_append : Trees → Trees → Trees
-row_append no_trees us = us
-row_append (more_trees t ts) us = more_trees t (row_append ts us)
+abbrev pub append_trees : Trees → Trees → Trees
+append_trees no_trees us = us
+append_trees (more_trees t ts) us = more_trees t (append_trees ts us)
 
 -- the list of n times the same tree
 abbrev pub copies : ℕ → Tree → Trees
@@ -62,9 +62,9 @@ copies zero t = no_trees
 copies (suc n) t = more_trees t (copies n t)
 
 -- the list in reverse order
-abbrev pub row_reverse : Trees → Trees
-row_reverse no_trees = no_trees
-row_reverse (more_trees t ts) = row_append (row_reverse ts) (more_trees t no_trees)
+abbrev pub reverse_trees : Trees → Trees
+reverse_trees no_trees = no_trees
+reverse_trees (more_trees t ts) = append_trees (reverse_trees ts) (more_trees t no_trees)
 
 -- the tree of a node, given the trees of its children
 abbrev pub tree_of_level : Node-F Tree → Tree
@@ -74,7 +74,7 @@ tree_of_level (Node-F.Char c) = leaf (char c)
 tree_of_level (Node-F.ByteSequence bytes) = leaf (byte_sequence bytes.items)
 tree_of_level (Node-F.ByteSet bytes) = leaf (byte_set bytes.items)
 tree_of_level (Node-F.CharSet characters) = leaf (char_set characters.items)
-tree_of_level (Node-F.Cat parts) = cat (row parts.items)
+tree_of_level (Node-F.Cat parts) = cat (list parts.items)
 tree_of_level (Node-F.Alt left right) = alt left.value right.value
 tree_of_level Node-F.MatchAny = leaf match_any
 tree_of_level Node-F.MatchAnyExceptLineTerminator = leaf match_any_except_line_terminator
@@ -95,4 +95,4 @@ tree = fold-Node Tree tree_of_level
 
 -- the trees of a list of nodes
 abbrev pub trees : List Node → Trees
-trees nodes = row (map tree nodes)
+trees nodes = list (map tree nodes)

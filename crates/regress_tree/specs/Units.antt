@@ -1,6 +1,6 @@
 -- The size of a tree, and the measure that decreases with every rewrite.
 use Rattle.std.specs.Prelude.{◌≡◌, ℕ, ◌+◌, ◌*◌, ◌<◌, ◌⊎◌, [], ◌∷◌, length, if◌then◌else◌, ◌==◌}
-use Rattle.regress_tree.specs.Measures.{Measure, total, total_in_row}
+use Rattle.regress_tree.specs.Measures.{Measure, total, total_in_list}
 use Rattle.regress_tree.specs.Tree.{Leaf, char, byte_sequence, byte_set, char_set, bracket, Wrapper, loop, loop_one, Tree, Trees}
 
 -- one for a node, and one more for each byte of a `ByteSequence`
@@ -27,8 +27,8 @@ sizes = record { of_leaf = units_of_leaf; of_cat = 1; of_alt = 1; of_wrapper = �
 abbrev pub units : Tree → ℕ
 units = total sizes
 
-abbrev pub units_in_row : Trees → ℕ
-units_in_row = total_in_row sizes
+abbrev pub units_in_list : Trees → ℕ
+units_in_list = total_in_list sizes
 
 -- 1 for a loop that may be unrolled, and otherwise 0
 abbrev pub unrollable : Wrapper → ℕ

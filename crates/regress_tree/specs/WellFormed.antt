@@ -21,13 +21,13 @@ captures_of_wrapper w = []
 abbrev mutual
   pub captures : Tree → List Capture
   captures (leaf l) = []
-  captures (cat parts) = captures_in_row parts
+  captures (cat parts) = captures_of_trees parts
   captures (alt left right) = captures left ++ captures right
   captures (wrapped w body) = captures_of_wrapper w ++ captures body
 
-  pub captures_in_row : Trees → List Capture
-  captures_in_row no_trees = []
-  captures_in_row (more_trees t ts) = captures t ++ captures_in_row ts
+  pub captures_of_trees : Trees → List Capture
+  captures_of_trees no_trees = []
+  captures_of_trees (more_trees t ts) = captures t ++ captures_of_trees ts
 
 -- The position of a part in a tree: as the body of a `Loop1CharBody`, anywhere inside, as the last part of a `Cat` that
 -- is the root, or as the root.
@@ -38,10 +38,10 @@ pub data Position : Type 0 where
   root : Position
 
 -- The goal ends the pattern: it is the root, or the last part of a `Cat` that is the root.
-abbrev pub GoalMayStand : Position → Type 0
-GoalMayStand one_character = ⊥
-GoalMayStand inside = ⊥
-GoalMayStand p = Unit {0}
+abbrev pub GoalIsAllowed : Position → Type 0
+GoalIsAllowed one_character = ⊥
+GoalIsAllowed inside = ⊥
+GoalIsAllowed p = Unit {0}
 
 -- The position is not the body of a `Loop1CharBody`.
 abbrev pub NotAsOneCharacter : Position → Type 0
@@ -93,20 +93,20 @@ pub record AreStrings (strings : List (List ℕ)) (p : Position) : Type 0 where
   pub bounded : All (All (λ c. c ≤ code_point_max)) strings
 
 -- The leaf is allowed in that position, in a tree of n capture groups.
-abbrev pub LeafMayStand : ℕ → Leaf → Position → Type 0
-LeafMayStand n empty p = NotAsOneCharacter p
-LeafMayStand n goal p = GoalMayStand p
-LeafMayStand n (char c) p = c ≤ code_point_max
-LeafMayStand n (byte_sequence bytes) p = AreUtf8 bytes p
-LeafMayStand n (byte_set bytes) p = IsSmallSet bytes 127 p
-LeafMayStand n (char_set characters) p = IsSmallSet characters code_point_max p
-LeafMayStand n match_any p = Unit {0}
-LeafMayStand n match_any_except_line_terminator p = Unit {0}
-LeafMayStand n (anchor kind multiline) p = NotAsOneCharacter p
-LeafMayStand n (word_boundary invert unicode_icase) p = NotAsOneCharacter p
-LeafMayStand n (bracket invert intervals) p = IsBracket invert intervals p
-LeafMayStand n (back_ref group icase) p = IsReference n group p
-LeafMayStand n (string_set strings icase) p = AreStrings strings p
+abbrev pub LeafIsAllowed : ℕ → Leaf → Position → Type 0
+LeafIsAllowed n empty p = NotAsOneCharacter p
+LeafIsAllowed n goal p = GoalIsAllowed p
+LeafIsAllowed n (char c) p = c ≤ code_point_max
+LeafIsAllowed n (byte_sequence bytes) p = AreUtf8 bytes p
+LeafIsAllowed n (byte_set bytes) p = IsSmallSet bytes 127 p
+LeafIsAllowed n (char_set characters) p = IsSmallSet characters code_point_max p
+LeafIsAllowed n match_any p = Unit {0}
+LeafIsAllowed n match_any_except_line_terminator p = Unit {0}
+LeafIsAllowed n (anchor kind multiline) p = NotAsOneCharacter p
+LeafIsAllowed n (word_boundary invert unicode_icase) p = NotAsOneCharacter p
+LeafIsAllowed n (bracket invert intervals) p = IsBracket invert intervals p
+LeafIsAllowed n (back_ref group icase) p = IsReference n group p
+LeafIsAllowed n (string_set strings icase) p = AreStrings strings p
 
 -- The minimum is at most the maximum.
 abbrev pub IsQuantifier : Quantifier → Type 0
@@ -118,27 +118,27 @@ HasGroups start end t =
     (k : ℕ) → count_by (λ c. c.id == k) (captures t) ≡ (if nat_le start k && nat_lt k end then 1 else 0)
 
 -- The wrapper is allowed around the tree, in a tree of n capture groups.
-abbrev pub WrapperMayStand : ℕ → Wrapper → Tree → Type 0
-WrapperMayStand n (capture_group id name) body = (id < n) × IfSome name (λ bytes. bytes ≢ [])
-WrapperMayStand n (loop quantifier start end) body = IsQuantifier quantifier × HasGroups start end body
-WrapperMayStand n (loop_one quantifier) body = IsQuantifier quantifier
-WrapperMayStand n (lookaround negate backwards start end) body = HasGroups start end body
+abbrev pub WrapperIsAllowed : ℕ → Wrapper → Tree → Type 0
+WrapperIsAllowed n (capture_group id name) body = (id < n) × IfSome name (λ bytes. bytes ≢ [])
+WrapperIsAllowed n (loop quantifier start end) body = IsQuantifier quantifier × HasGroups start end body
+WrapperIsAllowed n (loop_one quantifier) body = IsQuantifier quantifier
+WrapperIsAllowed n (lookaround negate backwards start end) body = HasGroups start end body
 
 -- The tree is allowed in that position, in a well-formed tree of n capture groups.
 abbrev mutual
-  pub MayStand : ℕ → Tree → Position → Type 0
-  MayStand n (leaf l) p = LeafMayStand n l p
-  MayStand n (cat parts) p = NotAsOneCharacter p × RowMayStand n parts (last_of p)
-  MayStand n (alt left right) p = NotAsOneCharacter p × MayStand n left inside × MayStand n right inside
-  MayStand n (wrapped w body) p = NotAsOneCharacter p × WrapperMayStand n w body × MayStand n body (position_in w)
+  pub IsAllowed : ℕ → Tree → Position → Type 0
+  IsAllowed n (leaf l) p = LeafIsAllowed n l p
+  IsAllowed n (cat parts) p = NotAsOneCharacter p × PartsAllowed n parts (last_of p)
+  IsAllowed n (alt left right) p = NotAsOneCharacter p × IsAllowed n left inside × IsAllowed n right inside
+  IsAllowed n (wrapped w body) p = NotAsOneCharacter p × WrapperIsAllowed n w body × IsAllowed n body (position_in w)
 
   -- the last tree of the list in position p, and the others inside
-  pub RowMayStand : ℕ → Trees → Position → Type 0
-  RowMayStand n no_trees p = Unit {0}
-  RowMayStand n (more_trees t no_trees) p = MayStand n t p
-  RowMayStand n (more_trees t (more_trees u us)) p = MayStand n t inside × RowMayStand n (more_trees u us) p
+  pub PartsAllowed : ℕ → Trees → Position → Type 0
+  PartsAllowed n no_trees p = Unit {0}
+  PartsAllowed n (more_trees t no_trees) p = IsAllowed n t p
+  PartsAllowed n (more_trees t (more_trees u us)) p = IsAllowed n t inside × PartsAllowed n (more_trees u us) p
 
 -- A well-formed tree: each part is allowed where it is, and the ids of its n capture groups are 0 to n - 1, each once.
 pub record IsWellFormed (t : Tree) : Type 0 where
-  pub stands : MayStand (length (captures t)) t root
+  pub occurs : IsAllowed (length (captures t)) t root
   pub ids : (k : ℕ) → count_by (λ c. c.id == k) (captures t) ≡ (if nat_lt k (length (captures t)) then 1 else 0)

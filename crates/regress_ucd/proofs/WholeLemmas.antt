@@ -6,16 +6,16 @@ use Rattle.std.specs.declared.alloc.AllocError.{AllocError}
 use Rattle.regress_base.specs.Intervals.{Bounds}
 use Rattle.regress_unicode.specs.declared.Tables.{Tables}
 use Rattle.regress_unicode.specs.TableOf.{table_of}
-use Rattle.regress_unicode.specs.FoldRows.{FoldRow}
+use Rattle.regress_unicode.specs.FoldEntries.{FoldEntry}
 use Rattle.regress_unicode.specs.Parts.{Parts, parts_from, sets_of, strings_of}
 use Rattle.regress_ucd.specs.declared.intervals.TheConstants.{INTERVALS}
 use Rattle.regress_ucd.specs.declared.names.TheConstants.{ID_START, ID_CONTINUE, GENERAL_CATEGORY, SCRIPT, SCRIPT_REST, SCRIPT_EXTENSIONS, SCRIPT_EXTENSIONS_REST, BINARY}
 use Rattle.regress_ucd.specs.declared.strings.TheConstants.{STRING_NAMES, STRINGS, POINTS}
 use Rattle.regress_ucd.specs.declared.cases.TheConstants.{FOLDS, UPPERS}
-use Rattle.regress_ucd.specs.Data.{row, set_at, named_set, named_strings, AreSets, AreStrings}
+use Rattle.regress_ucd.specs.Data.{mapping, set_at, named_set, named_strings, AreSets, AreStrings}
 use Rattle.regress_ucd.specs.UnicodeTable.{unicode_parts, unicode_table}
 
-parts_are : (parts : Parts) (folds uppers : List FoldRow) (id_start id_continue : List Bounds)
+parts_are : (parts : Parts) (folds uppers : List FoldEntry) (id_start id_continue : List Bounds)
     (general_category script script_extensions binary : List (String Global × List Bounds))
     (strings : List (String Global × Vec (Vec ℕ Global) Global)) →
     folds ≡ parts.folds → uppers ≡ parts.uppers → id_start ≡ parts.id_start → id_continue ≡ parts.id_continue →
@@ -27,10 +27,10 @@ parts_are parts folds uppers id_start id_continue general_category script script
 
 pub unicode_from : (intervals : List ℕ) (listed : List (ℕ × ℕ)) (points : List ℕ) →
     intervals ≡ INTERVALS.now → listed ≡ STRINGS.now → points ≡ POINTS.now →
-    (folds uppers : List FoldRow) (id_start id_continue : List Bounds)
+    (folds uppers : List FoldEntry) (id_start id_continue : List Bounds)
     (general_category script script_extensions binary : List (String Global × List Bounds))
     (strings : List (String Global × Vec (Vec ℕ Global) Global)) →
-    folds ≡ map row FOLDS.now → uppers ≡ map row UPPERS.now → id_start ≡ set_at intervals ID_START.0 ID_START.1 →
+    folds ≡ map mapping FOLDS.now → uppers ≡ map mapping UPPERS.now → id_start ≡ set_at intervals ID_START.0 ID_START.1 →
     id_continue ≡ set_at intervals ID_CONTINUE.0 ID_CONTINUE.1 →
     sets_of general_category ≡ map (λ n. named_set intervals n.0.now n.1 n.2) GENERAL_CATEGORY.now →
     sets_of script ≡ map (λ n. named_set intervals n.0.now n.1 n.2) SCRIPT.now
@@ -54,15 +54,15 @@ unicode_from intervals listed points same strings_same points_same folds uppers 
     (e9 ∙ ap (λ xs. map (λ n. named_strings xs points n.0.now n.1 n.2) STRING_NAMES.now) strings_same
     ∙ ap (λ xs. map (λ n. named_strings STRINGS.now xs n.0.now n.1 n.2) STRING_NAMES.now) points_same)
 
-pub sets_in : (intervals : List ℕ) → intervals ≡ INTERVALS.now → (places : List (ℕ × ℕ)) → AreSets INTERVALS.now places →
-    AreSets intervals places
-sets_in intervals same places h = subst (λ (xs : List ℕ). AreSets xs places) (sym same) h
+pub sets_in : (intervals : List ℕ) → intervals ≡ INTERVALS.now → (positions : List (ℕ × ℕ)) → AreSets INTERVALS.now positions →
+    AreSets intervals positions
+sets_in intervals same positions h = subst (λ (xs : List ℕ). AreSets xs positions) (sym same) h
 
-pub strings_in : (listed : List (ℕ × ℕ)) (points : List ℕ) → listed ≡ STRINGS.now → points ≡ POINTS.now → (places : List (ℕ × ℕ)) →
-    AreStrings STRINGS.now POINTS.now places → AreStrings listed points places
-strings_in listed points same points_same places h =
-    subst (λ (xs : List (ℕ × ℕ)). AreStrings xs points places) (sym same)
-    (subst (λ (xs : List ℕ). AreStrings STRINGS.now xs places) (sym points_same) h)
+pub strings_in : (listed : List (ℕ × ℕ)) (points : List ℕ) → listed ≡ STRINGS.now → points ≡ POINTS.now → (positions : List (ℕ × ℕ)) →
+    AreStrings STRINGS.now POINTS.now positions → AreStrings listed points positions
+strings_in listed points same points_same positions h =
+    subst (λ (xs : List (ℕ × ℕ)). AreStrings xs points positions) (sym same)
+    (subst (λ (xs : List ℕ). AreStrings STRINGS.now xs positions) (sym points_same) h)
 
 -- an error that `?` returns is not a table
 pub no_table : (Q : AllocError → Type 0) (r : Result Tables AllocError) → IsErrAnd r Q → IfOk r (λ tables. table_of tables ≡ unicode_table)

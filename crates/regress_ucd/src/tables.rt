@@ -1,21 +1,21 @@
 //! Construction of the table from the constants.
 ghost use Rattle.std.specs.Prelude.{◌≡◌, ◌++◌, All, IfOk, map, IsTrue, length, slice_range};
 ghost use Rattle.regress_base.specs.Intervals.{IsCanonical, IsInterval};
-ghost use Rattle.regress_unicode.specs.FoldRows.{IsPackableRow};
+ghost use Rattle.regress_unicode.specs.FoldEntries.{IsPackableEntry};
 ghost use Rattle.regress_unicode.specs.Parts.{sets_of, strings_of};
-ghost use Rattle.regress_ucd.specs.Data.{paired, row, set_at, strings_at, is_set_at, are_places, AreStringsAt, AreSets, AreStrings, named_set, named_strings};
+ghost use Rattle.regress_ucd.specs.Data.{paired, mapping, set_at, strings_at, is_set_at, is_range_within, AreStringsAt, AreSets, AreStrings, named_set, named_strings};
 
 use regress_base::codepointset::{CodePointSet, Interval};
 use regress_unicode::FoldRange;
 use std::alloc::{AllocError, Global};
 
 /// Returns the listed entries of a case mapping.
-pub(super) fn rows(
+pub(super) fn mappings(
     alloc: Global,
     listed: &[(u32, u32, i32, u8)],
 ) -> Result<Vec<FoldRange>, AllocError>
-    requires { All (λ r. IsPackableRow (row r)) listed.now }
-    ensures { IfOk result (λ rows. rows.items ≡ map row listed.now) }
+    requires { All (λ r. IsPackableEntry (mapping r)) listed.now }
+    ensures { IfOk result (λ mappings. mappings.items ≡ map mapping listed.now) }
 {
     listed
         .iter()
@@ -99,7 +99,7 @@ pub(super) fn all_named_sets(
 
 /// Returns the string whose code points are in the half-open range from `from` to `to`.
 fn string_at(alloc: Global, points: &[u32], from: usize, to: usize) -> Result<Vec<u32>, AllocError>
-    requires { IsTrue (are_places (length points.now) from to) }
+    requires { IsTrue (is_range_within (length points.now) from to) }
     ensures { IfOk result (λ string. string.items ≡ slice_range points.now from to) }
 {
     Vec::from_slice(alloc, &points[from..to])
@@ -109,49 +109,49 @@ fn string_at(alloc: Global, points: &[u32], from: usize, to: usize) -> Result<Ve
 fn strings(
     alloc: Global,
     points: &[u32],
-    places: &[(usize, usize)],
+    positions: &[(usize, usize)],
 ) -> Result<Vec<Vec<u32>>, AllocError>
-    requires { All (λ p. IsTrue (are_places (length points.now) p.0 p.1)) places.now }
-    ensures { IfOk result (λ strings. map (λ string. string.items) strings.items ≡ map (λ p. slice_range points.now p.0 p.1) places.now) }
+    requires { All (λ p. IsTrue (is_range_within (length points.now) p.0 p.1)) positions.now }
+    ensures { IfOk result (λ strings. map (λ string. string.items) strings.items ≡ map (λ p. slice_range points.now p.0 p.1) positions.now) }
 {
     let mut strings = Vec::new(alloc);
-    for place in places {
-        let (from, to) = *place;
+    for position in positions {
+        let (from, to) = *position;
         strings.push(string_at(alloc, points, from, to)?)?;
     }
     Ok(strings)
 }
 
-/// Returns the strings whose ranges are in the half-open range from `from` to `to` of `places`.
+/// Returns the strings whose ranges are in the half-open range from `from` to `to` of `positions`.
 fn strings_at(
     alloc: Global,
     points: &[u32],
-    places: &[(usize, usize)],
+    positions: &[(usize, usize)],
     from: usize,
     to: usize,
 ) -> Result<Vec<Vec<u32>>, AllocError>
-    requires { AreStringsAt places.now points.now from to }
-    ensures { IfOk result (λ strings. map (λ string. string.items) strings.items ≡ strings_at places.now points.now from to) }
+    requires { AreStringsAt positions.now points.now from to }
+    ensures { IfOk result (λ strings. map (λ string. string.items) strings.items ≡ strings_at positions.now points.now from to) }
 {
-    strings(alloc, points, &places[from..to])
+    strings(alloc, points, &positions[from..to])
 }
 
 /// Returns the named lists of strings.
 pub(super) fn named_strings(
     alloc: Global,
     points: &[u32],
-    places: &[(usize, usize)],
+    positions: &[(usize, usize)],
     names: &[(&str, usize, usize)],
 ) -> Result<Vec<(String, Vec<Vec<u32>>)>, AllocError>
-    requires { AreStrings places.now points.now (map (λ n. (n.1, n.2)) names.now) }
-    ensures { IfOk result (λ entries. strings_of entries.items ≡ map (λ n. named_strings places.now points.now n.0.now n.1 n.2) names.now) }
+    requires { AreStrings positions.now points.now (map (λ n. (n.1, n.2)) names.now) }
+    ensures { IfOk result (λ entries. strings_of entries.items ≡ map (λ n. named_strings positions.now points.now n.0.now n.1 n.2) names.now) }
 {
     let mut entries = Vec::new(alloc);
     for entry in names {
         let (name, from, to) = *entry;
         entries.push((
             String::from_str(alloc, name)?,
-            strings_at(alloc, points, places, from, to)?,
+            strings_at(alloc, points, positions, from, to)?,
         ))?;
     }
     Ok(entries)

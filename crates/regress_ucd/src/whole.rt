@@ -10,7 +10,7 @@ use super::names::{
     SCRIPT_EXTENSIONS_REST, SCRIPT_REST,
 };
 use super::strings::STRING_NAMES;
-use super::tables::{all_named_sets, named_sets, named_strings, rows, set_at};
+use super::tables::{all_named_sets, mappings, named_sets, named_strings, set_at};
 use regress_unicode::Tables;
 use std::alloc::{AllocError, Global};
 
@@ -42,8 +42,8 @@ pub fn unicode_tables(alloc: Global) -> Result<Tables, AllocError>
 {
     let intervals = intervals();
     Ok(Tables::from_sound_parts(
-        rows(alloc, FOLDS)?,
-        rows(alloc, UPPERS)?,
+        mappings(alloc, FOLDS)?,
+        mappings(alloc, UPPERS)?,
         set_at(alloc, intervals, ID_START.0, ID_START.1)?,
         set_at(alloc, intervals, ID_CONTINUE.0, ID_CONTINUE.1)?,
         named_sets(alloc, intervals, GENERAL_CATEGORY)?,

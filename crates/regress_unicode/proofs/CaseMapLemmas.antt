@@ -10,49 +10,49 @@ use Rattle.std.specs.Ordering.{nat_cmp, is_lt}
 use Rattle.std.specs.List.{range_with_len}
 use Rattle.regress_base.specs.Intervals.{code_point_max}
 use Rattle.regress_base.specs.Listing.{lists, is_ascending_from}
-use Rattle.regress_unicode.specs.FoldRows.{FoldRow, moved, is_in_row, image_in_row, image, is_in_order_from, is_in_order, are_targets_in_range}
-use Rattle.regress_unicode.specs.Parts.{AreSoundRows}
-use Rattle.regress_unicode.specs.Moves.{codes, moves, movers, images, count_of, HasNoFour}
-use Rattle.regress_base.specs.Table.{IsIdempotent, HasSmallClasses, IsCaseMap}
-use Rattle.regress_base.proofs.laws.Listings.{ascending_parts, ascending_within, ascending_filter, lists-tail, lists-past, lists-filter, length_without, ascending_append, lists-append, lists-run}
-use Rattle.regress_unicode.proofs.RowLemmas.{order_parts, shifted_is}
+use Rattle.regress_unicode.specs.FoldEntries.{FoldEntry, moved, is_in_mapping, image_in_mapping, image, is_in_order_from, is_in_order, are_targets_in_range}
+use Rattle.regress_unicode.specs.Parts.{AreValidEntries}
+use Rattle.regress_unicode.specs.Moves.{codes, moves, mapped_code_points, images, count_of, HasNoFour}
+use Rattle.regress_base.specs.Table.{IsIdempotent, HasSmallClasses, IsCaseMapping}
+use Rattle.regress_base.proofs.lemmas.Listings.{ascending_parts, ascending_within, ascending_filter, lists-tail, lists-past, lists-filter, length_without, ascending_append, lists-append, lists-run}
+use Rattle.regress_unicode.proofs.ListLemmas.{order_parts, shifted_is}
 
 -- a number that is mapped to another one is in a range
-pub moves_in_codes : (rows : List FoldRow) (c : ℕ) → (lists (codes rows) c ≡ true) ⊎ (image rows c ≡ c)
+pub moves_in_codes : (mappings : List FoldEntry) (c : ℕ) → (lists (codes mappings) c ≡ true) ⊎ (image mappings c ≡ c)
 unfolding image
 moves_in_codes [] c = inr refl
-moves_in_codes (row ∷ rows) c = by_row (is_in_row row c) refl (moves_in_codes rows c)
+moves_in_codes (mapping ∷ mappings) c = by_mapping (is_in_mapping mapping c) refl (moves_in_codes mappings c)
   where
-    by_row : (b : Bool) → is_in_row row c ≡ b → (lists (codes rows) c ≡ true) ⊎ (image rows c ≡ c) →
-        (lists (range_with_len row.start row.length ++ codes rows) c ≡ true) ⊎ (cond b (image_in_row row c) (image rows c) ≡ c)
-    by_row true e rest = inl (lists-append (range_with_len row.start row.length) (codes rows) c ∙
-        (let here : lists (range_with_len row.start row.length) c ≡ true = lists-run row.start row.length c ∙ e in rw here))
-    by_row false e (inl later) = inl (lists-append (range_with_len row.start row.length) (codes rows) c ∙ (rw later (or-true _)))
-    by_row false e (inr stays) = inr stays
+    by_mapping : (b : Bool) → is_in_mapping mapping c ≡ b → (lists (codes mappings) c ≡ true) ⊎ (image mappings c ≡ c) →
+        (lists (range_with_len mapping.start mapping.length ++ codes mappings) c ≡ true) ⊎ (cond b (image_in_mapping mapping c) (image mappings c) ≡ c)
+    by_mapping true e rest = inl (lists-append (range_with_len mapping.start mapping.length) (codes mappings) c ∙
+        (let here : lists (range_with_len mapping.start mapping.length) c ≡ true = lists-run mapping.start mapping.length c ∙ e in rw here))
+    by_mapping false e (inl later) = inl (lists-append (range_with_len mapping.start mapping.length) (codes mappings) c ∙ (rw later (or-true _)))
+    by_mapping false e (inr stays) = inr stays
 
 -- entries in order have ascending code points
-pub ascending_codes : (low : ℕ) (rows : List FoldRow) → IsTrue (is_in_order_from low rows) → IsTrue (is_ascending_from low (codes rows))
+pub ascending_codes : (low : ℕ) (mappings : List FoldEntry) → IsTrue (is_in_order_from low mappings) → IsTrue (is_ascending_from low (codes mappings))
 ascending_codes low [] h = h
-ascending_codes low (row ∷ rows) h =
-    let parts = order_parts low row rows h in
-    ascending_append low row.start row.length (codes rows) parts.above (ascending_codes (row.start + row.length) rows parts.rest)
+ascending_codes low (mapping ∷ mappings) h =
+    let parts = order_parts low mapping mappings h in
+    ascending_append low mapping.start mapping.length (codes mappings) parts.above (ascending_codes (mapping.start + mapping.length) mappings parts.rest)
 
-pub mover_listed : (rows : List FoldRow) (c : ℕ) → image rows c ≢ c → lists (movers (image rows) rows) c ≡ true
-mover_listed rows c other = elim (moves_in_codes rows c) [
-  | inl here ↦ lists-filter (moves (image rows)) (codes rows) c ∙
-      (let no : (image rows c == c) ≡ false = grind (arith, nat_tests, other) in rw (no, here))
+pub mover_listed : (mappings : List FoldEntry) (c : ℕ) → image mappings c ≢ c → lists (mapped_code_points (image mappings) mappings) c ≡ true
+mover_listed mappings c other = elim (moves_in_codes mappings c) [
+  | inl here ↦ lists-filter (moves (image mappings)) (codes mappings) c ∙
+      (let no : (image mappings c == c) ≡ false = grind (arith, nat_tests, other) in rw (no, here))
   | inr stays ↦ absurd (other stays)
 ]
 
 -- ---- idempotent
 
 -- a mapping is idempotent if every result of it is mapped to itself
-pub idempotent_from_movers : (rows : List FoldRow) → ((c : ℕ) → lists (movers (image rows) rows) c ≡ true →
-    image rows (image rows c) ≡ image rows c) → IsIdempotent (image rows)
-idempotent_from_movers rows h c =
-    elim (cases_eq (image rows c) c) [
-      | inl stays ↦ ap (image rows) stays
-      | inr other ↦ h c (mover_listed rows c other)
+pub idempotent_from_movers : (mappings : List FoldEntry) → ((c : ℕ) → lists (mapped_code_points (image mappings) mappings) c ≡ true →
+    image mappings (image mappings c) ≡ image mappings c) → IsIdempotent (image mappings)
+idempotent_from_movers mappings h c =
+    elim (cases_eq (image mappings c) c) [
+      | inl stays ↦ ap (image mappings) stays
+      | inr other ↦ h c (mover_listed mappings c other)
     ]
 
 -- ---- classes
@@ -69,23 +69,23 @@ All-lists P (x ∷ xs) c all h = elim (cases_eq x c) [
 ]
 
 -- if at most three other code points are mapped to each canonical form, at most four have the same one
-pub small_from_counts : (rows : List FoldRow) → IsTrue (is_in_order rows) →
-    ((d : ℕ) → count_to (image rows) d (movers (image rows) rows) ≤ 3) → HasSmallClasses (image rows)
-small_from_counts rows order h d xs up same =
-    let f : ℕ → ℕ = image rows in
+pub small_from_counts : (mappings : List FoldEntry) → IsTrue (is_in_order mappings) →
+    ((d : ℕ) → count_to (image mappings) d (mapped_code_points (image mappings) mappings) ≤ 3) → HasSmallClasses (image mappings)
+small_from_counts mappings order h d xs up same =
+    let f : ℕ → ℕ = image mappings in
     let others : List ℕ = filter (λ x. not (x == d)) xs in
-    let moved : List ℕ = filter (λ x. f x == d) (movers f rows) in
+    let moved : List ℕ = filter (λ x. f x == d) (mapped_code_points f mappings) in
     let others_up = ascending_filter 0 (λ x. not (x == d)) xs up in
-    let moved_up = ascending_filter 0 (λ x. f x == d) (movers f rows)
-    (ascending_filter 0 (moves f) (codes rows) (ascending_codes 0 rows order)) in
+    let moved_up = ascending_filter 0 (λ x. f x == d) (mapped_code_points f mappings)
+    (ascending_filter 0 (moves f) (codes mappings) (ascending_codes 0 mappings order)) in
     let within : (c : ℕ) → lists others c ≡ true → lists moved c ≡ true = λ c listed.
     (let both : (not (c == d) && lists xs c) ≡ true = sym (lists-filter (λ x. not (x == d)) xs c) ∙ listed in
     let ne : c ≢ d = grind (arith, nat_tests, both) in
     let in_xs : lists xs c ≡ true = grind (arith, nat_tests, both) in
     let goes : f c ≡ d = All-lists (λ x. f x ≡ d) xs c same in_xs in
-    let mover = mover_listed rows c (λ e. ne (sym e ∙ goes)) in
+    let mover = mover_listed mappings c (λ e. ne (sym e ∙ goes)) in
     let yes : (f c == d) ≡ true = eq-eqb (f c) d goes in
-    lists-filter (λ x. f x == d) (movers f rows) c ∙ rw (yes, mover)) in
+    lists-filter (λ x. f x == d) (mapped_code_points f mappings) c ∙ rw (yes, mover)) in
     let shorter = ascending_within 0 0 others moved others_up moved_up within in
     let without = length_without 0 d xs up in
     let count : length moved ≤ 3 = h d in
@@ -132,18 +132,18 @@ All-insert P d (y ∷ ys) here all = by_order (nat_lt d y) (All-insert P d ys he
     by_order false rest = All-cons P y (insert_into d ys) (All-head P y ys all) rest
 
 -- if four other code points are mapped to a canonical form, five have the same one
-pub large_from_count : (rows : List FoldRow) (d : ℕ) → IsTrue (is_in_order rows) → image rows d ≡ d →
-    4 ≤ count_to (image rows) d (movers (image rows) rows) → ¬ HasSmallClasses (image rows)
-large_from_count rows d order own h small =
-    let f : ℕ → ℕ = image rows in
-    let moved : List ℕ = filter (λ x. f x == d) (movers f rows) in
-    let moved_up = ascending_filter 0 (λ x. f x == d) (movers f rows)
-    (ascending_filter 0 (moves f) (codes rows) (ascending_codes 0 rows order)) in
+pub large_from_count : (mappings : List FoldEntry) (d : ℕ) → IsTrue (is_in_order mappings) → image mappings d ≡ d →
+    4 ≤ count_to (image mappings) d (mapped_code_points (image mappings) mappings) → ¬ HasSmallClasses (image mappings)
+large_from_count mappings d order own h small =
+    let f : ℕ → ℕ = image mappings in
+    let moved : List ℕ = filter (λ x. f x == d) (mapped_code_points f mappings) in
+    let moved_up = ascending_filter 0 (λ x. f x == d) (mapped_code_points f mappings)
+    (ascending_filter 0 (moves f) (codes mappings) (ascending_codes 0 mappings order)) in
     let yes : (f d == d) ≡ true = eq-eqb (f d) d own in
-    let stays : lists (movers f rows) d ≡ false = lists-filter (moves f) (codes rows) d ∙ rw yes in
-    let absent : lists moved d ≡ false = lists-filter (λ x. f x == d) (movers f rows) d ∙ rw (yes, stays) in
+    let stays : lists (mapped_code_points f mappings) d ≡ false = lists-filter (moves f) (codes mappings) d ∙ rw yes in
+    let absent : lists moved d ≡ false = lists-filter (λ x. f x == d) (mapped_code_points f mappings) d ∙ rw (yes, stays) in
     let same : All (λ x. f x ≡ d) moved = All-weaker (λ x. (f x == d) ≡ true) (λ x. f x ≡ d) (λ x e. eqb-true (f x) d e) moved
-    (filter_passes (λ x. f x == d) (movers f rows)) in
+    (filter_passes (λ x. f x == d) (mapped_code_points f mappings)) in
     let five = small d (insert_into d moved) (ascending_insert 0 d moved (omega arith) moved_up absent)
     (All-insert (λ x. f x ≡ d) d moved own same) in
     let len = length_insert d moved in
@@ -230,23 +230,23 @@ lists-map f (x ∷ xs) c h = elim (cases_eq x c) [
   | inr other ↦ lists-tail (f x) (map f xs) (f c) (lists-map f xs c (lists-past x xs c other h))
 ]
 
-pub idempotent_from_images : (rows : List FoldRow) → All (λ d. image rows d ≡ d) (images rows) → IsIdempotent (image rows)
-idempotent_from_images rows own =
-    idempotent_from_movers rows (λ c h. All-lists (λ d. image rows d ≡ d) (images rows) (image rows c) own
-    (lists-map (image rows) (movers (image rows) rows) c h))
+pub idempotent_from_images : (mappings : List FoldEntry) → All (λ d. image mappings d ≡ d) (images mappings) → IsIdempotent (image mappings)
+idempotent_from_images mappings own =
+    idempotent_from_movers mappings (λ c h. All-lists (λ d. image mappings d ≡ d) (images mappings) (image mappings c) own
+    (lists-map (image mappings) (mapped_code_points (image mappings) mappings) c h))
 
-pub images_from_idempotent : (rows : List FoldRow) → IsIdempotent (image rows) → All (λ d. image rows d ≡ d) (images rows)
-images_from_idempotent rows h = All-map (λ d. image rows d ≡ d) (image rows) (movers (image rows) rows) (λ k d lt. h _)
+pub images_from_idempotent : (mappings : List FoldEntry) → IsIdempotent (image mappings) → All (λ d. image mappings d ≡ d) (images mappings)
+images_from_idempotent mappings h = All-map (λ d. image mappings d ≡ d) (image mappings) (mapped_code_points (image mappings) mappings) (λ k d lt. h _)
 
-pub small_from_images : (rows : List FoldRow) → IsTrue (is_in_order rows) → ((d : ℕ) → count_of d (images rows) ≤ 3) →
-    HasSmallClasses (image rows)
-small_from_images rows order few =
-    small_from_counts rows order (λ d. subst (λ (n : ℕ). n ≤ 3) (count_of-map (image rows) d (movers (image rows) rows)) (few d))
+pub small_from_images : (mappings : List FoldEntry) → IsTrue (is_in_order mappings) → ((d : ℕ) → count_of d (images mappings) ≤ 3) →
+    HasSmallClasses (image mappings)
+small_from_images mappings order few =
+    small_from_counts mappings order (λ d. subst (λ (n : ℕ). n ≤ 3) (count_of-map (image mappings) d (mapped_code_points (image mappings) mappings)) (few d))
 
-pub large_from_images : (rows : List FoldRow) (d : ℕ) → IsTrue (is_in_order rows) → image rows d ≡ d → 4 ≤ count_of d (images rows) →
-    ¬ HasSmallClasses (image rows)
-large_from_images rows d order own many =
-    large_from_count rows d order own (subst (λ (n : ℕ). 4 ≤ n) (count_of-map (image rows) d (movers (image rows) rows)) many)
+pub large_from_images : (mappings : List FoldEntry) (d : ℕ) → IsTrue (is_in_order mappings) → image mappings d ≡ d → 4 ≤ count_of d (images mappings) →
+    ¬ HasSmallClasses (image mappings)
+large_from_images mappings d order own many =
+    large_from_count mappings d order own (subst (λ (n : ℕ). 4 ≤ n) (count_of-map (image mappings) d (mapped_code_points (image mappings) mappings)) many)
 
 -- a number that is not in the list occurs zero times
 pub count_of_absent : (d : ℕ) (xs : List ℕ) → lists xs d ≡ false → count_of d xs ≡ 0
@@ -258,23 +258,23 @@ count_of_absent d (x ∷ xs) h =
 
 -- ---- the whole mapping
 
-pub image_in_range : (rows : List FoldRow) (c : ℕ) → IsTrue (are_targets_in_range rows) → c ≤ code_point_max → image rows c ≤ code_point_max
+pub image_in_range : (mappings : List FoldEntry) (c : ℕ) → IsTrue (are_targets_in_range mappings) → c ≤ code_point_max → image mappings c ≤ code_point_max
 unfolding image
 image_in_range [] c h le = le
-image_in_range (row ∷ rows) c h le = by_row (is_in_row row c) refl (image_in_range rows c (grind (arith, nat_tests, h)) le)
+image_in_range (mapping ∷ mappings) c h le = by_mapping (is_in_mapping mapping c) refl (image_in_range mappings c (grind (arith, nat_tests, h)) le)
   where
-    by_row : (b : Bool) → is_in_row row c ≡ b → image rows c ≤ code_point_max → cond b (image_in_row row c) (image rows c) ≤ code_point_max
-    by_row false e rest = rest
-    by_row true e rest = by_modulo ((c - row.start) % row.modulo == 0)
+    by_mapping : (b : Bool) → is_in_mapping mapping c ≡ b → image mappings c ≤ code_point_max → cond b (image_in_mapping mapping c) (image mappings c) ≤ code_point_max
+    by_mapping false e rest = rest
+    by_mapping true e rest = by_modulo ((c - mapping.start) % mapping.modulo == 0)
       where
-        by_modulo : (b : Bool) → cond b (moved row.delta c) c ≤ code_point_max
-        by_modulo true = (shifted_is row c (grind (arith, nat_tests, h)) e).1
+        by_modulo : (b : Bool) → cond b (moved mapping.delta c) c ≤ code_point_max
+        by_modulo true = (shifted_is mapping c (grind (arith, nat_tests, h)) e).1
         by_modulo false = le
 
-pub case_map : (rows : List FoldRow) → AreSoundRows rows → IsCaseMap (image rows)
-case_map rows sound = record {
+pub case_map : (mappings : List FoldEntry) → AreValidEntries mappings → IsCaseMapping (image mappings)
+case_map mappings sound = record {
   idempotent = sound.idempotent;
-  in_range = λ c le. image_in_range rows c sound.in_range le;
+  in_range = λ c le. image_in_range mappings c sound.in_range le;
   small_classes = sound.small_classes;
 }
 
@@ -301,17 +301,17 @@ many_after_sort xs ys i stable sorted lt same =
     let many = many_between d i (i + 3) ys (IsNonDecreasingBy-from_sort (λ x. x) ys sorted) (omega arith) lt refl (sym same) in
     (d, subst (λ (n : ℕ). 4 ≤ n) (count_of_sorted xs ys d stable) (omega (arith, many)))
 
-pub small_classes_from : (rows : List FoldRow) (xs : List ℕ) → xs ≡ images rows → IsTrue (is_in_order rows) →
-    ((d : ℕ) → count_of d xs ≤ 3) → HasSmallClasses (image rows)
-small_classes_from rows xs is order few =
-    small_from_images rows order (λ d. subst (λ (ys : List ℕ). count_of d ys ≤ 3) is (few d))
+pub small_classes_from : (mappings : List FoldEntry) (xs : List ℕ) → xs ≡ images mappings → IsTrue (is_in_order mappings) →
+    ((d : ℕ) → count_of d xs ≤ 3) → HasSmallClasses (image mappings)
+small_classes_from mappings xs is order few =
+    small_from_images mappings order (λ d. subst (λ (ys : List ℕ). count_of d ys ≤ 3) is (few d))
 
-pub large_classes_from : (rows : List FoldRow) (xs : List ℕ) (d : ℕ) → xs ≡ images rows → IsTrue (is_in_order rows) →
-    IsIdempotent (image rows) → 4 ≤ count_of d xs → ¬ HasSmallClasses (image rows)
-large_classes_from rows xs d is order idempotent many =
+pub large_classes_from : (mappings : List FoldEntry) (xs : List ℕ) (d : ℕ) → xs ≡ images mappings → IsTrue (is_in_order mappings) →
+    IsIdempotent (image mappings) → 4 ≤ count_of d xs → ¬ HasSmallClasses (image mappings)
+large_classes_from mappings xs d is order idempotent many =
     let among = subst (λ (ys : List ℕ). 4 ≤ count_of d ys) is many in
-    large_from_images rows d order (by_member (lists (images rows) d) refl among) among
+    large_from_images mappings d order (by_member (lists (images mappings) d) refl among) among
   where
-    by_member : (b : Bool) → lists (images rows) d ≡ b → 4 ≤ count_of d (images rows) → image rows d ≡ d
-    by_member true e among = All-lists (λ x. image rows x ≡ x) (images rows) d (images_from_idempotent rows idempotent) e
-    by_member false e among = absurd (omega (arith, count_of_absent d (images rows) e))
+    by_member : (b : Bool) → lists (images mappings) d ≡ b → 4 ≤ count_of d (images mappings) → image mappings d ≡ d
+    by_member true e among = All-lists (λ x. image mappings x ≡ x) (images mappings) d (images_from_idempotent mappings idempotent) e
+    by_member false e among = absurd (omega (arith, count_of_absent d (images mappings) e))

@@ -7,13 +7,13 @@ use Rattle.std.proofs.Math.Seq.{take-nil}
 use Rattle.std.proofs.Math.Bool.{or-false}
 use Rattle.std.specs.List.{list_any}
 use Rattle.std.specs.List.Sorted.{IsNonDecreasingBy}
-use Rattle.regress_base.proofs.laws.Sets.{gt-is_within, is_member-nil, is_member-cons, is_member-one, is_member-append, canonical_parts, canonical_lower, from_first, member_above, no_member_below}
+use Rattle.regress_base.proofs.lemmas.Sets.{gt-is_within, is_member-nil, is_member-cons, is_member-one, is_member-append, canonical_parts, canonical_lower, from_first, member_above, no_member_below}
 use Rattle.regress_base.specs.Intervals.{Bounds, is_within, is_member, is_canonical_from, IsCanonical}
 use Rattle.regress_unicode.specs.declared.shift.Shift.{Shift}
-use Rattle.regress_unicode.specs.FoldRows.{FoldRow, is_in_order}
-use Rattle.regress_unicode.proofs.RowLemmas.{order_apart}
-use Rattle.regress_unicode.specs.Shifts.{lands, lands_by}
-use Rattle.regress_unicode.proofs.ShiftLemmas.{lands-same, lands-none, rows_more, apart_from}
+use Rattle.regress_unicode.specs.FoldEntries.{FoldEntry, is_in_order}
+use Rattle.regress_unicode.proofs.ListLemmas.{order_apart}
+use Rattle.regress_unicode.specs.Shifts.{maps_to, maps_to_by}
+use Rattle.regress_unicode.proofs.ShiftLemmas.{maps_to-same, maps_to-none, mappings_more, apart_from}
 
 -- ---- one more interval
 
@@ -40,13 +40,13 @@ canonical_drop low [] (suc k) can = refl
 canonical_drop low (iv ∷ ivs) (suc k) can = canonical_drop (iv.last + 2) ivs k (canonical_parts low iv ivs can).rest
 
 -- if all earlier intervals end below a number, they have the same members from it on
-pub members_behind : (ivs : List Bounds) (k low x : ℕ) → ((j : ℕ) (d : Bounds) → j < k → j < length ivs → (get_or ivs j d).last < low) →
+pub members_after : (ivs : List Bounds) (k low x : ℕ) → ((j : ℕ) (d : Bounds) → j < k → j < length ivs → (get_or ivs j d).last < low) →
     low ≤ x → is_member (drop k ivs) x ≡ is_member ivs x
-members_behind ivs zero low x below le = refl
-members_behind [] (suc k) low x below le = refl
-members_behind (iv ∷ ivs) (suc k) low x below le =
+members_after ivs zero low x below le = refl
+members_after [] (suc k) low x below le = refl
+members_after (iv ∷ ivs) (suc k) low x below le =
     let here = below zero iv (omega arith) (omega arith) in
-    members_behind ivs k low x (λ j d lt inside. below (suc j) d (omega arith) (omega arith)) le
+    members_after ivs k low x (λ j d lt inside. below (suc j) d (omega arith) (omega arith)) le
     ∙ sym (is_member-cons iv ivs x ∙ ap (λ b. b || is_member ivs x) (gt-is_within iv x (omega (arith, here))))
 
 -- the slice from an index to the end
@@ -58,7 +58,7 @@ slice_canonical ivs k can = rw (to_end ivs k) (canonical_drop 0 ivs k can)
 
 pub slice_members : (ivs : List Bounds) (k low x : ℕ) → ((j : ℕ) (d : Bounds) → j < k → (get_or ivs j d).last < low) →
     low ≤ x → is_member (take (length ivs - k) (drop k ivs)) x ≡ is_member ivs x
-slice_members ivs k low x below le = rw (to_end ivs k) (members_behind ivs k low x (λ j d lt inside. below j d lt) le)
+slice_members ivs k low x below le = rw (to_end ivs k) (members_after ivs k low x (λ j d lt inside. below j d lt) le)
 
 -- the intervals before an index contain every member below the interval at the index
 members_before : (low : ℕ) (ivs : List Bounds) (i x : ℕ) (d : Bounds) → IsTrue (is_canonical_from low ivs) → i < length ivs →
@@ -74,9 +74,9 @@ members_before low (iv ∷ ivs) (suc i) x d can inside lt =
 
 -- a shift whose range ends before an interval maps nothing of that interval or of later ones
 pub lands_before : (s : Shift) (ivs : List Bounds) (i c : ℕ) (iv : Bounds) → IsCanonical ivs → i < length ivs → iv ≡ get_or ivs i iv →
-    s.last < iv.first → lands s (is_member (take i ivs)) c ≡ lands s (is_member ivs) c
+    s.last < iv.first → maps_to s (is_member (take i ivs)) c ≡ maps_to s (is_member ivs) c
 lands_before s ivs i c iv can inside is past =
-    lands-same s _ _ c (λ x from to. members_before 0 ivs i x iv can inside
+    maps_to-same s _ _ c (λ x from to. members_before 0 ivs i x iv can inside
     (subst (λ (v : Bounds). x < v.first) is (omega arith)))
 
 -- ---- the first and the last member
@@ -122,57 +122,57 @@ below_first_none (iv ∷ ivs) x d can some lt = no_member_below iv.first (iv ∷
 -- ---- one more entry
 
 -- a shift with no member in its range maps nothing
-lands_outside : (s : Shift) (p : ℕ → Bool) (c : ℕ) → ((x : ℕ) → s.first ≤ x → x ≤ s.last → p x ≡ false) → lands s p c ≡ false
-lands_outside s p c h = lands-same s p (λ x. false) c h ∙ lands-none s (λ x. false) c (λ x. refl)
+lands_outside : (s : Shift) (p : ℕ → Bool) (c : ℕ) → ((x : ℕ) → s.first ≤ x → x ≤ s.last → p x ≡ false) → maps_to s p c ≡ false
+lands_outside s p c h = maps_to-same s p (λ x. false) c h ∙ maps_to-none s (λ x. false) c (λ x. refl)
 
 -- tests that agree on the range give the same result for an entry
-pub row_more : (way : FoldRow → Shift) (p q : ℕ → Bool) (rows : List FoldRow) (i c : ℕ) (row : FoldRow) (shift : Shift)
-    (so_far new : Bool) → i < length rows → row ≡ get_or rows i row → shift ≡ way row →
+pub mapping_more : (way : FoldEntry → Shift) (p q : ℕ → Bool) (mappings : List FoldEntry) (i c : ℕ) (mapping : FoldEntry) (shift : Shift)
+    (so_far new : Bool) → i < length mappings → mapping ≡ get_or mappings i mapping → shift ≡ way mapping →
     ((x : ℕ) → shift.first ≤ x → x ≤ shift.last → q x ≡ p x) →
-    so_far ≡ lands_by way (take i rows) p c → new ≡ (so_far || lands shift q c) → new ≡ lands_by way (take (i + 1) rows) p c
-row_more way p q rows i c row shift so_far new lt is is_shift agree is_so_far is_new =
-    rows_more way p rows i c row shift false so_far new lt is is_shift is_so_far
-    (is_new ∙ ap (λ b. so_far || b) (lands-same shift q p c agree))
+    so_far ≡ maps_to_by way (take i mappings) p c → new ≡ (so_far || maps_to shift q c) → new ≡ maps_to_by way (take (i + 1) mappings) p c
+mapping_more way p q mappings i c mapping shift so_far new lt is is_shift agree is_so_far is_new =
+    mappings_more way p mappings i c mapping shift false so_far new lt is is_shift is_so_far
+    (is_new ∙ ap (λ b. so_far || b) (maps_to-same shift q p c agree))
 
-pub row_no_more : (way : FoldRow → Shift) (p : ℕ → Bool) (rows : List FoldRow) (i c : ℕ) (row : FoldRow) (so_far : Bool) →
-    i < length rows → row ≡ get_or rows i row → ((x : ℕ) → (way row).first ≤ x → x ≤ (way row).last → p x ≡ false) →
-    so_far ≡ lands_by way (take i rows) p c → so_far ≡ lands_by way (take (i + 1) rows) p c
-row_no_more way p rows i c row so_far lt is none is_so_far =
-    rows_more way p rows i c row (way row) false so_far so_far lt is refl is_so_far
-    (sym (or-false so_far) ∙ ap (λ b. so_far || b) (sym (lands_outside (way row) p c none)))
+pub mapping_no_more : (way : FoldEntry → Shift) (p : ℕ → Bool) (mappings : List FoldEntry) (i c : ℕ) (mapping : FoldEntry) (so_far : Bool) →
+    i < length mappings → mapping ≡ get_or mappings i mapping → ((x : ℕ) → (way mapping).first ≤ x → x ≤ (way mapping).last → p x ≡ false) →
+    so_far ≡ maps_to_by way (take i mappings) p c → so_far ≡ maps_to_by way (take (i + 1) mappings) p c
+mapping_no_more way p mappings i c mapping so_far lt is none is_so_far =
+    mappings_more way p mappings i c mapping (way mapping) false so_far so_far lt is refl is_so_far
+    (sym (or-false so_far) ∙ ap (λ b. so_far || b) (sym (lands_outside (way mapping) p c none)))
 
 -- entries that map nothing add nothing
-pub rows_done : (way : FoldRow → Shift) (p : ℕ → Bool) (rows : List FoldRow) (i c : ℕ) (d : FoldRow) →
-    ((k : ℕ) → i ≤ k → k < length rows → (x : ℕ) → (way (get_or rows k d)).first ≤ x → p x ≡ false) →
-    lands_by way (take i rows) p c ≡ lands_by way rows p c
-unfolding lands_by
-rows_done way p [] i c d none = ap (λ rs. list_any (λ r. lands (way r) p c) rs) (take-nil i)
-rows_done way p (row ∷ rows) zero c d none =
-    rw (lands_outside (way row) p c (λ x from to. none zero (omega arith) (omega arith) x from))
-    (rows_done way p rows zero c d (λ k le lt. none (suc k) (omega arith) (omega arith)))
-rows_done way p (row ∷ rows) (suc i) c d none =
-    ap (λ b. lands (way row) p c || b) (rows_done way p rows i c d (λ k le lt. none (suc k) (omega arith) (omega arith)))
+pub mappings_done : (way : FoldEntry → Shift) (p : ℕ → Bool) (mappings : List FoldEntry) (i c : ℕ) (d : FoldEntry) →
+    ((k : ℕ) → i ≤ k → k < length mappings → (x : ℕ) → (way (get_or mappings k d)).first ≤ x → p x ≡ false) →
+    maps_to_by way (take i mappings) p c ≡ maps_to_by way mappings p c
+unfolding maps_to_by
+mappings_done way p [] i c d none = ap (λ rs. list_any (λ r. maps_to (way r) p c) rs) (take-nil i)
+mappings_done way p (mapping ∷ mappings) zero c d none =
+    rw (lands_outside (way mapping) p c (λ x from to. none zero (omega arith) (omega arith) x from))
+    (mappings_done way p mappings zero c d (λ k le lt. none (suc k) (omega arith) (omega arith)))
+mappings_done way p (mapping ∷ mappings) (suc i) c d none =
+    ap (λ b. maps_to (way mapping) p c || b) (mappings_done way p mappings i c d (λ k le lt. none (suc k) (omega arith) (omega arith)))
 
 -- an entry does not begin above a later one
-starts_rise : (rows : List FoldRow) (i k : ℕ) (row d : FoldRow) → IsTrue (is_in_order rows) → i ≤ k → k < length rows →
-    row ≡ get_or rows i row → row.start ≤ (get_or rows k d).start
-starts_rise rows i k row d order le lt is =
-    let here : row.start ≡ (get_or rows i d).start = ap (λ (r : FoldRow). r.start) (get_or_read rows i row (omega arith) is d) in
+starts_rise : (mappings : List FoldEntry) (i k : ℕ) (mapping d : FoldEntry) → IsTrue (is_in_order mappings) → i ≤ k → k < length mappings →
+    mapping ≡ get_or mappings i mapping → mapping.start ≤ (get_or mappings k d).start
+starts_rise mappings i k mapping d order le lt is =
+    let here : mapping.start ≡ (get_or mappings i d).start = ap (λ (r : FoldEntry). r.start) (get_or_read mappings i mapping (omega arith) is d) in
     elim (cases_lt i k) [
-      | inl before ↦ (let apart = order_apart 0 rows i k d order before lt in omega (arith, apart, here))
+      | inl before ↦ (let apart = order_apart 0 mappings i k d order before lt in omega (arith, apart, here))
       | inr not_before ↦ (let same : i ≡ k = omega arith in
-          let there : (get_or rows i d).start ≡ (get_or rows k d).start = ap (λ n. (get_or rows n d).start) same in
+          let there : (get_or mappings i d).start ≡ (get_or mappings k d).start = ap (λ n. (get_or mappings n d).start) same in
           omega (arith, here, there))
     ]
 
 -- the remaining intervals at an entry have every member that this entry or a later one maps
-pub left : (rows : List FoldRow) (i first : ℕ) (row : FoldRow) (ivs before after : List Bounds) → IsTrue (is_in_order rows) →
-    row ≡ get_or rows i row → first ≡ row.start →
-    ((k : ℕ) (d : FoldRow) → i ≤ k → k < length rows → (x : ℕ) → (get_or rows k d).start ≤ x → is_member before x ≡ is_member ivs x) →
+pub left : (mappings : List FoldEntry) (i first : ℕ) (mapping : FoldEntry) (ivs before after : List Bounds) → IsTrue (is_in_order mappings) →
+    mapping ≡ get_or mappings i mapping → first ≡ mapping.start →
+    ((k : ℕ) (d : FoldEntry) → i ≤ k → k < length mappings → (x : ℕ) → (get_or mappings k d).start ≤ x → is_member before x ≡ is_member ivs x) →
     ((x : ℕ) → first ≤ x → is_member after x ≡ is_member before x) →
-    (k : ℕ) (d : FoldRow) → i ≤ k → k < length rows → (x : ℕ) → (get_or rows k d).start ≤ x → is_member after x ≡ is_member ivs x
-left rows i first row ivs before after order is is_first same passed k d le lt x from =
-    let rises = starts_rise rows i k row d order le lt is in
+    (k : ℕ) (d : FoldEntry) → i ≤ k → k < length mappings → (x : ℕ) → (get_or mappings k d).start ≤ x → is_member after x ≡ is_member ivs x
+left mappings i first mapping ivs before after order is is_first same passed k d le lt x from =
+    let rises = starts_rise mappings i k mapping d order le lt is in
     passed x (omega (arith, rises, from)) ∙ same k d le lt x from
 
 pub positive : (n : ℕ) → (n == 0) ≡ false → 0 < n
@@ -187,8 +187,8 @@ pub no_members : (ivs : List Bounds) (x : ℕ) → length ivs ≡ 0 → is_membe
 no_members [] x none = is_member-nil x
 no_members (iv ∷ ivs) x none = absurd (omega arith)
 
-pub found_none : (way : FoldRow → Shift) (p : ℕ → Bool) (c : ℕ) (found : List Bounds) → found ≡ [] → is_member found c ≡ lands_by way [] p c
-unfolding lands_by
+pub found_none : (way : FoldEntry → Shift) (p : ℕ → Bool) (c : ℕ) (found : List Bounds) → found ≡ [] → is_member found c ≡ maps_to_by way [] p c
+unfolding maps_to_by
 found_none way p c found none = ap (λ l. is_member l c) none ∙ is_member-nil c
 
 -- there is no member beyond the ends

@@ -1,13 +1,13 @@
-pub mod laws
+pub mod lemmas
 pub mod PackingLemmas
-pub mod RowLemmas
+pub mod ListLemmas
 pub mod CaseMapLemmas
 pub mod SmallTableLemmas
 pub mod NamedLemmas
 pub mod TableLemmas
 pub mod SourceLemmas
 pub mod UnfoldLemmas
-pub mod RefusalLemmas
+pub mod ConstructionErrorLemmas
 pub mod ShiftLemmas
 pub mod ClosingLemmas
 pub mod ClosureLemmas

@@ -3,19 +3,19 @@ use Rattle.std.proofs.Common.{◌≡◌, ℕ, IsTrue, List, String, Vec, Global,
 use Rattle.std.specs.List.{list_all}
 use Rattle.std.proofs.lemmas.List.Sums.{AllPass-from_list_all}
 use Rattle.regress_base.specs.Intervals.{Bounds, is_canonical_from}
-use Rattle.regress_unicode.specs.FoldRows.{FoldRow, image}
+use Rattle.regress_unicode.specs.FoldEntries.{FoldEntry, image}
 use Rattle.regress_base.specs.Table.{Named, HasCanonicalSets}
-use Rattle.regress_unicode.specs.Parts.{AreSoundRows, IsSound, parts_from, sets_of, strings_of}
+use Rattle.regress_unicode.specs.Parts.{AreValidEntries, IsSound, parts_from, sets_of, strings_of}
 use Rattle.regress_unicode.specs.SmallTable.{small_folds, small_uppers, small_parts}
-use Rattle.regress_unicode.proofs.laws.Soundness.{sound_rows, word_ascii, sound_from}
+use Rattle.regress_unicode.proofs.lemmas.Soundness.{sound_mappings, word_ascii, sound_from}
 
-sound_folds : AreSoundRows small_folds
+sound_folds : AreValidEntries small_folds
 unfolding image
-sound_folds = sound_rows small_folds refl refl refl
+sound_folds = sound_mappings small_folds refl refl refl
 
-sound_uppers : AreSoundRows small_uppers
+sound_uppers : AreValidEntries small_uppers
 unfolding image
-sound_uppers = sound_rows small_uppers refl refl refl
+sound_uppers = sound_mappings small_uppers refl refl refl
 
 canonical_sets : (entries : List (Named (List Bounds))) → IsTrue (list_all (λ entry. is_canonical_from 0 entry.value) entries) →
     HasCanonicalSets entries
@@ -30,7 +30,7 @@ small_sound =
     refl
 
 -- lists with the contents of the small table make its parts
-pub small_from : (folds uppers : List FoldRow) (id_start id_continue : List Bounds)
+pub small_from : (folds uppers : List FoldEntry) (id_start id_continue : List Bounds)
     (general_category script script_extensions binary : List (String Global × List Bounds))
     (strings : List (String Global × Vec (Vec ℕ Global) Global)) →
     folds ≡ small_folds → uppers ≡ small_uppers → id_start ≡ small_parts.id_start → id_continue ≡ small_parts.id_continue →

@@ -5,87 +5,87 @@ use Rattle.std.proofs.lemmas.Bool.Decides.{nat_tests}
 use Rattle.std.proofs.lemmas.List.Folds.{list_any_more}
 use Rattle.std.specs.List.{list_any}
 use Rattle.std.proofs.Math.Bool.{or-false}
-use Rattle.regress_unicode.specs.FoldRows.{FoldRow, moved, is_in_row, image_in_row, is_source, image, is_in_order_from}
-use Rattle.regress_unicode.proofs.RowLemmas.{order_parts, below_image}
+use Rattle.regress_unicode.specs.FoldEntries.{FoldEntry, moved, is_in_mapping, image_in_mapping, is_source, image, is_in_order_from}
+use Rattle.regress_unicode.proofs.ListLemmas.{order_parts, below_image}
 
 -- whether an entry maps the code point to the target
-unfoldable pub has_source : List FoldRow → ℕ → ℕ → Bool
-has_source rows target c = list_any (λ row. is_source row target c) rows
+unfoldable pub has_source : List FoldEntry → ℕ → ℕ → Bool
+has_source mappings target c = list_any (λ mapping. is_source mapping target c) mappings
 
 pub has_source-nil : (target c : ℕ) → has_source [] target c ≡ false
 unfolding has_source
 has_source-nil target c = refl
 
 -- no entry maps a code point below all entries
-below_source : (low : ℕ) (rows : List FoldRow) (target c : ℕ) → IsTrue (is_in_order_from low rows) → c < low →
-    has_source rows target c ≡ false
+below_source : (low : ℕ) (mappings : List FoldEntry) (target c : ℕ) → IsTrue (is_in_order_from low mappings) → c < low →
+    has_source mappings target c ≡ false
 unfolding has_source
 below_source low [] target c h lt = refl
-below_source low (row ∷ rows) target c h lt =
-    let parts = order_parts low row rows h in
-    let rest = below_source (row.start + row.length) rows target c parts.rest (omega (arith, parts.above)) in
+below_source low (mapping ∷ mappings) target c h lt =
+    let parts = order_parts low mapping mappings h in
+    let rest = below_source (mapping.start + mapping.length) mappings target c parts.rest (omega (arith, parts.above)) in
     grind (arith, nat_tests, parts.above, rest)
 
 -- a canonical form is its own canonical form also under the entries after the first
-own_later : (low : ℕ) (row : FoldRow) (rows : List FoldRow) (target : ℕ) → IsTrue (is_in_order_from low (row ∷ rows)) →
-    image (row ∷ rows) target ≡ target → image rows target ≡ target
+own_later : (low : ℕ) (mapping : FoldEntry) (mappings : List FoldEntry) (target : ℕ) → IsTrue (is_in_order_from low (mapping ∷ mappings)) →
+    image (mapping ∷ mappings) target ≡ target → image mappings target ≡ target
 unfolding image
-own_later low row rows target h own = by_row (is_in_row row target) refl own
+own_later low mapping mappings target h own = by_mapping (is_in_mapping mapping target) refl own
   where
-    by_row : (b : Bool) → is_in_row row target ≡ b → cond b (image_in_row row target) (image rows target) ≡ target →
-        image rows target ≡ target
-    by_row true e own = below_image (row.start + row.length) rows target (order_parts low row rows h).rest (grind (arith, nat_tests, e))
-    by_row false e own = own
+    by_mapping : (b : Bool) → is_in_mapping mapping target ≡ b → cond b (image_in_mapping mapping target) (image mappings target) ≡ target →
+        image mappings target ≡ target
+    by_mapping true e own = below_image (mapping.start + mapping.length) mappings target (order_parts low mapping mappings h).rest (grind (arith, nat_tests, e))
+    by_mapping false e own = own
 
 -- a canonical form is mapped to itself by its own entry
-own_in_row : (row : FoldRow) (rows : List FoldRow) (target : ℕ) → image (row ∷ rows) target ≡ target → is_in_row row target ≡ true →
-    image_in_row row target ≡ target
+own_in_mapping : (mapping : FoldEntry) (mappings : List FoldEntry) (target : ℕ) → image (mapping ∷ mappings) target ≡ target → is_in_mapping mapping target ≡ true →
+    image_in_mapping mapping target ≡ target
 unfolding image
-own_in_row row rows target own e = rw e at own
+own_in_mapping mapping mappings target own e = rw e at own
 
-pub has_image : (low : ℕ) (rows : List FoldRow) (target c : ℕ) → IsTrue (is_in_order_from low rows) → image rows target ≡ target →
-    (image rows c == target) ≡ ((c == target) || has_source rows target c)
+pub has_image : (low : ℕ) (mappings : List FoldEntry) (target c : ℕ) → IsTrue (is_in_order_from low mappings) → image mappings target ≡ target →
+    (image mappings c == target) ≡ ((c == target) || has_source mappings target c)
 unfolding image has_source
 has_image low [] target c h own = grind (arith, nat_tests)
-has_image low (row ∷ rows) target c h own =
-    by_row (is_in_row row c) refl
-    (λ e. below_source (row.start + row.length) rows target c (order_parts low row rows h).rest (grind (arith, nat_tests, e)))
-    (has_image (row.start + row.length) rows target c (order_parts low row rows h).rest (own_later low row rows target h own))
+has_image low (mapping ∷ mappings) target c h own =
+    by_mapping (is_in_mapping mapping c) refl
+    (λ e. below_source (mapping.start + mapping.length) mappings target c (order_parts low mapping mappings h).rest (grind (arith, nat_tests, e)))
+    (has_image (mapping.start + mapping.length) mappings target c (order_parts low mapping mappings h).rest (own_later low mapping mappings target h own))
   where
-    in_row : (t : Bool) → ((c - row.start) % row.modulo == 0) ≡ t → is_in_row row c ≡ true →
-        (cond t (moved row.delta c) c == target) ≡ ((c == target) || (t && (moved row.delta c == target)))
-    in_row false aligned e = grind (arith, nat_tests)
-    in_row true aligned e = elim (cases_eq c target) [
+    in_list : (t : Bool) → ((c - mapping.start) % mapping.modulo == 0) ≡ t → is_in_mapping mapping c ≡ true →
+        (cond t (moved mapping.delta c) c == target) ≡ ((c == target) || (t && (moved mapping.delta c == target)))
+    in_list false aligned e = grind (arith, nat_tests)
+    in_list true aligned e = elim (cases_eq c target) [
       | inl same ↦ (
-          let at_target : is_in_row row target ≡ true = subst (λ (k : ℕ). is_in_row row k ≡ true) same e in
-          let stays = own_in_row row rows target own at_target in
-          let aligned_target : ((target - row.start) % row.modulo == 0) ≡ true = subst
-          (λ (k : ℕ). ((k - row.start) % row.modulo == 0) ≡ true) same aligned in
-          let goes : moved row.delta target ≡ target = rw aligned_target at stays in
-          let here : moved row.delta c ≡ target = subst (λ (k : ℕ). moved row.delta k ≡ target) (sym same) goes in
-          let yes : (moved row.delta c == target) ≡ true = eq-eqb (moved row.delta c) target here in
+          let at_target : is_in_mapping mapping target ≡ true = subst (λ (k : ℕ). is_in_mapping mapping k ≡ true) same e in
+          let stays = own_in_mapping mapping mappings target own at_target in
+          let aligned_target : ((target - mapping.start) % mapping.modulo == 0) ≡ true = subst
+          (λ (k : ℕ). ((k - mapping.start) % mapping.modulo == 0) ≡ true) same aligned in
+          let goes : moved mapping.delta target ≡ target = rw aligned_target at stays in
+          let here : moved mapping.delta c ≡ target = subst (λ (k : ℕ). moved mapping.delta k ≡ target) (sym same) goes in
+          let yes : (moved mapping.delta c == target) ≡ true = eq-eqb (moved mapping.delta c) target here in
           let yes' : (c == target) ≡ true = eq-eqb c target same in
           rw (yes, yes'))
       | inr other ↦ (let no : (c == target) ≡ false = grind (arith, nat_tests, other) in rw no)
     ]
 
-    by_row : (b : Bool) → is_in_row row c ≡ b → (is_in_row row c ≡ true → has_source rows target c ≡ false) →
-        (image rows c == target) ≡ ((c == target) || has_source rows target c) →
-        (cond b (image_in_row row c) (image rows c) == target) ≡
-        ((c == target) || ((b && (((c - row.start) % row.modulo == 0) && (moved row.delta c == target))) || has_source rows target c))
-    by_row true e none rest = rw (none e, or-false (((c - row.start) % row.modulo == 0) && (moved row.delta c == target)))
-        (in_row ((c - row.start) % row.modulo == 0) refl e)
-    by_row false e none rest = rest
+    by_mapping : (b : Bool) → is_in_mapping mapping c ≡ b → (is_in_mapping mapping c ≡ true → has_source mappings target c ≡ false) →
+        (image mappings c == target) ≡ ((c == target) || has_source mappings target c) →
+        (cond b (image_in_mapping mapping c) (image mappings c) == target) ≡
+        ((c == target) || ((b && (((c - mapping.start) % mapping.modulo == 0) && (moved mapping.delta c == target))) || has_source mappings target c))
+    by_mapping true e none rest = rw (none e, or-false (((c - mapping.start) % mapping.modulo == 0) && (moved mapping.delta c == target)))
+        (in_list ((c - mapping.start) % mapping.modulo == 0) refl e)
+    by_mapping false e none rest = rest
 
 -- one more entry
-pub has_source-more : (rows : List FoldRow) (i target c : ℕ) (row : FoldRow) → i < length rows → row ≡ get_or rows i row →
-    has_source (take (i + 1) rows) target c ≡ (has_source (take i rows) target c || is_source row target c)
+pub has_source-more : (mappings : List FoldEntry) (i target c : ℕ) (mapping : FoldEntry) → i < length mappings → mapping ≡ get_or mappings i mapping →
+    has_source (take (i + 1) mappings) target c ≡ (has_source (take i mappings) target c || is_source mapping target c)
 unfolding has_source
-has_source-more rows i target c row lt is =
-    list_any_more (λ r. is_source r target c) rows i row lt ∙ ap (λ r. has_source (take i rows) target c || is_source r target c) (sym is)
+has_source-more mappings i target c mapping lt is =
+    list_any_more (λ r. is_source r target c) mappings i mapping lt ∙ ap (λ r. has_source (take i mappings) target c || is_source r target c) (sym is)
 
 -- one more entry that maps nothing to the target
-pub has_source-no_more : (rows : List FoldRow) (i target c : ℕ) (row : FoldRow) → i < length rows → row ≡ get_or rows i row →
-    is_source row target c ≡ false → has_source (take i rows) target c ≡ has_source (take (i + 1) rows) target c
-has_source-no_more rows i target c row lt is none =
-    sym (has_source-more rows i target c row lt is ∙ ap (λ b. has_source (take i rows) target c || b) none ∙ or-false _)
+pub has_source-no_more : (mappings : List FoldEntry) (i target c : ℕ) (mapping : FoldEntry) → i < length mappings → mapping ≡ get_or mappings i mapping →
+    is_source mapping target c ≡ false → has_source (take i mappings) target c ≡ has_source (take (i + 1) mappings) target c
+has_source-no_more mappings i target c mapping lt is none =
+    sym (has_source-more mappings i target c mapping lt is ∙ ap (λ b. has_source (take i mappings) target c || b) none ∙ or-false _)

@@ -4,11 +4,11 @@ use Rattle.std.proofs.lemmas.Bool.{eq-eqb, eqb-true}
 use Rattle.std.proofs.lemmas.Bool.Decides.{nat_tests}
 use Rattle.std.proofs.lemmas.List.{get_or_read}
 use Rattle.regress_base.specs.Intervals.{code_point_max}
-use Rattle.regress_unicode.specs.FoldRows.{FoldRow, is_source, is_in_order}
+use Rattle.regress_unicode.specs.FoldEntries.{FoldEntry, is_source, is_in_order}
 use Rattle.regress_base.specs.Listing.{lists, is_ascending, is_ascending_from}
-use Rattle.regress_base.proofs.laws.Listings.{ascending_parts, lists-append, lists-head, lists-tail}
-use Rattle.regress_base.proofs.laws.Literals.{lists-one}
-use Rattle.regress_unicode.proofs.RowLemmas.{order_apart}
+use Rattle.regress_base.proofs.lemmas.Listings.{ascending_parts, lists-append, lists-head, lists-tail}
+use Rattle.regress_base.proofs.lemmas.Literals.{lists-one}
+use Rattle.regress_unicode.proofs.ListLemmas.{order_apart}
 
 -- ---- appending a number
 
@@ -31,30 +31,30 @@ pushed_lists xs ys c x is =
     ap (λ l. lists l x) is ∙ lists-append xs (c ∷ []) x ∙ ap (λ b. lists xs x || b) (lists-one c x)
 
 -- a number that is mapped is in the range
-pub source_within : (row : FoldRow) (target source : ℕ) → ((c : ℕ) → is_source row target c ≡ (c == source)) →
-    (row.start ≤ source) × (source < row.start + row.length)
-source_within row target source some =
-    let here : is_source row target source ≡ true = some source ∙ eq-eqb source source refl in
+pub source_within : (mapping : FoldEntry) (target source : ℕ) → ((c : ℕ) → is_source mapping target c ≡ (c == source)) →
+    (mapping.start ≤ source) × (source < mapping.start + mapping.length)
+source_within mapping target source some =
+    let here : is_source mapping target source ≡ true = some source ∙ eq-eqb source source refl in
     (grind (arith, nat_tests, here), grind (arith, nat_tests, here))
 
 -- the listed numbers are below the remaining entries, and so is what an entry adds
-pub below_rows : (rows : List FoldRow) (i : ℕ) (row : FoldRow) (xs ys : List ℕ) (source : ℕ) → IsTrue (is_in_order rows) →
-    row ≡ get_or rows i row → source < row.start + row.length → ys ≡ xs ++ source ∷ [] →
-    ((x : ℕ) → lists xs x ≡ true → (k : ℕ) (d : FoldRow) → i ≤ k → k < length rows → x < (get_or rows k d).start) →
-    (x : ℕ) → lists ys x ≡ true → (k : ℕ) (d : FoldRow) → i + 1 ≤ k → k < length rows → x < (get_or rows k d).start
-below_rows rows i row xs ys source order is within pushed below x listed k d le lt =
+pub below_mappings : (mappings : List FoldEntry) (i : ℕ) (mapping : FoldEntry) (xs ys : List ℕ) (source : ℕ) → IsTrue (is_in_order mappings) →
+    mapping ≡ get_or mappings i mapping → source < mapping.start + mapping.length → ys ≡ xs ++ source ∷ [] →
+    ((x : ℕ) → lists xs x ≡ true → (k : ℕ) (d : FoldEntry) → i ≤ k → k < length mappings → x < (get_or mappings k d).start) →
+    (x : ℕ) → lists ys x ≡ true → (k : ℕ) (d : FoldEntry) → i + 1 ≤ k → k < length mappings → x < (get_or mappings k d).start
+below_mappings mappings i mapping xs ys source order is within pushed below x listed k d le lt =
     by_test (lists xs x) refl (sym (pushed_lists xs ys source x pushed) ∙ listed)
   where
-    behind : x ≡ source → x < (get_or rows k d).start
-    behind same =
-        let apart = order_apart 0 rows i k d order (omega arith) lt in
-        let start : row.start ≡ (get_or rows i d).start = ap (λ (r : FoldRow). r.start) (get_or_read rows i row (omega arith) is d) in
-        let count : row.length ≡ (get_or rows i d).length = ap (λ (r : FoldRow). r.length) (get_or_read rows i row (omega arith) is d) in
+    after : x ≡ source → x < (get_or mappings k d).start
+    after same =
+        let apart = order_apart 0 mappings i k d order (omega arith) lt in
+        let start : mapping.start ≡ (get_or mappings i d).start = ap (λ (r : FoldEntry). r.start) (get_or_read mappings i mapping (omega arith) is d) in
+        let count : mapping.length ≡ (get_or mappings i d).length = ap (λ (r : FoldEntry). r.length) (get_or_read mappings i mapping (omega arith) is d) in
         omega (arith, apart, start, count, within, same)
 
-    by_test : (b : Bool) → lists xs x ≡ b → (b || (x == source)) ≡ true → x < (get_or rows k d).start
+    by_test : (b : Bool) → lists xs x ≡ b → (b || (x == source)) ≡ true → x < (get_or mappings k d).start
     by_test true e h = below x e k d (omega arith) lt
-    by_test false e h = behind (eqb-true x source h)
+    by_test false e h = after (eqb-true x source h)
 
 pub target_added : (x target : ℕ) (old new before : Bool) → target ≤ code_point_max → old ≡ (nat_le x code_point_max && before) →
     new ≡ (old || (x == target)) → new ≡ (nat_le x code_point_max && ((x == target) || before))

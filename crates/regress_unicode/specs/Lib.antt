@@ -1,7 +1,7 @@
-pub mod FoldRows
+pub mod FoldEntries
 pub mod Parts
 pub mod SmallTable
 pub mod Moves
-pub mod Refusals
+pub mod ConstructionErrors
 pub mod Shifts
 pub mod TableOf

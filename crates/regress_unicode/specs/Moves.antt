@@ -1,27 +1,27 @@
 -- The code points that a case mapping table maps to others, one by one.
 use Rattle.std.specs.Prelude.{◌≢◌, ℕ, ◌+◌, ◌<◌, Bool, not, ◌==◌, slice_index, List, map, filter, length}
 use Rattle.std.specs.List.{range_with_len, flat_map}
-use Rattle.regress_unicode.specs.FoldRows.{FoldRow, image}
+use Rattle.regress_unicode.specs.FoldEntries.{FoldEntry, image}
 
 -- the code points in the range of an entry
-abbrev pub run : FoldRow → List ℕ
-run row = range_with_len row.start row.length
+abbrev pub run : FoldEntry → List ℕ
+run mapping = range_with_len mapping.start mapping.length
 
 -- the code points in the ranges of all entries
-abbrev pub codes : List FoldRow → List ℕ
-codes rows = flat_map run rows
+abbrev pub codes : List FoldEntry → List ℕ
+codes mappings = flat_map run mappings
 
 -- whether a number is mapped to another one
 abbrev pub moves : (ℕ → ℕ) → ℕ → Bool
 moves f c = not (f c == c)
 
 -- the code points that are mapped to another one
-abbrev pub movers : (ℕ → ℕ) → List FoldRow → List ℕ
-movers f rows = filter (moves f) (codes rows)
+abbrev pub mapped_code_points : (ℕ → ℕ) → List FoldEntry → List ℕ
+mapped_code_points f mappings = filter (moves f) (codes mappings)
 
 -- what they are mapped to
-abbrev pub images : List FoldRow → List ℕ
-images rows = map (image rows) (movers (image rows) rows)
+abbrev pub images : List FoldEntry → List ℕ
+images mappings = map (image mappings) (mapped_code_points (image mappings) mappings)
 
 -- the number of occurrences of d in the list
 abbrev pub count_of : ℕ → List ℕ → ℕ

@@ -2,13 +2,13 @@
 use Rattle.std.specs.Prelude.{ℕ, List, [], map, IsTrue, String, string_bytes, Vec}
 use Rattle.std.specs.declared.alloc.Global.{Global}
 use Rattle.regress_base.specs.Intervals.{Bounds}
-use Rattle.regress_unicode.specs.FoldRows.{FoldRow, image, is_in_order, are_targets_in_range}
-use Rattle.regress_base.specs.Table.{Table, Named, IsIdempotent, HasSmallClasses, IsLawful}
+use Rattle.regress_unicode.specs.FoldEntries.{FoldEntry, image, is_in_order, are_targets_in_range}
+use Rattle.regress_base.specs.Table.{Table, Named, IsIdempotent, HasSmallClasses, IsValidTable}
 
 -- the entries of both case mappings, the sets of identifier characters, and the named sets and strings
 pub record Parts : Type 0 where
-  pub folds : List FoldRow
-  pub uppers : List FoldRow
+  pub folds : List FoldEntry
+  pub uppers : List FoldEntry
   pub id_start : List Bounds
   pub id_continue : List Bounds
   pub general_category : List (Named (List Bounds))
@@ -46,21 +46,21 @@ strings_of entries =
 
 -- The entries of a case mapping are valid: a binary search finds the entry of a code point, and the result is a case
 -- mapping.
-pub record AreSoundRows (rows : List FoldRow) : Type 0 where
-  pub in_order : IsTrue (is_in_order rows)
-  pub in_range : IsTrue (are_targets_in_range rows)
-  pub idempotent : IsIdempotent (image rows)
-  pub small_classes : HasSmallClasses (image rows)
+pub record AreValidEntries (mappings : List FoldEntry) : Type 0 where
+  pub in_order : IsTrue (is_in_order mappings)
+  pub in_range : IsTrue (are_targets_in_range mappings)
+  pub idempotent : IsIdempotent (image mappings)
+  pub small_classes : HasSmallClasses (image mappings)
 
 -- The invariant of `Tables`.
 pub record IsSound (parts : Parts) : Type 0 where
-  pub folds : AreSoundRows parts.folds
-  pub uppers : AreSoundRows parts.uppers
-  pub lawful : IsLawful (table_from parts)
+  pub folds : AreValidEntries parts.folds
+  pub uppers : AreValidEntries parts.uppers
+  pub lawful : IsValidTable (table_from parts)
 
 -- parts with the entries of both case mappings and nothing else
-abbrev pub rows_alone : (folds uppers : List FoldRow) → Parts
-rows_alone folds uppers = record {
+abbrev pub mappings_alone : (folds uppers : List FoldEntry) → Parts
+mappings_alone folds uppers = record {
   folds = folds;
   uppers = uppers;
   id_start = [];
@@ -74,7 +74,7 @@ rows_alone folds uppers = record {
 
 -- the parts of a value of `Tables`, from its fields
 abbrev pub parts_from :
-    (folds uppers : List FoldRow) (id_start id_continue : List Bounds)
+    (folds uppers : List FoldEntry) (id_start id_continue : List Bounds)
     (general_category script script_extensions binary : List (String Global × List Bounds))
     (strings : List (String Global × Vec (Vec ℕ Global) Global))
     → Parts

@@ -2,12 +2,12 @@
 -- mappings relate characters.
 use Rattle.std.specs.Prelude.{ℕ, List, [], ◌∷◌, map, ℤ, pos, neg_ℤ, codes}
 use Rattle.regress_base.specs.Intervals.{Bounds}
-use Rattle.regress_unicode.specs.FoldRows.{FoldRow}
+use Rattle.regress_unicode.specs.FoldEntries.{FoldEntry}
 use Rattle.regress_base.specs.Table.{Table, Named}
 use Rattle.regress_unicode.specs.Parts.{Parts, table_from}
 
-abbrev row : ℕ → ℕ → ℤ → ℕ → FoldRow
-row start length delta modulo = record { start = start; length = length; delta = delta; modulo = modulo }
+abbrev mapping : ℕ → ℕ → ℤ → ℕ → FoldEntry
+mapping start length delta modulo = record { start = start; length = length; delta = delta; modulo = modulo }
 
 abbrev up : ℕ → ℤ
 up n = pos n
@@ -16,20 +16,20 @@ abbrev down : ℕ → ℤ
 down n = neg_ℤ (pos n)
 
 -- CaseFolding.txt: the simple case folding (status C and S) of the selected letters
-abbrev pub small_folds : List FoldRow
+abbrev pub small_folds : List FoldEntry
 small_folds =
-    row 0x41 26 (up 32) 1 ∷ row 0xB5 1 (up 775) 1 ∷ row 0xC0 23 (up 32) 1 ∷ row 0xD8 7 (up 32) 1
-    ∷ row 0x17F 1 (down 268) 1 ∷ row 0x1B8 1 (up 1) 1 ∷ row 0x1BC 1 (up 1) 1 ∷ row 0x1F8 39 (up 1) 2
-    ∷ row 0x37F 1 (up 116) 1 ∷ row 0x398 1 (up 32) 1 ∷ row 0x39C 1 (up 32) 1 ∷ row 0x3D1 1 (down 25) 1
-    ∷ row 0x3F4 1 (down 60) 1 ∷ row 0x212A 1 (down 8383) 1 ∷ row 0x16E40 32 (up 32) 1 ∷ row 0x1E900 34 (up 34) 1 ∷ []
+    mapping 0x41 26 (up 32) 1 ∷ mapping 0xB5 1 (up 775) 1 ∷ mapping 0xC0 23 (up 32) 1 ∷ mapping 0xD8 7 (up 32) 1
+    ∷ mapping 0x17F 1 (down 268) 1 ∷ mapping 0x1B8 1 (up 1) 1 ∷ mapping 0x1BC 1 (up 1) 1 ∷ mapping 0x1F8 39 (up 1) 2
+    ∷ mapping 0x37F 1 (up 116) 1 ∷ mapping 0x398 1 (up 32) 1 ∷ mapping 0x39C 1 (up 32) 1 ∷ mapping 0x3D1 1 (down 25) 1
+    ∷ mapping 0x3F4 1 (down 60) 1 ∷ mapping 0x212A 1 (down 8383) 1 ∷ mapping 0x16E40 32 (up 32) 1 ∷ mapping 0x1E900 34 (up 34) 1 ∷ []
 
 -- UnicodeData.txt: the simple upper case of the selected letters (ECMA-262, Canonicalize without the flags u and v)
-abbrev pub small_uppers : List FoldRow
+abbrev pub small_uppers : List FoldEntry
 small_uppers =
-    row 0x61 26 (down 32) 1 ∷ row 0xB5 1 (up 743) 1 ∷ row 0xE0 23 (down 32) 1 ∷ row 0xF8 7 (down 32) 1
-    ∷ row 0x1B9 1 (down 1) 1 ∷ row 0x1BD 1 (down 1) 1 ∷ row 0x1F9 39 (down 1) 2 ∷ row 0x3B8 1 (down 32) 1
-    ∷ row 0x3BC 1 (down 32) 1 ∷ row 0x3D1 1 (down 57) 1 ∷ row 0x3F3 1 (down 116) 1 ∷ row 0x16E60 32 (down 32) 1
-    ∷ row 0x1E922 34 (down 34) 1 ∷ []
+    mapping 0x61 26 (down 32) 1 ∷ mapping 0xB5 1 (up 743) 1 ∷ mapping 0xE0 23 (down 32) 1 ∷ mapping 0xF8 7 (down 32) 1
+    ∷ mapping 0x1B9 1 (down 1) 1 ∷ mapping 0x1BD 1 (down 1) 1 ∷ mapping 0x1F9 39 (down 1) 2 ∷ mapping 0x3B8 1 (down 32) 1
+    ∷ mapping 0x3BC 1 (down 32) 1 ∷ mapping 0x3D1 1 (down 57) 1 ∷ mapping 0x3F3 1 (down 116) 1 ∷ mapping 0x16E60 32 (down 32) 1
+    ∷ mapping 0x1E922 34 (down 34) 1 ∷ []
 
 abbrev interval : ℕ → ℕ → Bounds
 interval first last = record { first = first; last = last }

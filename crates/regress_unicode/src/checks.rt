@@ -4,7 +4,7 @@ ghost use Rattle.std.specs.List.{list_all};
 ghost use Rattle.regress_base.specs.Intervals.{is_member};
 ghost use Rattle.regress_base.specs.Classes.{word_characters};
 ghost use Rattle.regress_unicode.specs.declared.tables_error.TablesError.TheVariants.{RangeOrder, TargetOutOfRange, NotIdempotent, ClassTooLarge, Memory};
-ghost use Rattle.regress_unicode.specs.FoldRows.{image as image_of, is_in_order, are_targets_in_range};
+ghost use Rattle.regress_unicode.specs.FoldEntries.{image as image_of, is_in_order, are_targets_in_range};
 ghost use Rattle.regress_unicode.specs.Moves.{codes, images as images_of, count_of, HasNoFour};
 ghost use Rattle.regress_base.specs.Table.{IsIdempotent, is_string, HasWordAscii, HasCanonicalSets};
 ghost use Rattle.regress_unicode.specs.Parts.{sets_of};
@@ -16,49 +16,50 @@ use regress_base::sets::{are_code_points, set_is_canonical};
 use std::alloc::{AllocError, Global};
 
 /// Rejects entries that do not ascend, or that have a code point in common.
-pub(super) fn check_order(which: Which, rows: &[FoldRange]) -> Result<(), TablesError>
-    ensures { MatchResult result (λ _. IsTrue (is_in_order rows.now))
-        (λ e. (e ≡ RangeOrder which) × (is_in_order rows.now ≡ false)) }
+pub(super) fn check_order(which: Which, mappings: &[FoldRange]) -> Result<(), TablesError>
+    ensures { MatchResult result (λ _. IsTrue (is_in_order mappings.now))
+        (λ e. (e ≡ RangeOrder which) × (is_in_order mappings.now ≡ false)) }
 {
     let mut low = 0;
-    for row in rows {
-        if row.first() < low {
+    for mapping in mappings {
+        if mapping.first() < low {
             return Err(TablesError::RangeOrder(which));
         }
-        low = row.last() + 1;
+        low = mapping.last() + 1;
     }
     Ok(())
 }
 
 /// Rejects an entry whose first or last code point is mapped to a number that is no code point.
-pub(super) fn check_targets(which: Which, rows: &[FoldRange]) -> Result<(), TablesError>
-    ensures { MatchResult result (λ _. IsTrue (are_targets_in_range rows.now))
-        (λ e. (e ≡ TargetOutOfRange which) × (are_targets_in_range rows.now ≡ false)) }
+pub(super) fn check_targets(which: Which, mappings: &[FoldRange]) -> Result<(), TablesError>
+    ensures { MatchResult result (λ _. IsTrue (are_targets_in_range mappings.now))
+        (λ e. (e ≡ TargetOutOfRange which) × (are_targets_in_range mappings.now ≡ false)) }
 {
-    if targets_are_in_range(rows) {
+    if targets_are_in_range(mappings) {
         Ok(())
     } else {
         Err(TablesError::TargetOutOfRange(which))
     }
 }
 
-fn targets_are_in_range(rows: &[FoldRange]) -> bool
-    ensures { result ≡ are_targets_in_range rows.now }
+fn targets_are_in_range(mappings: &[FoldRange]) -> bool
+    ensures { result ≡ are_targets_in_range mappings.now }
 {
-    rows.iter().all(|row| row.is_target_in_range())
+    mappings.iter().all(|mapping| mapping.is_target_in_range())
 }
 
 /// Returns what the code points of the entries are mapped to, in order, without those that are mapped to themselves.
 /// Takes one binary search for each code point.
-pub(super) fn moved_images(alloc: Global, rows: &[FoldRange]) -> Result<Vec<u32>, AllocError>
-    requires in_order { IsTrue (is_in_order rows.now) }
-    requires in_range { IsTrue (are_targets_in_range rows.now) }
-    ensures { IfOk result (λ images. images.items ≡ images_of rows.now) }
+pub(super) fn collect_mapped(alloc: Global, mappings: &[FoldRange]) -> Result<Vec<u32>, AllocError>
+    requires in_order { IsTrue (is_in_order mappings.now) }
+    requires in_range { IsTrue (are_targets_in_range mappings.now) }
+    ensures { IfOk result (λ images. images.items ≡ images_of mappings.now) }
 {
-    rows.iter()
-        .flat_map(|row| row.first()..row.last() + 1)
-        .filter(|c| image(rows, *c) != *c)
-        .map(|c| image(rows, c))
+    mappings
+        .iter()
+        .flat_map(|mapping| mapping.first()..mapping.last() + 1)
+        .filter(|c| image(mappings, *c) != *c)
+        .map(|c| image(mappings, c))
         .collect(alloc)
 }
 
@@ -66,28 +67,28 @@ pub(super) fn moved_images(alloc: Global, rows: &[FoldRange]) -> Result<Vec<u32>
 /// for each.
 pub(super) fn check_idempotent(
     which: Which,
-    rows: &[FoldRange],
+    mappings: &[FoldRange],
     images: &[u32],
 ) -> Result<(), TablesError>
-    requires in_order { IsTrue (is_in_order rows.now) }
-    requires in_range { IsTrue (are_targets_in_range rows.now) }
-    requires images { images.now ≡ images_of rows.now }
-    ensures { MatchResult result (λ _. IsIdempotent (image_of rows.now))
-        (λ e. (e ≡ NotIdempotent which) × ¬ IsIdempotent (image_of rows.now)) }
+    requires in_order { IsTrue (is_in_order mappings.now) }
+    requires in_range { IsTrue (are_targets_in_range mappings.now) }
+    requires images { images.now ≡ images_of mappings.now }
+    ensures { MatchResult result (λ _. IsIdempotent (image_of mappings.now))
+        (λ e. (e ≡ NotIdempotent which) × ¬ IsIdempotent (image_of mappings.now)) }
 {
-    if are_own_images(rows, images) {
+    if are_own_images(mappings, images) {
         Ok(())
     } else {
         Err(TablesError::NotIdempotent(which))
     }
 }
 
-fn are_own_images(rows: &[FoldRange], images: &[u32]) -> bool
-    requires in_order { IsTrue (is_in_order rows.now) }
-    requires in_range { IsTrue (are_targets_in_range rows.now) }
-    ensures { IsTrue result ↔ All (λ c. image_of rows.now c ≡ c) images.now }
+fn are_own_images(mappings: &[FoldRange], images: &[u32]) -> bool
+    requires in_order { IsTrue (is_in_order mappings.now) }
+    requires in_range { IsTrue (are_targets_in_range mappings.now) }
+    ensures { IsTrue result ↔ All (λ c. image_of mappings.now c ≡ c) images.now }
 {
-    images.iter().all(|c| image(rows, *c) == *c)
+    images.iter().all(|c| image(mappings, *c) == *c)
 }
 
 /// Rejects `images` in which a number occurs four times, since with that number itself five code points have the same
@@ -98,7 +99,7 @@ pub(super) fn check_classes(which: Which, mut images: Vec<u32>) -> Result<(), Ta
         ⊎ (e ≡ ClassTooLarge which) × (d : ℕ) × (4 ≤ count_of d images.items)) }
 {
     images.sort()?;
-    if stands_four_times(&images) {
+    if occurs_four_times(&images) {
         Err(TablesError::ClassTooLarge(which))
     } else {
         Ok(())
@@ -106,7 +107,7 @@ pub(super) fn check_classes(which: Which, mut images: Vec<u32>) -> Result<(), Ta
 }
 
 /// Returns whether a number occurs four times in a sorted list.
-fn stands_four_times(sorted: &[u32]) -> bool
+fn occurs_four_times(sorted: &[u32]) -> bool
     ensures some { IsTrue result → (i : ℕ) × (i + 3 < length sorted.now)
         × (slice_index sorted.now i ≡ slice_index sorted.now (i + 3)) }
     ensures none { result ≡ false → HasNoFour sorted.now }

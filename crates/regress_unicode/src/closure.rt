@@ -1,8 +1,8 @@
 //! The closure of a set under simple case folding.
 ghost use Rattle.std.specs.Prelude.{◌≡◌, ℕ, ◌≤◌, ◌||◌, List, All, IsTrue, IfOk, OnOk};
 ghost use Rattle.regress_base.specs.Intervals.{Bounds, is_within, is_member, IsCanonical};
-ghost use Rattle.regress_unicode.specs.FoldRows.{is_in_order, are_targets_in_range};
-ghost use Rattle.regress_unicode.specs.Shifts.{IsShift, lands, lands_by, forward, backward};
+ghost use Rattle.regress_unicode.specs.FoldEntries.{is_in_order, are_targets_in_range};
+ghost use Rattle.regress_unicode.specs.Shifts.{IsShift, maps_to, maps_to_by, forward, backward};
 ghost use Rattle.regress_base.specs.Table.{is_in_closure};
 ghost use Rattle.regress_unicode.specs.TableOf.{table_of};
 
@@ -53,24 +53,32 @@ pub fn add_icase_code_points(
 }
 
 /// Adds the canonical forms of the members.
-fn add_images(alloc: Global, set: &mut CodePointSet, rows: &[FoldRange]) -> Result<(), AllocError>
-    requires in_order { IsTrue (is_in_order rows.now) }
-    requires in_range { IsTrue (are_targets_in_range rows.now) }
+fn add_images(
+    alloc: Global,
+    set: &mut CodePointSet,
+    mappings: &[FoldRange],
+) -> Result<(), AllocError>
+    requires in_order { IsTrue (is_in_order mappings.now) }
+    requires in_range { IsTrue (are_targets_in_range mappings.now) }
     ensures { OnOk result ((c : ℕ) →
-        is_member set.new c ≡ (is_member set.old c || lands_by forward rows.now (is_member set.old) c)) }
+        is_member set.new c ≡ (is_member set.old c || maps_to_by forward mappings.now (is_member set.old) c)) }
 {
-    let images = images(alloc, rows, set.intervals())?;
+    let images = images(alloc, mappings, set.intervals())?;
     add_intervals(set, &images)
 }
 
 /// Adds the code points that are mapped to a member.
-fn add_sources(alloc: Global, set: &mut CodePointSet, rows: &[FoldRange]) -> Result<(), AllocError>
-    requires { IsTrue (are_targets_in_range rows.now) }
+fn add_sources(
+    alloc: Global,
+    set: &mut CodePointSet,
+    mappings: &[FoldRange],
+) -> Result<(), AllocError>
+    requires { IsTrue (are_targets_in_range mappings.now) }
     ensures members { OnOk result ((c : ℕ) →
-        is_member set.new c ≡ (is_member set.old c || lands_by backward rows.now (is_member set.old) c)) }
-    ensures nonempty { OnOk result (All (λ row. 1 ≤ row.length) rows.now) }
+        is_member set.new c ≡ (is_member set.old c || maps_to_by backward mappings.now (is_member set.old) c)) }
+    ensures nonempty { OnOk result (All (λ mapping. 1 ≤ mapping.length) mappings.now) }
 {
-    let sources = sources(alloc, rows, set.intervals())?;
+    let sources = sources(alloc, mappings, set.intervals())?;
     add_intervals(set, &sources)
 }
 
@@ -78,24 +86,24 @@ fn add_sources(alloc: Global, set: &mut CodePointSet, rows: &[FoldRange]) -> Res
 /// intervals at once, since both ascend, up to the end of either.
 fn images(
     alloc: Global,
-    rows: &[FoldRange],
+    mappings: &[FoldRange],
     intervals: &[Interval],
 ) -> Result<Vec<Interval>, AllocError>
-    requires in_order { IsTrue (is_in_order rows.now) }
-    requires in_range { IsTrue (are_targets_in_range rows.now) }
+    requires in_order { IsTrue (is_in_order mappings.now) }
+    requires in_range { IsTrue (are_targets_in_range mappings.now) }
     requires canonical { IsCanonical intervals.now }
     ensures { IfOk result (λ found. (c : ℕ) →
-        is_member found.items c ≡ lands_by forward rows.now (is_member intervals.now) c) }
+        is_member found.items c ≡ maps_to_by forward mappings.now (is_member intervals.now) c) }
 {
     let mut found = Vec::new(alloc);
     let mut rest = intervals;
-    for row in rows {
-        rest = pass_over(rest, row.first());
+    for mapping in mappings {
+        rest = skip_below(rest, mapping.first());
         if rest.is_empty() {
             return Ok(found);
         }
-        if rest[0].first() <= row.last() {
-            push_moved(&mut found, &Shift::forward(row), rest)?;
+        if rest[0].first() <= mapping.last() {
+            push_moved(&mut found, &Shift::forward(mapping), rest)?;
         }
     }
     Ok(found)
@@ -105,21 +113,25 @@ fn images(
 /// order, with a binary search for each one whose canonical forms are between the ends of the intervals.
 fn sources(
     alloc: Global,
-    rows: &[FoldRange],
+    mappings: &[FoldRange],
     intervals: &[Interval],
 ) -> Result<Vec<Interval>, AllocError>
-    requires in_range { IsTrue (are_targets_in_range rows.now) }
+    requires in_range { IsTrue (are_targets_in_range mappings.now) }
     requires canonical { IsCanonical intervals.now }
     ensures members { IfOk result (λ found. (c : ℕ) →
-        is_member found.items c ≡ lands_by backward rows.now (is_member intervals.now) c) }
-    ensures nonempty { IfOk result (λ _. All (λ row. 1 ≤ row.length) rows.now) }
+        is_member found.items c ≡ maps_to_by backward mappings.now (is_member intervals.now) c) }
+    ensures nonempty { IfOk result (λ _. All (λ mapping. 1 ≤ mapping.length) mappings.now) }
 {
     let mut found = Vec::new(alloc);
     let (low, high) = ends(intervals);
-    for row in rows {
-        let first = row.shifted(row.first());
-        if first <= high && low <= row.shifted(row.last()) {
-            push_moved(&mut found, &Shift::backward(row), search(intervals, first))?;
+    for mapping in mappings {
+        let first = mapping.shifted(mapping.first());
+        if first <= high && low <= mapping.shifted(mapping.last()) {
+            push_moved(
+                &mut found,
+                &Shift::backward(mapping),
+                search(intervals, first),
+            )?;
         }
     }
     Ok(found)
@@ -137,16 +149,16 @@ fn ends(intervals: &[Interval]) -> (u32, u32)
 }
 
 /// Returns the intervals without those that end below `low`. Linear in the number of intervals that are left out.
-fn pass_over(intervals: &[Interval], low: u32) -> &[Interval]
+fn skip_below(intervals: &[Interval], low: u32) -> &[Interval]
     requires { IsCanonical intervals.now }
     ensures canonical { IsCanonical result.now }
     ensures members { (c : ℕ) → low ≤ c → is_member result.now c ≡ is_member intervals.now c }
 {
-    let mut place = 0;
-    while place < intervals.len() && intervals[place].last() < low {
-        place += 1;
+    let mut position = 0;
+    while position < intervals.len() && intervals[position].last() < low {
+        position += 1;
     }
-    &intervals[place..]
+    &intervals[position..]
 }
 
 /// Returns the intervals without those that end below `low`. A binary search.
@@ -168,7 +180,7 @@ fn push_moved(
     requires shift { IsShift shift.now }
     requires canonical { IsCanonical intervals.now }
     ensures { OnOk result ((c : ℕ) → is_member found.new.items c ≡
-        (is_member found.old.items c || lands shift.now (is_member intervals.now) c)) }
+        (is_member found.old.items c || maps_to shift.now (is_member intervals.now) c)) }
 {
     for interval in intervals {
         if shift.last < interval.first() {
@@ -187,7 +199,7 @@ fn push_overlap(
 ) -> Result<(), AllocError>
     requires { IsShift shift.now }
     ensures { OnOk result ((c : ℕ) → is_member found.new.items c ≡
-        (is_member found.old.items c || lands shift.now (is_within interval) c)) }
+        (is_member found.old.items c || maps_to shift.now (is_within interval) c)) }
 {
     let first = shift.first.max(interval.first());
     let last = shift.last.min(interval.last());

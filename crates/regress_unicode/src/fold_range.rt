@@ -1,6 +1,6 @@
 //! A packed entry of a case mapping table.
 ghost use Rattle.std.specs.Prelude.{◌≡◌, ℕ, ◌+◌, ◌-◌, ◌*◌, ◌/◌, ◌%◌, ◌^◌, ◌<◌, ◌≤◌, ◌↔◌, ◌==◌, false, IfSome, IfNone, pos, negsuc, ◌≤ℤ◌, IsTrue};
-ghost use Rattle.regress_unicode.specs.FoldRows.{is_in_row, image_in_row, is_source, is_target_in_range, stays_in_range as stays_in_range_spec, moved, IsModulo};
+ghost use Rattle.regress_unicode.specs.FoldEntries.{is_in_mapping, image_in_mapping, is_source, is_target_in_range, stays_in_range as stays_in_range_spec, moved, IsModulo};
 ghost use Rattle.regress_base.specs.Intervals.{code_point_max};
 ghost use Rattle.std.specs.declared.cmp.Ordering.TheVariants.{Less, Equal, Greater};
 
@@ -26,9 +26,9 @@ pub struct FoldRange {
 impl Model for FoldRange {
     ghost use Rattle.std.specs.Prelude.{◌+◌, pos, unsigned_abs};
     ghost use Rattle.std.specs.Int.{int_div_euclid, int_rem_euclid};
-    ghost use Rattle.regress_unicode.specs.FoldRows.{FoldRow, IsPackableRow};
+    ghost use Rattle.regress_unicode.specs.FoldEntries.{FoldEntry, IsPackableEntry};
 
-    ghost Value = { FoldRow };
+    ghost Value = { FoldEntry };
 
     ghost view = { λ r. record {
       start = r.range.start;
@@ -37,7 +37,7 @@ impl Model for FoldRange {
       modulo = unsigned_abs (int_rem_euclid r.extra (pos 16)) + 1;
     } };
 
-    ghost invariant = { λ r. IsPackableRow (record {
+    ghost invariant = { λ r. IsPackableEntry (record {
       start = r.range.start;
       length = r.range.length;
       delta = int_div_euclid r.extra (pos 16);
@@ -109,7 +109,7 @@ impl FoldRange {
     pub(super) fn compare(&self, c: u32) -> Ordering
         ensures greater { (result ≡ Greater) ↔ (c < self.now.start) }
         ensures less { (result ≡ Less) ↔ (self.now.start + self.now.length ≤ c) }
-        ensures equal { (result ≡ Equal) ↔ IsTrue (is_in_row self.now c) }
+        ensures equal { (result ≡ Equal) ↔ IsTrue (is_in_mapping self.now c) }
     {
         if c < self.first() {
             Ordering::Greater
@@ -123,8 +123,8 @@ impl FoldRange {
     /// Returns what `c`, a code point of the range, is mapped to.
     pub(super) fn apply(&self, c: u32) -> u32
         requires target { IsTrue (is_target_in_range self.now) }
-        requires within { IsTrue (is_in_row self.now c) }
-        ensures { result ≡ image_in_row self.now c }
+        requires within { IsTrue (is_in_mapping self.now c) }
+        ensures { result ≡ image_in_mapping self.now c }
     {
         if (c - self.first()).is_multiple_of(self.modulo()) {
             self.shifted(c)
@@ -137,7 +137,7 @@ impl FoldRange {
     pub(super) fn shifted(&self, c: u32) -> u32
         requires low { c < 2 ^ 20 }
         requires target { IsTrue (is_target_in_range self.now) }
-        requires within { IsTrue (is_in_row self.now c) }
+        requires within { IsTrue (is_in_mapping self.now c) }
         ensures value { result ≡ moved self.now.delta c }
         ensures in_range { result ≤ code_point_max }
     {

@@ -1,19 +1,19 @@
 //! Case mapping of single code points.
 ghost use Rattle.std.specs.Prelude.{◌≡◌, ℕ, IsTrue};
-ghost use Rattle.regress_unicode.specs.FoldRows.{image as image_of, is_in_order, are_targets_in_range};
+ghost use Rattle.regress_unicode.specs.FoldEntries.{image as image_of, is_in_order, are_targets_in_range};
 ghost use Rattle.regress_unicode.specs.TableOf.{table_of};
 
 use super::Tables;
 use super::fold_range::FoldRange;
 
 /// Returns what the entries map `c` to. A binary search.
-pub(super) fn image(rows: &[FoldRange], c: u32) -> u32
-    requires in_order { IsTrue (is_in_order rows.now) }
-    requires in_range { IsTrue (are_targets_in_range rows.now) }
-    ensures { result ≡ image_of rows.now c }
+pub(super) fn image(mappings: &[FoldRange], c: u32) -> u32
+    requires in_order { IsTrue (is_in_order mappings.now) }
+    requires in_range { IsTrue (are_targets_in_range mappings.now) }
+    ensures { result ≡ image_of mappings.now c }
 {
-    match rows.binary_search_by(|row| row.compare(c)) {
-        Ok(place) => rows[place].apply(c),
+    match mappings.binary_search_by(|mapping| mapping.compare(c)) {
+        Ok(position) => mappings[position].apply(c),
         Err(_) => c,
     }
 }

@@ -1,12 +1,12 @@
 //! Construction of a table from its parts.
 ghost use Rattle.std.specs.Prelude.{◌≡◌, ◌≢◌, ◌<◌, [], alloc_error, IfOk, IfErr};
 ghost use Rattle.regress_unicode.specs.declared.tables_error.TablesError.TheVariants.{Memory};
-ghost use Rattle.regress_unicode.specs.Parts.{AreSoundRows, rows_alone};
-ghost use Rattle.regress_unicode.specs.Refusals.{IsFirstDue, place};
+ghost use Rattle.regress_unicode.specs.Parts.{AreValidEntries, mappings_alone};
+ghost use Rattle.regress_unicode.specs.ConstructionErrors.{IsFirstError, position};
 
 use super::checks::{
-    check_classes, check_idempotent, check_order, check_targets, have_strings, have_word_ascii,
-    moved_images, sets_are_canonical,
+    check_classes, check_idempotent, check_order, check_targets, collect_mapped, have_strings,
+    have_word_ascii, sets_are_canonical,
 };
 use super::{FoldRange, Tables, TablesError, Which};
 use regress_base::codepointset::CodePointSet;
@@ -15,16 +15,20 @@ use std::alloc::Global;
 
 /// Rejects entries that are no case mapping. Tests each code point of the entries, and sorts those that are mapped to
 /// another one.
-fn check_rows(alloc: Global, folds: &[FoldRange], uppers: &[FoldRange]) -> Result<(), TablesError>
-    ensures ok { IfOk result (λ _. AreSoundRows folds.now × AreSoundRows uppers.now) }
-    ensures err { IfErr result (λ e. e ≢ Memory alloc_error → (place e < 8) × IsFirstDue (rows_alone folds.now uppers.now) e) }
+fn check_entries(
+    alloc: Global,
+    folds: &[FoldRange],
+    uppers: &[FoldRange],
+) -> Result<(), TablesError>
+    ensures ok { IfOk result (λ _. AreValidEntries folds.now × AreValidEntries uppers.now) }
+    ensures err { IfErr result (λ e. e ≢ Memory alloc_error → (position e < 8) × IsFirstError (mappings_alone folds.now uppers.now) e) }
 {
     check_order(Which::Fold, folds)?;
     check_order(Which::Upper, uppers)?;
     check_targets(Which::Fold, folds)?;
     check_targets(Which::Upper, uppers)?;
-    let fold_images = moved_images(alloc, folds)?;
-    let upper_images = moved_images(alloc, uppers)?;
+    let fold_images = collect_mapped(alloc, folds)?;
+    let upper_images = collect_mapped(alloc, uppers)?;
     check_idempotent(Which::Fold, folds, &fold_images)?;
     check_idempotent(Which::Upper, uppers, &upper_images)?;
     check_classes(Which::Fold, fold_images)?;
@@ -33,10 +37,10 @@ fn check_rows(alloc: Global, folds: &[FoldRange], uppers: &[FoldRange]) -> Resul
 
 impl Tables {
     ghost use Rattle.std.specs.Prelude.{◌≡◌, ◌≢◌, alloc_error, IfOk, IfErr};
-    ghost use Rattle.regress_unicode.specs.declared.tables_error.TablesError.{TablesError as Refusal};
+    ghost use Rattle.regress_unicode.specs.declared.tables_error.TablesError.{TablesError as Rejection};
     ghost use Rattle.regress_unicode.specs.declared.tables_error.TablesError.TheVariants.{Memory};
     ghost use Rattle.regress_unicode.specs.Parts.{parts_from, table_from, IsSound};
-    ghost use Rattle.regress_unicode.specs.Refusals.{Meets, IsFirstDue};
+    ghost use Rattle.regress_unicode.specs.ConstructionErrors.{Meets, IsFirstError};
     ghost use Rattle.regress_unicode.specs.TableOf.{table_of};
 
     /// Returns the table with these parts: the entries of both case mappings, the characters that can begin and
@@ -89,10 +93,10 @@ impl Tables {
         strings: Vec<(String, Vec<Vec<u32>>)>,
     ) -> Result<Tables, TablesError>
         ensures table { IfOk result (λ tables. table_of tables ≡ table_from (parts_from folds.items uppers.items id_start id_continue general_category.items script.items script_extensions.items binary.items strings.items)) }
-        ensures accepted { IfOk result (λ _. (refusal : Refusal) → Meets (parts_from folds.items uppers.items id_start id_continue general_category.items script.items script_extensions.items binary.items strings.items) refusal) }
-        ensures refused { IfErr result (λ refusal. refusal ≢ Memory alloc_error → IsFirstDue (parts_from folds.items uppers.items id_start id_continue general_category.items script.items script_extensions.items binary.items strings.items) refusal) }
+        ensures accepted { IfOk result (λ _. (rejection : Rejection) → Meets (parts_from folds.items uppers.items id_start id_continue general_category.items script.items script_extensions.items binary.items strings.items) rejection) }
+        ensures rejected { IfErr result (λ rejection. rejection ≢ Memory alloc_error → IsFirstError (parts_from folds.items uppers.items id_start id_continue general_category.items script.items script_extensions.items binary.items strings.items) rejection) }
     {
-        check_rows(alloc, &folds, &uppers)?;
+        check_entries(alloc, &folds, &uppers)?;
         if !have_word_ascii(&id_start, &id_continue) {
             return Err(TablesError::IdentifierPunctuation);
         }

@@ -15,41 +15,41 @@ pub(super) struct Shift {
 impl Shift {
     ghost use Rattle.std.specs.Prelude.{◌≡◌, ◌≤◌, IsTrue};
     ghost use Rattle.regress_base.specs.Intervals.{code_point_max};
-    ghost use Rattle.regress_unicode.specs.FoldRows.{is_target_in_range, moved};
-    ghost use Rattle.regress_unicode.specs.Shifts.{IsShift, is_hit, forward, backward};
+    ghost use Rattle.regress_unicode.specs.FoldEntries.{is_target_in_range, moved};
+    ghost use Rattle.regress_unicode.specs.Shifts.{IsShift, is_mapped, forward, backward};
 
     /// Returns the shift of an entry, from the code points of its range to what they are mapped to.
-    pub(super) fn forward(row: &FoldRange) -> Shift
-        requires { IsTrue (is_target_in_range row.now) }
-        ensures value { result ≡ forward row.now }
+    pub(super) fn forward(mapping: &FoldRange) -> Shift
+        requires { IsTrue (is_target_in_range mapping.now) }
+        ensures value { result ≡ forward mapping.now }
         ensures shift { IsShift result }
     {
         Shift {
-            first: row.first(),
-            last: row.last(),
-            delta: row.delta(),
-            modulo: row.modulo(),
+            first: mapping.first(),
+            last: mapping.last(),
+            delta: mapping.delta(),
+            modulo: mapping.modulo(),
         }
     }
 
     /// Returns the inverse shift of an entry.
-    pub(super) fn backward(row: &FoldRange) -> Shift
-        requires { IsTrue (is_target_in_range row.now) }
-        ensures value { result ≡ backward row.now }
+    pub(super) fn backward(mapping: &FoldRange) -> Shift
+        requires { IsTrue (is_target_in_range mapping.now) }
+        ensures value { result ≡ backward mapping.now }
         ensures shift { IsShift result }
     {
         Shift {
-            first: row.shifted(row.first()),
-            last: row.shifted(row.last()),
-            delta: -row.delta(),
-            modulo: row.modulo(),
+            first: mapping.shifted(mapping.first()),
+            last: mapping.shifted(mapping.last()),
+            delta: -mapping.delta(),
+            modulo: mapping.modulo(),
         }
     }
 
     /// Returns whether the shift maps `c` by the delta.
     pub(super) fn moves(&self, c: u32) -> bool
         requires { IsShift self.now }
-        ensures { result ≡ is_hit self.now c }
+        ensures { result ≡ is_mapped self.now c }
     {
         self.first <= c && c <= self.last && (c - self.first).is_multiple_of(self.modulo)
     }

@@ -44,9 +44,9 @@ impl Tables {
 }
 
 fn small_folds(alloc: Global) -> Result<Vec<FoldRange>, AllocError>
-    ensures { IfOk result (λ rows. rows.items ≡ small_folds) }
+    ensures { IfOk result (λ mappings. mappings.items ≡ small_folds) }
 {
-    let rows = vec![in alloc;
+    let mappings = vec![in alloc;
         FoldRange::from(0x41, 26, 32, 1),
         FoldRange::from(0xB5, 1, 775, 1),
         FoldRange::from(0xC0, 23, 32, 1),
@@ -64,13 +64,13 @@ fn small_folds(alloc: Global) -> Result<Vec<FoldRange>, AllocError>
         FoldRange::from(0x16E40, 32, 32, 1),
         FoldRange::from(0x1E900, 34, 34, 1),
     ]?;
-    Ok(rows)
+    Ok(mappings)
 }
 
 fn small_uppers(alloc: Global) -> Result<Vec<FoldRange>, AllocError>
-    ensures { IfOk result (λ rows. rows.items ≡ small_uppers) }
+    ensures { IfOk result (λ mappings. mappings.items ≡ small_uppers) }
 {
-    let rows = vec![in alloc;
+    let mappings = vec![in alloc;
         FoldRange::from(0x61, 26, -32, 1),
         FoldRange::from(0xB5, 1, 743, 1),
         FoldRange::from(0xE0, 23, -32, 1),
@@ -85,7 +85,7 @@ fn small_uppers(alloc: Global) -> Result<Vec<FoldRange>, AllocError>
         FoldRange::from(0x16E60, 32, -32, 1),
         FoldRange::from(0x1E922, 34, -34, 1),
     ]?;
-    Ok(rows)
+    Ok(mappings)
 }
 
 fn small_id_start(alloc: Global) -> Result<CodePointSet, AllocError>

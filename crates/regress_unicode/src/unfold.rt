@@ -2,9 +2,9 @@
 ghost use Rattle.std.specs.Prelude.{◌≡◌, ◌<◌, ◌≤◌, ◌==◌, ◌||◌, ℕ, length, get_or, IsTrue, IfOk, OnOk};
 ghost use Rattle.std.specs.List.{AllWithin, insert};
 ghost use Rattle.regress_base.specs.Intervals.{code_point_max};
-ghost use Rattle.regress_unicode.specs.FoldRows.{image, is_in_order, are_targets_in_range};
+ghost use Rattle.regress_unicode.specs.FoldEntries.{image, is_in_order, are_targets_in_range};
 ghost use Rattle.regress_base.specs.Listing.{lists, is_ascending, IsListing};
-ghost use Rattle.regress_base.specs.Table.{stands_for};
+ghost use Rattle.regress_base.specs.Table.{denotes};
 ghost use Rattle.regress_unicode.specs.TableOf.{table_of};
 
 use super::{FoldRange, Tables, fold, uppercase};
@@ -38,7 +38,7 @@ pub fn unfold_char(alloc: Global, c: u32, tables: &Tables) -> Result<Vec<u32>, A
         IsListing (λ x. (table_of tables.now).fold x == (table_of tables.now).fold c) list.items) }
     ensures few { IfOk result (λ list. length list.items ≤ 4) }
 {
-    with_image(alloc, &tables.folds, fold(c, tables))
+    unfold_to(alloc, &tables.folds, fold(c, tables))
 }
 
 /// Returns the code points with the same upper case as `c`, ascending, each once: at most four, `c` among them.
@@ -57,7 +57,7 @@ pub fn unfold_uppercase_char(alloc: Global, c: u32, tables: &Tables) -> Result<V
         IsListing (λ x. (table_of tables.now).uppercase x == (table_of tables.now).uppercase c) list.items) }
     ensures few { IfOk result (λ list. length list.items ≤ 4) }
 {
-    with_image(alloc, &tables.uppers, uppercase(c, tables))
+    unfold_to(alloc, &tables.uppers, uppercase(c, tables))
 }
 
 /// Returns the code points that a literal `c` matches, ascending, each once (ECMA-262, CharacterSetMatcher).
@@ -92,7 +92,7 @@ pub fn expand_code_point(
 ) -> Result<Vec<u32>, AllocError>
     requires { c ≤ code_point_max }
     ensures listing { IfOk result (λ list.
-        IsListing (stands_for (table_of tables.now) icase unicode c) list.items) }
+        IsListing (denotes (table_of tables.now) icase unicode c) list.items) }
     ensures few { IfOk result (λ list. length list.items ≤ 4) }
 {
     if !icase {
@@ -106,59 +106,59 @@ pub fn expand_code_point(
 
 /// Returns the code points whose canonical form is `target`, which is its own canonical form. The entries ascend, and
 /// so do the code points that they map to it.
-fn with_image(alloc: Global, rows: &[FoldRange], target: u32) -> Result<Vec<u32>, AllocError>
+fn unfold_to(alloc: Global, mappings: &[FoldRange], target: u32) -> Result<Vec<u32>, AllocError>
     requires code_point { target ≤ code_point_max }
-    requires in_order { IsTrue (is_in_order rows.now) }
-    requires in_range { IsTrue (are_targets_in_range rows.now) }
-    requires own_image { image rows.now target ≡ target }
-    ensures { IfOk result (λ list. IsListing (λ x. image rows.now x == target) list.items) }
+    requires in_order { IsTrue (is_in_order mappings.now) }
+    requires in_range { IsTrue (are_targets_in_range mappings.now) }
+    requires own_image { image mappings.now target ≡ target }
+    ensures { IfOk result (λ list. IsListing (λ x. image mappings.now x == target) list.items) }
 {
     let mut list = Vec::with_capacity(alloc, MOST)?;
-    for row in rows {
-        if let Some(source) = row.source(target) {
+    for mapping in mappings {
+        if let Some(source) = mapping.source(target) {
             list.push(source)?;
         }
     }
-    add_in_place(&mut list, target)?;
+    insert_ordered(&mut list, target)?;
     Ok(list)
 }
 
 /// Inserts the number in order, unless it is in the list.
-fn add_in_place(list: &mut Vec<u32>, c: u32) -> Result<(), AllocError>
+fn insert_ordered(list: &mut Vec<u32>, c: u32) -> Result<(), AllocError>
     requires { IsTrue (is_ascending list.old.items) }
     ensures ascending { OnOk result (IsTrue (is_ascending list.new.items)) }
     ensures members { OnOk result ((x : ℕ) →
         lists list.new.items x ≡ (lists list.old.items x || (x == c))) }
 {
-    let place = first_from(list, c);
-    if place < list.len() && list[place] == c {
+    let position = lower_bound(list, c);
+    if position < list.len() && list[position] == c {
         return Ok(());
     }
-    put(list, place, c)
+    put(list, position, c)
 }
 
 /// Inserts the number at an index. At the end of the list no element moves.
-fn put(list: &mut Vec<u32>, place: usize, c: u32) -> Result<(), AllocError>
-    requires { place ≤ length list.old.items }
-    ensures { OnOk result (list.new.items ≡ insert list.old.items place c) }
+fn put(list: &mut Vec<u32>, position: usize, c: u32) -> Result<(), AllocError>
+    requires { position ≤ length list.old.items }
+    ensures { OnOk result (list.new.items ≡ insert list.old.items position c) }
 {
-    if place == list.len() {
+    if position == list.len() {
         list.push(c)?;
     } else {
-        list.insert(place, c)?;
+        list.insert(position, c)?;
     }
     Ok(())
 }
 
 /// Returns the least index with a number that is at least `c`, or the length of the list. Linear.
-fn first_from(list: &[u32], c: u32) -> usize
+fn lower_bound(list: &[u32], c: u32) -> usize
     ensures bound { result ≤ length list.now }
     ensures below { AllWithin (λ x. x < c) list.now 0 result }
     ensures from { result < length list.now → (d : ℕ) → c ≤ get_or list.now result d }
 {
-    let mut place = 0;
-    while place < list.len() && list[place] < c {
-        place += 1;
+    let mut position = 0;
+    while position < list.len() && list[position] < c {
+        position += 1;
     }
-    place
+    position
 }

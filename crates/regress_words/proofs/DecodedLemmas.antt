@@ -7,8 +7,8 @@ use Rattle.regress_base.specs.Intervals.{Bounds}
 use Rattle.regress_base.specs.declared.types.AnchorType.TheVariants.{StartOfLine, EndOfLine}
 use Rattle.regress_base.specs.declared.types.Quantifier.{Quantifier}
 use Rattle.regress_tree.specs.Tree.{Leaf, empty, goal, char, byte_sequence, byte_set, char_set, match_any, match_any_except_line_terminator, anchor, word_boundary, bracket, back_ref, string_set, Wrapper, capture_group, loop, loop_one, lookaround, Tree, Trees, leaf, cat, alt, wrapped, no_trees, more_trees}
-use Rattle.regress_words.specs.Words.{truth_word, wide, listed, interval_words, most_words, name_words, quantifier_words, leaf_words, wrapper_words, trees_count, encode, encode_row}
-use Rattle.regress_words.specs.Decoded.{Reads, read_word, read_wide, read_times, read_list, read_listed, read_interval, read_option, read_quantifier, read_body, read_row, read_alt, read_level, read_tree, decode}
+use Rattle.regress_words.specs.Words.{truth_word, wide, listed, interval_words, most_words, name_words, quantifier_words, leaf_words, wrapper_words, trees_count, encode, encode_list}
+use Rattle.regress_words.specs.Decoded.{Reads, read_word, read_wide, parse_optional_quantifier, read_list, read_listed, read_interval, read_option, parse_quantifier, read_body, decode_siblings, read_alt, read_level, decode_tree, decode}
 
 truth-read : (b : Bool) → (truth_word b == 1) ≡ b
 truth-read false = refl
@@ -19,24 +19,24 @@ wide-read : (n : ℕ) (rest : List ℕ) → read_wide (wide n ++ rest) ≡ (n, r
 wide-read n rest = ap (λ m. (m, rest)) (div-add-mod n (2 ^ 32))
 
 times-read : {A : Type 0} (read : Reads A) (words : A → List ℕ) → ((x : A) (rest : List ℕ) → read (words x ++ rest) ≡ (x, rest)) →
-    (xs : List A) (rest : List ℕ) → read_times read (length xs) (flat_map words xs ++ rest) ≡ (xs, rest)
+    (xs : List A) (rest : List ℕ) → parse_optional_quantifier read (length xs) (flat_map words xs ++ rest) ≡ (xs, rest)
 times-read read words each [] rest = refl
 times-read read words each (x ∷ xs) rest =
-    ap (read_times read (suc (length xs))) (append_assoc (words x) (flat_map words xs) rest)
-    ∙ ap (λ r. let others = read_times read (length xs) r.1 in (r.0 ∷ others.0, others.1)) (each x (flat_map words xs ++ rest))
+    ap (parse_optional_quantifier read (suc (length xs))) (append_assoc (words x) (flat_map words xs) rest)
+    ∙ ap (λ r. let others = parse_optional_quantifier read (length xs) r.1 in (r.0 ∷ others.0, others.1)) (each x (flat_map words xs ++ rest))
     ∙ ap (λ others. (x ∷ others.0, others.1)) (times-read read words each xs rest)
 
 list-read : {A : Type 0} (read : Reads A) (words : A → List ℕ) → ((x : A) (rest : List ℕ) → read (words x ++ rest) ≡ (x, rest)) →
     (xs : List A) (rest : List ℕ) → read_list read ((wide (length xs) ++ flat_map words xs) ++ rest) ≡ (xs, rest)
 list-read read words each xs rest =
-    ap (λ n. read_times read n (flat_map words xs ++ rest)) (div-add-mod (length xs) (2 ^ 32)) ∙ times-read read words each xs rest
+    ap (λ n. parse_optional_quantifier read n (flat_map words xs ++ rest)) (div-add-mod (length xs) (2 ^ 32)) ∙ times-read read words each xs rest
 
-words-read : (xs rest : List ℕ) → read_times read_word (length xs) (xs ++ rest) ≡ (xs, rest)
+words-read : (xs rest : List ℕ) → parse_optional_quantifier read_word (length xs) (xs ++ rest) ≡ (xs, rest)
 words-read [] rest = refl
 words-read (x ∷ xs) rest = ap (λ others. (x ∷ others.0, others.1)) (words-read xs rest)
 
 listed-read : (xs rest : List ℕ) → read_listed (listed xs ++ rest) ≡ (xs, rest)
-listed-read xs rest = ap (λ n. read_times read_word n (xs ++ rest)) (div-add-mod (length xs) (2 ^ 32)) ∙ words-read xs rest
+listed-read xs rest = ap (λ n. parse_optional_quantifier read_word n (xs ++ rest)) (div-add-mod (length xs) (2 ^ 32)) ∙ words-read xs rest
 
 interval-read : (iv : Bounds) (rest : List ℕ) → read_interval (interval_words iv ++ rest) ≡ (iv, rest)
 interval-read iv rest = refl
@@ -49,7 +49,7 @@ name-read : (name : Option (List ℕ)) (rest : List ℕ) → read_option read_li
 name-read None rest = refl
 name-read (Some name) rest = ap (λ r. (Some r.0, r.1)) (listed-read name rest)
 
-quantifier-read : (q : Quantifier) (rest : List ℕ) → read_quantifier (quantifier_words q ++ rest) ≡ (q, rest)
+quantifier-read : (q : Quantifier) (rest : List ℕ) → parse_quantifier (quantifier_words q ++ rest) ≡ (q, rest)
 quantifier-read q rest =
     let most = read_option read_wide (most_words q.max ++ rest) in
     ap (λ greedy. (record { min = (read_wide (wide q.min)).0; max = most.0; greedy = greedy }, most.1)) (truth-read q.greedy)
@@ -144,32 +144,32 @@ none-shorter : (t : Tree) → length (encode t) ≤ zero → ⊥
 none-shorter t h = let own = some t in omega arith
 
 mutual
-  tree-read : (n : ℕ) (t : Tree) (rest : List ℕ) → length (encode t) ≤ n → read_tree n (encode t ++ rest) ≡ (t, rest)
+  tree-read : (n : ℕ) (t : Tree) (rest : List ℕ) → length (encode t) ≤ n → decode_tree n (encode t ++ rest) ≡ (t, rest)
   tree-read zero t rest h = absurd (none-shorter t h)
-  tree-read (suc n) (leaf l) rest h = leaf-read (read_tree n) l rest
+  tree-read (suc n) (leaf l) rest h = leaf-read (decode_tree n) l rest
   tree-read (suc n) (cat parts) rest h =
-      let short : length (encode_row parts) ≤ n = omega arith in
-      ap (λ count. let r = read_row (read_tree n) count (encode_row parts ++ rest) in (cat r.0, r.1)) (div-add-mod (trees_count parts) (2 ^ 32))
-      ∙ ap (λ r. (cat r.0, r.1)) (row-read n parts rest short)
+      let short : length (encode_list parts) ≤ n = omega arith in
+      ap (λ count. let r = decode_siblings (decode_tree n) count (encode_list parts ++ rest) in (cat r.0, r.1)) (div-add-mod (trees_count parts) (2 ^ 32))
+      ∙ ap (λ r. (cat r.0, r.1)) (siblings-read n parts rest short)
   tree-read (suc n) (alt left right) rest h =
       let short : length (encode left ++ encode right) ≤ n = omega arith in
-      ap (read_alt (read_tree n)) (append_assoc (encode left) (encode right) rest)
-      ∙ ap (λ a. let b = read_tree n a.1 in (alt a.0 b.0, b.1)) (tree-read n left (encode right ++ rest) (left-shorter (encode left) (encode right) n short))
+      ap (read_alt (decode_tree n)) (append_assoc (encode left) (encode right) rest)
+      ∙ ap (λ a. let b = decode_tree n a.1 in (alt a.0 b.0, b.1)) (tree-read n left (encode right ++ rest) (left-shorter (encode left) (encode right) n short))
       ∙ ap (λ b. (alt left b.0, b.1)) (tree-read n right rest (right-shorter (encode left) (encode right) n short))
   tree-read (suc n) (wrapped w body) rest h =
-      ap (read_level (read_tree n)) (append_assoc (wrapper_words w) (encode body) rest)
-      ∙ wrapper-read (read_tree n) w body (encode body ++ rest) rest (tree-read n body rest (body-shorter w (encode body) n h))
+      ap (read_level (decode_tree n)) (append_assoc (wrapper_words w) (encode body) rest)
+      ∙ wrapper-read (decode_tree n) w body (encode body ++ rest) rest (tree-read n body rest (body-shorter w (encode body) n h))
 
-  row-read : (n : ℕ) (ts : Trees) (rest : List ℕ) → length (encode_row ts) ≤ n → read_row (read_tree n) (trees_count ts) (encode_row ts ++ rest) ≡ (ts, rest)
-  row-read n no_trees rest h = refl
-  row-read n (more_trees t ts) rest h =
-      ap (read_row (read_tree n) (suc (trees_count ts))) (append_assoc (encode t) (encode_row ts) rest)
-      ∙ ap (λ a. let others = read_row (read_tree n) (trees_count ts) a.1 in (more_trees a.0 others.0, others.1))
-      (tree-read n t (encode_row ts ++ rest) (left-shorter (encode t) (encode_row ts) n h))
-      ∙ ap (λ others. (more_trees t others.0, others.1)) (row-read n ts rest (right-shorter (encode t) (encode_row ts) n h))
+  siblings-read : (n : ℕ) (ts : Trees) (rest : List ℕ) → length (encode_list ts) ≤ n → decode_siblings (decode_tree n) (trees_count ts) (encode_list ts ++ rest) ≡ (ts, rest)
+  siblings-read n no_trees rest h = refl
+  siblings-read n (more_trees t ts) rest h =
+      ap (decode_siblings (decode_tree n) (suc (trees_count ts))) (append_assoc (encode t) (encode_list ts) rest)
+      ∙ ap (λ a. let others = decode_siblings (decode_tree n) (trees_count ts) a.1 in (more_trees a.0 others.0, others.1))
+      (tree-read n t (encode_list ts ++ rest) (left-shorter (encode t) (encode_list ts) n h))
+      ∙ ap (λ others. (more_trees t others.0, others.1)) (siblings-read n ts rest (right-shorter (encode t) (encode_list ts) n h))
 
 pub decode-encode : (t : Tree) → decode (encode t) ≡ t
 decode-encode t =
     let words = encode t in
     let same : length words ≤ length words = omega arith in
-    ap (λ ws. (read_tree (length words) ws).0) (sym (append-nil words)) ∙ ap (λ r. r.0) (tree-read (length words) t [] same)
+    ap (λ ws. (decode_tree (length words) ws).0) (sym (append-nil words)) ∙ ap (λ r. r.0) (tree-read (length words) t [] same)

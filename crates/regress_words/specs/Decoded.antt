@@ -21,13 +21,13 @@ abbrev pub read_wide : Reads ℕ
 read_wide ws = let low = read_word ws in let high = read_word low.1 in (2 ^ 32 * high.0 + low.0, high.1)
 
 -- n values in sequence
-abbrev pub read_times : {A : Type 0} → Reads A → ℕ → Reads (List A)
-read_times read zero ws = ([], ws)
-read_times read (suc n) ws = let first = read ws in let others = read_times read n first.1 in (first.0 ∷ others.0, others.1)
+abbrev pub parse_optional_quantifier : {A : Type 0} → Reads A → ℕ → Reads (List A)
+parse_optional_quantifier read zero ws = ([], ws)
+parse_optional_quantifier read (suc n) ws = let first = read ws in let others = parse_optional_quantifier read n first.1 in (first.0 ∷ others.0, others.1)
 
 -- the number of values, and then the values
 abbrev pub read_list : {A : Type 0} → Reads A → Reads (List A)
-read_list read ws = let count = read_wide ws in read_times read count.0 count.1
+read_list read ws = let count = read_wide ws in parse_optional_quantifier read count.0 count.1
 
 abbrev pub read_listed : Reads (List ℕ)
 read_listed = read_list read_word
@@ -45,8 +45,8 @@ read_option read ws =
     let value = read there.1 in
     if there.0 == 1 then (Some value.0, value.1) else (None, there.1)
 
-abbrev pub read_quantifier : Reads Quantifier
-read_quantifier ws =
+abbrev pub parse_quantifier : Reads Quantifier
+parse_quantifier ws =
     let greedy = read_truth ws in
     let min = read_wide greedy.1 in
     let most = read_option read_wide min.1 in
@@ -87,11 +87,11 @@ abbrev pub read_loop : Reads Wrapper
 read_loop ws =
     let start = read_word ws in
     let end = read_word start.1 in
-    let q = read_quantifier end.1 in
+    let q = parse_quantifier end.1 in
     (loop q.0 start.0 end.0, q.1)
 
 abbrev pub read_loop_one : Reads Wrapper
-read_loop_one ws = let q = read_quantifier ws in (loop_one q.0, q.1)
+read_loop_one ws = let q = parse_quantifier ws in (loop_one q.0, q.1)
 
 abbrev pub read_lookaround : Reads Wrapper
 read_lookaround ws =
@@ -101,12 +101,12 @@ read_lookaround ws =
     let end = read_word start.1 in
     (lookaround negate.0 backwards.0 start.0 end.0, end.1)
 
-abbrev pub read_row : Reads Tree → ℕ → Reads Trees
-read_row read zero ws = (no_trees, ws)
-read_row read (suc n) ws = let first = read ws in let others = read_row read n first.1 in (more_trees first.0 others.0, others.1)
+abbrev pub decode_siblings : Reads Tree → ℕ → Reads Trees
+decode_siblings read zero ws = (no_trees, ws)
+decode_siblings read (suc n) ws = let first = read ws in let others = decode_siblings read n first.1 in (more_trees first.0 others.0, others.1)
 
 abbrev pub read_cat : Reads Tree → Reads Tree
-read_cat read ws = let count = read_wide ws in let parts = read_row read count.0 count.1 in (cat parts.0, parts.1)
+read_cat read ws = let count = read_wide ws in let parts = decode_siblings read count.0 count.1 in (cat parts.0, parts.1)
 
 abbrev pub read_alt : Reads Tree → Reads Tree
 read_alt read ws = let left = read ws in let right = read left.1 in (alt left.0 right.0, right.1)
@@ -139,10 +139,10 @@ abbrev pub read_level : Reads Tree → Reads Tree
 read_level read ws = let kind = read_word ws in read_kind read kind.0 kind.1
 
 -- a tree of at most this nesting depth
-abbrev pub read_tree : ℕ → Reads Tree
-read_tree zero ws = (leaf empty, ws)
-read_tree (suc levels) ws = read_level (read_tree levels) ws
+abbrev pub decode_tree : ℕ → Reads Tree
+decode_tree zero ws = (leaf empty, ws)
+decode_tree (suc nesting) ws = read_level (decode_tree nesting) ws
 
 -- The tree that the words encode. Its nesting depth is at most the number of words.
 abbrev pub decode : List ℕ → Tree
-decode words = (read_tree (length words) words).0
+decode words = (decode_tree (length words) words).0

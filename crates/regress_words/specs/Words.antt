@@ -75,10 +75,10 @@ node_words (wrapped w body) = wrapper_words w
 abbrev mutual
   pub encode : Tree → List ℕ
   encode (leaf l) = leaf_words l
-  encode (cat parts) = (6 ∷ wide (trees_count parts)) ++ encode_row parts
+  encode (cat parts) = (6 ∷ wide (trees_count parts)) ++ encode_list parts
   encode (alt left right) = (7 ∷ []) ++ (encode left ++ encode right)
   encode (wrapped w body) = wrapper_words w ++ encode body
 
-  pub encode_row : Trees → List ℕ
-  encode_row no_trees = []
-  encode_row (more_trees t ts) = encode t ++ encode_row ts
+  pub encode_list : Trees → List ℕ
+  encode_list no_trees = []
+  encode_list (more_trees t ts) = encode t ++ encode_list ts

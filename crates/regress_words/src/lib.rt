@@ -4,4 +4,4 @@
 mod parts;
 mod tree_words;
 
-pub use tree_words::{encode, words_tell_the_tree};
+pub use tree_words::{encode, encoding_determines_the_tree};

@@ -28,7 +28,7 @@ pub fn encode(alloc: Global, node: &Node) -> Result<Vec<u32>, AllocError>
 
 /// States the theorem that decoding the encoding of a tree yields the tree, so no two trees have the same encoding. The
 /// function does nothing; a function whose proof needs the theorem calls it.
-pub fn words_tell_the_tree()
+pub fn encoding_determines_the_tree()
     ensures { (t : Tree) → decode (words_of.encode t) ≡ t }
 {}
 
@@ -59,7 +59,7 @@ fn push_tree(node: &Node, words: &mut Vec<u32>) -> Result<(), AllocError>
 
 #[cycle(push)]
 fn push_trees(parts: &[Node], words: &mut Vec<u32>) -> Result<(), AllocError>
-    ensures { OnOk result (words.new.items ≡ words.old.items ++ words_of.encode_row (trees parts.now)) }
+    ensures { OnOk result (words.new.items ≡ words.old.items ++ words_of.encode_list (trees parts.now)) }
 {
     for part in parts {
         push_tree(part, words)?;

@@ -2,7 +2,7 @@
 
 ghost use Rattle.std.specs.Prelude.{◌≡◌, ℕ, ◌≤◌, ◌==◌, ◌||◌, false};
 ghost use Rattle.regress_base.specs.AsciiBitmap.{ascii_contains};
-ghost use Rattle.regress_base.specs.AsciiLaws.{ascii_contains-bytes_only};
+ghost use Rattle.regress_base.specs.AsciiLemmas.{ascii_contains-bytes_only};
 
 use super::debug_list::write_members;
 use super::searcher::ByteSet;

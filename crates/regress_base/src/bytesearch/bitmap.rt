@@ -6,7 +6,7 @@ ghost use Rattle.std.specs.Int.{bit_at};
 ghost use Rattle.std.specs.Cmp.Rules.{comparing};
 ghost use Rattle.regress_base.specs.ByteBitmap.{contains, same_members};
 ghost use Rattle.regress_base.specs.ByteSets.{bytes_of, members_of, member_count, SameMembers};
-ghost use Rattle.regress_base.specs.Places.{IsMemberAt};
+ghost use Rattle.regress_base.specs.Positions.{IsMemberAt};
 
 use super::debug_list::write_members;
 use super::find::find_byte;
@@ -161,7 +161,7 @@ impl Eq for ByteBitmap {
 }
 
 impl ByteSearcher for ByteBitmap {
-    ghost stands_at = { λ set. IsMemberAt (contains set) };
+    ghost has_bytes_at = { λ set. IsMemberAt (contains set) };
 
     fn find_in(&self, rhs: &[u8]) -> Option<usize> {
         find_byte(rhs, |b| self.contains(b))

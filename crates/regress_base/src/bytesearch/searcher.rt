@@ -1,14 +1,14 @@
 //! The contracts of byte sets and of searches.
 
 ghost use Rattle.std.specs.Prelude.{◌≡◌, ℕ, ◌≤◌, Bool, false, List, length};
-ghost use Rattle.regress_base.specs.Places.{IsLeast, IsMemberAt};
+ghost use Rattle.regress_base.specs.Positions.{IsLeast, IsMemberAt};
 
 use super::find::find_byte;
 
 /// Something to search for in a text: a member of a byte set, or a string.
 pub trait ByteSearcher {
     // Whether it occurs in the text at the byte offset.
-    ghost stands_at: { Self → List ℕ → ℕ → Type 0 };
+    ghost has_bytes_at: { Self → List ℕ → ℕ → Type 0 };
 
     /// Returns the least byte offset of `rhs`, from 0 to its length, at which this occurs, or `None` if it occurs
     /// nowhere.
@@ -23,7 +23,7 @@ pub trait ByteSearcher {
     /// assert_eq!(rt; needle.find_in(b"band"), None);
     /// ```
     fn find_in(&self, rhs: &[u8]) -> Option<usize>
-        ensures { IsLeast (stands_at self.now rhs.now) (length rhs.now) result };
+        ensures { IsLeast (has_bytes_at self.now rhs.now) (length rhs.now) result };
 }
 
 /// A set of bytes.

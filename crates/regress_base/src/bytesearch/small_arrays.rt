@@ -2,8 +2,8 @@
 
 ghost use Rattle.std.specs.Prelude.{◌≡◌};
 ghost use Rattle.regress_base.specs.ByteSets.{bytes_of};
-ghost use Rattle.regress_base.specs.Places.{IsMemberAt};
-ghost use Rattle.regress_base.specs.ByteLaws.{bytes_of-bytes_only};
+ghost use Rattle.regress_base.specs.Positions.{IsMemberAt};
+ghost use Rattle.regress_base.specs.ByteLemmas.{bytes_of-bytes_only};
 
 use super::find::find_byte;
 use super::searcher::{ByteSearcher, SmallArraySet};
@@ -39,7 +39,7 @@ impl SmallArraySet for [u8; 4] {
 }
 
 impl ByteSearcher for [u8; 1] {
-    ghost stands_at = { λ set. IsMemberAt (bytes_of set) };
+    ghost has_bytes_at = { λ set. IsMemberAt (bytes_of set) };
 
     fn find_in(&self, rhs: &[u8]) -> Option<usize> {
         find_byte(rhs, |b| b == self[0])
@@ -47,7 +47,7 @@ impl ByteSearcher for [u8; 1] {
 }
 
 impl ByteSearcher for [u8; 2] {
-    ghost stands_at = { λ set. IsMemberAt (bytes_of set) };
+    ghost has_bytes_at = { λ set. IsMemberAt (bytes_of set) };
 
     fn find_in(&self, rhs: &[u8]) -> Option<usize> {
         <[u8; 2] as SmallArraySet>::find_in(*self, rhs)
@@ -55,7 +55,7 @@ impl ByteSearcher for [u8; 2] {
 }
 
 impl ByteSearcher for [u8; 3] {
-    ghost stands_at = { λ set. IsMemberAt (bytes_of set) };
+    ghost has_bytes_at = { λ set. IsMemberAt (bytes_of set) };
 
     fn find_in(&self, rhs: &[u8]) -> Option<usize> {
         <[u8; 3] as SmallArraySet>::find_in(*self, rhs)
@@ -79,7 +79,7 @@ impl<S: SmallArraySet> ByteArraySet<S> {
 }
 
 impl<S: SmallArraySet> ByteSearcher for ByteArraySet<S> {
-    ghost stands_at = { λ set. IsMemberAt (S.members set.0) };
+    ghost has_bytes_at = { λ set. IsMemberAt (S.members set.0) };
 
     fn find_in(&self, rhs: &[u8]) -> Option<usize> {
         self.0.find_in(rhs)

@@ -2,7 +2,7 @@
 
 ghost use Rattle.std.specs.Prelude.{◌≡◌};
 ghost use Rattle.regress_base.specs.Needle.{needle_bytes};
-ghost use Rattle.regress_base.specs.Places.{StandsWhole};
+ghost use Rattle.regress_base.specs.Positions.{OccursAt};
 
 use super::searcher::ByteSearcher;
 
@@ -11,7 +11,7 @@ use super::searcher::ByteSearcher;
 pub struct EmptyString {}
 
 impl ByteSearcher for EmptyString {
-    ghost stands_at = { λ _ _ _. Unit {0} };
+    ghost has_bytes_at = { λ _ _ _. Unit {0} };
 
     fn find_in(&self, _rhs: &[u8]) -> Option<usize> {
         Some(0)
@@ -37,7 +37,7 @@ impl<'a> Needle<'a> {
 }
 
 impl ByteSearcher for Needle<'_> {
-    ghost stands_at = { λ needle. StandsWhole (needle_bytes needle) };
+    ghost has_bytes_at = { λ needle. OccursAt (needle_bytes needle) };
 
     fn find_in(&self, rhs: &[u8]) -> Option<usize> {
         for i in 0..=rhs.len() {

@@ -39,7 +39,7 @@ impl CodePointSet {
     {
         let Range { start, end } = touching(&self.ivs, new_iv);
         if start == end {
-            put_in(&mut self.ivs, start, new_iv)?;
+            insert_interval(&mut self.ivs, start, new_iv)?;
             return Ok(());
         }
         let first = self.ivs[start].first().min(new_iv.first());
@@ -70,16 +70,16 @@ impl CodePointSet {
     }
 }
 
-/// Inserts the interval at index `place`. At the end of the list no element moves.
-fn put_in(ivs: &mut Vec<Interval>, place: usize, iv: Interval) -> Result<(), AllocError>
-    requires { place ≤ length ivs.old.items }
-    ensures ok { OnOk result (ivs.new.items ≡ insert ivs.old.items place iv) }
+/// Inserts the interval at index `position`. At the end of the list no element moves.
+fn insert_interval(ivs: &mut Vec<Interval>, position: usize, iv: Interval) -> Result<(), AllocError>
+    requires { position ≤ length ivs.old.items }
+    ensures ok { OnOk result (ivs.new.items ≡ insert ivs.old.items position iv) }
     ensures err { OnErr result (ivs.new.items ≡ ivs.old.items) }
 {
-    if place == ivs.len() {
+    if position == ivs.len() {
         ivs.push(iv)?;
     } else {
-        ivs.insert(place, iv)?;
+        ivs.insert(position, iv)?;
     }
     Ok(())
 }
@@ -109,11 +109,11 @@ fn touching_inside(ivs: &[Interval], new_iv: Interval) -> Range<usize>
 {
     let len = ivs.len();
     let first = new_iv.first();
-    let behind = new_iv.last() + 1;
-    if len > 0 && behind < ivs[0].first() {
+    let after = new_iv.last() + 1;
+    if len > 0 && after < ivs[0].first() {
         return 0..0;
     }
-    if len > 1 && ivs[len - 2].last() + 1 < first && behind < ivs[len - 1].first() {
+    if len > 1 && ivs[len - 2].last() + 1 < first && after < ivs[len - 1].first() {
         return len - 1..len - 1;
     }
     equal_range_by(ivs, |iv| merge_order(*iv, new_iv))

@@ -7,7 +7,7 @@ ghost use Rattle.regress_classes.specs.ClassViews.{IsValue, IsChain, IsLeft, app
 use super::Operator;
 use super::others::Others;
 use super::value::Value;
-use crate::gathered::Gathered;
+use crate::gathered::IntervalCollector;
 use regress_base::codepointset::{CODE_POINT_MAX, CodePointSet};
 use std::alloc::{AllocError, Global};
 
@@ -24,7 +24,7 @@ pub struct Chain {
 #[derive(Drop)]
 pub struct Taken {
     /// The code points that are dropped.
-    points: Gathered,
+    points: IntervalCollector,
     /// The strings that `&&` keeps, or that `--` drops.
     others: Others,
 }
@@ -87,7 +87,7 @@ impl Taken {
         ensures { IfOk result (λ taken. (first : Value) (a b : Written) →
             IsValue first a → IsValue operand b → IsLeft operator first taken (applied operator a b)) }
     {
-        let mut points = Gathered::new(*operand.others.strings.allocator());
+        let mut points = IntervalCollector::new(*operand.others.strings.allocator());
         points.add_set(dropped_points(operator, operand.set)?)?;
         Ok(Taken {
             points,

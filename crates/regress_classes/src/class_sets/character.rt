@@ -1,20 +1,20 @@
 //! Characters of a class with the flag v.
 ghost use Rattle.std.specs.Prelude.{◌≡◌, ◌&&◌, ◌||◌, not, IfOk};
 ghost use Rattle.regress_classes.specs.ClassSets.{is_set_syntax, is_double, begins_double, is_reserved, escaped_character_at, set_character_at};
-ghost use Rattle.regress_lexical.specs.Fault.{FailsByNoLimit};
-ghost use Rattle.regress_lexical.specs.Reads.{AlwaysReads};
-ghost use Rattle.regress_lexical.specs.Source.{IsCodePoint};
-ghost use Rattle.regress_lexical.specs.Views.{source};
+ghost use Rattle.regress_lexer.specs.Fault.{FailsByNoLimit};
+ghost use Rattle.regress_lexer.specs.Reads.{ParsesWithoutAllocating};
+ghost use Rattle.regress_lexer.specs.Source.{IsCodePoint};
+ghost use Rattle.regress_lexer.specs.Views.{source};
 
-use regress_lexical::cursor::Cursor;
-use regress_lexical::digits::is_letter;
-use regress_lexical::escape::{escape_fault, read_escape};
-use regress_lexical::fault::{Fault, FaultKind, refused};
+use regress_lexer::cursor::Cursor;
+use regress_lexer::digits::is_letter;
+use regress_lexer::escape::{escape_fault, parse_escape};
+use regress_lexer::fault::{Fault, FaultKind, rejected};
 
 /// Parses a character (dialect of ECMA-262, ClassSetCharacter). Fails if the code point is no literal, or if the
 /// backslash starts no character escape.
-pub(super) fn read_set_character(cursor: &mut Cursor, unicode: bool) -> Result<u32, Fault>
-    ensures value { AlwaysReads (λ c. c) (source cursor.new) result (set_character_at unicode (source cursor.old)) }
+pub(super) fn parse_set_character(cursor: &mut Cursor, unicode: bool) -> Result<u32, Fault>
+    ensures value { ParsesWithoutAllocating (λ c. c) (source cursor.new) result (set_character_at unicode (source cursor.old)) }
     ensures in_range { IfOk result IsCodePoint }
     ensures kind { FailsByNoLimit result }
 {
@@ -23,16 +23,16 @@ pub(super) fn read_set_character(cursor: &mut Cursor, unicode: bool) -> Result<u
         return read_escaped_character(cursor, unicode, begin);
     }
     match cursor.rest.split_first() {
-        Some((c, rest)) if is_itself(*c, rest) => {
+        Some((c, rest)) if is_literal(*c, rest) => {
             cursor.rest = rest;
             Ok(*c)
         }
-        _ => Err(cursor.refuse(FaultKind::InvalidSetCharacter)),
+        _ => Err(cursor.reject(FaultKind::InvalidSetCharacter)),
     }
 }
 
 /// Returns whether the code point is a literal before `rest`.
-fn is_itself(c: u32, rest: &[u32]) -> bool
+fn is_literal(c: u32, rest: &[u32]) -> bool
     ensures { result ≡ not (is_set_syntax c || (is_double c && begins_double rest.now)) }
 {
     !is_set_syntax(c) && !(is_double(c) && begins_double(rest))
@@ -45,12 +45,12 @@ pub(super) fn read_escaped_character(
     unicode: bool,
     begin: usize,
 ) -> Result<u32, Fault>
-    ensures value { AlwaysReads (λ c. c) (source cursor.new) result (escaped_character_at unicode (source cursor.old)) }
+    ensures value { ParsesWithoutAllocating (λ c. c) (source cursor.new) result (escaped_character_at unicode (source cursor.old)) }
     ensures in_range { IfOk result IsCodePoint }
     ensures kind { FailsByNoLimit result }
 {
     let Some((c, rest)) = cursor.rest.split_first() else {
-        return Err(refused(begin, FaultKind::IncompleteSetEscape));
+        return Err(rejected(begin, FaultKind::IncompleteSetEscape));
     };
     let c = *c;
     if c == u32::from('b') {
@@ -61,10 +61,10 @@ pub(super) fn read_escaped_character(
         cursor.rest = rest;
         return Ok(c);
     }
-    let Some((point, behind)) = read_escape(cursor.rest, unicode) else {
-        return Err(refused(begin, escape_fault(cursor.rest)));
+    let Some((point, after)) = parse_escape(cursor.rest, unicode) else {
+        return Err(rejected(begin, escape_fault(cursor.rest)));
     };
-    cursor.rest = behind;
+    cursor.rest = after;
     Ok(point)
 }
 

@@ -1,25 +1,25 @@
 //! Operands of a class with the flag v.
 ghost use Rattle.std.specs.Prelude.{◌≡◌, true, All, IfOk};
-ghost use Rattle.regress_classes.specs.ClassRows.{class_members, complement_if};
+ghost use Rattle.regress_classes.specs.ClassProductions.{class_members, complement_if};
 ghost use Rattle.regress_classes.specs.ClassSets.{Operand as Written, only, value_of, value_of_strings, property_operand_at, escaped_operand_at};
-ghost use Rattle.regress_lexical.specs.Fault.{FailsByNoLimit};
-ghost use Rattle.regress_lexical.specs.Reads.{ReadsAs};
-ghost use Rattle.regress_lexical.specs.Source.{IsCodePoint};
+ghost use Rattle.regress_lexer.specs.Fault.{FailsByNoLimit};
+ghost use Rattle.regress_lexer.specs.Reads.{ParsesAs};
+ghost use Rattle.regress_lexer.specs.Source.{IsCodePoint};
 ghost use Rattle.regress_classes.specs.ClassViews.{strings_of, IsValue, IsOperand};
-ghost use Rattle.regress_lexical.specs.Views.{source};
+ghost use Rattle.regress_lexer.specs.Views.{source};
 ghost use Rattle.regress_unicode.specs.TableOf.{table_of};
 
-use super::Surroundings;
+use super::OperandContext;
 use super::character::read_escaped_character;
 use super::strings::read_quoted;
 use super::value::Value;
 use crate::class_escape::{class_letter, class_members};
-use crate::property::{Property, is_property_letter, read_property};
+use crate::property::{Property, is_property_letter, parse_property};
 use regress_base::charclasses::CharacterClassType;
 use regress_base::codepointset::CodePointSet;
 use regress_base::sets::set_is_canonical;
-use regress_lexical::cursor::Cursor;
-use regress_lexical::fault::{Fault, FaultKind, refused};
+use regress_lexer::cursor::Cursor;
+use regress_lexer::fault::{Fault, FaultKind, rejected};
 use std::alloc::{AllocError, Global};
 
 /// A character, which may be an end of a range, or a set of code points and strings.
@@ -45,15 +45,15 @@ impl Operand {
 /// Parses an escape after its backslash. `begin` is the number of code points that remained before the backslash.
 pub(super) fn read_escaped_operand(
     cursor: &mut Cursor,
-    around: &Surroundings,
+    around: &OperandContext,
     begin: usize,
 ) -> Result<Operand, Fault>
-    ensures value { ReadsAs IsOperand (source cursor.new) result
+    ensures value { ParsesAs IsOperand (source cursor.new) result
         (escaped_operand_at (table_of around.now.tables.now) around.now.unicode around.now.negated (source cursor.old)) }
     ensures kind { FailsByNoLimit result }
 {
     let Some((c, rest)) = cursor.rest.split_first() else {
-        return Err(refused(begin, FaultKind::IncompleteSetEscape));
+        return Err(rejected(begin, FaultKind::IncompleteSetEscape));
     };
     let c = *c;
     if let Some((kind, negated)) = class_letter(c) {
@@ -83,22 +83,22 @@ fn class_value(alloc: Global, kind: CharacterClassType, negated: bool) -> Result
 /// Parses a property after its `\p` or `\P`.
 fn read_property_operand(
     cursor: &mut Cursor,
-    around: &Surroundings,
+    around: &OperandContext,
     negated: bool,
     begin: usize,
 ) -> Result<Operand, Fault>
-    ensures value { ReadsAs IsOperand (source cursor.new) result
+    ensures value { ParsesAs IsOperand (source cursor.new) result
         (property_operand_at (table_of around.now.tables.now) around.now.negated negated (source cursor.old)) }
     ensures kind { FailsByNoLimit result }
 {
-    match read_property(cursor, true, around.tables)? {
+    match parse_property(cursor, true, around.tables)? {
         Property::Points(set) => {
             let value = point_value(cursor.alloc, set, negated)?;
             Ok(Operand::Class(value))
         }
         Property::Strings(strings) => {
             if around.negated || negated {
-                return Err(refused(begin, FaultKind::InvalidEscape));
+                return Err(rejected(begin, FaultKind::InvalidEscape));
             }
             let value = string_value(cursor.alloc, strings)?;
             Ok(Operand::Class(value))

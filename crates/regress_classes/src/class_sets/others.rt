@@ -5,7 +5,7 @@ ghost use Rattle.std.specs.Cmp.Lexicographic.{slice_cmp};
 ghost use Rattle.std.specs.Ordering.{nat_cmp};
 ghost use Rattle.regress_base.specs.Intervals.{Bounds};
 ghost use Rattle.regress_classes.specs.ClassSets.{Value as Written, only, joined, is_among};
-ghost use Rattle.regress_classes.specs.ClassViews.{HasOthers, AreLeft, strings_of, applied, kept};
+ghost use Rattle.regress_classes.specs.ClassViews.{HasOthers, AreKeptStrings, strings_of, applied, kept};
 
 use super::Operator;
 use std::alloc::{AllocError, Global};
@@ -18,7 +18,7 @@ pub struct Others {
     pub strings: Vec<Vec<u32>>,
     /// Whether the class has the empty string.
     pub has_empty: bool,
-    pub levels: u32,
+    pub nesting: u32,
 }
 
 impl Others {
@@ -29,7 +29,7 @@ impl Others {
         Others {
             strings: Vec::new(alloc),
             has_empty: false,
-            levels: 0,
+            nesting: 0,
         }
     }
 
@@ -39,7 +39,7 @@ impl Others {
     {
         self.strings.append(&mut other.strings)?;
         self.has_empty |= other.has_empty;
-        self.levels = self.levels.max(other.levels);
+        self.nesting = self.nesting.max(other.nesting);
         Ok(())
     }
 
@@ -48,26 +48,26 @@ impl Others {
         ensures strings { OnOk result (self.new.strings.items
             ≡ filter (λ string. kept operator (is_among (strings_of other.now.strings.items) string.items)) self.old.strings.items) }
         ensures has_empty { OnOk result (self.new.has_empty ≡ (self.old.has_empty && kept operator other.now.has_empty)) }
-        ensures levels { OnOk result (self.new.levels ≡ max self.old.levels other.now.levels) }
+        ensures nesting { OnOk result (self.new.nesting ≡ max self.old.nesting other.now.nesting) }
     {
         match operator {
             Operator::Intersection => keep_strings(&mut self.strings, &other.strings)?,
             Operator::Subtraction => remove_strings(&mut self.strings, &other.strings)?,
         }
         self.has_empty &= operator.keeps(other.has_empty);
-        self.levels = self.levels.max(other.levels);
+        self.nesting = self.nesting.max(other.nesting);
         Ok(())
     }
 
     /// Returns the strings that both operands keep, or that either drops.
     pub(super) fn and(self, operator: Operator, other: Others) -> Result<Others, AllocError>
         ensures { IfOk result (λ both. (first : Others) (v b : Written) →
-            AreLeft operator first self v → HasOthers b other → AreLeft operator first both (applied operator v b)) }
+            AreKeptStrings operator first self v → HasOthers b other → AreKeptStrings operator first both (applied operator v b)) }
     {
         Ok(Others {
             strings: both_strings(operator, self.strings, other.strings)?,
             has_empty: both(operator, self.has_empty, other.has_empty),
-            levels: self.levels.max(other.levels),
+            nesting: self.nesting.max(other.nesting),
         })
     }
 }

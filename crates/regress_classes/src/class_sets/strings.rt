@@ -1,16 +1,16 @@
 //! Strings of a class with the flag v.
 ghost use Rattle.std.specs.Prelude.{◌≡◌, ◌+◌, [], length};
 ghost use Rattle.regress_classes.specs.ClassSets.{value_of_strings, strings_by, quoted_at};
-ghost use Rattle.regress_lexical.specs.Fault.{FailsByNoLimit};
-ghost use Rattle.regress_lexical.specs.Reads.{ReadsAs};
+ghost use Rattle.regress_lexer.specs.Fault.{FailsByNoLimit};
+ghost use Rattle.regress_lexer.specs.Reads.{ParsesAs};
 ghost use Rattle.regress_classes.specs.ClassViews.{IsValue, IsOperand};
-ghost use Rattle.regress_lexical.specs.Views.{source};
+ghost use Rattle.regress_lexer.specs.Views.{source};
 
-use super::character::read_set_character;
+use super::character::parse_set_character;
 use super::operand::Operand;
 use super::value::Value;
-use regress_lexical::cursor::Cursor;
-use regress_lexical::fault::{Fault, FaultKind, refused};
+use regress_lexer::cursor::Cursor;
+use regress_lexer::fault::{Fault, FaultKind, rejected};
 
 /// Parses the strings after `\q` (ECMA-262, ClassStringDisjunction). `begin` is the number of code points that remained
 /// before the backslash.
@@ -19,11 +19,11 @@ pub(super) fn read_quoted(
     unicode: bool,
     begin: usize,
 ) -> Result<Operand, Fault>
-    ensures value { ReadsAs IsOperand (source cursor.new) result (quoted_at unicode (source cursor.old)) }
+    ensures value { ParsesAs IsOperand (source cursor.new) result (quoted_at unicode (source cursor.old)) }
     ensures kind { FailsByNoLimit result }
 {
     if !cursor.try_consume('{') {
-        return Err(cursor.refuse(FaultKind::StringsWithoutBrace));
+        return Err(cursor.reject(FaultKind::StringsWithoutBrace));
     }
     Ok(Operand::Class(read_strings(cursor, unicode, begin)?))
 }
@@ -31,7 +31,7 @@ pub(super) fn read_quoted(
 /// Parses strings with `|` between them, up to `}`.
 fn read_strings(cursor: &mut Cursor, unicode: bool, begin: usize) -> Result<Value, Fault>
     ensures value { let t = source cursor.old in
-        ReadsAs (λ held strings. IsValue held (value_of_strings strings)) (source cursor.new) result (strings_by (length t + 1) unicode [] t) }
+        ParsesAs (λ held strings. IsValue held (value_of_strings strings)) (source cursor.new) result (strings_by (length t + 1) unicode [] t) }
     ensures kind { FailsByNoLimit result }
 {
     let mut value = Value::new(cursor.alloc);
@@ -41,9 +41,9 @@ fn read_strings(cursor: &mut Cursor, unicode: bool, begin: usize) -> Result<Valu
             value.add_string(string)?;
             string = Vec::new(cursor.alloc);
         } else if cursor.rest.is_empty() {
-            return Err(refused(begin, FaultKind::UnbalancedStrings));
+            return Err(rejected(begin, FaultKind::UnbalancedStrings));
         } else {
-            string.push(read_set_character(cursor, unicode)?)?;
+            string.push(parse_set_character(cursor, unicode)?)?;
         }
     }
     cursor.try_consume('}');

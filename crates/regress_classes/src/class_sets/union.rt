@@ -1,21 +1,21 @@
 //! Unions of the parts of a class with the flag v.
 ghost use Rattle.std.specs.Prelude.{◌≡◌, ℕ, [], ◌∷◌, IfOk, OnOk};
-ghost use Rattle.regress_classes.specs.ClassRows.{one_point};
+ghost use Rattle.regress_classes.specs.ClassProductions.{one_point};
 ghost use Rattle.regress_classes.specs.ClassSets.{Value as Written, Operand as WrittenOperand, nothing, only, joined, value_of};
-ghost use Rattle.regress_lexical.specs.Source.{IsCodePoint};
+ghost use Rattle.regress_lexer.specs.Source.{IsCodePoint};
 ghost use Rattle.regress_classes.specs.ClassViews.{IsValue, IsUnion, IsOperand};
 
 use super::operand::Operand;
 use super::others::Others;
 use super::value::Value;
-use crate::gathered::Gathered;
+use crate::gathered::IntervalCollector;
 use regress_base::codepointset::Interval;
 use std::alloc::{AllocError, Global};
 
 /// The union of the parts of a class while they are parsed: a value whose code points are still collected.
 #[derive(Drop)]
 pub struct Union {
-    points: Gathered,
+    points: IntervalCollector,
     others: Others,
 }
 
@@ -25,7 +25,7 @@ impl Union {
         ensures { IsUnion result nothing }
     {
         Union {
-            points: Gathered::new(alloc),
+            points: IntervalCollector::new(alloc),
             others: Others::new(alloc),
         }
     }

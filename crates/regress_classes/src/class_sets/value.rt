@@ -1,9 +1,9 @@
 //! The contents of a class with the flag v.
 ghost use Rattle.std.specs.Prelude.{◌≡◌, ◌&&◌, ℕ, All, List, IfOk, OnOk};
 ghost use Rattle.regress_base.specs.Intervals.{Bounds, is_member, IsCanonical};
-ghost use Rattle.regress_classes.specs.ClassRows.{one_point};
+ghost use Rattle.regress_classes.specs.ClassProductions.{one_point};
 ghost use Rattle.regress_classes.specs.ClassSets.{Value as Written, nothing, has_strings, only, joined, value_of_string};
-ghost use Rattle.regress_lexical.specs.Source.{IsCodePoint};
+ghost use Rattle.regress_lexer.specs.Source.{IsCodePoint};
 ghost use Rattle.regress_classes.specs.ClassViews.{HasMembers, IsValue, applied, kept};
 
 use super::Operator;

@@ -8,7 +8,7 @@ use Rattle.regress_tree.specs.Reading.{Direction}
 use Rattle.regress_tree.specs.Shapes.{has_bytes}
 use Rattle.regress_tree.specs.Tree.{Tree, leaf, empty, tree}
 use Rattle.regress_rewrite.specs.Formed.{joined, bytes_of, part_at, HaveBytes, joined_at}
-use Rattle.regress_rewrite.proofs.laws.Joining.{written}
+use Rattle.regress_rewrite.proofs.lemmas.Joining.{written}
 
 module _ (all front back : List Node) (i k : ℕ) (have : HaveBytes i k (map tree all)) (cut : all ≡ front ++ back) (here : length front ≡ k)
     (x y : Node) where

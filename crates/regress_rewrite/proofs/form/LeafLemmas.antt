@@ -9,20 +9,20 @@ use Rattle.std.proofs.lemmas.Str.{length-encode, len_utf8_bounds}
 use Rattle.regress_tree.specs.declared.ir.node.Node.TheVariants.{ByteSequence, ByteSet}
 use Rattle.regress_tree.specs.SmallSets.{is_ascii}
 use Rattle.regress_tree.specs.Reading.{Direction, forwards, backwards, of_bytes}
-use Rattle.regress_tree.specs.Steps.{State, one_character, these_bytes}
+use Rattle.regress_tree.specs.Steps.{MatchState, one_character, these_bytes}
 use Rattle.regress_tree.specs.Shapes.{is_formed_away}
 use Rattle.regress_tree.specs.Tree.{Tree, leaf, char, byte_sequence, byte_set, char_set, tree}
 use Rattle.regress_tree.specs.Units.{weight_of_leaf, IsLess}
-use Rattle.regress_tree.proofs.laws.Alike.{Alike-refl, Alike-from_same}
-use Rattle.regress_tree.proofs.laws.ByteSequences.{these_bytes-one, these_bytes_before-one}
-use Rattle.regress_tree.proofs.laws.Measures.{IsLess-lighter}
-use Rattle.regress_tree.proofs.laws.Nodes.{tree-ByteSequence, tree-ByteSet}
-use Rattle.regress_tree.proofs.laws.Positions.{AsOneCharacter-from}
+use Rattle.regress_tree.proofs.lemmas.Alike.{Alike-refl, Alike-from_same}
+use Rattle.regress_tree.proofs.lemmas.ByteSequences.{these_bytes-one, these_bytes_before-one}
+use Rattle.regress_tree.proofs.lemmas.Measures.{IsLess-lighter}
+use Rattle.regress_tree.proofs.lemmas.Nodes.{tree-ByteSequence, tree-ByteSet}
+use Rattle.regress_tree.proofs.lemmas.Positions.{AsOneCharacter-from}
 use Rattle.regress_rewrite.specs.Law.{Keeps, ObeysLaw}
 use Rattle.regress_rewrite.specs.declared.rewrite.PassAction.TheVariants.{Keep, Replace}
 use Rattle.regress_rewrite.proofs.LawfulLemmas.{keep_lawful, replace_lawful}
 
-encoded-steps : (d : Direction) (bytes : List ℕ) (c : ℕ) → IsScalar c → (s : State) →
+encoded-steps : (d : Direction) (bytes : List ℕ) (c : ℕ) → IsScalar c → (s : MatchState) →
     these_bytes d bytes (encode_utf8 c) s ≡ one_character d (of_bytes bytes) (λ x. x == c) s
 encoded-steps forwards bytes c scalar_value s = these_bytes-one bytes c scalar_value s
 encoded-steps backwards bytes c scalar_value s = these_bytes_before-one bytes c scalar_value s
@@ -35,7 +35,7 @@ module _ (d : Direction) (c : ℕ) (scalar_value : IsScalar c) where
   encoded_keeps : Keeps d (leaf (char c)) (leaf (byte_sequence (encode_utf8 c)))
   encoded_keeps = record {
     meaning = λ setting text is_text. Alike-from_same (λ s. sym (encoded-steps d _ c scalar_value s));
-    stands = λ n p m. record {
+    occurs = λ n p m. record {
       characters = c ∷ [];
       are_scalar = All-cons IsScalar c [] scalar_value (All-nil IsScalar);
       encoded = sym (append-nil _);
@@ -61,7 +61,7 @@ module _ (d : Direction) (members : List ℕ) where
   set_keeps : is_ascii members ≡ true → Keeps d (leaf (char_set members)) (leaf (byte_set members))
   set_keeps ascii = record {
     meaning = λ setting text is_text. Alike-refl _;
-    stands = λ n p m. record {
+    occurs = λ n p m. record {
       bounded = λ k x below. leb-true _ 127 (AllPass-from_list_all (λ c. nat_le c 127) members ascii k x below);
       small = m.small;
       some = m.some;

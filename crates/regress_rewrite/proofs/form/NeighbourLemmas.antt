@@ -6,13 +6,13 @@ use Rattle.std.proofs.lemmas.List.{length-map}
 use Rattle.regress_tree.specs.declared.ir.node.Node.{Node}
 use Rattle.regress_tree.specs.Reading.{forwards, backwards}
 use Rattle.regress_tree.specs.Shapes.{has_bytes, has_neighbours}
-use Rattle.regress_tree.specs.Tree.{Tree, row, tree}
+use Rattle.regress_tree.specs.Tree.{Tree, list, tree}
 use Rattle.regress_rewrite.specs.Formed.{part_at, HaveBytes, joined_at, JoinsSome, JoinsBytes}
 use Rattle.regress_rewrite.proofs.form.PartLemmas.{HasGap, HasGap-none, join_gap, join_more, join_first}
 
 -- whether there are neighbours with bytes from an index on
 abbrev has_more : ℕ → List Tree → Bool
-has_more i ts = has_neighbours has_bytes (row (drop i ts))
+has_more i ts = has_neighbours has_bytes (list (drop i ts))
 
 abbrev both : ℕ → List Tree → Bool
 both i ts = has_bytes (part_at i ts) && has_bytes (part_at (suc i) ts)
@@ -43,7 +43,7 @@ have_both i k ts have next =
 -- Forwards: the list when the next pair ends at `i`, by whether any were joined.
 
 abbrev pub ForwardSoFar : Bool → ℕ → (old now : List Tree) → Type 0
-ForwardSoFar true i old now = JoinsSome forwards (row old) (row now)
+ForwardSoFar true i old now = JoinsSome forwards (list old) (list now)
 ForwardSoFar false i old now = (now ≡ old) × (has_more (i - 1) old ≡ has_more 0 old)
 
 module _ (i : ℕ) (old now : List Tree) where
@@ -64,29 +64,29 @@ module _ (i : ℕ) (old now : List Tree) where
       )
 
   pub forward_join : (joined : Bool) → 1 ≤ i → HaveBytes (i - 1) i now → ForwardSoFar joined i old now →
-      JoinsSome forwards (row old) (row (joined_at forwards (i - 1) i now))
+      JoinsSome forwards (list old) (list (joined_at forwards (i - 1) i now))
   forward_join joined low have so_far =
       let back : i ≡ suc (i - 1) = omega (arith, low) in
       by_cases joined so_far back (subst (λ k. HasGap k i now) back (HasGap-none i now))
     where
       by_cases : (joined : Bool) → ForwardSoFar joined i old now → i ≡ suc (i - 1) → HasGap (suc (i - 1)) i now →
-          JoinsSome forwards (row old) (row (joined_at forwards (i - 1) i now))
-      by_cases true so_far back gap = join_more now (i - 1) i have gap forwards (row old) so_far
+          JoinsSome forwards (list old) (list (joined_at forwards (i - 1) i now))
+      by_cases true so_far back gap = join_more now (i - 1) i have gap forwards (list old) so_far
       by_cases false so_far back gap =
           let found = ap (λ ts. has_more (i - 1) ts) (sym so_far.0) in
-          subst (λ ts. JoinsSome forwards (row ts) (row (joined_at forwards (i - 1) i now))) so_far.0
+          subst (λ ts. JoinsSome forwards (list ts) (list (joined_at forwards (i - 1) i now))) so_far.0
           (join_first now (i - 1) i have gap forwards
           (ap (has_more 0) so_far.0 ∙ sym so_far.1 ∙ found ∙ have_both (i - 1) i now have back))
 
-  pub forward_end : (joined : Bool) → 1 ≤ i → length now ≤ i → ForwardSoFar joined i old now → JoinsBytes forwards joined (row old) (row now)
+  pub forward_end : (joined : Bool) → 1 ≤ i → length now ≤ i → ForwardSoFar joined i old now → JoinsBytes forwards joined (list old) (list now)
   forward_end true low end so_far = so_far
   forward_end false low end so_far =
-      (ap row so_far.0, sym so_far.1 ∙ has_more-none old (i - 1) (omega (arith, low, end, ap length so_far.0)))
+      (ap list so_far.0, sym so_far.1 ∙ has_more-none old (i - 1) (omega (arith, low, end, ap length so_far.0)))
 
 -- Backwards: the list from the part `i` on, where the part `last` has the bytes of those before it.
 
 abbrev pub BackwardSoFar : Bool → (i last : ℕ) → (old now : List Tree) → Type 0
-BackwardSoFar true i last old now = JoinsSome backwards (row old) (row now)
+BackwardSoFar true i last old now = JoinsSome backwards (list old) (list now)
 BackwardSoFar false i last old now = (now ≡ old) × (last ≡ i) × (has_more i old ≡ false)
 
 pub backward_start : (ts : List Tree) (i : ℕ) → length ts ≤ suc i → BackwardSoFar false i i ts ts
@@ -112,14 +112,14 @@ module _ (i last : ℕ) (old now : List Tree) (some : 1 ≤ i) where
       (so_far.0, refl, has_more-next old (i - 1) inside ∙ ap₂ ◌||◌ here rest)
 
   pub backward_join : (joined : Bool) → HaveBytes (i - 1) last now → HasGap i last now → BackwardSoFar joined i last old now →
-      JoinsSome backwards (row old) (row (joined_at backwards (i - 1) last now))
+      JoinsSome backwards (list old) (list (joined_at backwards (i - 1) last now))
   backward_join joined have gap so_far = by_cases joined so_far (gap_before gap)
     where
       by_cases : (joined : Bool) → BackwardSoFar joined i last old now → HasGap (suc (i - 1)) last now →
-          JoinsSome backwards (row old) (row (joined_at backwards (i - 1) last now))
-      by_cases true so_far gap = join_more now (i - 1) last have gap backwards (row old) so_far
+          JoinsSome backwards (list old) (list (joined_at backwards (i - 1) last now))
+      by_cases true so_far gap = join_more now (i - 1) last have gap backwards (list old) so_far
       by_cases false so_far gap =
-          subst (λ ts. JoinsSome backwards (row ts) (row (joined_at backwards (i - 1) last now))) so_far.0
+          subst (λ ts. JoinsSome backwards (list ts) (list (joined_at backwards (i - 1) last now))) so_far.0
           (join_first now (i - 1) last have gap backwards
           (has_more-all now (i - 1) (have_both (i - 1) last now have (so_far.1 ∙ sym before))))
 

@@ -6,7 +6,7 @@ ghost use Rattle.std.specs.Ordering.{is_lt, is_eq};
 ghost use Rattle.regress_base.specs.Limits.{max_capture_groups};
 ghost use Rattle.regress_syntax.specs.Meaning.{groups_named};
 ghost use Rattle.regress_syntax.specs.Numbering.{names_of, name_order, AreSortedByName};
-ghost use Rattle.regress_syntax.specs.Rows.{has_names};
+ghost use Rattle.regress_syntax.specs.Productions.{has_names};
 ghost use Rattle.regress_syntax.specs.Views.{names_in};
 
 use crate::groups::Groups;
@@ -68,7 +68,7 @@ fn name_order(names: &[Option<Name>], number: u32, name: &[char]) -> Ordering
 fn first_of(names: &[Option<Name>], sorted: &[u32], name: &[char]) -> usize
     requires { AreSortedByName (names_of names.now) sorted.now }
     ensures within { result ≤ length sorted.now }
-    ensures place { IsPartitionPoint (λ k. is_lt (name_order (names_of names.now) name.now k) ≡ true)
+    ensures position { IsPartitionPoint (λ k. is_lt (name_order (names_of names.now) name.now k) ≡ true)
         (λ k. is_lt (name_order (names_of names.now) name.now k) ≡ false) sorted.now result }
 {
     sorted.partition_point(|number| is_lower(names, *number, name))

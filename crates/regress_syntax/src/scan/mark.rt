@@ -2,14 +2,14 @@
 ghost use Rattle.std.specs.Prelude.{◌≡◌, ℕ, ◌<◌, ◌≤◌, ◌+◌, ◌^◌, ◌==◌, Bool, false, drop, length, option_map, IfOk};
 ghost use Rattle.regress_base.specs.Table.{Table};
 ghost use Rattle.regress_unicode.specs.TableOf.{table_of};
-ghost use Rattle.regress_lexical.specs.Source.{char, is_at};
-ghost use Rattle.regress_syntax.specs.Scan.{opened_at, mode_behind, is_quiet, mark_at, marks};
-ghost use Rattle.regress_syntax.specs.Misplaced.{Flaw, left_at};
+ghost use Rattle.regress_lexer.specs.Source.{char, is_at};
+ghost use Rattle.regress_syntax.specs.Scan.{opened_at, mode_after, is_insignificant, mark_at, marks};
+ghost use Rattle.regress_syntax.specs.FirstErrors.{Flaw, remaining_at};
 ghost use Rattle.regress_syntax.specs.Scanning.{mode_of, mark_of, depth_of};
 ghost use Rattle.regress_syntax.specs.declared.scan.mark.Mode.{Mode as CodeMode};
 
-use crate::names::{Name, read_group_name};
-use regress_lexical::digits::after;
+use crate::names::{Name, parse_group_name};
+use regress_lexer::digits::strip_char;
 use regress_unicode::Tables;
 use std::alloc::{AllocError, Global};
 
@@ -41,10 +41,10 @@ pub(super) enum Mark {
 
 impl Mode {
     /// Returns the mode after the code point `c`, which begins no escape.
-    pub(super) fn behind(self, c: u32, sets: bool) -> Mode
+    pub(super) fn after(self, c: u32, sets: bool) -> Mode
         requires room { depth_of (mode_of self) + 1 < 2 ^ 64 }
         requires unescaped { (c == char "\\") ≡ false }
-        ensures { mode_of result ≡ mode_behind sets (mode_of self) c }
+        ensures { mode_of result ≡ mode_after sets (mode_of self) c }
     {
         match (self, char::from_u32(c)) {
             (Mode::Class { depth, deepest }, Some('[')) if sets => Mode::Class {
@@ -67,8 +67,8 @@ impl Mode {
 }
 
 /// Whether the code point is no mark and never changes the mode.
-fn is_quiet(c: u32) -> bool
-    ensures { result ≡ is_quiet c }
+fn is_insignificant(c: u32) -> bool
+    ensures { result ≡ is_insignificant c }
 {
     // The split in two halves lets each be tested by few comparisons.
     if c < u32::from('@') {
@@ -89,20 +89,20 @@ fn skip_escaped(source: &[u32]) -> &[u32]
 }
 
 /// Skips escapes, and code points that are no marks and never change the mode: nearly all of a pattern.
-pub(super) fn skip_quiet(source: &[u32]) -> &[u32]
+pub(super) fn skip_insignificant(source: &[u32]) -> &[u32]
     ensures same { (sets : Bool) (table : Table) (mode : CodeMode) →
         marks sets table (mode_of mode) source.now ≡ marks sets table (mode_of mode) result.now }
     ensures flaws { (flaw : Flaw) (sets : Bool) (mode : CodeMode) (n : ℕ) →
-        left_at flaw sets (mode_of mode) n source.now ≡ left_at flaw sets (mode_of mode) n result.now }
+        remaining_at flaw sets (mode_of mode) n source.now ≡ remaining_at flaw sets (mode_of mode) n result.now }
     ensures unescaped { is_at (char "\\") result.now ≡ false }
     ensures within { length result.now ≤ length source.now }
 {
     let mut rest = source;
-    while let Some((c, behind)) = rest.split_first() {
-        if is_quiet(*c) {
-            rest = behind;
+    while let Some((c, after)) = rest.split_first() {
+        if is_insignificant(*c) {
+            rest = after;
         } else if *c == u32::from('\\') {
-            rest = skip_escaped(behind);
+            rest = skip_escaped(after);
         } else {
             return rest;
         }
@@ -110,19 +110,19 @@ pub(super) fn skip_quiet(source: &[u32]) -> &[u32]
     rest
 }
 
-/// Returns the mark that the code point `c` is, if it is one; `behind` is the source after it.
-pub(super) fn read_mark(
+/// Returns the mark that the code point `c` is, if it is one; `after` is the source after it.
+pub(super) fn find_mark(
     alloc: Global,
     mode: Mode,
     c: u32,
-    behind: &[u32],
+    after: &[u32],
     sets: bool,
     tables: &Tables,
 ) -> Result<Option<Mark>, AllocError>
-    ensures { IfOk result (λ mark. option_map mark_of mark ≡ mark_at sets (table_of tables.now) (mode_of mode) c behind.now) }
+    ensures { IfOk result (λ mark. option_map mark_of mark ≡ mark_at sets (table_of tables.now) (mode_of mode) c after.now) }
 {
     Ok(match (mode, char::from_u32(c)) {
-        (Mode::Plain, Some('(')) => Some(read_opening(alloc, behind, tables)?),
+        (Mode::Plain, Some('(')) => Some(read_opening(alloc, after, tables)?),
         (Mode::Plain, Some(')')) => Some(Mark::Closes),
         (Mode::Plain, Some('|')) => Some(Mark::Next),
         (Mode::Class { depth: 0, deepest }, Some(']')) if sets => Some(Mark::Nests(deepest)),
@@ -134,10 +134,10 @@ pub(super) fn read_mark(
 fn read_opening(alloc: Global, text: &[u32], tables: &Tables) -> Result<Mark, AllocError>
     ensures { IfOk result (λ mark. mark_of mark ≡ opened_at (table_of tables.now) text.now) }
 {
-    let Some(behind) = after(text, '?') else {
+    let Some(after) = strip_char(text, '?') else {
         return Ok(Mark::Captures(None));
     };
-    Ok(match read_group_name(alloc, behind, tables)? {
+    Ok(match parse_group_name(alloc, after, tables)? {
         Some((name, _)) => Mark::Captures(Some(name)),
         None => Mark::Opens,
     })

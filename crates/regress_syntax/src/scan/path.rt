@@ -21,7 +21,7 @@ pub(super) struct Level {
 #[derive(PartialEq, Eq, PartialOrd, Ord, Drop)]
 pub(super) struct Path {
     /// The disjunctions, outermost first.
-    levels: Vec<Level>,
+    nesting: Vec<Level>,
 }
 
 impl Path {
@@ -33,16 +33,16 @@ impl Path {
             opening: 0,
             alternative: 0,
         };
-        let mut levels = Vec::with_capacity(alloc, USUAL_DEPTH)?;
-        levels.push(whole)?;
-        Ok(Path { levels })
+        let mut nesting = Vec::with_capacity(alloc, USUAL_DEPTH)?;
+        nesting.push(whole)?;
+        Ok(Path { nesting })
     }
 
     /// Enters the disjunction after the opening parenthesis of this number.
     pub(super) fn enter(&mut self, opening: u64) -> Result<(), AllocError>
         ensures { OnOk result (path_of self.new ≡ record { opening = opening; alternative = 0 } ∷ path_of self.old) }
     {
-        self.levels.push(Level {
+        self.nesting.push(Level {
             opening,
             alternative: 0,
         })?;
@@ -53,8 +53,8 @@ impl Path {
     pub(super) fn leave(&mut self)
         ensures { path_of self.new ≡ outside (path_of self.old) }
     {
-        if self.levels.len() > 1 {
-            self.levels.pop();
+        if self.nesting.len() > 1 {
+            self.nesting.pop();
         }
     }
 
@@ -63,7 +63,7 @@ impl Path {
         requires { highest (path_of self.old) + 1 < 2 ^ 64 }
         ensures { path_of self.new ≡ next_alternative (path_of self.old) }
     {
-        if let Some(level) = self.levels.last_mut() {
+        if let Some(level) = self.nesting.last_mut() {
             level.alternative += 1;
         }
     }
@@ -72,16 +72,16 @@ impl Path {
     pub(super) fn depth(&self) -> usize
         ensures { result ≡ length (path_of self.now) }
     {
-        self.levels.len()
+        self.nesting.len()
     }
 
     /// Returns a copy of the outermost levels, at most `limit` of them.
     pub(super) fn outermost(&self, alloc: Global, limit: usize) -> Result<Path, AllocError>
         ensures { length (path_of self.now) ≤ limit → IfOk result (λ copy. path_of copy ≡ path_of self.now) }
     {
-        let kept = self.levels.len().min(limit);
+        let kept = self.nesting.len().min(limit);
         Ok(Path {
-            levels: Vec::from_slice(alloc, &self.levels[..kept])?,
+            nesting: Vec::from_slice(alloc, &self.nesting[..kept])?,
         })
     }
 
@@ -91,9 +91,9 @@ impl Path {
     pub(super) fn is_alternative_to(&self, other: &Path) -> bool
         ensures { result ≡ are_alternatives (reverse (path_of self.now)) (reverse (path_of other.now)) }
     {
-        self.levels
+        self.nesting
             .iter()
-            .zip(&other.levels)
+            .zip(&other.nesting)
             .find(|(level, beside)| level != beside)
             .is_some_and(|(level, beside)| level.opening == beside.opening)
     }

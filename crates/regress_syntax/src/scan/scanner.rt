@@ -3,20 +3,20 @@ ghost use Rattle.std.specs.Prelude.{◌≡◌, ◌<◌, ◌≤◌, ◌+◌, ◌-
 ghost use Rattle.std.specs.List.{IsAllAdjacentAnswer};
 ghost use Rattle.std.specs.List.Sorted.{IsPermutation, IsSortedBy, IsStableBy};
 ghost use Rattle.regress_base.specs.Limits.{max_capture_groups, max_nesting_depth};
-ghost use Rattle.regress_lexical.specs.Fault.{FailsBy};
+ghost use Rattle.regress_lexer.specs.Fault.{FailsBy};
 ghost use Rattle.regress_syntax.specs.Numbering.{names_of};
 ghost use Rattle.regress_syntax.specs.Views.{names_in};
 ghost use Rattle.regress_syntax.specs.Marks.{Mark as Written};
 ghost use Rattle.regress_syntax.specs.Paths.{CaptureAt, NoMarksConflict, conflict, enter};
 ghost use Rattle.regress_syntax.specs.Scan.{named_by, deepest, MarksShow};
-ghost use Rattle.regress_syntax.specs.Scanning.{mark_of, capture_of, bears_name, path_of, place_of, highest_at, levels_after, is_before, Behind, HasNumbers};
+ghost use Rattle.regress_syntax.specs.Scanning.{mark_of, capture_of, bears_name, path_of, position_of, highest_at, open_groups_after_mark, is_before, After, HasNumbers};
 
 use super::mark::Mark;
 use super::path::Path;
 use crate::groups::Groups;
 use crate::names::Name;
 use regress_base::types::MAX_NESTING_DEPTH;
-use regress_lexical::fault::{Fault, FaultKind, refused};
+use regress_lexer::fault::{Fault, FaultKind, rejected};
 use std::alloc::{AllocError, Global};
 
 /// What the scan has found before its position in the pattern.
@@ -51,10 +51,10 @@ impl Scanner {
     /// Creates the state at the start of a pattern, where the nesting depth is 1.
     #[tactic(auto, using(crate::proofs::ScannerLemmas::deepest_above))]
     pub(super) fn new(alloc: Global) -> Result<Scanner, AllocError>
-        ensures found { (all : List Written) → IfOk result (Behind all all) }
-        ensures numbers { IfOk result (λ scanner. highest_at (place_of scanner) ≡ 0) }
+        ensures found { (all : List Written) → IfOk result (After all all) }
+        ensures numbers { IfOk result (λ scanner. highest_at (position_of scanner) ≡ 0) }
         ensures numbered { IfOk result HasNumbers }
-        ensures levels { IfOk result (λ scanner. length (path_of scanner.path) ≡ 1) }
+        ensures nesting { IfOk result (λ scanner. length (path_of scanner.path) ≡ 1) }
     {
         Ok(Scanner {
             alloc,
@@ -68,12 +68,12 @@ impl Scanner {
 
     /// Moves past a mark. `left` is the number of code points that remain from its first one on.
     pub(super) fn pass(&mut self, mark: Mark, left: usize) -> Result<(), AllocError>
-        requires { highest_at (place_of self.old) + 1 < 2 ^ 64 }
-        ensures found { (all rest : List Written) → Behind all (mark_of mark ∷ rest) self.old → OnOk result (Behind all rest self.new) }
-        ensures numbers { OnOk result (highest_at (place_of self.new) ≤ highest_at (place_of self.old) + 1) }
+        requires { highest_at (position_of self.old) + 1 < 2 ^ 64 }
+        ensures found { (all rest : List Written) → After all (mark_of mark ∷ rest) self.old → OnOk result (After all rest self.new) }
+        ensures numbers { OnOk result (highest_at (position_of self.new) ≤ highest_at (position_of self.old) + 1) }
         ensures numbered { HasNumbers self.old → OnOk result (HasNumbers self.new) }
-        ensures levels { 1 ≤ length (path_of self.old.path) →
-            OnOk result (length (path_of self.new.path) ≡ levels_after (mark_of mark) (length (path_of self.old.path))) }
+        ensures nesting { 1 ≤ length (path_of self.old.path) →
+            OnOk result (length (path_of self.new.path) ≡ open_groups_after_mark (mark_of mark) (length (path_of self.old.path))) }
     {
         match mark {
             Mark::Opens => self.open()?,
@@ -84,16 +84,16 @@ impl Scanner {
             }
             Mark::Closes => self.path.leave(),
             Mark::Next => self.path.next_alternative(),
-            Mark::Nests(levels) => self.hold(levels),
+            Mark::Nests(nesting) => self.hold(nesting),
         }
         Ok(())
     }
 
     /// Enters a pair of parentheses.
     fn open(&mut self) -> Result<(), AllocError>
-        requires { highest_at (place_of self.old) + 1 < 2 ^ 64 }
+        requires { highest_at (position_of self.old) + 1 < 2 ^ 64 }
         ensures same { OnOk result (self.new ≡ record self.old { path = self.new.path; opened = self.new.opened; deepest = self.new.deepest }) }
-        ensures place { OnOk result (place_of self.new ≡ enter (place_of self.old)) }
+        ensures position { OnOk result (position_of self.new ≡ enter (position_of self.old)) }
         ensures deepest { OnOk result (self.new.deepest ≡ max self.old.deepest (length (path_of self.old.path) + 1)) }
     {
         self.opened += 1;
@@ -102,16 +102,16 @@ impl Scanner {
         Ok(())
     }
 
-    /// Moves past a class inside which classes are nested `levels` deep.
-    fn hold(&mut self, levels: usize)
+    /// Moves past a class inside which classes are nested `nesting` deep.
+    fn hold(&mut self, nesting: usize)
         ensures same { self.new ≡ record self.old { deepest = self.new.deepest } }
-        ensures deepest { self.new.deepest ≡ max self.old.deepest (min (length (path_of self.old.path) + levels) (2 ^ 64 - 1)) }
+        ensures deepest { self.new.deepest ≡ max self.old.deepest (min (length (path_of self.old.path) + nesting) (2 ^ 64 - 1)) }
     {
-        self.deepest = self.deepest.max(self.path.depth().saturating_add(levels));
+        self.deepest = self.deepest.max(self.path.depth().saturating_add(nesting));
     }
 
     /// Returns the number of open groups, the whole pattern included.
-    pub(super) fn levels(&self) -> usize
+    pub(super) fn nesting(&self) -> usize
         ensures { result ≡ length (path_of self.now.path) }
     {
         self.path.depth()
@@ -132,7 +132,7 @@ impl Scanner {
                 name: name.clone()?,
                 path: self.path.outermost(self.alloc, MAX_NESTING_DEPTH as usize)?,
                 left,
-                number: number_behind(&self.names),
+                number: next_number(&self.names),
             })?;
         }
         self.names.push(name)?;
@@ -147,11 +147,11 @@ impl Scanner {
     /// [`Fault::Memory`] if an allocation fails.
     pub(super) fn finish(self) -> Result<Groups, Fault>
         requires { HasNumbers self }
-        ensures names { (all : List Written) → Behind all [] self → IfOk result (λ groups. names_in groups ≡ named_by all) }
+        ensures names { (all : List Written) → After all [] self → IfOk result (λ groups. names_in groups ≡ named_by all) }
         ensures count { IfOk result (λ groups. groups.count ≡ min (length (names_in groups)) max_capture_groups) }
-        ensures apart { (all : List Written) → Behind all [] self → IfOk result (λ _. NoMarksConflict all) }
-        ensures levels { (all : List Written) → Behind all [] self → IfOk result (λ _. deepest 1 all ≤ max_nesting_depth) }
-        ensures refused { (all : List Written) → Behind all [] self → FailsBy result (MarksShow all) }
+        ensures apart { (all : List Written) → After all [] self → IfOk result (λ _. NoMarksConflict all) }
+        ensures nesting { (all : List Written) → After all [] self → IfOk result (λ _. deepest 1 all ≤ max_nesting_depth) }
+        ensures rejected { (all : List Written) → After all [] self → FailsBy result (MarksShow all) }
     {
         let mut named = self.named;
         // The sort is stable: groups of one name stay in the order of their numbers.
@@ -161,20 +161,20 @@ impl Scanner {
         named.sort()?;
         // Paths that differ only past the limit compare as equal: such a pattern is rejected in any case.
         if !are_neighbours_apart(&named) {
-            return Err(refused(second_name(&named), FaultKind::DuplicateName));
+            return Err(rejected(second_name(&named), FaultKind::DuplicateName));
         }
         if self.deepest > MAX_NESTING_DEPTH as usize {
-            return Err(refused(0, FaultKind::TooDeep));
+            return Err(rejected(0, FaultKind::TooDeep));
         }
         if self.names.len() > u32::MAX as usize {
-            return Err(refused(0, FaultKind::TooManyGroups));
+            return Err(rejected(0, FaultKind::TooManyGroups));
         }
         Ok(Groups::new(self.names, sorted))
     }
 }
 
 /// Returns the number, from 1, of the group that follows these; `u32::MAX` if it is greater.
-fn number_behind(names: &[Option<Name>]) -> u32
+fn next_number(names: &[Option<Name>]) -> u32
     ensures { length names.now + 1 < 2 ^ 32 → result ≡ length names.now + 1 }
 {
     u32::try_from(names.len() + 1).unwrap_or(u32::MAX)

@@ -4,10 +4,10 @@ ghost use Rattle.std.specs.Box.{boxed_slice_items};
 ghost use Rattle.regress_tree.specs.Tree.{tree, trees};
 ghost use Rattle.regress_tree.specs.Spine.{is_alt};
 ghost use Rattle.regress_tree.specs.Copies.{is_leaf, HasNoGroup, NoneHasGroup};
-ghost use Rattle.regress_tree.specs.Duplicates.{may_duplicate, may_duplicate_row};
+ghost use Rattle.regress_tree.specs.Duplicates.{may_duplicate, may_duplicate_list};
 
 use super::node::{Node, NodeList, Regex};
-use super::spine::relink;
+use super::spine::restore_spine;
 use regress_base::types::CaptureGroupName;
 use std::alloc::{AllocError, Global};
 use std::boxed::BoxedSlice;
@@ -38,7 +38,7 @@ impl Node {
     ghost use Rattle.std.specs.Prelude.{◌≡◌, ◌+◌, ◌&&◌, not, nat_le, is_some, IfOk, IfSome};
     ghost use Rattle.regress_tree.specs.Tree.{tree};
     ghost use Rattle.regress_tree.specs.Copies.{HasNoGroup};
-    ghost use Rattle.regress_tree.specs.Measures.{levels};
+    ghost use Rattle.regress_tree.specs.Measures.{nesting};
     ghost use Rattle.regress_tree.specs.Shapes.{has_string_set};
 
     /// Returns an equal node that owns all of its memory, for a node that is at `depth` in a tree (the root has depth
@@ -64,7 +64,7 @@ impl Node {
         requires { HasNoGroup (tree self.now) }
         ensures copy { IfOk result (λ found. IfSome found (λ copy. tree copy ≡ tree self.now)) }
         ensures some { IfOk result (λ found. is_some found
-            ≡ (not (has_string_set (tree self.now)) && nat_le (depth + levels (tree self.now)) 101)) }
+            ≡ (not (has_string_set (tree self.now)) && nat_le (depth + nesting (tree self.now)) 101)) }
     {
         duplicate_node(self, alloc, depth)
     }
@@ -105,7 +105,7 @@ fn copy_node(node: &Node, alloc: Global) -> Result<Node, AllocError>
         node = right;
     }
     let mut copy = copy_other(node, alloc)?;
-    relink(&mut copy, above);
+    restore_spine(&mut copy, above);
     Ok(copy)
 }
 
@@ -246,7 +246,7 @@ fn duplicate_nodes(
     requires shallow { depth ≤ 101 }
     requires groups { NoneHasGroup (trees nodes.now) }
     ensures copy { IfOk result (λ found. IfSome found (λ copies. trees copies.items ≡ trees nodes.now)) }
-    ensures some { IfOk result (λ found. is_some found ≡ may_duplicate_row depth (trees nodes.now)) }
+    ensures some { IfOk result (λ found. is_some found ≡ may_duplicate_list depth (trees nodes.now)) }
 {
     let mut copies = Vec::with_capacity(alloc, nodes.len())?;
     for node in nodes {

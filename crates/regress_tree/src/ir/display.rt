@@ -72,7 +72,7 @@ fn write_tree<W: Write>(node: &Node, depth: usize, f: &mut Formatter<W>) -> fmt:
 
 #[cycle(write_tree)]
 fn write_trees<W: Write>(parts: &[Node], depth: usize, f: &mut Formatter<W>) -> fmt::Result
-    ensures { WritesOnOk W.write_str_gives f.old result (text.printed_in_row depth (trees parts.now)) f.new }
+    ensures { WritesOnOk W.write_str_gives f.old result (text.printed_in_list depth (trees parts.now)) f.new }
 {
     for part in parts {
         write_tree(part, depth, f)?;

@@ -6,7 +6,7 @@ use super::node::Node;
 impl Node {
     ghost use Rattle.std.specs.Prelude.{◌≡◌, true, false};
     ghost use Rattle.regress_tree.specs.Tree.{tree};
-    ghost use Rattle.regress_tree.specs.NodeTests.{is_byte_sequence, parts_turned};
+    ghost use Rattle.regress_tree.specs.NodeTests.{is_byte_sequence, parts_reversed};
 
     /// Reverses the parts of a `Cat` if the walk is inside a lookbehind. Any other node is left as it is.
     ///
@@ -29,7 +29,7 @@ impl Node {
     /// ```
     pub fn reverse_cats(&mut self, w: &mut Walk)
         requires { is_byte_sequence (tree self.old) ≡ false }
-        ensures behind { w.old.in_lookbehind ≡ true → tree self.new ≡ parts_turned (tree self.old) }
+        ensures lookbehind { w.old.in_lookbehind ≡ true → tree self.new ≡ parts_reversed (tree self.old) }
         ensures ahead { w.old.in_lookbehind ≡ false → tree self.new ≡ tree self.old }
         ensures walk { w.new ≡ w.old }
     {

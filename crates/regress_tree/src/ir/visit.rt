@@ -1,7 +1,7 @@
 //! Walks that only inspect the nodes.
 ghost use Rattle.std.specs.Prelude.{◌≡◌, true, false};
 ghost use Rattle.regress_tree.specs.Tree.{tree, trees};
-ghost use Rattle.regress_tree.specs.Visits.{Calls, Visited, Inside, RowVisited};
+ghost use Rattle.regress_tree.specs.Visits.{Calls, Visited, Inside, ListVisited};
 ghost use Rattle.regress_tree.specs.Climbs.{Climbed, down};
 
 use super::held::{body, walk_inside};
@@ -87,19 +87,19 @@ fn visit_after<F: FnMut(&Node, &mut Walk)>(n: &Node, walk: &Walk, func: &mut F)
 {
     let mut last = n;
     let mut here = walk.fresh();
-    let mut levels = 0;
-    while levels < usize::MAX {
+    let mut nesting = 0;
+    while nesting < usize::MAX {
         let Node::Alt(left, right) = last else {
             break;
         };
         here = here.inside(1);
         visit(true, left, &here, func);
         last = right;
-        levels += 1;
+        nesting += 1;
     }
     visit_inside(true, last, &here, func);
     call(last, &here, func);
-    climb(n, levels, walk, func);
+    climb(n, nesting, walk, func);
 }
 
 /// Visits what is inside a node.
@@ -111,7 +111,7 @@ fn visit_inside<F: FnMut(&Node, &mut Walk)>(postorder: bool, n: &Node, walk: &Wa
 {
     let inner = walk_inside(walk, n);
     match n {
-        Node::Cat(parts) => visit_row(postorder, parts, &inner, func),
+        Node::Cat(parts) => visit_list(postorder, parts, &inner, func),
         Node::Alt(left, right) => {
             visit(postorder, left, &inner, func);
             visit(postorder, right, &inner, func);
@@ -126,24 +126,29 @@ fn visit_inside<F: FnMut(&Node, &mut Walk)>(postorder: bool, n: &Node, walk: &Wa
 
 /// Visits the nodes of a list in order.
 #[cycle(visit)]
-fn visit_row<F: FnMut(&Node, &mut Walk)>(postorder: bool, parts: &[Node], walk: &Walk, func: &mut F)
+fn visit_list<F: FnMut(&Node, &mut Walk)>(
+    postorder: bool,
+    parts: &[Node],
+    walk: &Walk,
+    func: &mut F,
+)
     requires { F.IsAlwaysCallable func.old }
     ensures callable { F.IsAlwaysCallable func.new }
-    ensures visited { RowVisited (Calls F.step walk.now.unicode) postorder walk.now.depth walk.now.in_lookbehind (trees parts.now) (trees parts.now) func.old func.new }
+    ensures visited { ListVisited (Calls F.step walk.now.unicode) postorder walk.now.depth walk.now.in_lookbehind (trees parts.now) (trees parts.now) func.old func.new }
 {
     for part in parts {
         visit(postorder, part, walk, func);
     }
 }
 
-/// Calls `func` on `levels` nodes along the right sides from `n`, the lowest one first. No link leads up, so the lower
-/// half of the nodes takes a recursive call: the recursion is as deep as `levels` has binary digits.
-fn climb<F: FnMut(&Node, &mut Walk)>(n: &Node, levels: usize, walk: &Walk, func: &mut F)
+/// Calls `func` on `nesting` nodes along the right sides from `n`, the lowest one first. No link leads up, so the lower
+/// half of the nodes takes a recursive call: the recursion is as deep as `nesting` has binary digits.
+fn climb<F: FnMut(&Node, &mut Walk)>(n: &Node, nesting: usize, walk: &Walk, func: &mut F)
     requires { F.IsAlwaysCallable func.old }
     ensures callable { F.IsAlwaysCallable func.new }
-    ensures climbed { Climbed (Calls F.step walk.now.unicode) levels walk.now.depth walk.now.in_lookbehind (tree n.now) func.old func.new }
+    ensures climbed { Climbed (Calls F.step walk.now.unicode) nesting walk.now.depth walk.now.in_lookbehind (tree n.now) func.old func.new }
 {
-    let mut upper = levels;
+    let mut upper = nesting;
     while upper > 1 {
         let half = upper / 2;
         climb(right_side(n, half), upper - half, &walk.inside(half), func);
@@ -154,12 +159,12 @@ fn climb<F: FnMut(&Node, &mut Walk)>(n: &Node, levels: usize, walk: &Walk, func:
     }
 }
 
-/// Returns the node that is `levels` right sides below `n`.
-fn right_side(n: &Node, levels: usize) -> &Node
-    ensures { tree result.now ≡ down levels (tree n.now) }
+/// Returns the node that is `nesting` right sides below `n`.
+fn right_side(n: &Node, nesting: usize) -> &Node
+    ensures { tree result.now ≡ down nesting (tree n.now) }
 {
     let mut below = n;
-    for _ in 0..levels {
+    for _ in 0..nesting {
         if let Node::Alt(_, right) = below {
             below = right;
         }

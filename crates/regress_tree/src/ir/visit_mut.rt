@@ -2,11 +2,11 @@
 ghost use Rattle.std.specs.Prelude.{◌≡◌, true, false};
 ghost use Rattle.regress_tree.specs.Tree.{tree, trees, leaf, empty};
 ghost use Rattle.regress_tree.specs.Spine.{spine_length};
-ghost use Rattle.regress_tree.specs.Visits.{CallsMut, Visited, Inside, RowVisited, AddsNoNodes};
+ghost use Rattle.regress_tree.specs.Visits.{CallsMut, Visited, Inside, ListVisited, AddsNoNodes};
 ghost use Rattle.regress_tree.specs.Climbs.{ClimbedMut};
 
 use super::held::{body_mut, walk_inside};
-use super::spine::{left_mut, relink, shift};
+use super::spine::{left_mut, restore_spine, rotate_right_spine};
 use super::{Node, NodeList, Walk};
 
 /// Calls `func` on each node of the tree, with the [`Walk`] there: on a node before its children, or with `postorder`
@@ -90,7 +90,7 @@ fn visit_before<F: FnMut(&mut Node, &mut Walk)>(n: &mut Node, walk: &Walk, func:
     let mut above = Node::Empty;
     let mut here = walk.fresh();
     while !call(n, &here, func) {
-        if !shift(n, &mut above) {
+        if !rotate_right_spine(n, &mut above) {
             visit_inside(false, n, &here, func);
             break;
         }
@@ -99,7 +99,7 @@ fn visit_before<F: FnMut(&mut Node, &mut Walk)>(n: &mut Node, walk: &Walk, func:
             visit_mut(false, left, &here, func);
         }
     }
-    relink(n, above);
+    restore_spine(n, above);
 }
 
 /// Visits in postorder: a loop down the right sides of alternatives, and the calls on the way back up.
@@ -112,17 +112,17 @@ fn visit_after<F: FnMut(&mut Node, &mut Walk)>(n: &mut Node, walk: &Walk, func: 
 {
     let mut above = Node::Empty;
     let mut here = walk.fresh();
-    let mut levels = 0;
-    while levels < usize::MAX && shift(n, &mut above) {
+    let mut nesting = 0;
+    while nesting < usize::MAX && rotate_right_spine(n, &mut above) {
         here = here.inside(1);
-        levels += 1;
+        nesting += 1;
         if let Some(left) = left_mut(&mut above) {
             visit_mut(true, left, &here, func);
         }
     }
     visit_inside(true, n, &here, func);
     call(n, &here, func);
-    climb(n, above, levels, walk, func);
+    climb(n, above, nesting, walk, func);
 }
 
 /// Visits what is inside a node.
@@ -141,7 +141,7 @@ fn visit_inside<F: FnMut(&mut Node, &mut Walk)>(
 {
     let inner = walk_inside(walk, n);
     match n {
-        Node::Cat(parts) => visit_row(postorder, parts, &inner, func),
+        Node::Cat(parts) => visit_list(postorder, parts, &inner, func),
         Node::Alt(left, right) => {
             visit_mut(postorder, left, &inner, func);
             visit_mut(postorder, right, &inner, func);
@@ -156,7 +156,7 @@ fn visit_inside<F: FnMut(&mut Node, &mut Walk)>(
 
 /// Visits the nodes of a list in order.
 #[cycle(visit_mut)]
-fn visit_row<F: FnMut(&mut Node, &mut Walk)>(
+fn visit_list<F: FnMut(&mut Node, &mut Walk)>(
     postorder: bool,
     parts: &mut NodeList,
     walk: &Walk,
@@ -165,7 +165,7 @@ fn visit_row<F: FnMut(&mut Node, &mut Walk)>(
     requires callable { F.IsAlwaysCallable func.old }
     requires ends { postorder ≡ false → AddsNoNodes F.step }
     ensures callable { F.IsAlwaysCallable func.new }
-    ensures visited { RowVisited (CallsMut F.step walk.now.unicode) postorder walk.now.depth walk.now.in_lookbehind
+    ensures visited { ListVisited (CallsMut F.step walk.now.unicode) postorder walk.now.depth walk.now.in_lookbehind
         (trees parts.old.items) (trees parts.new.items) func.old func.new }
 {
     for i in 0..parts.len() {
@@ -177,21 +177,21 @@ fn visit_row<F: FnMut(&mut Node, &mut Walk)>(
 fn climb<F: FnMut(&mut Node, &mut Walk)>(
     n: &mut Node,
     above: Node,
-    levels: usize,
+    nesting: usize,
     walk: &Walk,
     func: &mut F,
 )
     requires callable { F.IsAlwaysCallable func.old }
-    requires levels { levels ≡ spine_length (tree above) }
+    requires nesting { nesting ≡ spine_length (tree above) }
     ensures callable { F.IsAlwaysCallable func.new }
     ensures climbed { ClimbedMut (CallsMut F.step walk.now.unicode) (tree above) walk.now.depth walk.now.in_lookbehind
         (tree n.old) (tree n.new) func.old func.new }
 {
     let mut above = above;
-    let mut levels = levels;
-    while shift(&mut above, n) {
-        levels -= 1;
-        call(n, &walk.inside(levels), func);
+    let mut nesting = nesting;
+    while rotate_right_spine(&mut above, n) {
+        nesting -= 1;
+        call(n, &walk.inside(nesting), func);
     }
 }
 

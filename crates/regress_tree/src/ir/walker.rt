@@ -40,17 +40,17 @@ impl Walk {
         }
     }
 
-    /// Returns the walk `levels` nodes further inside, where no node between is a lookaround.
-    pub fn inside(&self, levels: usize) -> Walk
+    /// Returns the walk `nesting` nodes further inside, where no node between is a lookaround.
+    pub fn inside(&self, nesting: usize) -> Walk
         ensures children { result.skip_children ≡ false }
-        ensures depth { result.depth ≡ min (self.now.depth + levels) usize.MAX }
-        ensures same { levels ≡ 0 → result.depth ≡ self.now.depth }
+        ensures depth { result.depth ≡ min (self.now.depth + nesting) usize.MAX }
+        ensures same { nesting ≡ 0 → result.depth ≡ self.now.depth }
         ensures direction { result.in_lookbehind ≡ self.now.in_lookbehind }
         ensures unicode { result.unicode ≡ self.now.unicode }
     {
         Walk {
             skip_children: false,
-            depth: self.depth.saturating_add(levels),
+            depth: self.depth.saturating_add(nesting),
             in_lookbehind: self.in_lookbehind,
             unicode: self.unicode,
         }

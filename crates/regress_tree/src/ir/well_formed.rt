@@ -7,7 +7,7 @@ ghost use Rattle.regress_tree.specs.WellFormed.{IsQuantifier, IsSmallSet, AreUtf
 ghost use Rattle.regress_tree.specs.Spine.{is_alt};
 ghost use Rattle.regress_tree.specs.Copies.{is_leaf};
 ghost use Rattle.regress_tree.specs.NodeTests.{is_goal};
-ghost use Rattle.regress_tree.specs.Survey.{IsTally, reference, StandsAt, SurveyedAt, RefusedAt, without_goal};
+ghost use Rattle.regress_tree.specs.Survey.{IsTally, reference, IsAllowedInside, SurveyedAt, RejectedAt, without_goal};
 
 use super::brackets::accepts_none;
 use super::groups::{GroupIds, Tally};
@@ -56,7 +56,7 @@ impl Regex {
 
 /// Surveys a whole tree. The result is `None` if a part is not allowed where it is or an id occurs twice.
 fn survey_root(node: &Node, ids: &mut GroupIds) -> Option<Tally>
-    ensures { MatchOption result (RefusedAt root (tree node.now) ids.old) (SurveyedAt root (tree node.now) ids.old ids.new) }
+    ensures { MatchOption result (RejectedAt root (tree node.now) ids.old) (SurveyedAt root (tree node.now) ids.old ids.new) }
 {
     match node {
         Node::Goal => Some(Tally::none(0)),
@@ -85,7 +85,7 @@ fn is_goal(node: &Node) -> bool
 /// deep as it has alternatives.
 #[cycle(survey)]
 fn survey(node: &Node, ids: &mut GroupIds) -> Option<Tally>
-    ensures { MatchOption result (RefusedAt inside (tree node.now) ids.old) (SurveyedAt inside (tree node.now) ids.old ids.new) }
+    ensures { MatchOption result (RejectedAt inside (tree node.now) ids.old) (SurveyedAt inside (tree node.now) ids.old ids.new) }
 {
     let mut node = node;
     let mut groups = Tally::none(0);
@@ -99,7 +99,7 @@ fn survey(node: &Node, ids: &mut GroupIds) -> Option<Tally>
 /// Surveys the parts of a `Cat`.
 #[cycle(survey)]
 fn survey_parts(parts: &[Node], ids: &mut GroupIds) -> Option<Tally>
-    ensures { MatchOption result (RefusedAt inside (cat (trees parts.now)) ids.old)
+    ensures { MatchOption result (RejectedAt inside (cat (trees parts.now)) ids.old)
         (SurveyedAt inside (cat (trees parts.now)) ids.old ids.new) }
 {
     let mut groups = Tally::none(0);
@@ -113,7 +113,7 @@ fn survey_parts(parts: &[Node], ids: &mut GroupIds) -> Option<Tally>
 #[cycle(survey)]
 fn survey_other(node: &Node, ids: &mut GroupIds) -> Option<Tally>
     requires { is_alt (tree node.now) ≡ false }
-    ensures { MatchOption result (RefusedAt inside (tree node.now) ids.old) (SurveyedAt inside (tree node.now) ids.old ids.new) }
+    ensures { MatchOption result (RejectedAt inside (tree node.now) ids.old) (SurveyedAt inside (tree node.now) ids.old ids.new) }
 {
     match node {
         Node::Cat(parts) => survey_parts(parts, ids),
@@ -164,10 +164,10 @@ fn survey_other(node: &Node, ids: &mut GroupIds) -> Option<Tally>
 /// Surveys a part that contains no node.
 fn survey_leaf(node: &Node) -> Option<Tally>
     requires { is_leaf (tree node.now) ≡ true }
-    ensures { MatchOption result (StandsAt inside (tree node.now) → ⊥)
-        (λ groups. StandsAt inside (tree node.now) × IsTally groups [] (reference (tree node.now))) }
+    ensures { MatchOption result (IsAllowedInside inside (tree node.now) → ⊥)
+        (λ groups. IsAllowedInside inside (tree node.now) × IsTally groups [] (reference (tree node.now))) }
 {
-    if !leaf_stands(node) {
+    if !leaf_is_allowed(node) {
         return None;
     }
     Some(Tally::none(match node {
@@ -177,9 +177,9 @@ fn survey_leaf(node: &Node) -> Option<Tally>
 }
 
 /// Returns whether a part that contains no node is allowed inside a tree of enough groups.
-fn leaf_stands(node: &Node) -> bool
+fn leaf_is_allowed(node: &Node) -> bool
     requires { is_leaf (tree node.now) ≡ true }
-    ensures { IsTrue result ↔ StandsAt inside (tree node.now) }
+    ensures { IsTrue result ↔ IsAllowedInside inside (tree node.now) }
 {
     match node {
         Node::Empty
@@ -201,7 +201,7 @@ fn leaf_stands(node: &Node) -> bool
 
 /// Returns whether the node is allowed as the body of a `Loop1CharBody`.
 fn is_one_character(node: &Node) -> bool
-    ensures { IsTrue result ↔ StandsAt one_character (tree node.now) }
+    ensures { IsTrue result ↔ IsAllowedInside one_character (tree node.now) }
 {
     match node {
         Node::Char { c } => *c <= CODE_POINT_MAX,

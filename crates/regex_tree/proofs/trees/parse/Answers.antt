@@ -1,5 +1,5 @@
 use Rattle.regress_unicode.specs.TableOf.{table_of}
-use Rattle.regex_tree.proofs.ShownLemmas.{parsed_asked, refused_asked}
+use Rattle.regex_tree.proofs.ShownLemmas.{parsed_asked, rejected_asked}
 use Rattle.regex_tree.proofs.trees.parse.Goals as goal
 
 pub returns-clause-parsed : goal.returns-clause-parsed
@@ -9,9 +9,9 @@ returns-clause-parsed c =
     parsed_asked request.stage request.format request.flags c.args.points.now found.result request.small (table_of c.in_ok-tables.tables)
     c.in_ok-tables.ensures found.ensures.parsed
 
-pub returns-clause-refused : goal.returns-clause-refused
-returns-clause-refused c =
+pub returns-clause-rejected : goal.returns-clause-rejected
+returns-clause-rejected c =
     let request = c.args.request.now in
     let found = c.parse_with in
-    refused_asked request.stage request.format request.flags c.args.points.now found.result request.small (table_of c.in_ok-tables.tables)
-    c.in_ok-tables.ensures found.ensures.refused
+    rejected_asked request.stage request.format request.flags c.args.points.now found.result request.small (table_of c.in_ok-tables.tables)
+    c.in_ok-tables.ensures found.ensures.rejected

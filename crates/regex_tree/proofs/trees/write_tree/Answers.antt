@@ -1,6 +1,6 @@
 use Rattle.std.proofs.Common.{◌++◌, refl, codes, string_bytes}
 use Rattle.regress_tree.specs.Tree.{tree}
-use Rattle.regress_show.specs.Json.{spanned_json_of}
+use Rattle.regress_json.specs.Json.{spanned_json_of}
 use Rattle.regex_tree.specs.declared.request.Format.TheVariants.{Json, Svg}
 use Rattle.regex_tree.proofs.ShownLemmas.{shows_one}
 use Rattle.regex_tree.proofs.trees.write_tree.Goals as goal
@@ -11,7 +11,7 @@ returns-in-Json-clause-written g c =
     let regex = c.args.regex.now in
     let spans = c.args.written.now.spans.now in
     rw c.in-Json.is
-    (shows_one Json regex.flags (tree regex.node) spans (spanned_json_of regex.flags (tree regex.node) spans ++ codes "\n") c.args.behind.now
+    (shows_one Json regex.flags (tree regex.node) spans (spanned_json_of regex.flags (tree regex.node) spans ++ codes "\n") c.args.after.now
     c.write_out-in-Json.result (contents c.args.out.now) (contents c.write_out-in-Json.new.out) refl c.write_out-in-Json.ensures.written)
 
 pub returns-in_ok-picture-in-Svg-clause-written : goal.returns-in_ok-picture-in-Svg-clause-written
@@ -20,6 +20,6 @@ returns-in_ok-picture-in-Svg-clause-written g c =
     let regex = c.args.regex.now in
     let picture = string_bytes c.in_ok-picture-in-Svg.picture in
     rw c.in-Svg.is
-    (shows_one Svg regex.flags (tree regex.node) c.args.written.now.spans.now (picture ++ codes "\n") c.args.behind.now
+    (shows_one Svg regex.flags (tree regex.node) c.args.written.now.spans.now (picture ++ codes "\n") c.args.after.now
     c.write_out-in-Svg.result (contents c.args.out.now) (contents c.write_out-in-Svg.new.out) (picture, c.in_ok-picture-in-Svg.ensures, refl)
     c.write_out-in-Svg.ensures.written)

@@ -2,7 +2,7 @@
 use Rattle.std.proofs.Common.{◌||◌, ◌∙◌, ap, sym, take}
 use Rattle.std.proofs.Math.Bool.{or-false}
 use Rattle.regress_base.specs.Intervals.{is_member, is_within}
-use Rattle.regress_base.proofs.laws.Sets.{is_member-nil, is_member-take_more, or_assoc}
+use Rattle.regress_base.proofs.lemmas.Sets.{is_member-nil, is_member-take_more, or_assoc}
 use Rattle.regress_base.proofs.sets.add_intervals.Goals as goal
 
 pub loop-interval-init : goal.loop-interval-init

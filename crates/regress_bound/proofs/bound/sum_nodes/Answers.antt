@@ -1,5 +1,5 @@
 use Rattle.std.proofs.Common.{◌≡◌, ℕ, ◌+◌, ◌<◌, ◌≤◌, [], ◌∷◌, length, min, arith}
-use Rattle.regress_lexical.specs.Source.{Source}
+use Rattle.regress_lexer.specs.Source.{Source}
 use Rattle.regress_bound.specs.Bound.{total, nodes_at}
 use Rattle.regress_bound.proofs.bound.sum_nodes.Goals as goal
 

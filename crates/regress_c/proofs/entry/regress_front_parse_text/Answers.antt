@@ -2,8 +2,8 @@ use Rattle.std.proofs.Common.{◌≡◌, ◌≤◌, ◌==◌, subst, ◌∙◌, 
 use Rattle.std.specs.List.{All}
 use Rattle.regress_base.specs.Intervals.{code_point_max}
 use Rattle.regress_c.specs.Request.{setting_by, IsRequest}
-use Rattle.regress_c.specs.WordsAnswer.{AnswersWords, wanting, bad}
-use Rattle.regress_c.proofs.AnswerLemmas.{words-asked}
+use Rattle.regress_c.specs.EncodingResults.{EncodingResult, out_of_memory, bad}
+use Rattle.regress_c.proofs.ResultLemmas.{words-asked}
 use Rattle.regress_c.proofs.entry.regress_front_parse_text.Goals as goal
 
 -- the request is for the code points of the bytes
@@ -11,14 +11,14 @@ pub returns-in-Ok-Some : goal.returns-in-Ok-Some
 returns-in-Ok-Some c =
     let read = rw c.in-Ok-Some.field-0-is at c.in-Ok-Some.ensures.points in
     let same : c.deref.result.now ≡ chars c.args.pattern.now = c.deref.ensures.value ∙ read.1 in
-    let answer = subst (λ source. AnswersWords (IsRequest source c.args.flags c.args.optimize) (setting_by c.args.flags) source
-    (c.args.optimize == 1) c.args.words.now c.answer_words.result c.answer_words.new.needed c.answer_words.new.place
-    c.answer_words.new.words) same c.answer_words.ensures.answer in
+    let status = subst (λ source. EncodingResult (IsRequest source c.args.flags c.args.optimize) (setting_by c.args.flags) source
+    (c.args.optimize == 1) c.args.words.now c.write_encoding.result c.write_encoding.new.needed c.write_encoding.new.position
+    c.write_encoding.new.words) same c.write_encoding.ensures.status in
     let points : All (λ c. c ≤ code_point_max) (chars c.args.pattern.now) = subst (All (λ c. c ≤ code_point_max)) read.1 read.2 in
-    record { answer = words-asked (λ asked. read.0) (λ asked. (points, asked.1)) answer }
+    record { status = words-asked (λ asked. read.0) (λ asked. (points, asked.1)) status }
 
 pub returns-in-Ok-None : goal.returns-in-Ok-None
-returns-in-Ok-None c = record { answer = bad (rw c.in-Ok-None.field-0-is at c.in-Ok-None.ensures.points) }
+returns-in-Ok-None c = record { status = bad (rw c.in-Ok-None.field-0-is at c.in-Ok-None.ensures.points) }
 
 pub returns-in-Err : goal.returns-in-Err
-returns-in-Err c = record { answer = wanting c.in-Err.ensures.wanting }
+returns-in-Err c = record { status = out_of_memory c.in-Err.ensures.out_of_memory }

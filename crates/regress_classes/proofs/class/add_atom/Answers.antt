@@ -2,7 +2,7 @@
 use Rattle.std.proofs.Common.{sym, subst, ap, ◌∙◌, ◌||◌}
 use Rattle.std.proofs.lemmas.Result.{on_ok_weaker}
 use Rattle.regress_base.specs.Intervals.{is_within, is_member}
-use Rattle.regress_classes.specs.ClassRows.{atom_members}
+use Rattle.regress_classes.specs.ClassProductions.{atom_members}
 use Rattle.regress_classes.specs.ClassViews.{Adds, class_atom_of}
 use Rattle.regress_classes.proofs.ClassLemmas.{adds_one}
 use Rattle.regress_classes.proofs.class.add_atom.Goals as goal

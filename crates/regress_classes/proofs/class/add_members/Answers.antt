@@ -1,7 +1,7 @@
 -- The complement is added interval by interval.
 use Rattle.std.proofs.Common.{sym, subst, Bool}
 use Rattle.std.proofs.lemmas.Result.{on_ok_weaker}
-use Rattle.regress_classes.specs.ClassRows.{complement_if}
+use Rattle.regress_classes.specs.ClassProductions.{complement_if}
 use Rattle.regress_classes.specs.ClassViews.{Adds}
 use Rattle.regress_classes.proofs.ClassLemmas.{adds_complement}
 use Rattle.regress_classes.proofs.class.add_members.Goals as goal

@@ -1,7 +1,7 @@
 -- A range is one interval; otherwise all three parts are members.
 use Rattle.std.proofs.Common.{◌++◌, ◌∙◌, ◌||◌, List, [], ◌∷◌, ℕ, ap, subst, rules}
 use Rattle.regress_base.specs.Intervals.{Bounds, is_within, is_member}
-use Rattle.regress_classes.specs.ClassRows.{atom_members, one_point}
+use Rattle.regress_classes.specs.ClassProductions.{atom_members, one_point}
 use Rattle.regress_classes.specs.ClassViews.{class_atom_of, Adds}
 use Rattle.regress_classes.proofs.ClassLemmas.{adds_one, adds_both}
 use Rattle.regress_classes.proofs.class.add_range.Goals as goal

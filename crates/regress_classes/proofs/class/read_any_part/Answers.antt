@@ -1,10 +1,10 @@
 -- An atom that starts no range.
 use Rattle.std.proofs.Common.{Some, sym, ap, ◌∙◌}
 use Rattle.regress_unicode.specs.TableOf.{table_of}
-use Rattle.regress_lexical.specs.Source.{Source}
-use Rattle.regress_classes.specs.ClassRows.{atom_members}
+use Rattle.regress_lexer.specs.Source.{Source}
+use Rattle.regress_classes.specs.ClassProductions.{atom_members}
 use Rattle.regress_classes.specs.ClassViews.{class_atom_of}
-use Rattle.regress_lexical.specs.Views.{source}
+use Rattle.regress_lexer.specs.Views.{source}
 use Rattle.regress_classes.proofs.ClassLemmas.{alone_read}
 use Rattle.regress_classes.proofs.class.read_any_part.Goals as goal
 

@@ -3,16 +3,16 @@ use Rattle.std.proofs.Common.{◌≡◌, ℕ, false, not, ◌&&◌, ◌||◌, �
 use Rattle.std.proofs.lemmas.Bool.{ne_eqb, and_left, and_right}
 use Rattle.std.specs.List.{All}
 use Rattle.std.proofs.lemmas.List.Elements.{All-tail}
-use Rattle.regress_lexical.specs.Reads.{Reads}
-use Rattle.regress_lexical.specs.Source.{IsCodePoint, found_map}
-use Rattle.regress_lexical.specs.Views.{source}
+use Rattle.regress_lexer.specs.Reads.{Reads}
+use Rattle.regress_lexer.specs.Source.{IsCodePoint, found_map}
+use Rattle.regress_lexer.specs.Views.{source}
 use Rattle.regress_unicode.specs.TableOf.{table_of}
-use Rattle.regress_lexical.proofs.laws.Sources.{on_refused}
-use Rattle.regress_classes.specs.ClassRows.{point, class_property_at}
-use Rattle.regress_classes.proofs.EscapeRows.{set_read, backspace_read, hyphen_read, control_read, property_read, point_read}
+use Rattle.regress_lexer.proofs.lemmas.Sources.{on_rejected}
+use Rattle.regress_classes.specs.ClassProductions.{point, class_property_at}
+use Rattle.regress_classes.proofs.EscapeProductions.{set_read, backspace_read, hyphen_read, control_read, property_read, point_read}
 use Rattle.regress_classes.specs.ClassViews.{class_atom_of}
-use Rattle.regress_lexical.proofs.laws.Behind.{behind_all, escape_at-ends}
-use Rattle.regress_classes.proofs.laws.Pieces.{class_control_at-ends}
+use Rattle.regress_lexer.proofs.lemmas.After.{after_all, escape_at-ends}
+use Rattle.regress_classes.proofs.lemmas.Pieces.{class_control_at-ends}
 use Rattle.regress_classes.proofs.class_atom.read_escaped_atom.Goals as goal
 use Rattle.regress_classes.proofs.class_atom.read_escaped_atom.Goals.{else-c-from-2-via-then-c-from-2+else-unicode, else-c-from-2-via-else-c-from-2, else-c-from-3-via-then-c-from-3+else-not-unicode, else-c-from-3-via-else-c-from-3, else-is_property_letter-via-then-is_property_letter+else-unicode-2, else-is_property_letter-via-else-is_property_letter}
 
@@ -20,7 +20,7 @@ pub invariant_of-cursor-then-not-unicode : goal.invariant_of-cursor-then-not-uni
 invariant_of-cursor-then-not-unicode c =
     let control = c.class_control in
     record {
-      in_range = behind_all _ _
+      in_range = after_all _ _
           ((class_control_at-ends c.in-Some.rest.now).each (class_atom_of control.result.0, control.result.1.now) (sym control.ensures.value))
           (subst (All IsCodePoint)
           (c.in-Some.ensures.cases.0 ∙ ap (λ (n : ℕ). n ∷ c.in-Some.rest.now) (c.if-c-from-3.true ∙ c.from-else-c-from-2.ensures)) c.args.cursor.now.in_range);
@@ -33,9 +33,9 @@ invariant_of-cursor-then-unicode-2 c = record {
 
 pub invariant_of-cursor-else-is_property_letter : goal.invariant_of-cursor-else-is_property_letter
 invariant_of-cursor-else-is_property_letter c = record {
-  in_range = behind_all _ _
+  in_range = after_all _ _
       ((escape_at-ends c.args.unicode c.args.cursor.now.rest.now).each
-      (c.in-Some-read_escape.point, c.in-Some-read_escape.behind.now) (sym c.in-Some-read_escape.ensures.value))
+      (c.in-Some-parse_escape.point, c.in-Some-parse_escape.after.now) (sym c.in-Some-parse_escape.ensures.value))
       c.args.cursor.now.in_range;
 }
 
@@ -73,14 +73,14 @@ pub returns-then-unicode-2-clause-value : goal.returns-then-unicode-2-clause-val
 returns-then-unicode-2-clause-value c =
     let letter = c.in-Some.c.now in
     let front = c.in-Some.ensures.cases.0 in
-    let row = property_read (table_of c.args.tables.now) c.args.unicode (source c.args.cursor.now) letter c.in-Some.rest.now front
+    let list = property_read (table_of c.args.tables.now) c.args.unicode (source c.args.cursor.now) letter c.in-Some.rest.now front
     (sym c.is_property_letter.ensures ∙ c.if-is_property_letter.true) c.if-unicode-2.true in
     subst (Reads class_atom_of (source c.read_class_property.new.cursor) c.read_class_property.result)
-    (ap (λ d. class_property_at (table_of c.args.tables.now) (letter == d) c.in-Some.rest.now) c.from-then-unicode-2.ensures ∙ sym row)
+    (ap (λ d. class_property_at (table_of c.args.tables.now) (letter == d) c.in-Some.rest.now) c.from-then-unicode-2.ensures ∙ sym list)
     c.read_class_property.ensures.value
 
-pub returns-in-Some-read_escape-clause-value : goal.returns-in-Some-read_escape-clause-value
-returns-in-Some-read_escape-clause-value c =
+pub returns-in-Some-parse_escape-clause-value : goal.returns-in-Some-parse_escape-clause-value
+returns-in-Some-parse_escape-clause-value c =
     let letter = c.in-Some.c.now in
     let front = c.in-Some.ensures.cases.0 in
     let hyphen : (letter == 45 && c.args.unicode) ≡ false = elim c.else-c-from-2.branch [
@@ -98,12 +98,12 @@ returns-in-Some-read_escape-clause-value c =
       | else-is_property_letter-via-else-is_property_letter w ↦
           and_left (letter == 112 || letter == 80) c.args.unicode (sym c.is_property_letter.ensures ∙ w.if-is_property_letter.false)
     ] in
-    let row = point_read (table_of c.args.tables.now) c.args.unicode (source c.args.cursor.now) letter c.in-Some.rest.now front
+    let list = point_read (table_of c.args.tables.now) c.args.unicode (source c.args.cursor.now) letter c.in-Some.rest.now front
     (sym c.class_letter.ensures ∙ c.in_default-class_letter.is) (ne_eqb letter 98 (λ e. c.if-c-from.false (e ∙ sym c.from.ensures))) hyphen control property in
-    row ∙ ap (found_map point) (sym c.in-Some-read_escape.ensures.value)
+    list ∙ ap (found_map point) (sym c.in-Some-parse_escape.ensures.value)
 
-pub returns-in_default-read_escape-clause-value : goal.returns-in_default-read_escape-clause-value
-returns-in_default-read_escape-clause-value c =
+pub returns-in_default-parse_escape-clause-value : goal.returns-in_default-parse_escape-clause-value
+returns-in_default-parse_escape-clause-value c =
     let letter = c.in-Some.c.now in
     let front = c.in-Some.ensures.cases.0 in
     let hyphen : (letter == 45 && c.args.unicode) ≡ false = elim c.else-c-from-2.branch [
@@ -121,6 +121,6 @@ returns-in_default-read_escape-clause-value c =
       | else-is_property_letter-via-else-is_property_letter w ↦
           and_left (letter == 112 || letter == 80) c.args.unicode (sym c.is_property_letter.ensures ∙ w.if-is_property_letter.false)
     ] in
-    let row = point_read (table_of c.args.tables.now) c.args.unicode (source c.args.cursor.now) letter c.in-Some.rest.now front
+    let list = point_read (table_of c.args.tables.now) c.args.unicode (source c.args.cursor.now) letter c.in-Some.rest.now front
     (sym c.class_letter.ensures ∙ c.in_default-class_letter.is) (ne_eqb letter 98 (λ e. c.if-c-from.false (e ∙ sym c.from.ensures))) hyphen control property in
-    on_refused c.refused-in_default-read_escape.result (row ∙ ap (found_map point) (sym c.in_default-read_escape.ensures.value))
+    on_rejected c.rejected-in_default-parse_escape.result (list ∙ ap (found_map point) (sym c.in_default-parse_escape.ensures.value))

@@ -1,9 +1,9 @@
 -- The complement of the members.
 use Rattle.std.proofs.Common.{ap, sym, ◌∙◌, List}
 use Rattle.regress_base.specs.Intervals.{Bounds, is_member}
-use Rattle.regress_classes.specs.ClassRows.{members_of, class_members}
-use Rattle.regress_lexical.proofs.laws.Sources.{ok_from_both}
-use Rattle.regress_classes.proofs.laws.Values.{complement_is}
+use Rattle.regress_classes.specs.ClassProductions.{members_of, class_members}
+use Rattle.regress_lexer.proofs.lemmas.Sources.{ok_from_both}
+use Rattle.regress_classes.proofs.lemmas.Values.{complement_is}
 use Rattle.regress_classes.proofs.class_escape.class_members.Goals as goal
 
 pub returns-then-negated : goal.returns-then-negated

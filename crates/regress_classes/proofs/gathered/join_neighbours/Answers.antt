@@ -1,6 +1,6 @@
 -- Each call merges two neighbours or leaves both.
 use Rattle.std.proofs.Common.{rules}
-use Rattle.regress_classes.proofs.GatheredLemmas.{joined_canonical, joined_members}
+use Rattle.regress_classes.proofs.IntervalCollectorLemmas.{joined_canonical, joined_members}
 use Rattle.regress_classes.proofs.gathered.join_neighbours.Goals as goal
 
 pub returns-clause-members : goal.returns-clause-members

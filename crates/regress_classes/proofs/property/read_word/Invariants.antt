@@ -1,6 +1,6 @@
 -- The word before the cursor is parsed.
 use Rattle.std.proofs.Common.{length, string_bytes}
-use Rattle.regress_lexical.specs.Views.{source}
+use Rattle.regress_lexer.specs.Views.{source}
 use Rattle.regress_classes.proofs.PropertyLemmas.{WordUpTo}
 use Rattle.regress_classes.proofs.property.read_word.Given as goal
 

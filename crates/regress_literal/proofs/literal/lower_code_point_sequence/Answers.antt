@@ -1,21 +1,21 @@
 -- Each literal extends the text, or ends it and is a piece by itself.
 use Rattle.std.proofs.Common.{◌≡◌, ℕ, ◌+◌, ◌++◌, [], ◌∷◌, Bool, List, map, string_bytes, refl, sym, ap, ap₂, subst, ◌∙◌}
 use Rattle.std.proofs.lemmas.List.{at_drop_all, map-append}
-use Rattle.regress_literal.specs.Literal.{piece, piece_of, bytes_piece, is_character, lowered_behind, AreApart, MeanLiterals}
+use Rattle.regress_literal.specs.Literal.{piece, piece_of, bytes_piece, is_character, lowered_after, NoAdjacentSequences, MatchLiterals}
 use Rattle.regress_base.specs.Table.{Table}
 use Rattle.regress_unicode.specs.TableOf.{table_of}
 use Rattle.regress_tree.specs.Tree.{Leaf}
-use Rattle.regress_literal.proofs.LoweringLemmas.{AreFound, step_character, step_piece, class-some, lowered-mean, lowered-apart}
+use Rattle.regress_literal.proofs.LoweringLemmas.{AreMatches, step_character, step_piece, class-some, lowered-mean, lowered-apart}
 use Rattle.regress_literal.proofs.literal.lower_code_point_sequence.Goals as goal
 use Rattle.regress_literal.proofs.literal.lower_code_point_sequence.Goals.{in-Some+in_ok-push-in-Some, in-None+in_ok-push_text-in-None+in_ok-piece_of-in-None+in_ok-push-in-None}
 
 -- the pieces found, by equal values
 found_as : (table : Table) (icase unicode : Bool) (cps : List ℕ) (i : ℕ) (found found' : List Leaf) (written written' : List ℕ) →
-    found ≡ found' → written ≡ written' → AreFound table icase unicode found' written' cps i →
-    AreFound table icase unicode found written cps i
+    found ≡ found' → written ≡ written' → AreMatches table icase unicode found' written' cps i →
+    AreMatches table icase unicode found written cps i
 found_as table icase unicode cps i found found' written written' e f are =
-    subst (λ leaves. AreFound table icase unicode leaves written cps i) (sym e)
-    (subst (λ bytes. AreFound table icase unicode found' bytes cps i) (sym f) are)
+    subst (λ leaves. AreMatches table icase unicode leaves written cps i) (sym e)
+    (subst (λ bytes. AreMatches table icase unicode found' bytes cps i) (sym f) are)
 
 pub loop-c-init : goal.loop-c-init
 loop-c-init c =
@@ -57,18 +57,18 @@ loop-c-preserved c =
 
 pub returns-clause-pieces : goal.returns-clause-pieces
 returns-clause-pieces c =
-    let behind = lowered_behind (table_of c.args.tables.now) c.args.icase c.args.unicode (string_bytes c.loop-c.text) in
+    let after = lowered_after (table_of c.args.tables.now) c.args.icase c.args.unicode (string_bytes c.loop-c.text) in
     c.in_ok-push_text.ensures
     ∙ ap (λ (rest : List Leaf). map piece c.loop-c.pieces.items ++ rest)
-    (sym (at_drop_all behind c.args.cps.now c.loop-c.c-index c.loop-c-test.false))
+    (sym (at_drop_all after c.args.cps.now c.loop-c.c-index c.loop-c-test.false))
     ∙ c.loop-c.invariant
 
 pub returns-clause-apart : goal.returns-clause-apart
 returns-clause-apart c =
-    subst AreApart (sym (returns-clause-pieces c))
+    subst NoAdjacentSequences (sym (returns-clause-pieces c))
     (lowered-apart (table_of c.args.tables.now) c.args.icase c.args.unicode c.args.cps.now)
 
 pub returns-clause-meaning : goal.returns-clause-meaning
 returns-clause-meaning c =
-    subst (MeanLiterals (table_of c.args.tables.now) c.args.icase c.args.unicode c.args.cps.now) (sym (returns-clause-pieces c))
+    subst (MatchLiterals (table_of c.args.tables.now) c.args.icase c.args.unicode c.args.cps.now) (sym (returns-clause-pieces c))
     (lowered-mean (table_of c.args.tables.now) c.args.icase c.args.unicode c.args.cps.now)

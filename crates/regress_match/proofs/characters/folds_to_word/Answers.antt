@@ -2,9 +2,9 @@ use Rattle.std.proofs.Common.{rules, arith, ◌≡◌, Bool, true, false, refl, 
 use Rattle.regress_base.specs.Classes.{word_characters}
 use Rattle.regress_base.specs.Intervals.{is_member}
 use Rattle.regress_base.specs.Table.{is_in_closure}
-use Rattle.regress_base.proofs.laws.Literals.{same_tests}
+use Rattle.regress_base.proofs.lemmas.Literals.{same_tests}
 use Rattle.regress_unicode.specs.TableOf.{table_of}
-use Rattle.regress_unicode.proofs.laws.Closures.{closure_from, closure_gives}
+use Rattle.regress_unicode.proofs.lemmas.Closures.{closure_from, closure_gives}
 use Rattle.regress_match.proofs.WordLemmas.{word_range}
 use Rattle.regress_match.proofs.characters.folds_to_word.Goals as goal
 

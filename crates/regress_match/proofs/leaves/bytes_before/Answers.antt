@@ -2,16 +2,16 @@ use Rattle.std.proofs.Common.{arith, ◌∙◌, sym, refl, length, true, false}
 use Rattle.regress_match.proofs.LeafLemmas.{before_short, before_by}
 use Rattle.regress_match.proofs.leaves.bytes_before.Goals as goal
 
-pub returns-then-count-place : goal.returns-then-count-place
-returns-then-count-place c = λ s at.
-    before_short c.args.bytes.now c.args.written.now s c.args.place (length c.args.written.now) at refl (omega arith)
+pub returns-then-count-position : goal.returns-then-count-position
+returns-then-count-position c = λ s at.
+    before_short c.args.bytes.now c.args.written.now s c.args.position (length c.args.written.now) at refl (omega arith)
 
-pub returns-then-stands_at : goal.returns-then-stands_at
-returns-then-stands_at c = λ s at.
-    before_by c.args.bytes.now c.args.written.now s c.args.place (length c.args.written.now) true at refl (omega arith)
-    (sym c.stands_at.ensures ∙ c.if-stands_at.true)
+pub returns-then-has_bytes_at : goal.returns-then-has_bytes_at
+returns-then-has_bytes_at c = λ s at.
+    before_by c.args.bytes.now c.args.written.now s c.args.position (length c.args.written.now) true at refl (omega arith)
+    (sym c.has_bytes_at.ensures ∙ c.if-has_bytes_at.true)
 
-pub returns-else-stands_at : goal.returns-else-stands_at
-returns-else-stands_at c = λ s at.
-    before_by c.args.bytes.now c.args.written.now s c.args.place (length c.args.written.now) false at refl (omega arith)
-    (sym c.stands_at.ensures ∙ c.if-stands_at.false)
+pub returns-else-has_bytes_at : goal.returns-else-has_bytes_at
+returns-else-has_bytes_at c = λ s at.
+    before_by c.args.bytes.now c.args.written.now s c.args.position (length c.args.written.now) false at refl (omega arith)
+    (sym c.has_bytes_at.ensures ∙ c.if-has_bytes_at.false)

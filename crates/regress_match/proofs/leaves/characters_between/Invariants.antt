@@ -4,12 +4,12 @@ use Rattle.regress_tree.specs.Reading.{of_bytes}
 use Rattle.regress_tree.specs.References.{characters_from}
 use Rattle.regress_match.proofs.leaves.characters_between.Given as goal
 
-abbrev pub invariant-loop-place : goal.invariant-loop-place
-invariant-loop-place l = record {
-  far : l.start + length l.found.items ≤ l.place;
+abbrev pub invariant-loop-position : goal.invariant-loop-position
+invariant-loop-position l = record {
+  far : l.start + length l.found.items ≤ l.position;
   found : characters_from (of_bytes l.text) (l.end - l.start) l.start l.end
-      ≡ l.found.items ++ characters_from (of_bytes l.text) (l.end - l.start - length l.found.items) l.place l.end;
+      ≡ l.found.items ++ characters_from (of_bytes l.text) (l.end - l.start - length l.found.items) l.position l.end;
 }
 
-abbrev pub decreases-loop-place : goal.decreases-loop-place
-decreases-loop-place l = l.end - l.place
+abbrev pub decreases-loop-position : goal.decreases-loop-position
+decreases-loop-position l = l.end - l.position

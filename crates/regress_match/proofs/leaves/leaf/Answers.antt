@@ -8,4 +8,4 @@ use Rattle.regress_match.proofs.leaves.leaf.Goals as goal
 pub returns-in_default : goal.returns-in_default
 returns-in_default c = λ one.
     let simple : is_simple (tree c.args.node.now) ≡ true = first_of (search (rules, the_lemmas), grind (arith, the_lemmas, one)) in
-    c.simple_leaf.ensures simple (state c.args.captures.now c.args.place) refl
+    c.simple_leaf.ensures simple (state c.args.captures.now c.args.position) refl

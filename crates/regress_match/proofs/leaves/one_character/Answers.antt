@@ -11,7 +11,7 @@ pub returns-in_err-c : goal.returns-in_err-c
 returns-in_err-c c = λ s at.
     let d = direction_if c.args.rules.backwards in
     let r = of_bytes c.args.text.now in
-    let none : next_character d r s.place ≡ None =
+    let none : next_character d r s.position ≡ None =
     ap (next_character d r) at ∙ sym c.next_read.ensures ∙ ap (option_map read_of) c.in_err-c.was in
     rw c.from_residual.ensures (sym (one_none d r (test_of (tree c.args.node.now)) s none))
 
@@ -20,7 +20,7 @@ returns-then-accepts c = λ s at.
     let d = direction_if c.args.rules.backwards in
     let r = of_bytes c.args.text.now in
     let read = read_of (c.in_ok-c.c, c.in_ok-c.to) in
-    let some : next_character d r s.place ≡ Some read =
+    let some : next_character d r s.position ≡ Some read =
     ap (next_character d r) at ∙ sym c.next_read.ensures ∙ ap (option_map read_of) c.in_ok-c.was in
     sym (one_yes d r (test_of (tree c.args.node.now)) s read some (sym (c.accepts.ensures) ∙ c.if-accepts.true))
 
@@ -29,6 +29,6 @@ returns-else-accepts c = λ s at.
     let d = direction_if c.args.rules.backwards in
     let r = of_bytes c.args.text.now in
     let read = read_of (c.in_ok-c.c, c.in_ok-c.to) in
-    let some : next_character d r s.place ≡ Some read =
+    let some : next_character d r s.position ≡ Some read =
     ap (next_character d r) at ∙ sym c.next_read.ensures ∙ ap (option_map read_of) c.in_ok-c.was in
     sym (one_no d r (test_of (tree c.args.node.now)) s read some (sym (c.accepts.ensures) ∙ c.if-accepts.false))

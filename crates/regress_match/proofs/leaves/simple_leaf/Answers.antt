@@ -7,7 +7,7 @@ use Rattle.regress_tree.specs.Setting.{Setting}
 use Rattle.regress_tree.specs.Tree.{tree, leaf, anchor, word_boundary}
 use Rattle.regress_unicode.specs.TableOf.{table_of}
 use Rattle.regress_prefilter.specs.OneCharacter.{takes_one}
-use Rattle.regress_prefilter.proofs.laws.OneCharacter.{takes_one-steps}
+use Rattle.regress_prefilter.proofs.lemmas.OneCharacter.{takes_one-steps}
 use Rattle.regress_match.proofs.LeafLemmas.{holds_is}
 use Rattle.regress_match.proofs.leaves.simple_leaf.Goals as goal
 

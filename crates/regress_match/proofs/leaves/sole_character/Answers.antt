@@ -2,7 +2,7 @@ use Rattle.std.proofs.Common.{rules, arith, ap, sym, subst, length}
 use Rattle.std.specs.Str.{IsUtf8}
 use Rattle.std.proofs.lemmas.Str.{IsUtf8-encode, length-encode, len_utf8_bounds}
 use Rattle.regress_prefilter.specs.OneCharacter.{sole_character}
-use Rattle.regress_prefilter.proofs.laws.OneCharacter.{sole-encodes}
+use Rattle.regress_prefilter.proofs.lemmas.OneCharacter.{sole-encodes}
 use Rattle.regress_match.proofs.LeafLemmas.{none_of}
 use Rattle.regress_match.proofs.leaves.sole_character.Goals as goal
 

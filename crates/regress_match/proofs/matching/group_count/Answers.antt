@@ -3,7 +3,7 @@ use Rattle.std.proofs.lemmas.List.{length-append}
 use Rattle.regress_tree.specs.Gathered.{own_group}
 use Rattle.regress_tree.specs.Tree.{tree}
 use Rattle.regress_tree.specs.WellFormed.{Capture}
-use Rattle.regress_tree.proofs.laws.Gathered.{visited_adds, gathered-groups}
+use Rattle.regress_tree.proofs.lemmas.Gathered.{visited_adds, gathered-groups}
 use Rattle.regress_match.proofs.matching.group_count.Goals as goal
 
 abbrev Counted : ℕ → ℕ → List Capture → Type 0
@@ -17,8 +17,8 @@ returns c =
     let counts = visited_adds _ own_group (λ a b xs. (b.0.ghost_name ≡ a.0.ghost_name) × Counted a.0.now.groups b.0.now.groups xs) (record {
       none = λ a. (refl, λ n is. omega (arith, is));
       joined = λ a b d xs ys first second. (second.0 ∙ first.0, λ n is. omega (arith, second.1 (n + length xs) (first.1 n is), length-append xs ys));
-      adds = λ a b t u d behind skip call. (search rules, rw (← call.on) (search rules));
-      leaves = λ a b t u d behind skip call. call.leaves;
-      goes_on = λ a b t u d behind skip call. search rules;
+      adds = λ a b t u d after skip call. (search rules, rw (← call.on) (search rules));
+      leaves = λ a b t u d after skip call. call.leaves;
+      goes_on = λ a b t u d after skip call. search rules;
     }) _ _ _ _ _ _ c.walk.ensures.visited in
     finish _ c.walk.new.func.0.now.groups _ _ (search rules) (counts.1 0 (search rules)) (ap length (gathered-groups (tree c.args.node.now)))

@@ -3,14 +3,14 @@ use Rattle.regress_tree.specs.Reading.{Read, read_before}
 use Rattle.regress_match.proofs.ReadingLemmas.{ascii_before, before_start}
 use Rattle.regress_match.proofs.reading.read_before.Goals as goal
 
-pub returns-then-place-eq0 : goal.returns-then-place-eq0
-returns-then-place-eq0 c = sym (ap (read_before c.args.text.now) c.if-place-eq0.true ∙ before_start c.args.text.now)
+pub returns-then-position-eq0 : goal.returns-then-position-eq0
+returns-then-position-eq0 c = sym (ap (read_before c.args.text.now) c.if-position-eq0.true ∙ before_start c.args.text.now)
 
 pub returns-in-Some : goal.returns-in-Some
 returns-in-Some c =
     let found = c.in-Some.ensures in
-    let place = c.args.place in
-    let here : Read = record { character = c.in-Some.b; place = place - 1 } in
-    let number : place ≡ place - 1 + 1 = omega (arith, c.if-place-eq0.false) in
+    let position = c.args.position in
+    let here : Read = record { character = c.in-Some.b; position = position - 1 } in
+    let number : position ≡ position - 1 + 1 = omega (arith, c.if-position-eq0.false) in
     ap (λ x. Some (record here { character = x })) c.from.ensures
-    ∙ sym (ap (read_before c.args.text.now) number ∙ ascii_before c.args.text.now (place - 1) c.in-Some.b found.0 found.1 found.2)
+    ∙ sym (ap (read_before c.args.text.now) number ∙ ascii_before c.args.text.now (position - 1) c.in-Some.b found.0 found.1 found.2)

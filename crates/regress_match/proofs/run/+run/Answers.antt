@@ -1,7 +1,7 @@
 use Rattle.std.proofs.Common.{rules, arith, ◌≡◌, ◌++◌, ◌∷◌, [], ◌∙◌, List, length, refl, ap}
 use Rattle.regress_tree.specs.Reading.{direction_if}
 use Rattle.regress_tree.specs.Matching.{steps}
-use Rattle.regress_tree.specs.Steps.{State}
+use Rattle.regress_tree.specs.Steps.{MatchState}
 use Rattle.regress_tree.specs.Tree.{tree}
 use Rattle.regress_unicode.specs.TableOf.{table_of}
 use Rattle.regress_match.specs.Captures.{state, undone}
@@ -11,41 +11,41 @@ use Rattle.regress_match.proofs.CaptureLemmas.{Later-refl, undone-nil, undone-al
 use Rattle.regress_match.proofs.RunLemmas.{begins, goes_on_with, ends_at, look_holds, look_fails, looks_first, looks_none, rewound, rewound_trail}
 use Rattle.regress_match.proofs.run.+run.Goals as goal
 
-pub look-returns-then-fails_at_once-clause-looks : goal.look-returns-then-fails_at_once-clause-looks
-look-returns-then-fails_at_once-clause-looks t c =
+pub look-returns-then-cannot_match_at-clause-looks : goal.look-returns-then-cannot_match_at-clause-looks
+look-returns-then-cannot_match_at-clause-looks t c =
     let l = c.args.looking in
     let body = steps (record { flags = c.args.rules.flags; table = table_of c.args.rules.known.tables.now }) c.args.text.now (direction_if l.backwards)
     (tree l.body.now) in
-    looks_none l.negate body c.args.captures.now c.args.captures.now l.place c.holds_if.result
-    (c.fails_at_once.ensures c.if-fails_at_once.true (state c.args.captures.now l.place) refl) refl c.holds_if.ensures
+    looks_none l.negate body c.args.captures.now c.args.captures.now l.position c.holds_if.result
+    (c.cannot_match_at.ensures c.if-cannot_match_at.true (state c.args.captures.now l.position) refl) refl c.holds_if.ensures
 
-pub look-returns-then-fails_at_once-clause-later : goal.look-returns-then-fails_at_once-clause-later
-look-returns-then-fails_at_once-clause-later t c = Later-refl c.args.captures.now
+pub look-returns-then-cannot_match_at-clause-later : goal.look-returns-then-cannot_match_at-clause-later
+look-returns-then-cannot_match_at-clause-later t c = Later-refl c.args.captures.now
 
 pub look-returns-in-At-clause-looks : goal.look-returns-in-At-clause-looks
 look-returns-in-At-clause-looks t c =
     let l = c.args.looking in
     let body = steps (record { flags = c.args.rules.flags; table = table_of c.args.rules.known.tables.now }) c.args.text.now (direction_if l.backwards)
     (tree l.body.now) in
-    let s = state c.args.captures.now l.place in
-    let found : (rest : List State) × (body s ≡ state c.run.new.captures c.in-At.field-0 ∷ rest) = rw c.in-At.is at c.in_ok-answer.ensures.answers in
-    looks_first l.negate body c.args.captures.now c.run.new.captures l.place c.in-At.field-0 c.holds_if-in-At.result found.0 found.1 c.holds_if-in-At.ensures
+    let s = state c.args.captures.now l.position in
+    let found : (rest : List MatchState) × (body s ≡ state c.run.new.captures c.in-At.field-0 ∷ rest) = rw c.in-At.is at c.in_ok-response.ensures.yields in
+    looks_first l.negate body c.args.captures.now c.run.new.captures l.position c.in-At.field-0 c.holds_if-in-At.result found.0 found.1 c.holds_if-in-At.ensures
 
 pub look-returns-clause-looks : goal.look-returns-clause-looks
 look-returns-clause-looks t c =
     let l = c.args.looking in
     let body = steps (record { flags = c.args.rules.flags; table = table_of c.args.rules.known.tables.now }) c.args.text.now (direction_if l.backwards)
     (tree l.body.now) in
-    let s = state c.args.captures.now l.place in
+    let s = state c.args.captures.now l.position in
     let before = c.args.captures.now.trail.items in
     let since = c.run.new.captures.trail.items in
     let split : c.append.new.self.items ≡ before ++ since = search rules in
     let len : c.len-noted.result ≡ length before = search rules in
     let spans : c.rewind.new.self.spans.items ≡ c.args.captures.now.spans.items =
     rewound before since c.append.new.self.items c.len-noted.result c.args.captures.now.spans.items c.run.new.captures.spans.items
-    c.rewind.new.self.spans.items split len c.in_ok-answer.ensures.undo c.rewind.ensures.spans in
-    let none : body s ≡ [] = rw c.in-Nowhere.is at c.in_ok-answer.ensures.answers in
-    looks_none l.negate body c.args.captures.now c.rewind.new.self l.place c.holds_if-in-Nowhere.result none spans c.holds_if-in-Nowhere.ensures
+    c.rewind.new.self.spans.items split len c.in_ok-response.ensures.undo c.rewind.ensures.spans in
+    let none : body s ≡ [] = rw c.in-Nowhere.is at c.in_ok-response.ensures.yields in
+    looks_none l.negate body c.args.captures.now c.rewind.new.self l.position c.holds_if-in-Nowhere.result none spans c.holds_if-in-Nowhere.ensures
 
 pub look-returns-clause-later : goal.look-returns-clause-later
 look-returns-clause-later t c =
@@ -55,7 +55,7 @@ look-returns-clause-later t c =
     let len : c.len-noted.result ≡ length before = search rules in
     let spans : c.rewind.new.self.spans.items ≡ c.args.captures.now.spans.items =
     rewound before since c.append.new.self.items c.len-noted.result c.args.captures.now.spans.items c.run.new.captures.spans.items
-    c.rewind.new.self.spans.items split len c.in_ok-answer.ensures.undo c.rewind.ensures.spans in
+    c.rewind.new.self.spans.items split len c.in_ok-response.ensures.undo c.rewind.ensures.spans in
     record {
       noted = [];
       trail = c.rewind.ensures.trail ∙ rewound_trail before since c.append.new.self.items c.len-noted.result split len;
@@ -75,9 +75,9 @@ run-loop-budget-init t c =
       undo = ap (λ us. undone us c.args.captures.now.spans.items) clear ∙ undone-nil c.args.captures.now.spans.items;
     }
 
-pub run-returns-then-is_end-clause-answers : goal.run-returns-then-is_end-clause-answers
-run-returns-then-is_end-clause-answers t c =
-    ends_at (subject c.args.rules c.args.text.now) c.loop-budget.machine c.loop-budget.captures c.loop-budget.place c.loop-budget.ahead _
+pub run-returns-then-is_end-clause-yields : goal.run-returns-then-is_end-clause-yields
+run-returns-then-is_end-clause-yields t c =
+    ends_at (subject c.args.rules c.args.text.now) c.loop-budget.machine c.loop-budget.captures c.loop-budget.position c.loop-budget.ahead _
     (c.is_end.ensures.end c.if-is_end.true) c.loop-budget.invariant.left
 
 pub run-loop-budget-preserved-in-On : goal.run-loop-budget-preserved-in-On
@@ -86,7 +86,7 @@ run-loop-budget-preserved-in-On t c =
     let outcomes = steps u.setting u.bytes u.direction (tree c.args.node.now) (state c.args.captures.now c.args.start) in
     let so_far = c.loop-budget.invariant in
     let done = goes_on_with u c.advance.new.machine c.advance.new.captures c.in_ok-next.next outcomes
-    (left_ahead u c.loop-budget.machine c.loop-budget.captures c.loop-budget.place c.loop-budget.ahead) so_far.left c.in_ok-next.ensures.continues in
+    (left_ahead u c.loop-budget.machine c.loop-budget.captures c.loop-budget.position c.loop-budget.ahead) so_far.left c.in_ok-next.ensures.continues in
     let undo = undone-all c.advance.new.captures c.settle.new.captures c.in_ok-to.ensures.later
     ∙ undone-all c.loop-budget.captures c.advance.new.captures c.in_ok-next.ensures.later ∙ so_far.undo in
     let settled = rw c.in-On.is at (c.in_ok-to.ensures.settles outcomes c.advance.new.machine done) in
@@ -104,17 +104,17 @@ run-resume-requires t c =
     let outcomes = steps u.setting u.bytes u.direction (tree c.args.node.now) (state c.args.captures.now c.args.start) in
     let so_far = c.loop-budget.invariant in
     let done = goes_on_with u c.advance.new.machine c.advance.new.captures c.in_ok-next.next outcomes
-    (left_ahead u c.loop-budget.machine c.loop-budget.captures c.loop-budget.place c.loop-budget.ahead) so_far.left c.in_ok-next.ensures.continues in
+    (left_ahead u c.loop-budget.machine c.loop-budget.captures c.loop-budget.position c.loop-budget.ahead) so_far.left c.in_ok-next.ensures.continues in
     let settled = rw c.in-Off.is at (c.in_ok-to.ensures.settles outcomes c.advance.new.machine done) in
     settled.0
 
-pub run-returns-in_default-clause-answers : goal.run-returns-in_default-clause-answers
-run-returns-in_default-clause-answers t c =
+pub run-returns-in_default-clause-yields : goal.run-returns-in_default-clause-yields
+run-returns-in_default-clause-yields t c =
     let u = subject c.args.rules c.args.text.now in
     let outcomes = steps u.setting u.bytes u.direction (tree c.args.node.now) (state c.args.captures.now c.args.start) in
     let so_far = c.loop-budget.invariant in
     let done = goes_on_with u c.advance.new.machine c.advance.new.captures c.in_ok-next.next outcomes
-    (left_ahead u c.loop-budget.machine c.loop-budget.captures c.loop-budget.place c.loop-budget.ahead) so_far.left c.in_ok-next.ensures.continues in
+    (left_ahead u c.loop-budget.machine c.loop-budget.captures c.loop-budget.position c.loop-budget.ahead) so_far.left c.in_ok-next.ensures.continues in
     let settled = rw c.in-Off.is at (c.in_ok-to.ensures.settles outcomes c.advance.new.machine done) in
     settled.1 ∙ c.in_default.ensures.resumed u
 
@@ -131,7 +131,7 @@ run-loop-budget-preserved t c =
     let outcomes = steps u.setting u.bytes u.direction (tree c.args.node.now) (state c.args.captures.now c.args.start) in
     let so_far = c.loop-budget.invariant in
     let done = goes_on_with u c.advance.new.machine c.advance.new.captures c.in_ok-next.next outcomes
-    (left_ahead u c.loop-budget.machine c.loop-budget.captures c.loop-budget.place c.loop-budget.ahead) so_far.left c.in_ok-next.ensures.continues in
+    (left_ahead u c.loop-budget.machine c.loop-budget.captures c.loop-budget.position c.loop-budget.ahead) so_far.left c.in_ok-next.ensures.continues in
     let undo = undone-all c.advance.new.captures c.settle.new.captures c.in_ok-to.ensures.later
     ∙ undone-all c.loop-budget.captures c.advance.new.captures c.in_ok-next.ensures.later ∙ so_far.undo in
     let settled = rw c.in-Off.is at (c.in_ok-to.ensures.settles outcomes c.advance.new.machine done) in

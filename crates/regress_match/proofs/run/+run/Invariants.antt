@@ -23,7 +23,7 @@ invariant-run-loop-budget l =
       budget : l.budget ≤ l.fn.budget;
       machine : IsMachine l.machine l.captures;
       fits : Fits l.ahead (length l.machine.tasks.items);
-      left : steps u.setting u.bytes u.direction (tree l.node) (state l.fn.captures l.start) ≡ left_ahead u l.machine l.captures l.place l.ahead;
+      left : steps u.setting u.bytes u.direction (tree l.node) (state l.fn.captures l.start) ≡ left_ahead u l.machine l.captures l.position l.ahead;
       undo : undone l.captures.trail.items l.captures.spans.items ≡ l.fn.captures.spans.items;
     }
 

@@ -1,9 +1,9 @@
 use Rattle.std.proofs.Common.{◌≡◌, ◌≤◌, ◌∙◌, ap}
-use Rattle.regress_match.specs.declared.machine.Ahead.TheVariants as aheads
+use Rattle.regress_match.specs.declared.machine.Pending.TheVariants as aheads
 use Rattle.regress_match.specs.Subject.{subject}
 use Rattle.regress_match.proofs.DoesLemmas.{ok_map}
 use Rattle.regress_match.proofs.RunLemmas.{node_done, positive, task_done}
-use Rattle.regress_match.proofs.SingleLemmas.{stands}
+use Rattle.regress_match.proofs.SingleLemmas.{occurs}
 use Rattle.regress_match.proofs.run.advance.Goals as goal
 
 pub returns-in-Node-clause-continues : goal.returns-in-Node-clause-continues
@@ -11,7 +11,7 @@ returns-in-Node-clause-continues c =
     let u = subject c.args.rules c.args.text.now in
     ok_map c.visit.result
     (λ to does.
-    node_done u c.args.machine.now c.visit.new.machine c.args.captures.now c.visit.new.captures c.args.place c.in-Node.next c.in-Node.node to c.args.ahead
+    node_done u c.args.machine.now c.visit.new.machine c.args.captures.now c.visit.new.captures c.args.position c.in-Node.next c.in-Node.node to c.args.ahead
     c.requires.machine (rw c.in-Node.is at c.requires.fits) c.in-Node.is does)
     c.visit.ensures
 
@@ -22,7 +22,7 @@ pub step-requires : goal.step-requires
 step-requires c =
     let task = c.in-Task.task in
     let some : 1 ≤ task = positive task (λ (e : task ≡ 0). c.requires.more (c.in-Task.is ∙ ap aheads.Task e)) in
-    stands (subject c.args.rules c.args.text.now) c.args.machine.now c.args.captures.now task c.index-here.result.now c.requires.machine some
+    occurs (subject c.args.rules c.args.text.now) c.args.machine.now c.args.captures.now task c.index-here.result.now c.requires.machine some
     (rw c.in-Task.is at c.requires.fits) c.index-here.ensures
 
 pub returns-in-Task-clause-continues : goal.returns-in-Task-clause-continues
@@ -32,6 +32,6 @@ returns-in-Task-clause-continues c =
     let some : 1 ≤ task = positive task (λ (e : task ≡ 0). c.requires.more (c.in-Task.is ∙ ap aheads.Task e)) in
     ok_map c.step.result
     (λ to does.
-    task_done u c.args.machine.now c.step.new.machine c.args.captures.now c.step.new.captures c.args.place task c.index-here.result.now to c.args.ahead
+    task_done u c.args.machine.now c.step.new.machine c.args.captures.now c.step.new.captures c.args.position task c.index-here.result.now to c.args.ahead
     c.requires.machine some (rw c.in-Task.is at c.requires.fits) c.index-here.ensures c.in-Task.is does)
     c.step.ensures

@@ -10,6 +10,6 @@ use Rattle.regress_match.proofs.visits.group.Goals as goal
 
 pub returns : goal.returns
 returns c = λ u captures.
-    goes_visit u _ (λ t. captured c.args.id c.args.place t ∷ []) c.args.contents c.args.machine.now c.push.new.self captures captures c.args.place c.args.next
-    c.in_ok-task.task c.args.place (c.in_ok-task.ensures u) (Later-refl captures)
-    (capture-then c.args.id (steps u.setting u.bytes u.direction (tree c.args.contents.now)) (state captures c.args.place))
+    goes_visit u _ (λ t. captured c.args.id c.args.position t ∷ []) c.args.contents c.args.machine.now c.push.new.self captures captures c.args.position c.args.next
+    c.in_ok-task.task c.args.position (c.in_ok-task.ensures u) (Later-refl captures)
+    (capture-then c.args.id (steps u.setting u.bytes u.direction (tree c.args.contents.now)) (state captures c.args.position))

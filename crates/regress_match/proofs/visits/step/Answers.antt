@@ -1,6 +1,6 @@
 use Rattle.std.proofs.Common.{◌∷◌, [], ◌∙◌, ap, sym}
 use Rattle.regress_match.specs.Captures.{state}
-use Rattle.regress_match.specs.Machine.{what_step}
+use Rattle.regress_match.specs.Machine.{frame_step}
 use Rattle.regress_match.specs.Subject.{subject}
 use Rattle.regress_match.proofs.DoesLemmas.{does_same, goes_back, goes_changed, ok_map}
 use Rattle.regress_match.proofs.LoopLemmas.{moved_not, moved_on}
@@ -11,72 +11,72 @@ returns-in_ok-close-in-Close c =
     let u = subject c.args.rules c.args.text.now in
     let m = c.args.machine.now in
     let captures = c.args.captures.now in
-    let place = c.args.place in
+    let position = c.args.position in
     let next = c.args.task.next in
-    let s = state captures place in
-    goes_changed u (what_step u c.args.task.what) m captures c.close.new.self place next c.in_ok-close-in-Close.ensures.later
-    (ap (λ w. what_step u w s) c.in-Close.is ∙ ap (λ t. t ∷ []) (sym c.in_ok-close-in-Close.ensures.state))
+    let s = state captures position in
+    goes_changed u (frame_step u c.args.task.frame) m captures c.close.new.self position next c.in_ok-close-in-Close.ensures.later
+    (ap (λ w. frame_step u w s) c.in-Close.is ∙ ap (λ t. t ∷ []) (sym c.in_ok-close-in-Close.ensures.state))
 
-pub returns-in-Turns : goal.returns-in-Turns
-returns-in-Turns c =
+pub returns-in-Iterations : goal.returns-in-Iterations
+returns-in-Iterations c =
     let u = subject c.args.rules c.args.text.now in
     let m = c.args.machine.now in
     let captures = c.args.captures.now in
-    let place = c.args.place in
+    let position = c.args.position in
     let next = c.args.task.next in
-    let s = state captures place in
-    ok_map c.turns.result
+    let s = state captures position in
+    ok_map c.iterations.result
     (λ to does.
-    does_same u _ _ m captures place next c.turns.new.machine c.turns.new.captures to (ap (λ w. what_step u w s) c.in-Turns.is) does)
-    c.turns.ensures
+    does_same u _ _ m captures position next c.iterations.new.machine c.iterations.new.captures to (ap (λ w. frame_step u w s) c.in-Iterations.is) does)
+    c.iterations.ensures
 
-pub returns-in-Turn : goal.returns-in-Turn
-returns-in-Turn c =
+pub returns-in-Iteration : goal.returns-in-Iteration
+returns-in-Iteration c =
     let u = subject c.args.rules c.args.text.now in
     let m = c.args.machine.now in
     let captures = c.args.captures.now in
-    let place = c.args.place in
+    let position = c.args.position in
     let next = c.args.task.next in
-    let s = state captures place in
-    ok_map c.turn.result
+    let s = state captures position in
+    ok_map c.iteration.result
     (λ to does.
-    does_same u _ _ m captures place next c.turn.new.machine c.turn.new.captures to (ap (λ w. what_step u w s) c.in-Turn.is) (does u))
-    c.turn.ensures
+    does_same u _ _ m captures position next c.iteration.new.machine c.iteration.new.captures to (ap (λ w. frame_step u w s) c.in-Iteration.is) (does u))
+    c.iteration.ensures
 
-pub returns-then-place-entry : goal.returns-then-place-entry
-returns-then-place-entry c =
+pub returns-then-position-entry : goal.returns-then-position-entry
+returns-then-position-entry c =
     let u = subject c.args.rules c.args.text.now in
     let m = c.args.machine.now in
     let captures = c.args.captures.now in
-    let place = c.args.place in
+    let position = c.args.position in
     let next = c.args.task.next in
-    let s = state captures place in
-    goes_back u (what_step u c.args.task.what) m captures place next
-    (ap (λ w. what_step u w s) c.in-Moved.is ∙ moved_not u c.in-Moved.repeat c.in-Moved.entry s c.if-place-entry.true)
+    let s = state captures position in
+    goes_back u (frame_step u c.args.task.frame) m captures position next
+    (ap (λ w. frame_step u w s) c.in-Moved.is ∙ moved_not u c.in-Moved.repeat c.in-Moved.entry s c.if-position-entry.true)
 
-pub returns-else-place-entry : goal.returns-else-place-entry
-returns-else-place-entry c =
+pub returns-else-position-entry : goal.returns-else-position-entry
+returns-else-position-entry c =
     let u = subject c.args.rules c.args.text.now in
     let m = c.args.machine.now in
     let captures = c.args.captures.now in
-    let place = c.args.place in
+    let position = c.args.position in
     let next = c.args.task.next in
-    let s = state captures place in
+    let s = state captures position in
     ok_map c.more.result
     (λ to does.
-    does_same u _ _ m captures place next c.more.new.machine c.more.new.captures to
-    (ap (λ w. what_step u w s) c.in-Moved.is ∙ moved_on u c.in-Moved.repeat c.in-Moved.entry s c.if-place-entry.false) does)
+    does_same u _ _ m captures position next c.more.new.machine c.more.new.captures to
+    (ap (λ w. frame_step u w s) c.in-Moved.is ∙ moved_on u c.in-Moved.repeat c.in-Moved.entry s c.if-position-entry.false) does)
     c.more.ensures
 
-pub returns-in-Row : goal.returns-in-Row
-returns-in-Row c =
+pub returns-in-Sequence : goal.returns-in-Sequence
+returns-in-Sequence c =
     let u = subject c.args.rules c.args.text.now in
     let m = c.args.machine.now in
     let captures = c.args.captures.now in
-    let place = c.args.place in
+    let position = c.args.position in
     let next = c.args.task.next in
-    let s = state captures place in
-    ok_map c.row.result
+    let s = state captures position in
+    ok_map c.sequence.result
     (λ to does.
-    does_same u _ _ m captures place next c.row.new.machine captures to (ap (λ w. what_step u w s) c.in-Row.is) does)
-    c.row.ensures
+    does_same u _ _ m captures position next c.sequence.new.machine captures to (ap (λ w. frame_step u w s) c.in-Sequence.is) does)
+    c.sequence.ensures

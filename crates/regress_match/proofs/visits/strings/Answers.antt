@@ -1,13 +1,13 @@
 use Rattle.std.proofs.Common.{rules, ◌≡◌, [], ◌∷◌, ◌∙◌, List, None, Some, ap, sym, refl, Global, ℕ}
 use Rattle.std.specs.declared.boxed.BoxedSlice.{BoxedSlice}
-use Rattle.regress_base.specs.Table.{stands_for}
+use Rattle.regress_base.specs.Table.{denotes}
 use Rattle.regress_tree.specs.Reading.{of_bytes}
 use Rattle.regress_tree.specs.References.{all_of, in_order}
 use Rattle.regress_match.specs.Captures.{state}
 use Rattle.regress_match.specs.Leaves.{any_of}
-use Rattle.regress_match.specs.Machine.{what_step}
+use Rattle.regress_match.specs.Machine.{frame_step}
 use Rattle.regress_match.specs.Subject.{subject}
-use Rattle.regress_match.specs.declared.machine.What.TheVariants as whats
+use Rattle.regress_match.specs.declared.machine.Frame.TheVariants as whats
 use Rattle.regress_match.proofs.CaptureLemmas.{Later-refl}
 use Rattle.regress_match.proofs.DoesLemmas.{goes_back, goes_on, goes_pushed, does_stay_or, nothing_in}
 use Rattle.regress_match.proofs.LeafLemmas.{none_of, any-nil, any_opened}
@@ -17,61 +17,61 @@ pub returns-in_default : goal.returns-in_default
 returns-in_default c =
     let u = subject c.args.rules c.args.text.now in
     let captures = c.args.captures.now in
-    let place = c.args.place in
-    let s = state captures place in
-    let same = stands_for u.setting.table c.args.icase u.setting.flags.unicode in
+    let position = c.args.position in
+    let s = state captures position in
+    let same = denotes u.setting.table c.args.icase u.setting.flags.unicode in
     let any = λ (strings : List (BoxedSlice ℕ Global)). any_of u c.args.icase strings s in
-    goes_back u (any_of u c.args.icase c.args.alternatives.now) c.args.machine.now captures place c.args.next
-    (sym (c.behind_missing-open.ensures s refl) ∙ ap any (nothing_in c.behind_missing-open.result.now c.in_default.ensures.cases)
+    goes_back u (any_of u c.args.icase c.args.alternatives.now) c.args.machine.now captures position c.args.next
+    (sym (c.skip_missing_strings-open.ensures s refl) ∙ ap any (nothing_in c.skip_missing_strings-open.result.now c.in_default.ensures.cases)
     ∙ any-nil u.direction (of_bytes u.bytes) same s)
 
 pub returns-in_default-all_of : goal.returns-in_default-all_of
 returns-in_default-all_of c =
     let u = subject c.args.rules c.args.text.now in
     let captures = c.args.captures.now in
-    let place = c.args.place in
+    let position = c.args.position in
     let next = c.args.next in
-    let s = state captures place in
-    let same = stands_for u.setting.table c.args.icase u.setting.flags.unicode in
-    let split : c.behind_missing-open.result.now ≡ c.in-Some.first.now ∷ c.in-Some.rest.now = search rules in
-    let stands = c.all_of.ensures s refl ∙ ap (λ cs. all_of u.direction (of_bytes u.bytes) same (in_order u.direction cs) s) c.deref.ensures.value in
-    let opened = any_opened u c.args.icase c.args.alternatives.now c.behind_missing-open.result.now c.in-Some.rest.now c.behind_missing-others.result.now
-    c.in-Some.first.now c.all_of.result None s (c.behind_missing-open.ensures s refl) split stands
-    (c.behind_missing-others.ensures s refl) (none_of c.all_of.result c.in_default-all_of.not-Some) in
-    goes_pushed u (any_of u c.args.icase c.args.alternatives.now) (any_of u c.args.icase c.behind_missing-others.result.now) c.args.machine.now c.push.new.self
-    captures captures place next c.in_ok-other.other (c.in_ok-other.ensures u) (Later-refl captures) opened
+    let s = state captures position in
+    let same = denotes u.setting.table c.args.icase u.setting.flags.unicode in
+    let split : c.skip_missing_strings-open.result.now ≡ c.in-Some.first.now ∷ c.in-Some.rest.now = search rules in
+    let occurs = c.all_of.ensures s refl ∙ ap (λ cs. all_of u.direction (of_bytes u.bytes) same (in_order u.direction cs) s) c.deref.ensures.value in
+    let opened = any_opened u c.args.icase c.args.alternatives.now c.skip_missing_strings-open.result.now c.in-Some.rest.now c.skip_missing_strings-others.result.now
+    c.in-Some.first.now c.all_of.result None s (c.skip_missing_strings-open.ensures s refl) split occurs
+    (c.skip_missing_strings-others.ensures s refl) (none_of c.all_of.result c.in_default-all_of.not-Some) in
+    goes_pushed u (any_of u c.args.icase c.args.alternatives.now) (any_of u c.args.icase c.skip_missing_strings-others.result.now) c.args.machine.now c.push.new.self
+    captures captures position next c.in_ok-other.other (c.in_ok-other.ensures u) (Later-refl captures) opened
 
 pub returns-then-is_empty : goal.returns-then-is_empty
 returns-then-is_empty c =
     let u = subject c.args.rules c.args.text.now in
     let captures = c.args.captures.now in
-    let place = c.args.place in
+    let position = c.args.position in
     let next = c.args.next in
-    let s = state captures place in
-    let same = stands_for u.setting.table c.args.icase u.setting.flags.unicode in
-    let split : c.behind_missing-open.result.now ≡ c.in-Some.first.now ∷ c.in-Some.rest.now = search rules in
-    let stands = c.all_of.ensures s refl ∙ ap (λ cs. all_of u.direction (of_bytes u.bytes) same (in_order u.direction cs) s) c.deref.ensures.value in
-    let opened = any_opened u c.args.icase c.args.alternatives.now c.behind_missing-open.result.now c.in-Some.rest.now c.behind_missing-others.result.now
-    c.in-Some.first.now c.all_of.result (Some c.in-Some-all_of.to) s (c.behind_missing-open.ensures s refl) split stands
-    (c.behind_missing-others.ensures s refl) c.in-Some-all_of.is in
-    let none : c.behind_missing-others.result.now ≡ [] = nothing_in c.behind_missing-others.result.now (search rules) in
-    goes_on u (any_of u c.args.icase c.args.alternatives.now) c.args.machine.now captures place next c.in-Some-all_of.to
-    (opened ∙ ap (λ xs. record s { place = c.in-Some-all_of.to } ∷ xs)
+    let s = state captures position in
+    let same = denotes u.setting.table c.args.icase u.setting.flags.unicode in
+    let split : c.skip_missing_strings-open.result.now ≡ c.in-Some.first.now ∷ c.in-Some.rest.now = search rules in
+    let occurs = c.all_of.ensures s refl ∙ ap (λ cs. all_of u.direction (of_bytes u.bytes) same (in_order u.direction cs) s) c.deref.ensures.value in
+    let opened = any_opened u c.args.icase c.args.alternatives.now c.skip_missing_strings-open.result.now c.in-Some.rest.now c.skip_missing_strings-others.result.now
+    c.in-Some.first.now c.all_of.result (Some c.in-Some-all_of.to) s (c.skip_missing_strings-open.ensures s refl) split occurs
+    (c.skip_missing_strings-others.ensures s refl) c.in-Some-all_of.is in
+    let none : c.skip_missing_strings-others.result.now ≡ [] = nothing_in c.skip_missing_strings-others.result.now (search rules) in
+    goes_on u (any_of u c.args.icase c.args.alternatives.now) c.args.machine.now captures position next c.in-Some-all_of.to
+    (opened ∙ ap (λ xs. record s { position = c.in-Some-all_of.to } ∷ xs)
     (ap (λ (strings : List (BoxedSlice ℕ Global)). any_of u c.args.icase strings s) none ∙ any-nil u.direction (of_bytes u.bytes) same s))
 
 pub returns : goal.returns
 returns c =
     let u = subject c.args.rules c.args.text.now in
     let captures = c.args.captures.now in
-    let place = c.args.place in
+    let position = c.args.position in
     let next = c.args.next in
-    let s = state captures place in
-    let same = stands_for u.setting.table c.args.icase u.setting.flags.unicode in
-    let split : c.behind_missing-open.result.now ≡ c.in-Some.first.now ∷ c.in-Some.rest.now = search rules in
-    let stands = c.all_of.ensures s refl ∙ ap (λ cs. all_of u.direction (of_bytes u.bytes) same (in_order u.direction cs) s) c.deref.ensures.value in
-    let opened = any_opened u c.args.icase c.args.alternatives.now c.behind_missing-open.result.now c.in-Some.rest.now c.behind_missing-others.result.now
-    c.in-Some.first.now c.all_of.result (Some c.in-Some-all_of.to) s (c.behind_missing-open.ensures s refl) split stands
-    (c.behind_missing-others.ensures s refl) c.in-Some-all_of.is in
-    does_stay_or u (what_step u (whats.Strings c.behind_missing-others.result c.args.icase)) (any_of u c.args.icase c.args.alternatives.now) c.args.machine.now
-    c.push-2.new.self c.choose.new.self captures place next c.in_ok-other-2.other c.in-Some-all_of.to (c.in_ok-other-2.ensures u)
+    let s = state captures position in
+    let same = denotes u.setting.table c.args.icase u.setting.flags.unicode in
+    let split : c.skip_missing_strings-open.result.now ≡ c.in-Some.first.now ∷ c.in-Some.rest.now = search rules in
+    let occurs = c.all_of.ensures s refl ∙ ap (λ cs. all_of u.direction (of_bytes u.bytes) same (in_order u.direction cs) s) c.deref.ensures.value in
+    let opened = any_opened u c.args.icase c.args.alternatives.now c.skip_missing_strings-open.result.now c.in-Some.rest.now c.skip_missing_strings-others.result.now
+    c.in-Some.first.now c.all_of.result (Some c.in-Some-all_of.to) s (c.skip_missing_strings-open.ensures s refl) split occurs
+    (c.skip_missing_strings-others.ensures s refl) c.in-Some-all_of.is in
+    does_stay_or u (frame_step u (whats.Strings c.skip_missing_strings-others.result c.args.icase)) (any_of u c.args.icase c.args.alternatives.now) c.args.machine.now
+    c.push-2.new.self c.choose.new.self captures position next c.in_ok-other-2.other c.in-Some-all_of.to (c.in_ok-other-2.ensures u)
     (c.in_ok-choose.ensures u) opened

@@ -3,7 +3,7 @@ use Rattle.std.specs.Prelude.{option_map, string_bytes}
 use Rattle.regress_tree.specs.declared.ir.node.Node.{the_lemmas}
 use Rattle.regress_tree.specs.Matching.{steps}
 use Rattle.regress_tree.specs.Tree.{tree, wrapped, capture_group, lookaround}
-use Rattle.regress_tree.proofs.laws.Nodes.{tree-Cat, tree-CaptureGroup, tree-Loop, tree-Loop1CharBody, tree-LookaroundAssertion}
+use Rattle.regress_tree.proofs.lemmas.Nodes.{tree-Cat, tree-CaptureGroup, tree-Loop, tree-Loop1CharBody, tree-LookaroundAssertion}
 use Rattle.regress_match.specs.Captures.{state}
 use Rattle.regress_match.specs.Leaves.{has_one_outcome}
 use Rattle.regress_match.specs.Subject.{subject}
@@ -16,23 +16,23 @@ use Rattle.regress_match.proofs.visits.visit.Goals as goal
 pub returns-in-Cat : goal.returns-in-Cat
 returns-in-Cat c =
     let u = subject c.args.rules c.args.text.now in
-    ok_map c.row.result
+    ok_map c.sequence.result
     (λ to does.
-    does_same u _ _ c.args.machine.now c.args.captures.now c.args.place c.args.next c.row.new.machine c.args.captures.now to
-    (ap (λ t. steps u.setting u.bytes u.direction t (state c.args.captures.now c.args.place)) (ap tree c.in-Cat.is ∙ tree-Cat c.in-Cat.parts))
+    does_same u _ _ c.args.machine.now c.args.captures.now c.args.position c.args.next c.sequence.new.machine c.args.captures.now to
+    (ap (λ t. steps u.setting u.bytes u.direction t (state c.args.captures.now c.args.position)) (ap tree c.in-Cat.is ∙ tree-Cat c.in-Cat.parts))
     (rw c.deref.ensures.value at does))
-    c.row.ensures
+    c.sequence.ensures
 
 pub returns-in-CaptureGroup : goal.returns-in-CaptureGroup
 returns-in-CaptureGroup c =
     let u = subject c.args.rules c.args.text.now in
     let m = c.args.machine.now in
     let captures = c.args.captures.now in
-    let s = state captures c.args.place in
+    let s = state captures c.args.position in
     let g = c.in-CaptureGroup in
     ok_map c.group.result
     (λ to does.
-    does_same u _ _ m captures c.args.place c.args.next c.group.new.machine captures to
+    does_same u _ _ m captures c.args.position c.args.next c.group.new.machine captures to
     (ap (λ t. steps u.setting u.bytes u.direction t s)
     (ap tree g.is ∙ tree-CaptureGroup g.id g.contents g.name
     ∙ ap (λ x. wrapped (capture_group g.id (option_map string_bytes g.name)) (tree x)) (sym c.deref-in-CaptureGroup.ensures)))
@@ -44,21 +44,21 @@ returns-in-Loop c =
     let u = subject c.args.rules c.args.text.now in
     let m = c.args.machine.now in
     let captures = c.args.captures.now in
-    let s = state captures c.args.place in
+    let s = state captures c.args.position in
     let l = c.in-Loop in
     let r : Repeat = record {
       body = c.deref-in-Loop.result;
       start = c.from.result;
       end = c.from-in-Loop.result;
       greedy = l.quant.greedy;
-      more = c.more_turns.result;
+      more = c.extra_iterations.result;
     } in
     ok_map c.repetition.result
     (λ to does.
-    does_same u _ _ m captures c.args.place c.args.next c.repetition.new.machine c.repetition.new.captures to
+    does_same u _ _ m captures c.args.position c.args.next c.repetition.new.machine c.repetition.new.captures to
     (ap (λ t. steps u.setting u.bytes u.direction t s) (ap tree l.is ∙ tree-Loop l.loopee l.quant l.enclosed_groups)
     ∙ loop_is u r l.quant l.enclosed_groups.start l.enclosed_groups.end (tree l.loopee.value) s (ap tree c.deref-in-Loop.ensures)
-    c.from.ensures c.from-in-Loop.ensures refl c.more_turns.ensures)
+    c.from.ensures c.from-in-Loop.ensures refl c.extra_iterations.ensures)
     does)
     c.repetition.ensures
 
@@ -67,20 +67,20 @@ returns-in-Loop1CharBody c =
     let u = subject c.args.rules c.args.text.now in
     let m = c.args.machine.now in
     let captures = c.args.captures.now in
-    let s = state captures c.args.place in
+    let s = state captures c.args.position in
     let l = c.in-Loop1CharBody in
     let r : Repeat = record {
       body = c.deref-in-Loop1CharBody.result;
       start = 0;
       end = 0;
       greedy = l.quant.greedy;
-      more = c.more_turns-in-Loop1CharBody.result;
+      more = c.extra_iterations-in-Loop1CharBody.result;
     } in
     ok_map c.repetition-in-Loop1CharBody.result
     (λ to does.
-    does_same u _ _ m captures c.args.place c.args.next c.repetition-in-Loop1CharBody.new.machine c.repetition-in-Loop1CharBody.new.captures to
+    does_same u _ _ m captures c.args.position c.args.next c.repetition-in-Loop1CharBody.new.machine c.repetition-in-Loop1CharBody.new.captures to
     (ap (λ t. steps u.setting u.bytes u.direction t s) (ap tree l.is ∙ tree-Loop1CharBody l.loopee l.quant)
-    ∙ loop_is u r l.quant 0 0 (tree l.loopee.value) s (ap tree c.deref-in-Loop1CharBody.ensures) refl refl refl c.more_turns-in-Loop1CharBody.ensures)
+    ∙ loop_is u r l.quant 0 0 (tree l.loopee.value) s (ap tree c.deref-in-Loop1CharBody.ensures) refl refl refl c.extra_iterations-in-Loop1CharBody.ensures)
     does)
     c.repetition-in-Loop1CharBody.ensures
 
@@ -89,13 +89,13 @@ returns-in-LookaroundAssertion c =
     let u = subject c.args.rules c.args.text.now in
     let m = c.args.machine.now in
     let captures = c.args.captures.now in
-    let s = state captures c.args.place in
+    let s = state captures c.args.position in
     let g = c.in-LookaroundAssertion in
     let l : Looking = record {
       body = c.deref-in-LookaroundAssertion.result;
       negate = g.negate;
       backwards = g.backwards;
-      place = c.args.place;
+      position = c.args.position;
       next = c.args.next;
     } in
     goes_look u _ m captures l
@@ -108,7 +108,7 @@ returns-in_ok-leaf-in_default c =
     let u = subject c.args.rules c.args.text.now in
     let m = c.args.machine.now in
     let captures = c.args.captures.now in
-    let s = state captures c.args.place in
+    let s = state captures c.args.position in
     let one : has_one_outcome (tree c.args.node.now) ≡ true = first_of (search (rules, the_lemmas), grind (arith, the_lemmas)) in
-    goes_put u _ m captures c.args.place c.args.next c.in_ok-leaf-in_default.field-0 c.go.result (c.in_ok-leaf-in_default.ensures one)
-    (c.go.ensures u m captures c.args.place)
+    goes_put u _ m captures c.args.position c.args.next c.in_ok-leaf-in_default.field-0 c.go.result (c.in_ok-leaf-in_default.ensures one)
+    (c.go.ensures u m captures c.args.position)

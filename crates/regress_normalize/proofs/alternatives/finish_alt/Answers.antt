@@ -2,7 +2,7 @@
 use Rattle.std.proofs.Common.{inl, inr, sym, ◌∙◌}
 use Rattle.std.proofs.lemmas.Bool.{or_left, or_right}
 use Rattle.regress_tree.specs.Tree.{tree}
-use Rattle.regress_tree.proofs.laws.Nodes.{tree-Empty}
+use Rattle.regress_tree.proofs.lemmas.Nodes.{tree-Empty}
 use Rattle.regress_normalize.proofs.AltLemmas.{sides_empty, left_side, right_side, alt_stays}
 use Rattle.regress_normalize.proofs.alternatives.finish_alt.Goals.{then-not-left+then-not-right+else-left+else-right, else-not-left, else-not-left-via-then-not-left+else-not-right, else-not-left-via-else-not-left}
 use Rattle.regress_normalize.proofs.alternatives.finish_alt.Goals as goal

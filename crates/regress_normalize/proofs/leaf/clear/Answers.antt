@@ -1,5 +1,5 @@
 use Rattle.std.proofs.Common.{sym, ◌∙◌}
-use Rattle.regress_tree.proofs.laws.Nodes.{tree-Empty}
+use Rattle.regress_tree.proofs.lemmas.Nodes.{tree-Empty}
 use Rattle.regress_normalize.proofs.LeafLemmas.{Clears-empty}
 use Rattle.regress_normalize.proofs.leaf.clear.Goals as goal
 

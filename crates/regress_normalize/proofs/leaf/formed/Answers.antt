@@ -2,7 +2,7 @@
 use Rattle.std.proofs.Common.{ap, ◌∙◌}
 use Rattle.regress_tree.specs.SmallSets.{set_of}
 use Rattle.regress_tree.specs.Tree.{char, char_set, tree}
-use Rattle.regress_tree.proofs.laws.Nodes.{tree-Char, tree-CharSet}
+use Rattle.regress_tree.proofs.lemmas.Nodes.{tree-Char, tree-CharSet}
 use Rattle.regress_rewrite.specs.Formed.{formed_character}
 use Rattle.regress_normalize.proofs.LeafLemmas.{Clears-formed}
 use Rattle.regress_normalize.proofs.leaf.formed.Goals as goal

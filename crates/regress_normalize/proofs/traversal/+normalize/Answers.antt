@@ -4,67 +4,67 @@ use Rattle.regress_tree.specs.Spine.{reattach}
 use Rattle.regress_tree.specs.Tree.{Tree, Trees, alt, wrapped, tree, trees}
 use Rattle.regress_tree.specs.Units.{units}
 use Rattle.regress_tree.specs.Walk.{direction_of}
-use Rattle.regress_tree.proofs.laws.Levels.{out-Cat}
-use Rattle.regress_tree.proofs.laws.Measures.{units-positive}
-use Rattle.regress_tree.proofs.laws.Nodes.{tree-Cat}
-use Rattle.regress_tree.proofs.laws.Places.{inside_of, direction_inside}
+use Rattle.regress_tree.proofs.lemmas.Nesting.{out-Cat}
+use Rattle.regress_tree.proofs.lemmas.Measures.{units-positive}
+use Rattle.regress_tree.proofs.lemmas.Nodes.{tree-Cat}
+use Rattle.regress_tree.proofs.lemmas.TreeContexts.{inside_of, direction_inside}
 use Rattle.regress_rewrite.specs.Law.{IsPart}
-use Rattle.regress_rewrite.proofs.laws.Keeps.{IsPart-part}
-use Rattle.regress_rewrite.proofs.laws.Parts.{IsPart-at, units_at, unvisited-next}
-use Rattle.regress_rewrite.proofs.laws.Spine.{IsPart-reattach}
-use Rattle.regress_normalize.specs.PartFacts.{HasRowFacts}
-use Rattle.regress_normalize.specs.Steps.{StandsFor}
+use Rattle.regress_rewrite.proofs.lemmas.Keeps.{IsPart-part}
+use Rattle.regress_rewrite.proofs.lemmas.Parts.{IsPart-at, units_at, unvisited-next}
+use Rattle.regress_rewrite.proofs.lemmas.Spine.{IsPart-reattach}
+use Rattle.regress_normalize.specs.PartFacts.{HasListFacts}
+use Rattle.regress_normalize.specs.Steps.{Denotes}
 use Rattle.regress_normalize.proofs.NormalLemmas.{IsNormal-reattach}
 use Rattle.regress_tree.specs.NormalForm.{IsNormal}
-use Rattle.regress_normalize.proofs.TraversalLemmas.{StandsFor-reattach, StandsFor-normalized, StandsFor-only_part, IsPart-stands, Normalized-after, Normalized-error, stands_inside, wraps, wraps_clean, Normalized-finished, Finished-error, still_one_up, units-reattach, units_up, onto_up, stands_up, IsPart_up, stands_left, both_sides, taken, more_normal, StandsFor-part}
+use Rattle.regress_normalize.proofs.TraversalLemmas.{Denotes-reattach, Denotes-normalized, Denotes-only_part, IsPart-occurs, Normalized-after, Normalized-error, occurs_inside, wraps, wraps_clean, Normalized-finished, Finished-error, still_one_up, units-reattach, units_up, onto_up, occurs_up, IsPart_up, occurs_left, both_sides, taken, more_normal, Denotes-part}
 use Rattle.regress_normalize.proofs.traversal.+normalize.Goals as goal
 
 pub normalize-normalize_last-requires : goal.normalize-normalize_last-requires
 normalize-normalize_last-requires t c =
-    let whole = c.go_down.ensures.whole in
-    let node = tree c.go_down.new.node in
-    let above = tree c.go_down.new.above in (
+    let whole = c.descend.ensures.whole in
+    let node = tree c.descend.new.node in
+    let above = tree c.descend.new.above in (
       omega (arith, ap units whole, units-reattach above node),
-      (IsPart-reattach above node (subst (λ (u : Tree). IsPart u) (sym whole) c.requires), c.go_down.ensures.last),
+      (IsPart-reattach above node (subst (λ (u : Tree). IsPart u) (sym whole) c.requires), c.descend.ensures.last),
     )
 
 pub normalize-normalize_up-requires : goal.normalize-normalize_up-requires
 normalize-normalize_up-requires t c =
-    let whole = c.go_down.ensures.whole in
-    let node = tree c.go_down.new.node in
-    let above = tree c.go_down.new.above in
+    let whole = c.descend.ensures.whole in
+    let node = tree c.descend.new.node in
+    let above = tree c.descend.new.above in
     let d = direction_of c.args.walk.now in
-    let stands = StandsFor-reattach d above node _ (StandsFor-normalized d node _ _ c.normalize_last.ensures) in (
+    let occurs = Denotes-reattach d above node _ (Denotes-normalized d node _ _ c.normalize_last.ensures) in (
       omega (arith, ap units whole, units-reattach above node, units-positive node),
       (
-        IsPart-stands d (reattach above node) _ stands (subst (λ (u : Tree). IsPart u) (sym whole) c.requires),
+        IsPart-occurs d (reattach above node) _ occurs (subst (λ (u : Tree). IsPart u) (sym whole) c.requires),
         (c.in-Ok.ensures.normal, c.in-Ok.ensures.facts),
       ),
     )
 
 pub normalize-returns-in-Ok : goal.normalize-returns-in-Ok
 normalize-returns-in-Ok t c =
-    let node = tree c.go_down.new.node in
-    let above = tree c.go_down.new.above in
+    let node = tree c.descend.new.node in
+    let above = tree c.descend.new.above in
     let last = tree c.normalize_last.new.node in
     let d = direction_of c.args.walk.now in
-    let stands = StandsFor-reattach d above node last (StandsFor-normalized d node last _ c.normalize_last.ensures) in
-    let so_far = subst (λ (u : Tree). StandsFor d u (reattach above last)) c.go_down.ensures.whole stands in
+    let occurs = Denotes-reattach d above node last (Denotes-normalized d node last _ c.normalize_last.ensures) in
+    let so_far = subst (λ (u : Tree). Denotes d u (reattach above last)) c.descend.ensures.whole occurs in
     Normalized-finished _ d _ (reattach above last) _ _ so_far c.normalize_up.ensures
     (λ normal.
     let kept = subst (λ (u : Tree). IsNormal u) (sym (so_far.left normal)) normal in
-    let last_old = IsNormal-reattach above node (subst (λ (u : Tree). IsNormal u) (sym c.go_down.ensures.whole) normal) in
+    let last_old = IsNormal-reattach above node (subst (λ (u : Tree). IsNormal u) (sym c.descend.ensures.whole) normal) in
     (kept, c.in-Ok.ensures.still_one last_old))
 
 pub normalize-returns-in-Err : goal.normalize-returns-in-Err
 normalize-returns-in-Err t c =
-    let node = tree c.go_down.new.node in
-    let above = tree c.go_down.new.above in
+    let node = tree c.descend.new.node in
+    let above = tree c.descend.new.above in
     let last = tree c.normalize_last.new.node in
     let d = direction_of c.args.walk.now in
-    let stands = StandsFor-reattach d above node last (StandsFor-normalized d node last _ c.normalize_last.ensures) in
-    let so_far = subst (λ (u : Tree). StandsFor d u (reattach above last)) c.go_down.ensures.whole stands in
-    rw c.relink.ensures (Normalized-error d _ (reattach above last) _ refl so_far)
+    let occurs = Denotes-reattach d above node last (Denotes-normalized d node last _ c.normalize_last.ensures) in
+    let so_far = subst (λ (u : Tree). Denotes d u (reattach above last)) c.descend.ensures.whole occurs in
+    rw c.restore_spine.ensures (Normalized-error d _ (reattach above last) _ refl so_far)
 
 pub normalize_alt-returns-in_err-left : goal.normalize_alt-returns-in_err-left
 normalize_alt-returns-in_err-left t c =
@@ -75,8 +75,8 @@ normalize_alt-returns-in_err-left t c =
     let right = has.right in
     let ends = rw (c.in-Some.is, has.is) at (c.left_mut.follows.holds (record c.in-Some.left.now { value = c.normalize.new.node })) in
     let made = tree c.normalize.new.node in
-    let stands = stands_left d (alt left right) left made right refl _ (rw left_is at c.normalize.ensures) in
-    rw (ends, has.is) (Normalized-error d (alt left right) (alt made right) _ c.from_residual.ensures.0 stands)
+    let occurs = occurs_left d (alt left right) left made right refl _ (rw left_is at c.normalize.ensures) in
+    rw (ends, has.is) (Normalized-error d (alt left right) (alt made right) _ c.from_residual.ensures.0 occurs)
 
 pub normalize_alt-finish_alt-requires-clause-part : goal.normalize_alt-finish_alt-requires-clause-part
 normalize_alt-finish_alt-requires-clause-part t c =
@@ -87,9 +87,9 @@ normalize_alt-finish_alt-requires-clause-part t c =
     let right = has.right in
     let ends = rw (c.in-Some.is, has.is) at (c.left_mut.follows.holds (record c.in-Some.left.now { value = c.normalize.new.node })) in
     let made = tree c.normalize.new.node in
-    let stands = stands_left d (alt left right) left made right refl _ (rw left_is at c.normalize.ensures) in
+    let occurs = occurs_left d (alt left right) left made right refl _ (rw left_is at c.normalize.ensures) in
     let part = rw has.is at c.requires.part in
-    rw ends (IsPart-stands d (alt left right) (alt made right) stands part)
+    rw ends (IsPart-occurs d (alt left right) (alt made right) occurs part)
 
 pub normalize_alt-finish_alt-requires-clause-sides : goal.normalize_alt-finish_alt-requires-clause-sides
 normalize_alt-finish_alt-requires-clause-sides t c =
@@ -111,9 +111,9 @@ normalize_alt-returns t c =
     let right = has.right in
     let ends = rw (c.in-Some.is, has.is) at (c.left_mut.follows.holds (record c.in-Some.left.now { value = c.normalize.new.node })) in
     let made = tree c.normalize.new.node in
-    let stands = stands_left d (alt left right) left made right refl _ (rw left_is at c.normalize.ensures) in
+    let occurs = occurs_left d (alt left right) left made right refl _ (rw left_is at c.normalize.ensures) in
     let finished = rw ends at (c.finish_alt.ensures d) in
-    rw has.is (Normalized-after d (alt left right) (alt made right) _ _ stands finished)
+    rw has.is (Normalized-after d (alt left right) (alt made right) _ _ occurs finished)
 
 pub normalize_body-normalize-requires : goal.normalize_body-normalize-requires
 normalize_body-normalize-requires t c =
@@ -134,21 +134,21 @@ normalize_body-returns t c =
     let ends = rw (c.in-Some.is, around.is) at (c.body_mut.follows.holds new) in
     let here = rw (c.deref_mut.ensures.value, towards) at c.normalize.ensures in
     rw (ends, around.is)
-    (record { keeps = stands_inside d w _ _ _ here; body = wraps d w _ _ _ here; still_one = wraps_clean d w _ _ _ here })
+    (record { keeps = occurs_inside d w _ _ _ here; body = wraps d w _ _ _ here; still_one = wraps_clean d w _ _ _ here })
 
 pub normalize_last-normalize-requires : goal.normalize_last-normalize-requires
 normalize_last-normalize-requires t c =
     let taken = c.if-take_only_part.ensures in
     let d = direction_of c.args.walk.now in
-    (omega (arith, ap units taken), IsPart-stands d _ _ (StandsFor-only_part d _ _ taken) c.requires.part)
+    (omega (arith, ap units taken), IsPart-occurs d _ _ (Denotes-only_part d _ _ taken) c.requires.part)
 
 pub normalize_last-returns-then-take_only_part : goal.normalize_last-returns-then-take_only_part
 normalize_last-returns-then-take_only_part t c =
     let d = direction_of c.args.walk.now in
-    Normalized-after d _ _ _ _ (StandsFor-only_part d _ _ c.if-take_only_part.ensures) c.normalize.ensures
+    Normalized-after d _ _ _ _ (Denotes-only_part d _ _ c.if-take_only_part.ensures) c.normalize.ensures
 
-pub normalize_last-returns-in_ok-row-in-Cat : goal.normalize_last-returns-in_ok-row-in-Cat
-normalize_last-returns-in_ok-row-in-Cat t c =
+pub normalize_last-returns-in_ok-list-in-Cat : goal.normalize_last-returns-in_ok-list-in-Cat
+normalize_last-returns-in_ok-list-in-Cat t c =
     let d = direction_of c.args.walk.now in
     let start = sym c.if-take_only_part.ensures ∙ ap tree c.in-Cat.is ∙ tree-Cat c.in-Cat.parts in
     let keeps = rw c.in-Cat.parts-is at c.normalize_parts.ensures.keeps in
@@ -163,7 +163,7 @@ pub normalize_parts-normalize-requires : goal.normalize_parts-normalize-requires
 normalize_parts-normalize-requires t c =
     let l = c.loop-i in
     let node = c.index_mut-part.result.now in
-    let part = IsPart-at l.parts.items l.i (search rules) node c.index_mut-part.ensures.value _ _ l.invariant.stands.keeps c.requires in
+    let part = IsPart-at l.parts.items l.i (search rules) node c.index_mut-part.ensures.value _ _ l.invariant.occurs.keeps c.requires in
     let smaller = units_at l.parts.items l.i (search rules) node c.index_mut-part.ensures.value c.args.parts.now.items l.invariant.unvisited in
     (omega (arith, smaller), part)
 
@@ -171,15 +171,15 @@ pub normalize_parts-returns-in_err-facts-clause-keeps : goal.normalize_parts-ret
 normalize_parts-returns-in_err-facts-clause-keeps t c =
     let l = c.loop-i in
     let node = c.index_mut-part.result.now in
-    StandsFor-part l.parts.items l.i (search rules) c.normalize.new.node _ c.args.parts.now.items node c.index_mut-part.ensures.value _
-    l.invariant.stands c.normalize.ensures
+    Denotes-part l.parts.items l.i (search rules) c.normalize.new.node _ c.args.parts.now.items node c.index_mut-part.ensures.value _
+    l.invariant.occurs c.normalize.ensures
 
 pub normalize_parts-returns-in_err-add-clause-keeps : goal.normalize_parts-returns-in_err-add-clause-keeps
 normalize_parts-returns-in_err-add-clause-keeps t c =
     let l = c.loop-i in
     let node = c.index_mut-part.result.now in
-    StandsFor-part l.parts.items l.i (search rules) c.normalize.new.node _ c.args.parts.now.items node c.index_mut-part.ensures.value _
-    l.invariant.stands c.normalize.ensures
+    Denotes-part l.parts.items l.i (search rules) c.normalize.new.node _ c.args.parts.now.items node c.index_mut-part.ensures.value _
+    l.invariant.occurs c.normalize.ensures
 
 pub normalize_parts-loop-i-preserved : goal.normalize_parts-loop-i-preserved
 normalize_parts-loop-i-preserved t c =
@@ -191,10 +191,10 @@ normalize_parts-loop-i-preserved t c =
     record {
       length = length-set l.parts.items l.i new ∙ l.invariant.length;
       unvisited = unvisited-next l.parts.items old l.i new l.invariant.unvisited;
-      stands = StandsFor-part l.parts.items l.i (search rules) new _ old node c.index_mut-part.ensures.value _ l.invariant.stands
+      occurs = Denotes-part l.parts.items l.i (search rules) new _ old node c.index_mut-part.ensures.value _ l.invariant.occurs
           c.normalize.ensures;
       normal = more_normal l.parts.items l.i (search rules) new l.invariant.normal c.in_ok-facts.ensures.normal;
-      facts = subst (λ (ts : Trees). HasRowFacts c.add.new.self ts) (sym (taken l.parts.items l.i (search rules) new)) more;
+      facts = subst (λ (ts : Trees). HasListFacts c.add.new.self ts) (sym (taken l.parts.items l.i (search rules) new)) more;
     }
 
 pub normalize_up-normalize_alt-requires : goal.normalize_up-normalize_alt-requires
@@ -203,7 +203,7 @@ normalize_up-normalize_alt-requires t c =
     let shifted = c.loop-alloc-test.ensures in (
       omega (arith, units_up (tree l.above) (tree l.node) _ _ shifted, l.invariant.smaller),
       (
-        IsPart_up (tree l.above) (tree l.node) _ _ shifted _ _ l.invariant.stands c.requires.part,
+        IsPart_up (tree l.above) (tree l.node) _ _ shifted _ _ l.invariant.occurs c.requires.part,
         onto_up (tree l.above) (tree l.node) _ _ shifted l.right l.invariant.normal l.invariant.facts,
       ),
     )
@@ -213,20 +213,20 @@ normalize_up-loop-alloc-preserved t c =
     let l = c.loop-alloc in
     let shifted = c.loop-alloc-test.ensures in
     record {
-      stands = stands_up (tree l.above) (tree l.node) _ _ shifted _ _ _ _ l.invariant.stands c.in-Ok.ensures;
+      occurs = occurs_up (tree l.above) (tree l.node) _ _ shifted _ _ _ _ l.invariant.occurs c.in-Ok.ensures;
       normal = c.in-Ok.ensures.normal;
       facts = c.in-Ok.ensures.facts;
       smaller = omega (arith, units_up (tree l.above) (tree l.node) _ _ shifted, l.invariant.smaller);
       still_one = λ clean.
-          still_one_up (tree l.above) (tree l.node) _ _ shifted _ _ _ c.in-Ok.here l.invariant.stands c.in-Ok.ensures clean.0;
+          still_one_up (tree l.above) (tree l.node) _ _ shifted _ _ _ c.in-Ok.here l.invariant.occurs c.in-Ok.ensures clean.0;
     }
 
 pub normalize_up-returns-in-Err : goal.normalize_up-returns-in-Err
 normalize_up-returns-in-Err t c =
     let l = c.loop-alloc in
     let shifted = c.loop-alloc-test.ensures in
-    rw c.relink.ensures
-    (Finished-error _ _ _ _ _ refl (stands_up (tree l.above) (tree l.node) _ _ shifted _ _ _ _ l.invariant.stands c.in-Err.ensures))
+    rw c.restore_spine.ensures
+    (Finished-error _ _ _ _ _ refl (occurs_up (tree l.above) (tree l.node) _ _ shifted _ _ _ _ l.invariant.occurs c.in-Err.ensures))
 
 -- a node around a body
 pub normalize_last-returns-in_ok-body-in-CaptureGroup : goal.normalize_last-returns-in_ok-body-in-CaptureGroup

@@ -3,11 +3,11 @@ use Rattle.std.proofs.Common.{◌≡◌, ◌≤◌, ◌+◌, ◌*◌, length, dr
 use Rattle.regress_tree.specs.NormalForm.{IsNormal}
 use Rattle.regress_tree.specs.Spine.{reattach}
 use Rattle.regress_tree.specs.Tree.{tree, trees, cat}
-use Rattle.regress_tree.specs.Units.{units, units_in_row}
+use Rattle.regress_tree.specs.Units.{units, units_in_list}
 use Rattle.regress_tree.specs.Walk.{direction_of}
-use Rattle.regress_normalize.specs.Normalized.{RowIsNormal}
-use Rattle.regress_normalize.specs.PartFacts.{HasFacts, IsStillOne, HasRowFacts}
-use Rattle.regress_normalize.specs.Steps.{StandsFor}
+use Rattle.regress_normalize.specs.Normalized.{ListIsNormal}
+use Rattle.regress_normalize.specs.PartFacts.{HasFacts, IsStillOneCharacter, HasListFacts}
+use Rattle.regress_normalize.specs.Steps.{Denotes}
 use Rattle.regress_normalize.proofs.TraversalLemmas.{units_above, units_left}
 use Rattle.regress_normalize.proofs.traversal.+normalize.Given as goal
 
@@ -16,10 +16,10 @@ abbrev pub invariant-normalize_up-loop-alloc : goal.invariant-normalize_up-loop-
 invariant-normalize_up-loop-alloc l =
     let old = reattach (tree l.initial.above) (tree l.initial.node) in
     record {
-      stands : StandsFor (direction_of l.walk) old (reattach (tree l.above) (tree l.node));
+      occurs : Denotes (direction_of l.walk) old (reattach (tree l.above) (tree l.node));
       normal : IsNormal (tree l.node);
       facts : HasFacts l.right (tree l.node);
-      still_one : IsNormal old × IsStillOne l.fn.last (tree l.initial.node) → IsStillOne l.right (tree l.node);
+      still_one : IsNormal old × IsStillOneCharacter l.fn.last (tree l.initial.node) → IsStillOneCharacter l.right (tree l.node);
       smaller : units_above (tree l.above) ≤ units_above (tree l.initial.above);
     }
 
@@ -33,9 +33,9 @@ invariant-normalize_parts-loop-i l =
     record {
       length : length l.parts.items ≡ length old;
       unvisited : drop l.i l.parts.items ≡ drop l.i old;
-      stands : StandsFor (direction_of l.walk) (cat (trees old)) (cat (trees l.parts.items));
-      normal : RowIsNormal (trees (take l.i l.parts.items));
-      facts : HasRowFacts l.row (trees (take l.i l.parts.items));
+      occurs : Denotes (direction_of l.walk) (cat (trees old)) (cat (trees l.parts.items));
+      normal : ListIsNormal (trees (take l.i l.parts.items));
+      facts : HasListFacts l.list (trees (take l.i l.parts.items));
     }
 
 -- Each call is on a smaller node, or on the same node and a later function of this list. Right sides above are
@@ -51,7 +51,7 @@ abbrev pub decreases-normalize_body : goal.decreases-normalize_body
 decreases-normalize_body l = 6 * units (tree l.node.now) + 2
 
 abbrev pub decreases-normalize_parts : goal.decreases-normalize_parts
-decreases-normalize_parts l = 6 * units_in_row (trees l.parts.now.items) + 5
+decreases-normalize_parts l = 6 * units_in_list (trees l.parts.now.items) + 5
 
 abbrev pub decreases-normalize_up : goal.decreases-normalize_up
 decreases-normalize_up l = 6 * units_above (tree l.above) + 5

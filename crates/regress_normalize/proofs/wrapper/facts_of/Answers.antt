@@ -1,7 +1,7 @@
 -- A loop of either kind is a node around the body, and the other forms are leaves.
 use Rattle.std.proofs.Common.{ℕ, List, refl, ap, ◌∙◌}
 use Rattle.regress_tree.specs.Tree.{loop, loop_one, leaf, byte_set}
-use Rattle.regress_tree.proofs.laws.Nodes.{tree-Empty, tree-ByteSet}
+use Rattle.regress_tree.proofs.lemmas.Nodes.{tree-Empty, tree-ByteSet}
 use Rattle.regress_normalize.proofs.wrapper.facts_of.Goals as goal
 
 pub returns-in-OneCharacter-clause-has : goal.returns-in-OneCharacter-clause-has

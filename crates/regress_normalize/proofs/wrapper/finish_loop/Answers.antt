@@ -2,8 +2,8 @@
 use Rattle.std.proofs.Common.{◌≡◌, subst, ap, ◌∙◌}
 use Rattle.regress_tree.specs.Shapes.{is_unrolled_away}
 use Rattle.regress_tree.specs.Tree.{Tree, tree}
-use Rattle.regress_tree.proofs.laws.Levels.{out-Loop}
-use Rattle.regress_tree.proofs.laws.Nodes.{tree-Loop}
+use Rattle.regress_tree.proofs.lemmas.Nesting.{out-Loop}
+use Rattle.regress_tree.proofs.lemmas.Nodes.{tree-Loop}
 use Rattle.regress_rewrite.specs.Law.{IsPart}
 use Rattle.regress_normalize.specs.Wrapped.{IsLoopOf, IsPlanned, in_form, loop_in_form}
 use Rattle.regress_normalize.proofs.WrapperLemmas.{loop_holds, form_finished}
@@ -18,13 +18,13 @@ returns c d =
     let body = tree at.loopee.value in
     let is = ap tree at.is ∙ tree-Loop at.loopee at.quant at.enclosed_groups in
     let facts = c.args.body.now in
-    let told = subst (λ (t : Tree). IsLoopOf facts t) is c.requires.inner in
+    let reported = subst (λ (t : Tree). IsLoopOf facts t) is c.requires.inner in
     let part = subst (λ (t : Tree). IsPart t) is c.requires.part in
-    let holds = loop_holds facts q start end body told in
+    let holds = loop_holds facts q start end body reported in
     let plan = c.in_ok-plan.plan in
     let planned : IsPlanned facts q start end body plan = rw (c.deref.ensures, at.is, out-Loop) at c.in_ok-plan.ensures in
     let made : tree c.take_form.new.node ≡ in_form plan.form q start end body =
     (rw (at.is, out-Loop) at c.take_form.ensures) ∙ ap (loop_in_form plan.form) (tree-Loop at.loopee at.quant at.enclosed_groups) in
     rw (is, made)
     (form_finished facts q start end body holds.normal holds.has d part plan.facts plan.form planned.takes planned.has planned.many
-    (ap is_unrolled_away told.is ∙ told.stays))
+    (ap is_unrolled_away reported.is ∙ reported.stays))

@@ -3,11 +3,11 @@ use Rattle.std.proofs.Common.{◌≡◌, true, sym, ap, subst, ◌∙◌}
 use Rattle.regress_tree.specs.Shapes.{is_emptied_away, is_unrolled_away, may_unroll}
 use Rattle.regress_tree.specs.Tree.{Tree, tree, wrapped, loop, lookaround}
 use Rattle.regress_tree.specs.Walk.{direction_of}
-use Rattle.regress_tree.proofs.laws.Levels.{out-Loop, out-LookaroundAssertion}
-use Rattle.regress_tree.proofs.laws.Nodes.{tree-Loop, tree-LookaroundAssertion, tree-Empty}
+use Rattle.regress_tree.proofs.lemmas.Nesting.{out-Loop, out-LookaroundAssertion}
+use Rattle.regress_tree.proofs.lemmas.Nodes.{tree-Loop, tree-LookaroundAssertion, tree-Empty}
 use Rattle.regress_rewrite.specs.Law.{IsPart}
 use Rattle.regress_normalize.specs.Normalized.{IsWrapperOf}
-use Rattle.regress_normalize.proofs.WrapperLemmas.{emptied_finished, wrapper_holds, told_by_facts, unrolled_not_clean, finished_narrower}
+use Rattle.regress_normalize.proofs.WrapperLemmas.{emptied_finished, wrapper_holds, facts_decide_unrolling, unrolled_not_clean, finished_narrower}
 use Rattle.regress_normalize.proofs.wrapper.finish_wrapper.Goals as goal
 
 pub finish_unrolled-requires-clause-shape : goal.finish_unrolled-requires-clause-shape
@@ -19,10 +19,10 @@ finish_unrolled-requires-clause-shape c =
     let body = tree at.loopee.value in
     let loop_is = tree-Loop at.loopee at.quant at.enclosed_groups in
     let facts = c.args.body.now in
-    let told = subst (λ (t : Tree). IsWrapperOf facts t) (ap tree at.is ∙ loop_is) c.requires.body in
+    let reported = subst (λ (t : Tree). IsWrapperOf facts t) (ap tree at.is ∙ loop_is) c.requires.body in
     let asked : c.may_unroll.result ≡ may_unroll q start end body =
     (rw (at.quant-is, at.enclosed_groups-is) at c.may_unroll.ensures)
-    ∙ told_by_facts q start end body facts (wrapper_holds facts (loop q start end) body told).has in
+    ∙ facts_decide_unrolling q start end body facts (wrapper_holds facts (loop q start end) body reported).has in
     rw (at.is, out-Loop) (ap is_unrolled_away loop_is ∙ sym asked ∙ c.if-may_unroll.true)
 
 pub finish_loop-requires-clause-inner : goal.finish_loop-requires-clause-inner
@@ -34,10 +34,10 @@ finish_loop-requires-clause-inner c =
     let body = tree at.loopee.value in
     let loop_is = tree-Loop at.loopee at.quant at.enclosed_groups in
     let facts = c.args.body.now in
-    let told = subst (λ (t : Tree). IsWrapperOf facts t) (ap tree at.is ∙ loop_is) c.requires.body in
-    let holds = wrapper_holds facts (loop q start end) body told in
+    let reported = subst (λ (t : Tree). IsWrapperOf facts t) (ap tree at.is ∙ loop_is) c.requires.body in
+    let holds = wrapper_holds facts (loop q start end) body reported in
     let asked : c.may_unroll.result ≡ may_unroll q start end body =
-    (rw (at.quant-is, at.enclosed_groups-is) at c.may_unroll.ensures) ∙ told_by_facts q start end body facts holds.has in
+    (rw (at.quant-is, at.enclosed_groups-is) at c.may_unroll.ensures) ∙ facts_decide_unrolling q start end body facts holds.has in
     rw (at.is, out-Loop) (record {
       quantifier = q;
       start = start;
@@ -58,10 +58,10 @@ returns-then-may_unroll c =
     let body = tree at.loopee.value in
     let loop_is = tree-Loop at.loopee at.quant at.enclosed_groups in
     let facts = c.args.body.now in
-    let told = subst (λ (t : Tree). IsWrapperOf facts t) (ap tree at.is ∙ loop_is) c.requires.body in
+    let reported = subst (λ (t : Tree). IsWrapperOf facts t) (ap tree at.is ∙ loop_is) c.requires.body in
     let asked : c.may_unroll.result ≡ may_unroll q start end body =
     (rw (at.quant-is, at.enclosed_groups-is) at c.may_unroll.ensures)
-    ∙ told_by_facts q start end body facts (wrapper_holds facts (loop q start end) body told).has in
+    ∙ facts_decide_unrolling q start end body facts (wrapper_holds facts (loop q start end) body reported).has in
     let finished = rw (at.is, out-Loop) at c.finish_unrolled.ensures in
     rw at.is (finished_narrower _ _ _ _ _ _
     (unrolled_not_clean facts _ q start end body loop_is (sym asked ∙ c.if-may_unroll.true))

@@ -1,10 +1,10 @@
 use Rattle.std.proofs.Common.{◌≡◌, refl, sym, ap, ◌∙◌}
-use Rattle.regress_lexical.specs.Views.{source}
+use Rattle.regress_lexer.specs.Views.{source}
 use Rattle.regress_syntax.specs.Syntax.{literal, back_reference, by_number}
 use Rattle.regress_syntax.specs.Views.{context_of, names_in}
 use Rattle.regress_unicode.specs.TableOf.{table_of}
 use Rattle.regress_tree.specs.declared.ir.node.Node.TheVariants.{BackRef}
-use Rattle.regress_tree.proofs.laws.Nodes.{tree-BackRef}
+use Rattle.regress_tree.proofs.lemmas.Nodes.{tree-BackRef}
 use Rattle.regress_parse.specs.Reader.{term_at}
 use Rattle.regress_parse.proofs.TermLemmas.{plain_term}
 use Rattle.regress_parse.proofs.atom.push_simple_term.Goals as goal

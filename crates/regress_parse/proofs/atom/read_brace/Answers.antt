@@ -6,5 +6,5 @@ pub returns-in_ok-make_literal-clause-value : goal.returns-in_ok-make_literal-cl
 returns-in_ok-make_literal-clause-value c = (
   literal c.args.scope.now.flags c.args.c,
   search rules,
-  record { node = c.in_ok-make_literal.ensures; levels = omega arith; allows = refl },
+  record { node = c.in_ok-make_literal.ensures; nesting = omega arith; allows = refl },
 )

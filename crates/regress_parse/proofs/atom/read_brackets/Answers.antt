@@ -2,13 +2,13 @@
 use Rattle.std.proofs.Common.{◌<◌, ◌∙◌, inr, refl, sym, ap, subst, arith}
 use Rattle.std.specs.Option.{IfSome}
 use Rattle.std.proofs.lemmas.Bool.{cond-true, cond-false}
-use Rattle.regress_lexical.specs.Source.{Found, found_map}
+use Rattle.regress_lexer.specs.Source.{Found, found_map}
 use Rattle.std.proofs.lemmas.Result.{err_from_is_err_and}
-use Rattle.regress_lexical.specs.Views.{source}
-use Rattle.regress_lexical.proofs.laws.Sources.{on_refused, on_kind_then}
-use Rattle.regress_lexical.proofs.laws.Faults.{by_levels_then}
-use Rattle.regress_syntax.proofs.laws.Lengths.{class_set_at-levels}
-use Rattle.regress_syntax.specs.Syntax.{Atom, class, class_set, levels_of_atom}
+use Rattle.regress_lexer.specs.Views.{source}
+use Rattle.regress_lexer.proofs.lemmas.Sources.{on_rejected, on_kind_then}
+use Rattle.regress_lexer.proofs.lemmas.Faults.{by_nesting_then}
+use Rattle.regress_syntax.proofs.lemmas.Lengths.{class_set_at-nesting}
+use Rattle.regress_syntax.specs.Syntax.{Atom, class, class_set, nesting_of_atom}
 use Rattle.regress_syntax.specs.Views.{names_in}
 use Rattle.regress_unicode.specs.TableOf.{table_of}
 use Rattle.regress_parse.specs.TreeOf.{tree_of_atom}
@@ -24,7 +24,7 @@ returns-then-not-scope-clause-value c =
       record {
         node = c.in_ok-make_class.ensures found.0.1 found.2.1 ∙ ap (tree_of_atom (table_of c.args.scope.now.tables.now)
             (names_in c.args.scope.now.groups.now)) same;
-        levels = omega arith;
+        nesting = omega arith;
         allows = refl;
       },
     )
@@ -34,8 +34,8 @@ returns-then-class-left-clause-value c =
     let flags = c.args.scope.now.flags in
     let found = c.in_ok-class-2.ensures.value in
     let here = cond-true _ _ _ c.if-not-scope.false ∙ ap (found_map (λ (negated, value). class_set flags negated value)) found.1 in
-    on_refused c.refused.result
-    (subst (λ (f : Found Atom). IfSome f (λ x. c.args.left < levels_of_atom x.0)) (sym here) (omega (arith, found.2.1.others.levels)))
+    on_rejected c.rejected.result
+    (subst (λ (f : Found Atom). IfSome f (λ x. c.args.left < nesting_of_atom x.0)) (sym here) (omega (arith, found.2.1.others.nesting)))
 
 pub returns-clause-value : goal.returns-clause-value
 returns-clause-value c =
@@ -47,7 +47,7 @@ returns-clause-value c =
       record {
         node = c.in_ok-make_class_set.ensures found.0.1 found.2.1 ∙ ap (tree_of_atom (table_of c.args.scope.now.tables.now)
             (names_in c.args.scope.now.groups.now)) same;
-        levels = omega (arith, found.2.1.others.levels);
+        nesting = omega (arith, found.2.1.others.nesting);
         allows = refl;
       },
     )
@@ -55,19 +55,19 @@ returns-clause-value c =
 pub returns-in_err-class-2-clause-kind : goal.returns-in_err-class-2-clause-kind
 returns-in_err-class-2-clause-kind c =
     let p = err_from_is_err_and c.from_residual-in_err-class-2.result c.from_residual-in_err-class-2.ensures.1 in
-    rw (p.1, p.2) (on_kind_then c.in_err-class-2.field-0.0 (by_levels_then (λ most. omega (arith, most, c.requires))) c.in_err-class-2.ensures.kind)
+    rw (p.1, p.2) (on_kind_then c.in_err-class-2.field-0.0 (by_nesting_then (λ most. omega (arith, most, c.requires))) c.in_err-class-2.ensures.kind)
 
 pub returns-then-class-left-clause-kind : goal.returns-then-class-left-clause-kind
 returns-then-class-left-clause-kind c =
     let tables = c.args.scope.now.tables.now in
     let found = c.in_ok-class-2.ensures.value in
-    rw c.refused.ensures (inr (
+    rw c.rejected.ensures (inr (
       refl,
       omega (
         arith,
         c.if-class-left.true,
-        found.2.1.others.levels,
-        class_set_at-levels (table_of tables) tables.sound.lawful c.args.scope.now.flags.unicode (source c.args.cursor.now)
-            (found.0, source c.read_class_set.new.cursor) found.1,
+        found.2.1.others.nesting,
+        class_set_at-nesting (table_of tables) tables.sound.lawful c.args.scope.now.flags.unicode (source c.args.cursor.now)
+            (found.0, source c.parse_class_set.new.cursor) found.1,
       ),
     ))

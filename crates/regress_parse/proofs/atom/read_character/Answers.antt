@@ -1,11 +1,11 @@
 use Rattle.std.proofs.Common.{refl, sym, rules, arith}
-use Rattle.regress_lexical.proofs.laws.Behind.{behind_all, escape_at-ends}
+use Rattle.regress_lexer.proofs.lemmas.After.{after_all, escape_at-ends}
 use Rattle.regress_syntax.specs.Syntax.{literal}
 use Rattle.regress_parse.proofs.atom.read_character.Goals as goal
 
 pub invariant_of-cursor : goal.invariant_of-cursor
 invariant_of-cursor c = record {
-  in_range = behind_all _ _
+  in_range = after_all _ _
       ((escape_at-ends c.args.scope.now.flags.unicode c.args.cursor.now.rest.now).each
       (c.in-Some.found, c.in-Some.rest.now) (sym c.in-Some.ensures.value))
       c.args.cursor.now.in_range;
@@ -15,5 +15,5 @@ pub returns-clause-value : goal.returns-clause-value
 returns-clause-value c = (
   literal c.args.scope.now.flags c.in-Some.found,
   search rules,
-  record { node = c.in_ok-make_literal.ensures; levels = omega arith; allows = refl },
+  record { node = c.in_ok-make_literal.ensures; nesting = omega arith; allows = refl },
 )

@@ -9,26 +9,26 @@ pub returns-then-c-from-clause-value : goal.returns-then-c-from-clause-value
 returns-then-c-from-clause-value c = (
   dot c.args.scope.now.flags,
   search rules,
-  record { node = c.make_dot.ensures; levels = omega arith; allows = grind (arith, nat_tests) },
+  record { node = c.make_dot.ensures; nesting = omega arith; allows = grind (arith, nat_tests) },
 )
 
 pub returns-then-c-from-2-clause-value : goal.returns-then-c-from-2-clause-value
 returns-then-c-from-2-clause-value c = (
   anchor c.args.scope.now.flags StartOfLine,
   search rules,
-  record { node = c.make_anchor.ensures; levels = omega arith; allows = grind (arith, nat_tests) },
+  record { node = c.make_anchor.ensures; nesting = omega arith; allows = grind (arith, nat_tests) },
 )
 
 pub returns-then-c-from-3-clause-value : goal.returns-then-c-from-3-clause-value
 returns-then-c-from-3-clause-value c = (
   anchor c.args.scope.now.flags EndOfLine,
   search rules,
-  record { node = c.make_anchor-then-c-from-3.ensures; levels = omega arith; allows = grind (arith, nat_tests) },
+  record { node = c.make_anchor-then-c-from-3.ensures; nesting = omega arith; allows = grind (arith, nat_tests) },
 )
 
 pub returns-in_ok-make_literal-clause-value : goal.returns-in_ok-make_literal-clause-value
 returns-in_ok-make_literal-clause-value c = (
   literal c.args.scope.now.flags c.args.c,
   search rules,
-  record { node = c.in_ok-make_literal.ensures; levels = omega arith; allows = grind (arith, nat_tests) },
+  record { node = c.in_ok-make_literal.ensures; nesting = omega arith; allows = grind (arith, nat_tests) },
 )

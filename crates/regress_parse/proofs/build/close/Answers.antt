@@ -1,5 +1,5 @@
 use Rattle.regress_unicode.specs.TableOf.{table_of}
-use Rattle.regress_lexical.proofs.laws.Sources.{ok_from_both}
+use Rattle.regress_lexer.proofs.lemmas.Sources.{ok_from_both}
 use Rattle.regress_parse.proofs.BuildLemmas.{closed_is, unclosed_is}
 use Rattle.regress_parse.proofs.build.close.Goals as goal
 

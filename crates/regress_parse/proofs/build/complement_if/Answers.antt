@@ -1,4 +1,4 @@
-use Rattle.regress_lexical.proofs.laws.Sources.{ok_from_both}
+use Rattle.regress_lexer.proofs.lemmas.Sources.{ok_from_both}
 use Rattle.regress_parse.proofs.BuildLemmas.{complement_is}
 use Rattle.regress_parse.proofs.build.complement_if.Goals as goal
 

@@ -1,6 +1,6 @@
 use Rattle.std.proofs.Common.{◌≡◌, ◌++◌, ◌∷◌, [], map, sym, ap, ap₂, ◌∙◌}
 use Rattle.regress_tree.specs.Tree.{tree, alt}
-use Rattle.regress_tree.proofs.laws.Nodes.{tree-Alt}
+use Rattle.regress_tree.proofs.lemmas.Nodes.{tree-Alt}
 use Rattle.regress_parse.specs.Parsing.{alternatives}
 use Rattle.regress_parse.proofs.BuildLemmas.{alternatives-push}
 use Rattle.regress_parse.proofs.build.make_alt.Goals as goal

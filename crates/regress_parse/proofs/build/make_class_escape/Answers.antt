@@ -1,7 +1,7 @@
 use Rattle.std.proofs.Common.{ap, ◌∙◌, false}
 use Rattle.regress_tree.specs.Tree.{leaf, bracket}
-use Rattle.regress_tree.proofs.laws.Nodes.{tree-Bracket}
-use Rattle.regress_classes.specs.ClassRows.{members_of}
+use Rattle.regress_tree.proofs.lemmas.Nodes.{tree-Bracket}
+use Rattle.regress_classes.specs.ClassProductions.{members_of}
 use Rattle.regress_parse.proofs.build.make_class_escape.Goals as goal
 
 pub returns : goal.returns

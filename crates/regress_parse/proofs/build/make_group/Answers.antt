@@ -1,7 +1,7 @@
 use Rattle.std.proofs.Common.{◌≡◌, ℕ, Vec, Option, Some, None, List, encode_utf8_all, option_map, refl, sym, ap, ap₂, ◌∙◌}
 use Rattle.std.specs.declared.alloc.Global.{Global}
 use Rattle.regress_tree.specs.Tree.{Tree, tree, wrapped, capture_group}
-use Rattle.regress_tree.proofs.laws.Nodes.{tree-CaptureGroup}
+use Rattle.regress_tree.proofs.lemmas.Nodes.{tree-CaptureGroup}
 use Rattle.regress_syntax.specs.Views.{group_of}
 use Rattle.regress_parse.specs.TreeOf.{tree_of_group}
 use Rattle.regress_parse.proofs.build.make_group.Goals as goal

@@ -1,6 +1,6 @@
 use Rattle.std.proofs.Common.{ap, ◌∙◌}
 use Rattle.regress_tree.specs.Tree.{leaf}
-use Rattle.regress_base.proofs.laws.Literals.{listing_is_listed}
+use Rattle.regress_base.proofs.lemmas.Literals.{listing_is_listed}
 use Rattle.regress_parse.specs.TreeOf.{leaf_of_members}
 use Rattle.regress_parse.proofs.build.make_literal.Goals as goal
 

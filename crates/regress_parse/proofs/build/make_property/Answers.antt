@@ -5,8 +5,8 @@ use Rattle.std.proofs.lemmas.Bool.{cond-true}
 use Rattle.regress_base.specs.Intervals.{Bounds, is_member}
 use Rattle.regress_unicode.specs.TableOf.{table_of}
 use Rattle.regress_tree.specs.Tree.{tree}
-use Rattle.regress_classes.specs.ClassRows.{complement}
-use Rattle.regress_classes.proofs.laws.Values.{complement_is}
+use Rattle.regress_classes.specs.ClassProductions.{complement}
+use Rattle.regress_classes.proofs.lemmas.Values.{complement_is}
 use Rattle.regress_syntax.specs.Syntax.{Atom}
 use Rattle.regress_syntax.specs.Views.{names_in}
 use Rattle.regress_parse.specs.TreeOf.{tree_of_atom}

@@ -1,7 +1,7 @@
 use Rattle.std.proofs.Common.{◌≡◌, ℕ, ◌<◌, ◌≤◌, ◌++◌, Bool, List, [], ◌∷◌, length, get_or, map, refl, sym, ap, ap₂, arith, ◌∙◌}
 use Rattle.std.proofs.lemmas.List.{map_more, map_push}
 use Rattle.regress_tree.specs.Tree.{Tree, tree, leaf, back_ref}
-use Rattle.regress_tree.proofs.laws.Nodes.{tree-BackRef}
+use Rattle.regress_tree.proofs.lemmas.Nodes.{tree-BackRef}
 use Rattle.regress_parse.specs.TreeOf.{alternation, references}
 use Rattle.regress_parse.proofs.build.make_references.Goals as goal
 

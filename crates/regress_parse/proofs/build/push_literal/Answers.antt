@@ -2,7 +2,7 @@ use Rattle.std.proofs.Common.{ap, sym, ◌∙◌}
 use Rattle.std.proofs.lemmas.Bool.{cond-false}
 use Rattle.regress_tree.specs.declared.ir.node.Node.TheVariants.{Char}
 use Rattle.regress_tree.specs.Tree.{leaf}
-use Rattle.regress_tree.proofs.laws.Nodes.{tree-Char}
+use Rattle.regress_tree.proofs.lemmas.Nodes.{tree-Char}
 use Rattle.regress_parse.proofs.build.push_literal.Goals as goal
 
 pub returns-then-not-scope : goal.returns-then-not-scope

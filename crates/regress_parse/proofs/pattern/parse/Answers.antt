@@ -6,10 +6,10 @@ use Rattle.regress_tree.specs.Tree.{Tree, trees, cat, more_trees, no_trees}
 use Rattle.regress_unicode.specs.TableOf.{table_of}
 use Rattle.regress_syntax.specs.SettingOf.{setting_of}
 use Rattle.regress_tree.specs.WellFormed.{IsWellFormed}
-use Rattle.regress_tree.proofs.laws.Nodes.{tree-Cat, tree-Goal}
+use Rattle.regress_tree.proofs.lemmas.Nodes.{tree-Cat, tree-Goal}
 use Rattle.regress_syntax.specs.Syntax.{counts}
 use Rattle.regress_syntax.specs.Views.{names_in}
-use Rattle.regress_lexical.proofs.laws.Sources.{on_kind_then}
+use Rattle.regress_lexer.proofs.lemmas.Sources.{on_kind_then}
 use Rattle.regress_parse.specs.Parsing.{YieldsWhole}
 use Rattle.regress_parse.specs.TreeOf.{tree_of, tree_of_pattern}
 use Rattle.regress_parse.specs.Accepted.{Means}
@@ -21,12 +21,12 @@ use Rattle.regress_parse.proofs.SettledLemmas.{settled}
 use Rattle.regress_parse.proofs.WellFormedLemmas.{tree_of-well_formed}
 use Rattle.regress_parse.proofs.pattern.parse.Goals as goal
 
-pub returns-in_err-found-clause-told : goal.returns-in_err-found-clause-told
-returns-in_err-found-clause-told c =
+pub returns-in_err-found-clause-reported : goal.returns-in_err-found-clause-reported
+returns-in_err-found-clause-reported c =
     let p = err_from_is_err_and c.from_residual.result c.from_residual.ensures.1 in
     rw (p.1, p.2) (on_kind_then c.in_err-found.field-0.0
     (λ kind shown p h. inl (marks-say (setting_of c.args.flags c.args.tables.now) c.args.pattern.now c.in_err-found.ensures.whole kind shown p h))
-    c.in_err-found.ensures.refused)
+    c.in_err-found.ensures.rejected)
 
 pub returns-in_err-found-clause-settled : goal.returns-in_err-found-clause-settled
 returns-in_err-found-clause-settled c =
@@ -38,14 +38,14 @@ pub returns-in_err-body-clause-settled : goal.returns-in_err-body-clause-settled
 returns-in_err-body-clause-settled c =
     let p = err_from_is_err_and c.from_residual-in_err-body.result c.from_residual-in_err-body.ensures.1 in
     rw (p.1, p.2) (settled (setting_of c.args.flags c.args.tables.now) c.args.pattern.now c.in_err-body.field-0.0
-    c.args.tables.now.sound.lawful (c.in_err-body.ensures.located c.args.flags.unicode_sets c.in_ok-found.ensures.misplaced))
+    c.args.tables.now.sound.lawful (c.in_err-body.ensures.located c.args.flags.unicode_sets c.in_ok-found.ensures.first_errors))
 
 pub returns-in_err-found-clause-only : goal.returns-in_err-found-clause-only
 returns-in_err-found-clause-only c =
     same_derived (setting_of c.args.flags c.args.tables.now) c.args.pattern.now c.in_err-found.ensures.whole
 
-pub returns-in_err-body-clause-told : goal.returns-in_err-body-clause-told
-returns-in_err-body-clause-told c =
+pub returns-in_err-body-clause-reported : goal.returns-in_err-body-clause-reported
+returns-in_err-body-clause-reported c =
     let p = err_from_is_err_and c.from_residual-in_err-body.result c.from_residual-in_err-body.ensures.1 in
     let setting = setting_of c.args.flags c.args.tables.now in
     let t = c.args.pattern.now in
@@ -53,13 +53,13 @@ returns-in_err-body-clause-told c =
     let same = scanned-is setting t found.whole c.in_ok-found.found.groups.count (names_in c.in_ok-found.found.groups) found.names found.count in
     let yields : YieldsWhole (scanned setting t found.whole (most setting t found.whole)) t (Err c.in_err-body.field-0.0) =
     subst (λ ctx. YieldsWhole ctx t (Err c.in_err-body.field-0.0)) same c.in_err-body.ensures.value in
-    rw (p.1, p.2) (on_kind_then c.in_err-body.field-0.0 (reading-says setting t found.whole found.levels) yields)
+    rw (p.1, p.2) (on_kind_then c.in_err-body.field-0.0 (reading-says setting t found.whole found.nesting) yields)
 
 pub returns-in_err-found-clause-limits : goal.returns-in_err-found-clause-limits
 returns-in_err-found-clause-limits c =
     let p = err_from_is_err_and c.from_residual.result c.from_residual.ensures.1 in
     rw (p.1, p.2) (on_kind_then c.in_err-found.field-0.0
-    (marks_exceed c.args.flags.unicode_sets (table_of c.args.tables.now) c.args.pattern.now) c.in_err-found.ensures.refused)
+    (marks_exceed c.args.flags.unicode_sets (table_of c.args.tables.now) c.args.pattern.now) c.in_err-found.ensures.rejected)
 
 pub returns-in_err-body-clause-limits : goal.returns-in_err-body-clause-limits
 returns-in_err-body-clause-limits c =

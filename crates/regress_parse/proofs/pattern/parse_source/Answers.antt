@@ -4,9 +4,9 @@ use Rattle.std.proofs.lemmas.Option.{same_Some}
 use Rattle.std.specs.Option.{IsSomeAnd}
 use Rattle.regress_tree.specs.declared.ir.node.Node.{Node}
 use Rattle.regress_tree.specs.Reading.{forwards}
-use Rattle.regress_lexical.specs.Source.{Source, Found}
-use Rattle.regress_lexical.proofs.laws.Sources.{length-none, length-some}
-use Rattle.regress_syntax.specs.Rows.{Context}
+use Rattle.regress_lexer.specs.Source.{Source, Found}
+use Rattle.regress_lexer.proofs.lemmas.Sources.{length-none, length-some}
+use Rattle.regress_syntax.specs.Productions.{Context}
 use Rattle.regress_syntax.specs.Syntax.{Pattern, nothing_counted}
 use Rattle.regress_syntax.specs.Views.{context_of}
 use Rattle.regress_parse.specs.declared.parser.Parser.{Parser}
@@ -43,6 +43,6 @@ returns-then-is_empty-clause-value c =
 pub returns-else-is_empty-clause-value : goal.returns-else-is_empty-clause-value
 unfolding Built
 returns-else-is_empty-clause-value c =
-    rw c.refuse.ensures
+    rw c.reject.ensures
     (λ p e. absurd (not_whole (context_of c.args.scope.now) c.args.pattern.now c.consume_disjunction.new.self c.in_ok-body.body c.in_ok-body.ensures.value
     (sym c.is_empty.ensures ∙ c.if-is_empty.false) p e))

@@ -2,8 +2,8 @@ use Rattle.std.proofs.Common.{rules, arith, ◌≡◌, ◌∙◌, ap, sym, subst
 use Rattle.std.specs.Prelude.{option_map, string_bytes}
 use Rattle.regress_tree.specs.Tree.{tree, trees, cat, wrapped, capture_group}
 use Rattle.regress_tree.specs.declared.ir.node.Node.{the_lemmas}
-use Rattle.regress_tree.proofs.laws.Levels.{alt_of}
-use Rattle.regress_tree.proofs.laws.Nodes.{tree-Anchor, tree-Cat, tree-CaptureGroup}
+use Rattle.regress_tree.proofs.lemmas.Nesting.{alt_of}
+use Rattle.regress_tree.proofs.lemmas.Nodes.{tree-Anchor, tree-Cat, tree-CaptureGroup}
 use Rattle.regress_prefilter.specs.Candidates.{IsAnchored}
 use Rattle.regress_prefilter.proofs.AnchorLemmas.{anchored-leaf, anchored-alt, anchored-group}
 use Rattle.regress_prefilter.proofs.candidates.+is_anchored.Goals as goal
@@ -27,7 +27,7 @@ pub is_anchored_other-returns-in-Cat : goal.is_anchored_other-returns-in-Cat
 is_anchored_other-returns-in-Cat t c = λ holds.
     let is : tree c.args.node.now ≡ cat (trees c.deref.result.now) =
     ap tree c.in-Cat.is ∙ tree-Cat c.in-Cat.parts ∙ ap (λ parts. cat (trees parts)) (sym c.deref.ensures.value) in
-    subst IsAnchored (sym is) (c.is_anchored_row.ensures holds)
+    subst IsAnchored (sym is) (c.is_anchored_list.ensures holds)
 
 pub is_anchored_other-returns-in-CaptureGroup : goal.is_anchored_other-returns-in-CaptureGroup
 is_anchored_other-returns-in-CaptureGroup t c = λ holds.

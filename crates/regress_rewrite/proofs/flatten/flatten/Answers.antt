@@ -1,8 +1,8 @@
 -- The law, from what happened to the parts.
 use Rattle.regress_tree.specs.Tree.{trees}
-use Rattle.regress_tree.proofs.laws.Nodes.{tree-Cat}
-use Rattle.regress_tree.proofs.laws.Levels.{out-Cat}
-use Rattle.regress_rewrite.proofs.laws.Flattening.{flatten_lawful}
+use Rattle.regress_tree.proofs.lemmas.Nodes.{tree-Cat}
+use Rattle.regress_tree.proofs.lemmas.Nesting.{out-Cat}
+use Rattle.regress_rewrite.proofs.lemmas.Flattening.{flatten_lawful}
 use Rattle.regress_rewrite.proofs.flatten.flatten.Goals as goal
 
 pub returns-in-Cat-clause-lawful : goal.returns-in-Cat-clause-lawful

@@ -12,9 +12,9 @@ returns-in_err-append_parts c =
     let all = c.args.parts.now.items in
     let part = c.in-Some.part in
     let yields = YieldsList-from_vec {s = c.into_iter-part-iterator.result} all (search rules) (search rules) in
-    let turn = YieldsList-turn yields l.yielded l.part-iterator l.yielded_by c.next.result c.next.new.self part c.in-Some.is
+    let iteration = YieldsList-turn yields l.yielded l.part-iterator l.yielded_by c.next.result c.next.new.self part c.in-Some.is
     c.next.ensures.steps in
-    let fits = moved_fits all l.yielded part l.invariant.before turn.0 turn.1 in
+    let fits = moved_fits all l.yielded part l.invariant.before iteration.0 iteration.1 in
     let len = moved_len l.flat.items l.yielded l.invariant.items in
     absurd (false≢true (c.in_err-append_parts.ensures.room (omega (arith, fits, len, l.flat.ok.0, l.invariant.room))))
 
@@ -24,10 +24,10 @@ loop-part-preserved c =
     let all = c.args.parts.now.items in
     let yields = YieldsList-from_vec {s = c.into_iter-part-iterator.result} all (search rules) (search rules) in
     let part = c.in-Some.part in
-    let turn = YieldsList-turn yields l.yielded l.part-iterator l.yielded_by c.next.result c.next.new.self part c.in-Some.is
+    let iteration = YieldsList-turn yields l.yielded l.part-iterator l.yielded_by c.next.result c.next.new.self part c.in-Some.is
     c.next.ensures.steps in
     record {
       items = moved_items l.flat.items l.yielded l.invariant.items _ part c.in_ok-append_parts.ensures.ok;
-      before = moved_before all l.yielded part l.invariant.before turn.0 turn.1;
+      before = moved_before all l.yielded part l.invariant.before iteration.0 iteration.1;
       room = le_trans l.invariant.room c.in_ok-append_parts.ensures.capacity;
     }

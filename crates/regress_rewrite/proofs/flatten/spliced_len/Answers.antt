@@ -1,5 +1,5 @@
 use Rattle.std.proofs.Common.{◌∙◌, arith}
-use Rattle.regress_rewrite.proofs.laws.Checked.{sum_of}
+use Rattle.regress_rewrite.proofs.lemmas.Checked.{sum_of}
 use Rattle.regress_rewrite.proofs.SpliceLemmas.{flat_len-more}
 use Rattle.regress_rewrite.proofs.flatten.spliced_len.Goals as goal
 

@@ -3,7 +3,7 @@ use Rattle.std.proofs.Common.{◌≡◌, ℕ, true, false, Vec, Global, rules}
 use Rattle.regress_tree.specs.declared.ir.node.Node.{out-Node, the_lemmas}
 use Rattle.regress_tree.specs.declared.ir.node.Node.TheOpen.{Node-F}
 use Rattle.regress_tree.specs.declared.ir.node.Node.TheVariants.{Char, CharSet}
-use Rattle.regress_tree.proofs.laws.Nodes.{tree-Char, tree-CharSet}
+use Rattle.regress_tree.proofs.lemmas.Nodes.{tree-Char, tree-CharSet}
 use Rattle.regress_tree.specs.Shapes.{is_formed_away}
 use Rattle.regress_tree.specs.Tree.{tree}
 use Rattle.regress_tree.specs.Walk.{direction_of}

@@ -2,7 +2,7 @@
 use Rattle.std.proofs.Common.{◌-◌, List, map, arith, sym, subst, ◌∙◌}
 use Rattle.std.proofs.lemmas.List.{length-map}
 use Rattle.regress_tree.specs.Reading.{backwards}
-use Rattle.regress_tree.specs.Tree.{Tree, row, tree}
+use Rattle.regress_tree.specs.Tree.{Tree, list, tree}
 use Rattle.regress_rewrite.specs.Formed.{JoinsSome}
 use Rattle.regress_rewrite.proofs.form.PartLemmas.{HasGap, HasGap-none}
 use Rattle.regress_rewrite.proofs.form.NeighbourLemmas.{backward_start, backward_skip, backward_join, backward_gap, have_bytes}
@@ -40,7 +40,7 @@ loop-earlier-preserved-then-have_bytes c =
       within = omega (arith, l.invariant.within);
       gap = subst (λ (ts : List Tree). HasGap (l.earlier - 1) l.last ts) is
           (backward_gap l.earlier l.last old now (omega (arith, c.loop-earlier-test.true)) have l.invariant.gap);
-      so_far = subst (λ (ts : List Tree). JoinsSome backwards (row old) (row ts)) is
+      so_far = subst (λ (ts : List Tree). JoinsSome backwards (list old) (list ts)) is
           (backward_join l.earlier l.last old now (omega (arith, c.loop-earlier-test.true)) l.joined have l.invariant.gap l.invariant.so_far);
     }
 

@@ -3,7 +3,7 @@ use Rattle.std.proofs.Common.{◌+◌, ◌-◌, Bool, List, map, arith, sym, ap,
 use Rattle.std.proofs.lemmas.List.{length-map}
 use Rattle.regress_tree.specs.declared.ir.node.Node.{Node}
 use Rattle.regress_tree.specs.Reading.{forwards}
-use Rattle.regress_tree.specs.Tree.{Tree, row, tree}
+use Rattle.regress_tree.specs.Tree.{Tree, list, tree}
 use Rattle.regress_rewrite.specs.Formed.{JoinsSome}
 use Rattle.regress_rewrite.proofs.form.NeighbourLemmas.{ForwardSoFar, forward_skip, forward_join, forward_end, have_bytes}
 use Rattle.regress_rewrite.proofs.form_literal_bytes.join_forwards.Goals as goal
@@ -22,7 +22,7 @@ loop-later-preserved c =
           let joined = forward_join i old now l.joined l.auto.later have l.invariant in
           let is = ap (map tree) w.parts-is ∙ w.in_default.ensures.ok in
           subst (λ (b : Bool). ForwardSoFar b (i + 1) old (map tree c.if-have_bytes.parts)) (sym w.joined-is)
-          (subst (λ (ts : List Tree). JoinsSome forwards (row old) (row ts)) (sym is) joined)
+          (subst (λ (ts : List Tree). JoinsSome forwards (list old) (list ts)) (sym is) joined)
       | else-have_bytes w ↦
           let skipped = forward_skip i old now l.joined l.auto.later (omega (arith, c.loop-later-test.true, l.auto.parts, length-map l.parts tree))
           (sym c.have_bytes.ensures ∙ w.if-have_bytes.false) l.invariant in

@@ -3,9 +3,9 @@ use Rattle.regress_tree.specs.Reading.{forwards}
 use Rattle.regress_tree.specs.Tree.{Tree, tree}
 use Rattle.regress_tree.specs.Units.{account}
 use Rattle.regress_tree.specs.Shapes.{LacksShape}
-use Rattle.regress_rewrite.specs.Sweep.{Swept}
+use Rattle.regress_rewrite.specs.Sweep.{Traversed}
 use Rattle.regress_rewrite.specs.Passes.{Passed}
-use Rattle.regress_tree.proofs.laws.Falling.{changes_left}
+use Rattle.regress_tree.proofs.lemmas.Falling.{changes_left}
 use Rattle.regress_rewrite.proofs.pass.run_pass.Given as goal
 
 -- each traversal so far changed something, so no shape is known to be removed
@@ -14,7 +14,7 @@ invariant-loop-changed g l = record {
   flags : l.r.flags ≡ l.initial.r.flags;
   passed : (u : Tree) (b : _) (going : Bool) → Passed g.R.Rewrite.step l.initial.r.flags.unicode l.pass (tree l.r.node) u b going →
       Passed g.R.Rewrite.step l.initial.r.flags.unicode l.initial.pass (tree l.initial.r.node) u b going;
-  swept : Swept (LacksShape g.R.Rewrite.removes (tree l.initial.r.node)) (Unit {0}) g.R.Rewrite.is_exact forwards
+  swept : Traversed (LacksShape g.R.Rewrite.removes (tree l.initial.r.node)) (Unit {0}) g.R.Rewrite.is_exact forwards
       (tree l.initial.r.node) (tree l.r.node) (Ok l.changed);
 }
 

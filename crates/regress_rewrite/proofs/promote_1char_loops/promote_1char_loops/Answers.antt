@@ -1,8 +1,8 @@
 -- The law, from what happened to the body.
 use Rattle.regress_tree.specs.Tree.{tree}
-use Rattle.regress_tree.proofs.laws.Levels.{out-Loop}
-use Rattle.regress_tree.proofs.laws.Nodes.{tree-Loop}
-use Rattle.regress_rewrite.proofs.laws.Promotion.{promote_lawful}
+use Rattle.regress_tree.proofs.lemmas.Nesting.{out-Loop}
+use Rattle.regress_tree.proofs.lemmas.Nodes.{tree-Loop}
+use Rattle.regress_rewrite.proofs.lemmas.Promotion.{promote_lawful}
 use Rattle.regress_rewrite.proofs.promote_1char_loops.promote_1char_loops.Goals as goal
 
 pub returns-in-Loop-clause-lawful : goal.returns-in-Loop-clause-lawful

@@ -3,8 +3,8 @@ use Rattle.std.proofs.Common.{◌≡◌, false, rules, sym, ap, ap₂, ◌∙◌
 use Rattle.regress_tree.specs.declared.ir.node.Node.{the_lemmas}
 use Rattle.regress_tree.specs.Tree.{Tree, alt, tree}
 use Rattle.regress_tree.specs.Spine.{is_alt}
-use Rattle.regress_tree.proofs.laws.Nodes.{tree-Alt}
-use Rattle.regress_rewrite.proofs.laws.Failing.{whole_lawful, alt_lawful}
+use Rattle.regress_tree.proofs.lemmas.Nodes.{tree-Alt}
+use Rattle.regress_rewrite.proofs.lemmas.Failing.{whole_lawful, alt_lawful}
 use Rattle.regress_rewrite.proofs.propagate_early_fails.propagate_early_fails.Goals as goal
 
 pub returns-in-Alt : goal.returns-in-Alt

@@ -1,6 +1,6 @@
 use Rattle.std.proofs.Common.{length, nat_lt, ap, subst, ap₂, ◌∙◌}
 use Rattle.regress_base.specs.Intervals.{IsCanonical}
-use Rattle.regress_tree.proofs.laws.Brackets.{gap_count-complement}
+use Rattle.regress_tree.proofs.lemmas.Brackets.{gap_count-complement}
 use Rattle.regress_rewrite.proofs.simplify_brackets.is_long.Goals as goal
 
 pub returns : goal.returns

@@ -4,7 +4,7 @@ use Rattle.regress_base.specs.declared.types.bracket.BracketContents.{BracketCon
 use Rattle.regress_tree.specs.declared.ir.node.Node.{out-Node, the_lemmas}
 use Rattle.regress_tree.specs.declared.ir.node.Node.TheOpen.{Node-F}
 use Rattle.regress_tree.specs.declared.ir.node.Node.TheVariants.{Bracket}
-use Rattle.regress_tree.proofs.laws.Nodes.{tree-Bracket}
+use Rattle.regress_tree.proofs.lemmas.Nodes.{tree-Bracket}
 use Rattle.regress_rewrite.proofs.SimplifyLemmas.{simplify_lawful, simplify_leaf}
 use Rattle.regress_rewrite.proofs.simplify_brackets.simplify_brackets.Goals as goal
 

@@ -5,16 +5,16 @@ use Rattle.regress_tree.specs.declared.ir.node.Node.TheVariants.{Cat}
 use Rattle.regress_base.specs.declared.types.Quantifier.{Quantifier}
 use Rattle.regress_tree.specs.Shapes.{is_unrolled_away, is_zero, may_unroll}
 use Rattle.regress_tree.specs.Tree.{Tree, tree, wrapped, loop, cat, trees, copies}
-use Rattle.regress_tree.proofs.laws.Nodes.{tree-Loop, tree-Cat}
-use Rattle.regress_tree.proofs.laws.Levels.{out-Loop}
+use Rattle.regress_tree.proofs.lemmas.Nodes.{tree-Loop, tree-Cat}
+use Rattle.regress_tree.proofs.lemmas.Nesting.{out-Loop}
 use Rattle.regress_rewrite.specs.Law.{IsPart}
-use Rattle.regress_rewrite.specs.Unroll.{further_turns, unrolled, unrolled_loop}
-use Rattle.regress_rewrite.proofs.laws.Unrolling.{MayUnroll-from, unrolled-without, unrolled-with, body_groupless, is_zero-told}
+use Rattle.regress_rewrite.specs.Unroll.{further_iterations, unrolled, unrolled_loop}
+use Rattle.regress_rewrite.proofs.lemmas.Unrolling.{MayUnroll-from, unrolled-without, unrolled-with, body_groupless, is_zero-reported}
 use Rattle.regress_rewrite.proofs.unroll_loops.unroll.Goals as goal
 use Rattle.regress_rewrite.proofs.unroll_loops.unroll.Goals.{then-ne+in_ok-push, else-ne}
 
-pub copy_times-requires-clause-groups : goal.copy_times-requires-clause-groups
-copy_times-requires-clause-groups c =
+pub required_copies-requires-clause-groups : goal.required_copies-requires-clause-groups
+required_copies-requires-clause-groups c =
     let at = c.in-Loop in
     let body = tree at.loopee.value in
     let is = ap tree at.is ∙ tree-Loop at.loopee at.quant at.enclosed_groups in
@@ -34,19 +34,19 @@ returns-clause-unrolled c =
     let is = ap tree at.is ∙ tree-Loop at.loopee at.quant at.enclosed_groups in
     let parts = c.in_ok-parts.parts.items in
     let copied : trees parts ≡ copies q.min body = rw (c.deref.ensures, at.is, out-Loop) at c.in_ok-parts.ensures.copies in
-    let turns : c.further_turns.result ≡ further_turns q = rw at.quant-is at c.further_turns.ensures in
-    let zero = ap (λ (q' : Quantifier). is_zero q'.max) (sym turns) ∙ is_zero-told c.further_turns.result.max in
-    let row_is : tree (Cat c.if-ne.parts) ≡ unrolled q start end body =
+    let iterations : c.further_iterations.result ≡ further_iterations q = rw at.quant-is at c.further_iterations.ensures in
+    let zero = ap (λ (q' : Quantifier). is_zero q'.max) (sym iterations) ∙ is_zero-reported c.further_iterations.result.max in
+    let list_is : tree (Cat c.if-ne.parts) ≡ unrolled q start end body =
     tree-Cat c.if-ne.parts
     ∙ elim c.if-ne.branch [
       | then-ne+in_ok-push w ↦
           let further = rw (at.is, out-Loop) at w.replace.ensures.value in
-          let tree_of_further = ap tree further ∙ tree-Loop at.loopee c.further_turns.result at.enclosed_groups
-          ∙ ap (λ (q' : Quantifier). wrapped (loop q' start end) body) turns in
+          let tree_of_further = ap tree further ∙ tree-Loop at.loopee c.further_iterations.result at.enclosed_groups
+          ∙ ap (λ (q' : Quantifier). wrapped (loop q' start end) body) iterations in
           ap (λ (ps : Vec Node Global). cat (trees ps.items)) w.parts-is ∙ ap (λ (ps : List Node). cat (trees ps)) w.in_ok-push.ensures.items
           ∙ unrolled-with q start end body parts copied w.replace.result tree_of_further (search (rules, tests))
       | else-ne w ↦
           ap (λ (ps : Vec Node Global). cat (trees ps.items)) w.parts-is
           ∙ unrolled-without q start end body parts copied (search (rules, tests))
     ] in
-    row_is ∙ ap unrolled_loop (sym is)
+    list_is ∙ ap unrolled_loop (sym is)

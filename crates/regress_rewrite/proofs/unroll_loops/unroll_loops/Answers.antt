@@ -1,7 +1,7 @@
 -- The law, from what happened to the loop.
 use Rattle.std.proofs.Common.{sym, ◌∙◌}
 use Rattle.regress_tree.specs.Tree.{tree}
-use Rattle.regress_rewrite.proofs.laws.Unrolling.{loop_lawful}
+use Rattle.regress_rewrite.proofs.lemmas.Unrolling.{loop_lawful}
 use Rattle.regress_rewrite.proofs.unroll_loops.unroll_loops.Goals as goal
 
 pub returns-clause-lawful : goal.returns-clause-lawful

@@ -1,5 +1,5 @@
 use Rattle.std.proofs.Common.{◌≡◌, ◌++◌, vec_len}
-use Rattle.regress_lexical.specs.Views.{source}
+use Rattle.regress_lexer.specs.Views.{source}
 use Rattle.regress_spans.specs.Reading.{alternations}
 use Rattle.regress_spans.proofs.list.push_alternations.Given as goal
 

@@ -1,7 +1,7 @@
 use Rattle.std.proofs.Common.{◌++◌, [], ◌∷◌, List, replicate, sym, ap, ◌∙◌, subst}
 use Rattle.regress_tree.specs.Tree.{Tree, tree}
 use Rattle.regress_tree.specs.Visits.{nodes}
-use Rattle.regress_tree.proofs.laws.Nodes.{tree-Alt}
+use Rattle.regress_tree.proofs.lemmas.Nodes.{tree-Alt}
 use Rattle.regress_spans.specs.declared.span.Span.{Span}
 use Rattle.regress_spans.specs.Reading.{IsFlat}
 use Rattle.regress_spans.proofs.TreeLemmas.{flat-alt}

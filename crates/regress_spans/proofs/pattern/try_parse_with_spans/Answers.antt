@@ -4,9 +4,9 @@ use Rattle.regress_tree.specs.Visits.{nodes}
 use Rattle.regress_syntax.specs.SettingOf.{setting_of}
 use Rattle.regress_spans.specs.declared.span.Span.{Span}
 use Rattle.regress_spans.specs.Spans.{IsWithin, IsInsideOrApart}
-use Rattle.regress_spans.proofs.laws.Each.{each_node}
-use Rattle.regress_spans.proofs.laws.Nesting.{all_within}
-use Rattle.regress_spans.proofs.laws.Neighbours.{all_nest}
+use Rattle.regress_spans.proofs.lemmas.Each.{each_node}
+use Rattle.regress_spans.proofs.lemmas.Nesting.{all_within}
+use Rattle.regress_spans.proofs.lemmas.Neighbours.{all_nest}
 use Rattle.regress_spans.proofs.pattern.try_parse_with_spans.Goals as goal
 
 pub returns-in-Ok-find_spans-clause-each : goal.returns-in-Ok-find_spans-clause-each

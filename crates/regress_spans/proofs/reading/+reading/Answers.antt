@@ -3,17 +3,17 @@ use Rattle.std.proofs.Common.{◌≡◌, ℕ, Bool, not, ◌==◌, cond, List, [
 use Rattle.std.proofs.lemmas.Bool.{cond-true, cond-false}
 use Rattle.std.proofs.lemmas.Result.{err_from_is_err_and}
 use Rattle.regress_tree.specs.Reading.{backwards, direction_if}
-use Rattle.regress_lexical.specs.Views.{source}
-use Rattle.regress_lexical.specs.Source.{Source}
-use Rattle.regress_lexical.specs.Fault.{OnRefused}
+use Rattle.regress_lexer.specs.Views.{source}
+use Rattle.regress_lexer.specs.Source.{Source}
+use Rattle.regress_lexer.specs.Fault.{OnRejected}
 use Rattle.regress_syntax.specs.Meaning.{direction_of_group}
-use Rattle.regress_syntax.specs.Rows.{context_inside, group_at}
+use Rattle.regress_syntax.specs.Productions.{context_inside, group_at}
 use Rattle.regress_syntax.specs.Views.{group_of}
-use Rattle.regress_syntax.proofs.laws.Rows.{times_at-shortens}
+use Rattle.regress_syntax.proofs.lemmas.Productions.{optional_quantifier_at-shortens}
 use Rattle.regress_spans.specs.declared.span.Span.{Span}
 use Rattle.regress_spans.specs.Spans.{between, span_of_times, span_of_group}
 use Rattle.regress_spans.specs.Reading.{context_in, direction_of, ReadsTerms, ReadsTerm}
-use Rattle.regress_spans.proofs.ListLemmas.{row_if, times_if}
+use Rattle.regress_spans.proofs.ListLemmas.{alternative_if, times_if}
 use Rattle.regress_spans.proofs.TermsLemmas.{forwards-start, forwards-step, forwards-fail, forwards-end, backwards-start, backwards-step, backwards-fail, backwards-end, alternative-reads}
 use Rattle.regress_spans.proofs.DisjunctionLemmas.{alternatives-start, alternatives-step, alternatives-end, alternatives-fail}
 use Rattle.regress_spans.proofs.ItemLemmas.{opened_shorter, reads_inside, no_group-fails, group-fails, no_closing-fails, group-reads, item-fails, times-fail, term-reads}
@@ -21,198 +21,198 @@ use Rattle.regress_spans.proofs.reading.+reading.Goals as goal
 
 -- ---- alternatives
 
-pub read_disjunction-loop-starts-init : goal.read_disjunction-loop-starts-init
-read_disjunction-loop-starts-init t c =
+pub parse_disjunction-loop-starts-init : goal.parse_disjunction-loop-starts-init
+parse_disjunction-loop-starts-init t c =
     let around = c.args.around.now in
     rw c.new-starts.ensures.items (
       alternatives-start around.whole (context_in around) (direction_of around) (source c.args.cursor.now) c.args.spans.now.items,
       omega arith,
     )
 
-pub read_disjunction-returns-in_err-read_alternative-clause-value : goal.read_disjunction-returns-in_err-read_alternative-clause-value
-read_disjunction-returns-in_err-read_alternative-clause-value t c =
+pub parse_disjunction-returns-in_err-parse_alternative-clause-value : goal.parse_disjunction-returns-in_err-parse_alternative-clause-value
+parse_disjunction-returns-in_err-parse_alternative-clause-value t c =
     let p = err_from_is_err_and c.from_residual.result c.from_residual.ensures.1 in
     let around = c.args.around.now in
     let l = c.loop-starts in
     rw (p.1, p.2) (alternatives-fail around.whole (context_in around) (direction_of around) (source c.args.cursor.now) c.args.spans.now.items
-    c.in_err-read_alternative.field-0.0 (source l.cursor) l.spans.items l.starts.items (source c.read_alternative.new.cursor)
-    (source c.read_alternative.new.cursor) c.read_alternative.new.spans.items c.read_alternative.new.spans.items l.invariant.0
-    c.in_err-read_alternative.ensures.value)
+    c.in_err-parse_alternative.field-0.0 (source l.cursor) l.spans.items l.starts.items (source c.parse_alternative.new.cursor)
+    (source c.parse_alternative.new.cursor) c.parse_alternative.new.spans.items c.parse_alternative.new.spans.items l.invariant.0
+    c.in_err-parse_alternative.ensures.value)
 
-pub read_disjunction-loop-starts-preserved : goal.read_disjunction-loop-starts-preserved
-read_disjunction-loop-starts-preserved t c =
+pub parse_disjunction-loop-starts-preserved : goal.parse_disjunction-loop-starts-preserved
+parse_disjunction-loop-starts-preserved t c =
     let around = c.args.around.now in
     let l = c.loop-starts in
     let past = c.try_consume.ensures in
-    let mid = source c.read_alternative.new.cursor in
+    let mid = source c.parse_alternative.new.cursor in
     let moves = past.moves ∙ cond-true c.try_consume.result _ _ c.if-not-try_consume.false in
     rw c.in_ok-push.ensures.items (
       alternatives-step around.whole (context_in around) (direction_of around) (source c.args.cursor.now) c.args.spans.now.items
-          c.in_ok-read_alternative.field-0 (source l.cursor) l.spans.items l.starts.items mid (source c.try_consume.new.self)
-          c.read_alternative.new.spans.items (length (source l.cursor)) l.invariant.0 c.in_ok-read_alternative.ensures.value (sym past.found
+          c.in_ok-parse_alternative.field-0 (source l.cursor) l.spans.items l.starts.items mid (source c.try_consume.new.self)
+          c.parse_alternative.new.spans.items (length (source l.cursor)) l.invariant.0 c.in_ok-parse_alternative.ensures.value (sym past.found
           ∙ c.if-not-try_consume.false) moves refl,
-      omega (arith, l.invariant.1, c.in_ok-read_alternative.ensures.shorter, ap length moves, length-drop 1 mid),
+      omega (arith, l.invariant.1, c.in_ok-parse_alternative.ensures.shorter, ap length moves, length-drop 1 mid),
     )
 
-pub read_disjunction-returns-clause-value : goal.read_disjunction-returns-clause-value
-read_disjunction-returns-clause-value t c =
+pub parse_disjunction-returns-clause-value : goal.parse_disjunction-returns-clause-value
+parse_disjunction-returns-clause-value t c =
     let around = c.args.around.now in
     let l = c.loop-starts in
     let past = c.try_consume.ensures in
     alternatives-end around.whole (context_in around) (direction_of around) (source c.args.cursor.now) c.args.spans.now.items
-    c.in_ok-read_alternative.field-0 tt (source l.cursor) l.spans.items l.starts.items (source c.read_alternative.new.cursor) (source c.try_consume.new.self)
-    c.read_alternative.new.spans.items c.push_alternations.new.spans.items l.invariant.0 c.in_ok-read_alternative.ensures.value (sym past.found
+    c.in_ok-parse_alternative.field-0 tt (source l.cursor) l.spans.items l.starts.items (source c.parse_alternative.new.cursor) (source c.try_consume.new.self)
+    c.parse_alternative.new.spans.items c.push_alternations.new.spans.items l.invariant.0 c.in_ok-parse_alternative.ensures.value (sym past.found
     ∙ c.if-not-try_consume.true)
     (past.moves ∙ cond-false c.try_consume.result _ _ c.if-not-try_consume.true)
     c.in_ok-push_alternations.ensures
 
 -- ---- terms
 
-pub read_alternative-returns-in_err-count-clause-value : goal.read_alternative-returns-in_err-count-clause-value
-read_alternative-returns-in_err-count-clause-value t c =
+pub parse_alternative-returns-in_err-count-clause-value : goal.parse_alternative-returns-in_err-count-clause-value
+parse_alternative-returns-in_err-count-clause-value t c =
     let p = err_from_is_err_and c.from_residual.result c.from_residual.ensures.1 in
     λ ts rest h within. rw (p.1, p.2) (c.in_err-count.ensures.value ts rest h within)
 
-pub read_alternative-returns-clause-value : goal.read_alternative-returns-clause-value
-read_alternative-returns-clause-value t c =
+pub parse_alternative-returns-clause-value : goal.parse_alternative-returns-clause-value
+parse_alternative-returns-clause-value t c =
     let around = c.args.around.now in
     let old = source c.args.cursor.now in
-    let new = source c.read_terms.new.cursor in
-    alternative-reads around.whole (context_in around) old (direction_of around) c.args.spans.now.items new c.read_terms.new.spans.items
+    let new = source c.parse_terms.new.cursor in
+    alternative-reads around.whole (context_in around) old (direction_of around) c.args.spans.now.items new c.parse_terms.new.spans.items
     c.push_if.new.spans.items c.in_ok-count.count c.in_ok-count.ensures.value
     (c.in_ok-push_if.ensures
-    ∙ ap (λ (s : Span). c.read_terms.new.spans.items ++ cond (not (c.in_ok-count.count == 1)) (s ∷ []) [])
+    ∙ ap (λ (s : Span). c.parse_terms.new.spans.items ++ cond (not (c.in_ok-count.count == 1)) (s ∷ []) [])
     c.span.ensures
-    ∙ ap (λ (ss : List Span). c.read_terms.new.spans.items ++ ss) (row_if c.in_ok-count.count (between around.whole old new)))
+    ∙ ap (λ (ss : List Span). c.parse_terms.new.spans.items ++ ss) (alternative_if c.in_ok-count.count (between around.whole old new)))
 
-pub read_terms-returns-then-around-clause-value : goal.read_terms-returns-then-around-clause-value
-read_terms-returns-then-around-clause-value t c =
+pub parse_terms-returns-then-around-clause-value : goal.parse_terms-returns-then-around-clause-value
+parse_terms-returns-then-around-clause-value t c =
     let around = c.args.around.now in
     subst (λ (b : Bool). ReadsTerms around.whole (context_in around) (direction_if b) (source c.args.cursor.now) c.args.spans.now.items
-    (source c.read_backwards.new.cursor) c.read_backwards.new.spans.items c.read_backwards.result) (sym c.if-around.true) c.read_backwards.ensures.value
+    (source c.parse_backwards.new.cursor) c.parse_backwards.new.spans.items c.parse_backwards.result) (sym c.if-around.true) c.parse_backwards.ensures.value
 
-pub read_terms-returns-else-around-clause-value : goal.read_terms-returns-else-around-clause-value
-read_terms-returns-else-around-clause-value t c =
+pub parse_terms-returns-else-around-clause-value : goal.parse_terms-returns-else-around-clause-value
+parse_terms-returns-else-around-clause-value t c =
     let around = c.args.around.now in
     subst (λ (b : Bool). ReadsTerms around.whole (context_in around) (direction_if b) (source c.args.cursor.now) c.args.spans.now.items
-    (source c.read_forwards.new.cursor) c.read_forwards.new.spans.items c.read_forwards.result) (sym c.if-around.false) c.read_forwards.ensures.value
+    (source c.parse_forwards.new.cursor) c.parse_forwards.new.spans.items c.parse_forwards.result) (sym c.if-around.false) c.parse_forwards.ensures.value
 
-pub read_forwards-loop-cursor-init : goal.read_forwards-loop-cursor-init
-read_forwards-loop-cursor-init t c =
+pub parse_forwards-loop-cursor-init : goal.parse_forwards-loop-cursor-init
+parse_forwards-loop-cursor-init t c =
     let around = c.args.around.now in
     (forwards-start around.whole (context_in around) (source c.args.cursor.now) c.args.spans.now.items, omega arith)
 
-pub read_forwards-returns-in_err-read_term-clause-value : goal.read_forwards-returns-in_err-read_term-clause-value
-read_forwards-returns-in_err-read_term-clause-value t c =
+pub parse_forwards-returns-in_err-parse_term-clause-value : goal.parse_forwards-returns-in_err-parse_term-clause-value
+parse_forwards-returns-in_err-parse_term-clause-value t c =
     let p = err_from_is_err_and c.from_residual.result c.from_residual.ensures.1 in
     let around = c.args.around.now in
     let l = c.loop-cursor in
-    let new = source c.read_term.new.cursor in
-    let now = c.read_term.new.spans.items in
-    rw (p.1, p.2) (forwards-fail around.whole (context_in around) (source c.args.cursor.now) c.in_err-read_term.field-0.0 c.args.spans.now.items
+    let new = source c.parse_term.new.cursor in
+    let now = c.parse_term.new.spans.items in
+    rw (p.1, p.2) (forwards-fail around.whole (context_in around) (source c.args.cursor.now) c.in_err-parse_term.field-0.0 c.args.spans.now.items
     (source l.cursor) l.spans.items l.count new now l.invariant.0 (sym c.ends_alternative.ensures ∙ c.loop-cursor-test.true)
     (subst (λ (b : Bool). ReadsTerm around.whole (context_in around) (direction_if b) (source l.cursor) l.spans.items new now
-    (Err c.in_err-read_term.field-0.0))
-    c.requires c.in_err-read_term.ensures.value))
+    (Err c.in_err-parse_term.field-0.0))
+    c.requires c.in_err-parse_term.ensures.value))
 
-pub read_forwards-loop-cursor-preserved : goal.read_forwards-loop-cursor-preserved
-read_forwards-loop-cursor-preserved t c =
+pub parse_forwards-loop-cursor-preserved : goal.parse_forwards-loop-cursor-preserved
+parse_forwards-loop-cursor-preserved t c =
     let around = c.args.around.now in
     let l = c.loop-cursor in
-    let new = source c.read_term.new.cursor in
-    let now = c.read_term.new.spans.items in (
-      forwards-step around.whole (context_in around) (source c.args.cursor.now) c.in_ok-read_term.field-0 c.args.spans.now.items
+    let new = source c.parse_term.new.cursor in
+    let now = c.parse_term.new.spans.items in (
+      forwards-step around.whole (context_in around) (source c.args.cursor.now) c.in_ok-parse_term.field-0 c.args.spans.now.items
           (source l.cursor) l.spans.items l.count new now l.invariant.0 (sym c.ends_alternative.ensures ∙ c.loop-cursor-test.true)
           (subst (λ (b : Bool). ReadsTerm around.whole (context_in around) (direction_if b) (source l.cursor) l.spans.items new now
-          (Ok c.in_ok-read_term.field-0))
-          c.requires c.in_ok-read_term.ensures.value),
-      omega (arith, l.invariant.1, c.in_ok-read_term.ensures.shorter),
+          (Ok c.in_ok-parse_term.field-0))
+          c.requires c.in_ok-parse_term.ensures.value),
+      omega (arith, l.invariant.1, c.in_ok-parse_term.ensures.shorter),
     )
 
-pub read_forwards-returns-clause-value : goal.read_forwards-returns-clause-value
-read_forwards-returns-clause-value t c =
+pub parse_forwards-returns-clause-value : goal.parse_forwards-returns-clause-value
+parse_forwards-returns-clause-value t c =
     let around = c.args.around.now in
     let l = c.loop-cursor in
     forwards-end around.whole (context_in around) (source c.args.cursor.now) c.args.spans.now.items (source l.cursor) l.spans.items l.count l.invariant.0
     (sym c.ends_alternative.ensures ∙ c.loop-cursor-test.false)
 
-pub read_backwards-loop-part-init : goal.read_backwards-loop-part-init
-read_backwards-loop-part-init t c =
+pub parse_backwards-loop-part-init : goal.parse_backwards-loop-part-init
+parse_backwards-loop-part-init t c =
     let around = c.args.around.now in
     rw c.new-parts.ensures.items (backwards-start around.whole (context_in around) (source c.args.cursor.now), omega arith)
 
-pub read_backwards-returns-in_err-read_term-clause-value : goal.read_backwards-returns-in_err-read_term-clause-value
-read_backwards-returns-in_err-read_term-clause-value t c =
+pub parse_backwards-returns-in_err-parse_term-clause-value : goal.parse_backwards-returns-in_err-parse_term-clause-value
+parse_backwards-returns-in_err-parse_term-clause-value t c =
     let p = err_from_is_err_and c.from_residual.result c.from_residual.ensures.1 in
     let around = c.args.around.now in
     let l = c.loop-part in
-    let new = source c.read_term.new.cursor in
-    let part = c.read_term.new.spans.items in
+    let new = source c.parse_term.new.cursor in
+    let part = c.parse_term.new.spans.items in
     let empty = subst (λ (ss : List Span). ReadsTerm around.whole (context_in around) (direction_of around) (source l.cursor) ss new part
-    (Err c.in_err-read_term.field-0.0))
-    c.new-part.ensures.items c.in_err-read_term.ensures.value in
-    rw (p.1, p.2) (backwards-fail around.whole (context_in around) (source c.args.cursor.now) c.in_err-read_term.field-0.0
+    (Err c.in_err-parse_term.field-0.0))
+    c.new-part.ensures.items c.in_err-parse_term.ensures.value in
+    rw (p.1, p.2) (backwards-fail around.whole (context_in around) (source c.args.cursor.now) c.in_err-parse_term.field-0.0
     (source l.cursor) l.parts.items c.args.spans.now.items new c.args.spans.now.items part l.invariant.0 (sym c.ends_alternative.ensures
     ∙ c.loop-part-test.true)
     (subst (λ (b : Bool). ReadsTerm around.whole (context_in around) (direction_if b) (source l.cursor) [] new part
-    (Err c.in_err-read_term.field-0.0)) c.requires empty))
+    (Err c.in_err-parse_term.field-0.0)) c.requires empty))
 
-pub read_backwards-loop-part-preserved : goal.read_backwards-loop-part-preserved
-read_backwards-loop-part-preserved t c =
+pub parse_backwards-loop-part-preserved : goal.parse_backwards-loop-part-preserved
+parse_backwards-loop-part-preserved t c =
     let around = c.args.around.now in
     let l = c.loop-part in
-    let new = source c.read_term.new.cursor in
-    let part = c.read_term.new.spans in
+    let new = source c.parse_term.new.cursor in
+    let part = c.parse_term.new.spans in
     let empty = subst (λ (ss : List Span). ReadsTerm around.whole (context_in around) (direction_of around) (source l.cursor) ss new part.items
-    (Ok c.in_ok-read_term.field-0))
-    c.new-part.ensures.items c.in_ok-read_term.ensures.value in
+    (Ok c.in_ok-parse_term.field-0))
+    c.new-part.ensures.items c.in_ok-parse_term.ensures.value in
     rw c.in_ok-push.ensures.items (
-      backwards-step around.whole (context_in around) (source c.args.cursor.now) c.in_ok-read_term.field-0
+      backwards-step around.whole (context_in around) (source c.args.cursor.now) c.in_ok-parse_term.field-0
           (source l.cursor) l.parts.items new part l.invariant.0 (sym c.ends_alternative.ensures ∙ c.loop-part-test.true)
           (subst (λ (b : Bool). ReadsTerm around.whole (context_in around) (direction_if b) (source l.cursor) [] new part.items
-          (Ok c.in_ok-read_term.field-0)) c.requires empty),
-      omega (arith, l.invariant.1, c.in_ok-read_term.ensures.shorter),
+          (Ok c.in_ok-parse_term.field-0)) c.requires empty),
+      omega (arith, l.invariant.1, c.in_ok-parse_term.ensures.shorter),
     )
 
-pub read_backwards-returns-clause-value : goal.read_backwards-returns-clause-value
-read_backwards-returns-clause-value t c =
+pub parse_backwards-returns-clause-value : goal.parse_backwards-returns-clause-value
+parse_backwards-returns-clause-value t c =
     let around = c.args.around.now in
     let l = c.loop-part in
     let old = source c.args.cursor.now in
     let before = c.args.spans.now.items in
     rw c.len-count.ensures
-    (subst (λ (n : ℕ). ReadsTerms around.whole (context_in around) backwards old before (source l.cursor) c.push_turned.new.spans.items (Ok n))
+    (subst (λ (n : ℕ). ReadsTerms around.whole (context_in around) backwards old before (source l.cursor) c.push_reversed.new.spans.items (Ok n))
     (sym l.parts.ok.0)
-    (backwards-end around.whole (context_in around) old before (source l.cursor) c.push_turned.new.spans.items l.parts.items l.invariant.0
-    (sym c.ends_alternative.ensures ∙ c.loop-part-test.false) c.in_ok-push_turned.ensures))
+    (backwards-end around.whole (context_in around) old before (source l.cursor) c.push_reversed.new.spans.items l.parts.items l.invariant.0
+    (sym c.ends_alternative.ensures ∙ c.loop-part-test.false) c.in_ok-push_reversed.ensures))
 
 -- ---- items
 
-pub read_term-returns-in_err-allowed-clause-value : goal.read_term-returns-in_err-allowed-clause-value
-read_term-returns-in_err-allowed-clause-value t c =
+pub parse_term-returns-in_err-allowed-clause-value : goal.parse_term-returns-in_err-allowed-clause-value
+parse_term-returns-in_err-allowed-clause-value t c =
     let p = err_from_is_err_and c.from_residual.result c.from_residual.ensures.1 in
     let around = c.args.around.now in
-    let new = source c.read_item.new.cursor in
-    let now = c.read_item.new.spans.items in
+    let new = source c.parse_item.new.cursor in
+    let now = c.parse_item.new.spans.items in
     rw (p.1, p.2) (item-fails (context_in around) around.whole (direction_of around) (source c.args.cursor.now) c.args.spans.now.items
     c.in_err-allowed.field-0.0 new new now now c.in_err-allowed.ensures.value)
 
-pub read_term-returns-in_err-times-clause-value : goal.read_term-returns-in_err-times-clause-value
-read_term-returns-in_err-times-clause-value t c =
+pub parse_term-returns-in_err-times-clause-value : goal.parse_term-returns-in_err-times-clause-value
+parse_term-returns-in_err-times-clause-value t c =
     let p = err_from_is_err_and c.from_residual-in_err-times.result c.from_residual-in_err-times.ensures.1 in
     let around = c.args.around.now in
-    let mid = source c.read_item.new.cursor in
-    let now = c.read_item.new.spans.items in
+    let mid = source c.parse_item.new.cursor in
+    let now = c.parse_item.new.spans.items in
     rw (p.1, p.2) (times-fail (context_in around) around.whole (direction_of around) (source c.args.cursor.now) c.args.spans.now.items
-    mid now c.in_ok-allowed.allowed c.in_ok-allowed.ensures.value c.in_err-times.field-0.0 (source c.read_times.new.cursor) now c.in_err-times.ensures.value)
+    mid now c.in_ok-allowed.allowed c.in_ok-allowed.ensures.value c.in_err-times.field-0.0 (source c.parse_optional_quantifier.new.cursor) now c.in_err-times.ensures.value)
 
-pub read_term-returns-clause-value : goal.read_term-returns-clause-value
-read_term-returns-clause-value t c =
+pub parse_term-returns-clause-value : goal.parse_term-returns-clause-value
+parse_term-returns-clause-value t c =
     let around = c.args.around.now in
     let old = source c.args.cursor.now in
-    let mid = source c.read_item.new.cursor in
-    let now = c.read_item.new.spans.items in
-    let new = source c.read_times.new.cursor in
+    let mid = source c.parse_item.new.cursor in
+    let now = c.parse_item.new.spans.items in
+    let new = source c.parse_optional_quantifier.new.cursor in
     let q = c.in_ok-times.times in
     term-reads (context_in around) around.whole (direction_of around) old c.args.spans.now.items
     mid now c.in_ok-allowed.allowed c.in_ok-allowed.ensures.value q new c.push_if.new.spans.items c.in_ok-times.ensures.value
@@ -222,59 +222,59 @@ read_term-returns-clause-value t c =
     ∙ ap (λ (s : Span). now ++ span_of_times q s)
     c.span.ensures)
 
-pub read_term-returns-clause-shorter : goal.read_term-returns-clause-shorter
-read_term-returns-clause-shorter t c =
+pub parse_term-returns-clause-shorter : goal.parse_term-returns-clause-shorter
+parse_term-returns-clause-shorter t c =
     omega (
       arith,
       c.in_ok-allowed.ensures.shorter,
-      times_at-shortens (context_in c.args.around.now) c.in_ok-allowed.allowed (source c.read_item.new.cursor)
-          (c.in_ok-times.times, source c.read_times.new.cursor) c.in_ok-times.ensures.value,
+      optional_quantifier_at-shortens (context_in c.args.around.now) c.in_ok-allowed.allowed (source c.parse_item.new.cursor)
+          (c.in_ok-times.times, source c.parse_optional_quantifier.new.cursor) c.in_ok-times.ensures.value,
     )
 
 -- ---- groups
 
-pub read_parenthesis-returns-in_err-kind-clause-value : goal.read_parenthesis-returns-in_err-kind-clause-value
-read_parenthesis-returns-in_err-kind-clause-value t c =
+pub parse_parenthesis-returns-in_err-kind-clause-value : goal.parse_parenthesis-returns-in_err-kind-clause-value
+parse_parenthesis-returns-in_err-kind-clause-value t c =
     let p = err_from_is_err_and c.from_residual.result c.from_residual.ensures.1 in
     let around = c.args.around.now in
     let old = source c.args.cursor.now in
     let before = c.args.spans.now.items in
     let moved = c.try_consume.ensures.moves ∙ cond-true c.try_consume.result _ _ (c.try_consume.ensures.found ∙ c.requires) in
     rw (p.1, p.2) (no_group-fails (context_in around) around.whole (direction_of around) old before c.requires c.in_err-kind.field-0.0
-    (source c.read_group.new.cursor) before
-    (subst (λ (u : Source). OnRefused c.in_err-kind.field-0.0 (group_at (context_in around).setting.table u ≡ None)) moved c.in_err-kind.ensures.value))
+    (source c.parse_group.new.cursor) before
+    (subst (λ (u : Source). OnRejected c.in_err-kind.field-0.0 (group_at (context_in around).setting.table u ≡ None)) moved c.in_err-kind.ensures.value))
 
-pub read_parenthesis-read_disjunction-requires : goal.read_parenthesis-read_disjunction-requires
-read_parenthesis-read_disjunction-requires t c =
+pub parse_parenthesis-parse_disjunction-requires : goal.parse_parenthesis-parse_disjunction-requires
+parse_parenthesis-parse_disjunction-requires t c =
     let around = c.args.around.now in
     let old = source c.args.cursor.now in
     let moved = c.try_consume.ensures.moves ∙ cond-true c.try_consume.result _ _ (c.try_consume.ensures.found ∙ c.requires) in
     omega (
       arith,
-      opened_shorter (context_in around) old (source c.read_group.new.cursor) (group_of c.in_ok-kind.kind) c.requires
+      opened_shorter (context_in around) old (source c.parse_group.new.cursor) (group_of c.in_ok-kind.kind) c.requires
           (ap (group_at (context_in around).setting.table) (sym moved) ∙ c.in_ok-kind.ensures.value),
     )
 
-pub read_parenthesis-returns-in_err-read_disjunction-clause-value : goal.read_parenthesis-returns-in_err-read_disjunction-clause-value
-read_parenthesis-returns-in_err-read_disjunction-clause-value t c =
-    let p = err_from_is_err_and c.from_residual-in_err-read_disjunction.result c.from_residual-in_err-read_disjunction.ensures.1 in
+pub parse_parenthesis-returns-in_err-parse_disjunction-clause-value : goal.parse_parenthesis-returns-in_err-parse_disjunction-clause-value
+parse_parenthesis-returns-in_err-parse_disjunction-clause-value t c =
+    let p = err_from_is_err_and c.from_residual-in_err-parse_disjunction.result c.from_residual-in_err-parse_disjunction.ensures.1 in
     let around = c.args.around.now in
     let ctx = context_in around in
     let d = direction_of around in
     let old = source c.args.cursor.now in
     let before = c.args.spans.now.items in
     let kind = group_of c.in_ok-kind.kind in
-    let there = source c.read_group.new.cursor in
-    let mid = source c.read_disjunction.new.cursor in
-    let now = c.read_disjunction.new.spans.items in
+    let there = source c.parse_group.new.cursor in
+    let mid = source c.parse_disjunction.new.cursor in
+    let now = c.parse_disjunction.new.spans.items in
     let moved = c.try_consume.ensures.moves ∙ cond-true c.try_consume.result _ _ (c.try_consume.ensures.found ∙ c.requires) in
     let found = ap (group_at ctx.setting.table) (sym moved) ∙ c.in_ok-kind.ensures.value in
-    rw (p.1, p.2) (group-fails ctx around.whole d old before c.requires kind there found mid now c.in_err-read_disjunction.field-0.0 mid now
-    (reads_inside around.whole _ (context_inside kind ctx) _ (direction_of_group kind d) _ there before mid now (Err c.in_err-read_disjunction.field-0.0)
-    c.inside.ensures.whole c.inside.ensures.context c.inside.ensures.direction c.in_err-read_disjunction.ensures.value))
+    rw (p.1, p.2) (group-fails ctx around.whole d old before c.requires kind there found mid now c.in_err-parse_disjunction.field-0.0 mid now
+    (reads_inside around.whole _ (context_inside kind ctx) _ (direction_of_group kind d) _ there before mid now (Err c.in_err-parse_disjunction.field-0.0)
+    c.inside.ensures.whole c.inside.ensures.context c.inside.ensures.direction c.in_err-parse_disjunction.ensures.value))
 
-pub read_parenthesis-returns-in_err-consume_closing-clause-value : goal.read_parenthesis-returns-in_err-consume_closing-clause-value
-read_parenthesis-returns-in_err-consume_closing-clause-value t c =
+pub parse_parenthesis-returns-in_err-consume_closing-clause-value : goal.parse_parenthesis-returns-in_err-consume_closing-clause-value
+parse_parenthesis-returns-in_err-consume_closing-clause-value t c =
     let p = err_from_is_err_and c.from_residual-in_err-consume_closing.result c.from_residual-in_err-consume_closing.ensures.1 in
     let around = c.args.around.now in
     let ctx = context_in around in
@@ -282,33 +282,33 @@ read_parenthesis-returns-in_err-consume_closing-clause-value t c =
     let old = source c.args.cursor.now in
     let before = c.args.spans.now.items in
     let kind = group_of c.in_ok-kind.kind in
-    let there = source c.read_group.new.cursor in
-    let mid = source c.read_disjunction.new.cursor in
-    let now = c.read_disjunction.new.spans.items in
+    let there = source c.parse_group.new.cursor in
+    let mid = source c.parse_disjunction.new.cursor in
+    let now = c.parse_disjunction.new.spans.items in
     let moved = c.try_consume.ensures.moves ∙ cond-true c.try_consume.result _ _ (c.try_consume.ensures.found ∙ c.requires) in
     let found = ap (group_at ctx.setting.table) (sym moved) ∙ c.in_ok-kind.ensures.value in
     rw (p.1, p.2) (no_closing-fails ctx around.whole d old before c.requires kind there found mid now
     (reads_inside around.whole _ (context_inside kind ctx) _ (direction_of_group kind d) _ there before mid now (Ok tt)
-    c.inside.ensures.whole c.inside.ensures.context c.inside.ensures.direction c.in_ok-read_disjunction.ensures.value)
+    c.inside.ensures.whole c.inside.ensures.context c.inside.ensures.direction c.in_ok-parse_disjunction.ensures.value)
     c.in_err-consume_closing.field-0.0 (source c.consume_closing.new.self) now c.in_err-consume_closing.ensures.err)
 
-pub read_parenthesis-returns-clause-value : goal.read_parenthesis-returns-clause-value
-read_parenthesis-returns-clause-value t c =
+pub parse_parenthesis-returns-clause-value : goal.parse_parenthesis-returns-clause-value
+parse_parenthesis-returns-clause-value t c =
     let around = c.args.around.now in
     let ctx = context_in around in
     let d = direction_of around in
     let old = source c.args.cursor.now in
     let before = c.args.spans.now.items in
     let kind = group_of c.in_ok-kind.kind in
-    let there = source c.read_group.new.cursor in
-    let mid = source c.read_disjunction.new.cursor in
-    let now = c.read_disjunction.new.spans.items in
+    let there = source c.parse_group.new.cursor in
+    let mid = source c.parse_disjunction.new.cursor in
+    let now = c.parse_disjunction.new.spans.items in
     let new = source c.consume_closing.new.self in
     let moved = c.try_consume.ensures.moves ∙ cond-true c.try_consume.result _ _ (c.try_consume.ensures.found ∙ c.requires) in
     let found = ap (group_at ctx.setting.table) (sym moved) ∙ c.in_ok-kind.ensures.value in
     group-reads ctx around.whole d old before c.requires kind there found mid now
     (reads_inside around.whole _ (context_inside kind ctx) _ (direction_of_group kind d) _ there before mid now (Ok tt)
-    c.inside.ensures.whole c.inside.ensures.context c.inside.ensures.direction c.in_ok-read_disjunction.ensures.value)
+    c.inside.ensures.whole c.inside.ensures.context c.inside.ensures.direction c.in_ok-parse_disjunction.ensures.value)
     new c.push_if.new.spans.items c.allows_quantifier.result c.in_ok-consume_closing.ensures.ok
     (c.in_ok-push_if.ensures
     ∙ ap (λ (b : Bool). now ++ cond b (c.span.result ∷ []) []) c.has_node.ensures
@@ -316,15 +316,15 @@ read_parenthesis-returns-clause-value t c =
     c.span.ensures)
     c.allows_quantifier.ensures
 
-pub read_parenthesis-returns-clause-shorter : goal.read_parenthesis-returns-clause-shorter
-read_parenthesis-returns-clause-shorter t c =
+pub parse_parenthesis-returns-clause-shorter : goal.parse_parenthesis-returns-clause-shorter
+parse_parenthesis-returns-clause-shorter t c =
     let around = c.args.around.now in
     let old = source c.args.cursor.now in
     let moved = c.try_consume.ensures.moves ∙ cond-true c.try_consume.result _ _ (c.try_consume.ensures.found ∙ c.requires) in
     omega (
       arith,
-      opened_shorter (context_in around) old (source c.read_group.new.cursor) (group_of c.in_ok-kind.kind) c.requires
+      opened_shorter (context_in around) old (source c.parse_group.new.cursor) (group_of c.in_ok-kind.kind) c.requires
           (ap (group_at (context_in around).setting.table) (sym moved) ∙ c.in_ok-kind.ensures.value),
-      c.in_ok-read_disjunction.ensures.shorter,
+      c.in_ok-parse_disjunction.ensures.shorter,
       ap length c.in_ok-consume_closing.ensures.ok,
     )

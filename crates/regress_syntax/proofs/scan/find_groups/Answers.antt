@@ -2,22 +2,22 @@ use Rattle.std.proofs.Common.{◌≡◌, ℕ, Bool, ◌≤◌, ◌+◌, [], leng
 use Rattle.std.specs.Option.{option_map, option_or}
 use Rattle.regress_unicode.specs.TableOf.{table_of}
 use Rattle.regress_base.specs.Table.{Table}
-use Rattle.regress_lexical.specs.Source.{Source}
+use Rattle.regress_lexer.specs.Source.{Source}
 use Rattle.regress_syntax.specs.Scan.{Mode, plain, marks, MarksShow}
-use Rattle.regress_syntax.specs.Misplaced.{Flaw, left_at, levels_behind}
-use Rattle.regress_syntax.specs.declared.scan.misplaced.Misplaced.{Misplaced}
+use Rattle.regress_syntax.specs.FirstErrors.{Flaw, remaining_at, open_groups_after}
+use Rattle.regress_syntax.specs.declared.scan.first_errors.FirstErrors.{FirstErrors}
 use Rattle.regress_syntax.specs.declared.scan.scanner.Scanner.{Scanner}
-use Rattle.regress_syntax.specs.Scanning.{mode_of, mark_of, place_of, path_of, highest_at, noted, NotesFirst, Behind}
-use Rattle.regress_syntax.proofs.MisplacedLemmas.{noted_behind, all_noted, levels_at_mark, levels_at_none}
-use Rattle.regress_syntax.proofs.laws.Misplaced.{located-kind, located-is}
-use Rattle.regress_syntax.proofs.ScannerLemmas.{depth-mode_behind, at_mark, at_no_mark, all_passed}
+use Rattle.regress_syntax.specs.Scanning.{mode_of, mark_of, position_of, path_of, highest_at, noted, NotesFirst, After}
+use Rattle.regress_syntax.proofs.FirstErrorsLemmas.{noted_after, all_noted, nesting_at_mark, nesting_at_none}
+use Rattle.regress_syntax.proofs.lemmas.FirstErrors.{located-kind, located-is}
+use Rattle.regress_syntax.proofs.ScannerLemmas.{depth-mode_after, at_mark, at_no_mark, all_passed}
 use Rattle.regress_syntax.proofs.scan.find_groups.Goals as goal
 use Rattle.regress_syntax.proofs.scan.find_groups.Goals.{in-Some-2+in_ok-pass, in_default-2}
 
 pub loop-c-init : goal.loop-c-init
 loop-c-init c = record {
   found = c.in_ok-scanner.ensures.found _;
-  flaws = λ flaw. rw (c.none-misplaced.ensures flaw, c.in_ok-scanner.ensures.levels) refl;
+  flaws = λ flaw. rw (c.none-first_errors.ensures flaw, c.in_ok-scanner.ensures.nesting) refl;
   depth = omega arith;
   numbered = c.in_ok-scanner.ensures.numbered;
   numbers = omega (arith, c.in_ok-scanner.ensures.numbers);
@@ -27,25 +27,25 @@ pub loop-c-preserved : goal.loop-c-preserved
 loop-c-preserved c =
     let table = table_of c.args.tables.now in
     let all = marks c.args.sets table plain c.args.pattern.now in
-    let found : Behind all (marks c.args.sets table (mode_of c.loop-c.mode) c.skip_quiet.result.now) c.loop-c.scanner =
-    subst (λ ms. Behind all ms c.loop-c.scanner) (c.skip_quiet.ensures.same c.args.sets table c.loop-c.mode) c.loop-c.invariant.found in
-    let number : highest_at (place_of c.match-branch-3.scanner) ≤ highest_at (place_of c.loop-c.scanner) + 1 = elim c.match-branch-3.branch [
+    let found : After all (marks c.args.sets table (mode_of c.loop-c.mode) c.skip_insignificant.result.now) c.loop-c.scanner =
+    subst (λ ms. After all ms c.loop-c.scanner) (c.skip_insignificant.ensures.same c.args.sets table c.loop-c.mode) c.loop-c.invariant.found in
+    let number : highest_at (position_of c.match-branch-3.scanner) ≤ highest_at (position_of c.loop-c.scanner) + 1 = elim c.match-branch-3.branch [
       | in-Some-2+in_ok-pass w ↦ rw w.scanner-is w.in_ok-pass.ensures.numbers
       | in_default-2 w ↦ rw w.scanner-is (omega arith)
     ] in
-    let levels : length (path_of c.match-branch-3.scanner.path) ≡ levels_behind (mode_of c.loop-c.mode) (length (path_of c.loop-c.scanner.path))
+    let nesting : length (path_of c.match-branch-3.scanner.path) ≡ open_groups_after (mode_of c.loop-c.mode) (length (path_of c.loop-c.scanner.path))
     c.in-Some.c.now = elim c.match-branch-3.branch [
       | in-Some-2+in_ok-pass w ↦
           rw w.scanner-is
-          (w.in_ok-pass.ensures.levels c.loop-c.invariant.found.some
-          ∙ levels_at_mark c.args.sets table (mode_of c.loop-c.mode) _ _ _ (mark_of w.in-Some-2.mark)
+          (w.in_ok-pass.ensures.nesting c.loop-c.invariant.found.some
+          ∙ nesting_at_mark c.args.sets table (mode_of c.loop-c.mode) _ _ _ (mark_of w.in-Some-2.mark)
           (sym c.in_ok-mark.ensures ∙ ap (option_map mark_of) w.in-Some-2.is))
       | in_default-2 w ↦
           rw w.scanner-is
-          (levels_at_none c.args.sets table (mode_of c.loop-c.mode) _ _ _
+          (nesting_at_none c.args.sets table (mode_of c.loop-c.mode) _ _ _
           (sym c.in_ok-mark.ensures ∙ ap (option_map mark_of) w.in_default-2.is))
     ] in
-    rw c.behind-mode.ensures (record {
+    rw c.after-mode.ensures (record {
       found = elim c.match-branch-3.branch [
         | in-Some-2+in_ok-pass w ↦
             rw w.scanner-is (w.in_ok-pass.ensures.found _ _
@@ -57,67 +57,67 @@ loop-c-preserved c =
             (sym c.in_ok-mark.ensures ∙ ap (option_map mark_of) w.in_default-2.is) found)
       ];
       flaws = λ flaw.
-          noted_behind flaw c.args.sets (mode_of c.loop-c.mode) (length (path_of c.loop-c.scanner.path)) _ c.in-Some.c.now _ _ _ _
-          (noted flaw c.loop-c.misplaced) (noted flaw c.note.new.self) c.in-Some.ensures.cases.0 refl levels
-          (rw c.levels.ensures at (c.note.ensures flaw))
-          (c.loop-c.invariant.flaws flaw ∙ ap (option_or (noted flaw c.loop-c.misplaced)) (c.skip_quiet.ensures.flaws flaw c.args.sets c.loop-c.mode _));
+          noted_after flaw c.args.sets (mode_of c.loop-c.mode) (length (path_of c.loop-c.scanner.path)) _ c.in-Some.c.now _ _ _ _
+          (noted flaw c.loop-c.first_errors) (noted flaw c.note.new.self) c.in-Some.ensures.cases.0 refl nesting
+          (rw c.nesting.ensures at (c.note.ensures flaw))
+          (c.loop-c.invariant.flaws flaw ∙ ap (option_or (noted flaw c.loop-c.first_errors)) (c.skip_insignificant.ensures.flaws flaw c.args.sets c.loop-c.mode _));
       numbered = elim c.match-branch-3.branch [
         | in-Some-2+in_ok-pass w ↦ rw w.scanner-is (w.in_ok-pass.ensures.numbered c.loop-c.invariant.numbered)
         | in_default-2 w ↦ rw w.scanner-is c.loop-c.invariant.numbered
       ];
       numbers = omega (arith, number, c.loop-c.invariant.numbers, ap length c.in-Some.ensures.cases.0);
-      depth = omega (arith, depth-mode_behind c.args.sets (mode_of c.loop-c.mode) c.in-Some.c.now, ap length c.in-Some.ensures.cases.0);
+      depth = omega (arith, depth-mode_after c.args.sets (mode_of c.loop-c.mode) c.in-Some.c.now, ap length c.in-Some.ensures.cases.0);
     })
 
 -- At the end of the source all marks are passed, and the first misplaced code point of each kind is noted.
 module _ (sets : Bool) (table : Table) (mode : Mode) (t rest here : Source) (empty : length here ≡ 0) where
   passed : (scanner : Scanner) → marks sets table mode rest ≡ marks sets table mode here →
-      Behind (marks sets table plain t) (marks sets table mode rest) scanner → Behind (marks sets table plain t) [] scanner
-  passed scanner same behind =
+      After (marks sets table plain t) (marks sets table mode rest) scanner → After (marks sets table plain t) [] scanner
+  passed scanner same after =
       let all = marks sets table plain t in
-      all_passed sets table mode here all scanner empty (subst (λ ms. Behind all ms scanner) same behind)
+      all_passed sets table mode here all scanner empty (subst (λ ms. After all ms scanner) same after)
 
-  found : (n : ℕ) (misplaced : Misplaced) → ((flaw : Flaw) → left_at flaw sets mode n rest ≡ left_at flaw sets mode n here) →
-      ((flaw : Flaw) → left_at flaw sets plain 1 t ≡ option_or (noted flaw misplaced) (left_at flaw sets mode n rest)) →
-      NotesFirst sets t misplaced
-  found n misplaced same behind = λ flaw.
-      all_noted flaw sets mode n here (left_at flaw sets plain 1 t) (noted flaw misplaced) empty
-      (behind flaw ∙ ap (option_or (noted flaw misplaced)) (same flaw))
+  found : (n : ℕ) (first_errors : FirstErrors) → ((flaw : Flaw) → remaining_at flaw sets mode n rest ≡ remaining_at flaw sets mode n here) →
+      ((flaw : Flaw) → remaining_at flaw sets plain 1 t ≡ option_or (noted flaw first_errors) (remaining_at flaw sets mode n rest)) →
+      NotesFirst sets t first_errors
+  found n first_errors same after = λ flaw.
+      all_noted flaw sets mode n here (remaining_at flaw sets plain 1 t) (noted flaw first_errors) empty
+      (after flaw ∙ ap (option_or (noted flaw first_errors)) (same flaw))
 
 pub returns-in-Ok-clause-names : goal.returns-in-Ok-clause-names
 returns-in-Ok-clause-names c =
     c.in-Ok.ensures.names _
-    (passed c.args.sets (table_of c.args.tables.now) (mode_of c.loop-c.mode) c.args.pattern.now c.loop-c.rest.now c.skip_quiet.result.now
-    c.in_default.ensures.cases c.loop-c.scanner (c.skip_quiet.ensures.same _ _ c.loop-c.mode) c.loop-c.invariant.found)
+    (passed c.args.sets (table_of c.args.tables.now) (mode_of c.loop-c.mode) c.args.pattern.now c.loop-c.rest.now c.skip_insignificant.result.now
+    c.in_default.ensures.cases c.loop-c.scanner (c.skip_insignificant.ensures.same _ _ c.loop-c.mode) c.loop-c.invariant.found)
 
 pub returns-in-Ok-clause-apart : goal.returns-in-Ok-clause-apart
 returns-in-Ok-clause-apart c =
     c.in-Ok.ensures.apart _
-    (passed c.args.sets (table_of c.args.tables.now) (mode_of c.loop-c.mode) c.args.pattern.now c.loop-c.rest.now c.skip_quiet.result.now
-    c.in_default.ensures.cases c.loop-c.scanner (c.skip_quiet.ensures.same _ _ c.loop-c.mode) c.loop-c.invariant.found)
+    (passed c.args.sets (table_of c.args.tables.now) (mode_of c.loop-c.mode) c.args.pattern.now c.loop-c.rest.now c.skip_insignificant.result.now
+    c.in_default.ensures.cases c.loop-c.scanner (c.skip_insignificant.ensures.same _ _ c.loop-c.mode) c.loop-c.invariant.found)
 
-pub returns-in-Ok-clause-levels : goal.returns-in-Ok-clause-levels
-returns-in-Ok-clause-levels c =
-    c.in-Ok.ensures.levels _
-    (passed c.args.sets (table_of c.args.tables.now) (mode_of c.loop-c.mode) c.args.pattern.now c.loop-c.rest.now c.skip_quiet.result.now
-    c.in_default.ensures.cases c.loop-c.scanner (c.skip_quiet.ensures.same _ _ c.loop-c.mode) c.loop-c.invariant.found)
+pub returns-in-Ok-clause-nesting : goal.returns-in-Ok-clause-nesting
+returns-in-Ok-clause-nesting c =
+    c.in-Ok.ensures.nesting _
+    (passed c.args.sets (table_of c.args.tables.now) (mode_of c.loop-c.mode) c.args.pattern.now c.loop-c.rest.now c.skip_insignificant.result.now
+    c.in_default.ensures.cases c.loop-c.scanner (c.skip_insignificant.ensures.same _ _ c.loop-c.mode) c.loop-c.invariant.found)
 
-pub returns-in-Ok-clause-misplaced : goal.returns-in-Ok-clause-misplaced
-returns-in-Ok-clause-misplaced c =
-    found c.args.sets (table_of c.args.tables.now) (mode_of c.loop-c.mode) c.args.pattern.now c.loop-c.rest.now c.skip_quiet.result.now
-    c.in_default.ensures.cases _ c.loop-c.misplaced (λ flaw. c.skip_quiet.ensures.flaws flaw c.args.sets c.loop-c.mode _) c.loop-c.invariant.flaws
+pub returns-in-Ok-clause-first_errors : goal.returns-in-Ok-clause-first_errors
+returns-in-Ok-clause-first_errors c =
+    found c.args.sets (table_of c.args.tables.now) (mode_of c.loop-c.mode) c.args.pattern.now c.loop-c.rest.now c.skip_insignificant.result.now
+    c.in_default.ensures.cases _ c.loop-c.first_errors (λ flaw. c.skip_insignificant.ensures.flaws flaw c.args.sets c.loop-c.mode _) c.loop-c.invariant.flaws
 
-pub returns-in-Err-clause-refused : goal.returns-in-Err-clause-refused
-returns-in-Err-clause-refused c =
+pub returns-in-Err-clause-rejected : goal.returns-in-Err-clause-rejected
+returns-in-Err-clause-rejected c =
     rw c.locate.ensures
-    (located-kind c.loop-c.misplaced c.in-Err.fault (MarksShow (marks c.args.sets (table_of c.args.tables.now) plain c.args.pattern.now))
-    (c.in-Err.ensures.refused _
-    (passed c.args.sets (table_of c.args.tables.now) (mode_of c.loop-c.mode) c.args.pattern.now c.loop-c.rest.now c.skip_quiet.result.now
-    c.in_default.ensures.cases c.loop-c.scanner (c.skip_quiet.ensures.same _ _ c.loop-c.mode) c.loop-c.invariant.found)))
+    (located-kind c.loop-c.first_errors c.in-Err.fault (MarksShow (marks c.args.sets (table_of c.args.tables.now) plain c.args.pattern.now))
+    (c.in-Err.ensures.rejected _
+    (passed c.args.sets (table_of c.args.tables.now) (mode_of c.loop-c.mode) c.args.pattern.now c.loop-c.rest.now c.skip_insignificant.result.now
+    c.in_default.ensures.cases c.loop-c.scanner (c.skip_insignificant.ensures.same _ _ c.loop-c.mode) c.loop-c.invariant.found)))
 
 pub returns-in-Err-clause-located : goal.returns-in-Err-clause-located
 returns-in-Err-clause-located c =
     rw c.locate.ensures
-    (located-is c.args.sets c.args.pattern.now c.loop-c.misplaced _
-    (found c.args.sets (table_of c.args.tables.now) (mode_of c.loop-c.mode) c.args.pattern.now c.loop-c.rest.now c.skip_quiet.result.now
-    c.in_default.ensures.cases _ c.loop-c.misplaced (λ flaw. c.skip_quiet.ensures.flaws flaw c.args.sets c.loop-c.mode _) c.loop-c.invariant.flaws))
+    (located-is c.args.sets c.args.pattern.now c.loop-c.first_errors _
+    (found c.args.sets (table_of c.args.tables.now) (mode_of c.loop-c.mode) c.args.pattern.now c.loop-c.rest.now c.skip_insignificant.result.now
+    c.in_default.ensures.cases _ c.loop-c.first_errors (λ flaw. c.skip_insignificant.ensures.flaws flaw c.args.sets c.loop-c.mode _) c.loop-c.invariant.flaws))

@@ -5,18 +5,18 @@ use Rattle.std.proofs.Common.{◌≡◌, ◌+◌, ◌≤◌, length}
 use Rattle.std.specs.Option.{option_or}
 use Rattle.regress_unicode.specs.TableOf.{table_of}
 use Rattle.regress_syntax.specs.Scan.{plain, marks}
-use Rattle.regress_syntax.specs.Misplaced.{Flaw, left_at}
-use Rattle.regress_syntax.specs.Scanning.{mode_of, depth_of, path_of, place_of, highest_at, noted, Behind, HasNumbers}
+use Rattle.regress_syntax.specs.FirstErrors.{Flaw, remaining_at}
+use Rattle.regress_syntax.specs.Scanning.{mode_of, depth_of, path_of, position_of, highest_at, noted, After, HasNumbers}
 use Rattle.regress_syntax.proofs.scan.find_groups.Given as goal
 
 abbrev pub invariant-loop-c : goal.invariant-loop-c
 invariant-loop-c l = record {
-  found : Behind (marks l.sets (table_of l.tables) plain l.pattern) (marks l.sets (table_of l.tables) (mode_of l.mode) l.rest) l.scanner;
-  flaws : (flaw : Flaw) → left_at flaw l.sets plain 1 l.pattern
-      ≡ option_or (noted flaw l.misplaced) (left_at flaw l.sets (mode_of l.mode) (length (path_of l.scanner.path)) l.rest);
+  found : After (marks l.sets (table_of l.tables) plain l.pattern) (marks l.sets (table_of l.tables) (mode_of l.mode) l.rest) l.scanner;
+  flaws : (flaw : Flaw) → remaining_at flaw l.sets plain 1 l.pattern
+      ≡ option_or (noted flaw l.first_errors) (remaining_at flaw l.sets (mode_of l.mode) (length (path_of l.scanner.path)) l.rest);
   depth : depth_of (mode_of l.mode) + length l.rest ≤ length l.pattern;
   numbered : HasNumbers l.scanner;
-  numbers : highest_at (place_of l.scanner) + length l.rest ≤ length l.pattern;
+  numbers : highest_at (position_of l.scanner) + length l.rest ≤ length l.pattern;
 }
 
 abbrev pub decreases-loop-c : goal.decreases-loop-c

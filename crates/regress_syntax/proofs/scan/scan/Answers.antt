@@ -1,5 +1,5 @@
 use Rattle.regress_unicode.specs.TableOf.{table_of}
-use Rattle.regress_syntax.proofs.laws.Scan.{gives_marks}
+use Rattle.regress_syntax.proofs.lemmas.Scan.{gives_marks}
 use Rattle.regress_syntax.proofs.scan.scan.Goals as goal
 
 pub returns-in_err-groups-clause-whole : goal.returns-in_err-groups-clause-whole

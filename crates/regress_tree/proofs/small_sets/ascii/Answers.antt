@@ -9,10 +9,10 @@ pub loop-c-preserved : goal.loop-c-preserved
 loop-c-preserved c =
     let l = c.loop-c in
     let members = c.args.members.now in
-    let in_row = c.loop-c-test.true in
+    let in_list = c.loop-c-test.true in
     record {
-      listed = c.in_ok-push.ensures.items ∙ ap (λ xs. xs ++ get_or members l.c-index 0 ∷ []) l.invariant.listed ∙ sym (take_more members l.c-index 0 in_row);
-      ascii = all_next (λ x. nat_le x 127) members l.c-index 0 in_row (le-leb (get_or members l.c-index 0) 127 c.if-c-gt127.false) l.invariant.ascii;
+      listed = c.in_ok-push.ensures.items ∙ ap (λ xs. xs ++ get_or members l.c-index 0 ∷ []) l.invariant.listed ∙ sym (take_more members l.c-index 0 in_list);
+      ascii = all_next (λ x. nat_le x 127) members l.c-index 0 in_list (le-leb (get_or members l.c-index 0) 127 c.if-c-gt127.false) l.invariant.ascii;
     }
 
 pub returns-then-c-gt127 : goal.returns-then-c-gt127

@@ -7,4 +7,4 @@ use Rattle.regress_ucd.proofs.tables.named_strings.Given as goal
 abbrev pub invariant-loop-entry : goal.invariant-loop-entry
 invariant-loop-entry l =
     strings_of l.entries.items ≡
-    map (λ n. named_strings l.places l.points n.0.now n.1 n.2) (take l.entry-index l.names)
+    map (λ n. named_strings l.positions l.points n.0.now n.1 n.2) (take l.entry-index l.names)

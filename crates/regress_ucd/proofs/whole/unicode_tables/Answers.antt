@@ -9,11 +9,11 @@ use Rattle.regress_ucd.proofs.ConstantsLemmas.{folds, uppers, id_start, id_conti
 use Rattle.regress_ucd.proofs.WholeLemmas.{unicode_from, sets_in, strings_in, no_table}
 use Rattle.regress_ucd.proofs.whole.unicode_tables.Goals as goal
 
-pub rows-requires : goal.rows-requires
-rows-requires c = folds
+pub mappings-requires : goal.mappings-requires
+mappings-requires c = folds
 
-pub rows-requires-2 : goal.rows-requires-2
-rows-requires-2 c = uppers
+pub mappings-requires-2 : goal.mappings-requires-2
+mappings-requires-2 c = uppers
 
 pub set_at-requires : goal.set_at-requires
 set_at-requires c =
@@ -47,7 +47,7 @@ named_strings-requires c = strings_in _ _ c.strings.ensures c.points.ensures (ma
 pub from_sound_parts-requires : goal.from_sound_parts-requires
 from_sound_parts-requires c =
     subst IsSound (sym (unicode_from _ _ _ c.intervals-intervals.ensures c.strings.ensures c.points.ensures _ _ _ _ _ _ _ _ _
-    c.in_ok-rows.ensures c.in_ok-rows-2.ensures c.in_ok-set_at.ensures c.in_ok-set_at-2.ensures c.in_ok-named_sets.ensures
+    c.in_ok-mappings.ensures c.in_ok-mappings-2.ensures c.in_ok-set_at.ensures c.in_ok-set_at-2.ensures c.in_ok-named_sets.ensures
     c.in_ok-all_named_sets.ensures c.in_ok-all_named_sets-2.ensures c.in_ok-named_sets-2.ensures c.in_ok-named_strings.ensures)) unicode_sound
 
 pub returns : goal.returns
@@ -55,14 +55,14 @@ unfolding unicode_table
 returns c =
     c.from_sound_parts.ensures
     ∙ ap table_from (unicode_from _ _ _ c.intervals-intervals.ensures c.strings.ensures c.points.ensures _ _ _ _ _ _ _ _ _
-    c.in_ok-rows.ensures c.in_ok-rows-2.ensures c.in_ok-set_at.ensures c.in_ok-set_at-2.ensures c.in_ok-named_sets.ensures
+    c.in_ok-mappings.ensures c.in_ok-mappings-2.ensures c.in_ok-set_at.ensures c.in_ok-set_at-2.ensures c.in_ok-named_sets.ensures
     c.in_ok-all_named_sets.ensures c.in_ok-all_named_sets-2.ensures c.in_ok-named_sets-2.ensures c.in_ok-named_strings.ensures)
 
-pub returns-in_err-rows : goal.returns-in_err-rows
-returns-in_err-rows c = no_table _ _ c.from_residual.ensures.1
+pub returns-in_err-mappings : goal.returns-in_err-mappings
+returns-in_err-mappings c = no_table _ _ c.from_residual.ensures.1
 
-pub returns-in_err-rows-2 : goal.returns-in_err-rows-2
-returns-in_err-rows-2 c = no_table _ _ c.from_residual-in_err-rows-2.ensures.1
+pub returns-in_err-mappings-2 : goal.returns-in_err-mappings-2
+returns-in_err-mappings-2 c = no_table _ _ c.from_residual-in_err-mappings-2.ensures.1
 
 pub returns-in_err-set_at : goal.returns-in_err-set_at
 returns-in_err-set_at c = no_table _ _ c.from_residual-in_err-set_at.ensures.1

@@ -2,37 +2,37 @@
 use Rattle.std.proofs.Common.{◌≡◌, List, String, Global, true, sym, subst, ap, ◌∙◌}
 use Rattle.std.proofs.lemmas.Result.{err_from_is_err_and}
 use Rattle.std.specs.List.{list_all}
-use Rattle.regress_unicode.specs.Parts.{AreSoundRows, parts_from, sets_of}
+use Rattle.regress_unicode.specs.Parts.{AreValidEntries, parts_from, sets_of}
 use Rattle.regress_base.specs.Table.{is_string, HasCanonicalSets}
 use Rattle.regress_base.specs.Intervals.{Bounds}
 use Rattle.regress_unicode.proofs.CaseMapLemmas.{case_map}
-use Rattle.regress_unicode.proofs.RefusalLemmas.{first_by_rows, identifiers_refused, strings_refused, all_met, strings_test}
+use Rattle.regress_unicode.proofs.ConstructionErrorLemmas.{first_by_mappings, identifiers_rejected, strings_rejected, all_met, strings_test}
 use Rattle.regress_unicode.proofs.Tables.new.Goals as goal
 
 canonical : (xs ys : List (String Global × List Bounds)) → xs ≡ ys → HasCanonicalSets (sets_of xs) → HasCanonicalSets (sets_of ys)
 canonical xs ys same h = subst (λ (entries : List (String Global × List Bounds)). HasCanonicalSets (sets_of entries)) same h
 
-pub returns-in_err-check_rows-clause-refused : goal.returns-in_err-check_rows-clause-refused
-returns-in_err-check_rows-clause-refused c =
+pub returns-in_err-check_entries-clause-rejected : goal.returns-in_err-check_entries-clause-rejected
+returns-in_err-check_entries-clause-rejected c =
     let p = err_from_is_err_and c.from_residual.result c.from_residual.ensures.1 in
     rw (p.1, p.2) (λ known.
-    (let told = c.in_err-check_rows.ensures.err known in
-    first_by_rows _ _ _ c.deref.ensures.value c.deref-2.ensures.value told.0 told.1))
+    (let reported = c.in_err-check_entries.ensures.err known in
+    first_by_mappings _ _ _ c.deref.ensures.value c.deref-2.ensures.value reported.0 reported.1))
 
-pub returns-then-not-have_word_ascii-clause-refused : goal.returns-then-not-have_word_ascii-clause-refused
-returns-then-not-have_word_ascii-clause-refused c known =
-    let folds = subst AreSoundRows c.deref.ensures.value c.in_ok-check_rows.ensures.ok.0 in
-    let uppers = subst AreSoundRows c.deref-2.ensures.value c.in_ok-check_rows.ensures.ok.1 in
-    identifiers_refused _ folds uppers (λ h.
+pub returns-then-not-have_word_ascii-clause-rejected : goal.returns-then-not-have_word_ascii-clause-rejected
+returns-then-not-have_word_ascii-clause-rejected c known =
+    let folds = subst AreValidEntries c.deref.ensures.value c.in_ok-check_entries.ensures.ok.0 in
+    let uppers = subst AreValidEntries c.deref-2.ensures.value c.in_ok-check_entries.ensures.ok.1 in
+    identifiers_rejected _ folds uppers (λ h.
     (let yes : c.have_word_ascii.result ≡ true = c.have_word_ascii.ensures.1 h in
     cc (yes, c.if-not-have_word_ascii.true)))
 
-pub returns-then-not-have_strings-clause-refused : goal.returns-then-not-have_strings-clause-refused
-returns-then-not-have_strings-clause-refused c known =
-    let folds = subst AreSoundRows c.deref.ensures.value c.in_ok-check_rows.ensures.ok.0 in
-    let uppers = subst AreSoundRows c.deref-2.ensures.value c.in_ok-check_rows.ensures.ok.1 in
+pub returns-then-not-have_strings-clause-rejected : goal.returns-then-not-have_strings-clause-rejected
+returns-then-not-have_strings-clause-rejected c known =
+    let folds = subst AreValidEntries c.deref.ensures.value c.in_ok-check_entries.ensures.ok.0 in
+    let uppers = subst AreValidEntries c.deref-2.ensures.value c.in_ok-check_entries.ensures.ok.1 in
     let identifiers = c.have_word_ascii.ensures.0 c.if-not-have_word_ascii.false in
-    strings_refused _ folds uppers identifiers (λ h.
+    strings_rejected _ folds uppers identifiers (λ h.
     (let test = strings_test c.args.strings.items in
     let value = c.have_strings.ensures in
     let same = c.deref-3.ensures.value in
@@ -40,8 +40,8 @@ returns-then-not-have_strings-clause-refused c known =
 
 pub invariant_of-result : goal.invariant_of-result
 invariant_of-result c =
-    let folds = subst AreSoundRows c.deref.ensures.value c.in_ok-check_rows.ensures.ok.0 in
-    let uppers = subst AreSoundRows c.deref-2.ensures.value c.in_ok-check_rows.ensures.ok.1 in
+    let folds = subst AreValidEntries c.deref.ensures.value c.in_ok-check_entries.ensures.ok.0 in
+    let uppers = subst AreValidEntries c.deref-2.ensures.value c.in_ok-check_entries.ensures.ok.1 in
     let identifiers = c.have_word_ascii.ensures.0 c.if-not-have_word_ascii.false in
     let strings = strings_test c.args.strings.items ∙ ap (list_all (λ entry. list_all (λ string. is_string string.items) entry.1.items))
     (sym c.deref-3.ensures.value) ∙ sym c.have_strings.ensures ∙ c.if-not-have_strings.false in
@@ -66,12 +66,12 @@ invariant_of-result c =
     }
 
 pub returns-clause-accepted : goal.returns-clause-accepted
-returns-clause-accepted c refusal =
-    let folds = subst AreSoundRows c.deref.ensures.value c.in_ok-check_rows.ensures.ok.0 in
-    let uppers = subst AreSoundRows c.deref-2.ensures.value c.in_ok-check_rows.ensures.ok.1 in
+returns-clause-accepted c rejection =
+    let folds = subst AreValidEntries c.deref.ensures.value c.in_ok-check_entries.ensures.ok.0 in
+    let uppers = subst AreValidEntries c.deref-2.ensures.value c.in_ok-check_entries.ensures.ok.1 in
     let identifiers = c.have_word_ascii.ensures.0 c.if-not-have_word_ascii.false in
     let strings = strings_test c.args.strings.items ∙ ap (list_all (λ entry. list_all (λ string. is_string string.items) entry.1.items))
     (sym c.deref-3.ensures.value) ∙ sym c.have_strings.ensures ∙ c.if-not-have_strings.false in
     all_met (parts_from c.args.folds.items c.args.uppers.items c.args.id_start c.args.id_continue c.args.general_category.items
     c.args.script.items
-    c.args.script_extensions.items c.args.binary.items c.args.strings.items) folds uppers identifiers strings refusal
+    c.args.script_extensions.items c.args.binary.items c.args.strings.items) folds uppers identifiers strings rejection

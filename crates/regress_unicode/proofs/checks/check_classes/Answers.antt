@@ -4,9 +4,9 @@ use Rattle.regress_unicode.specs.Moves.{HasNoFour}
 use Rattle.regress_unicode.proofs.CaseMapLemmas.{few_after_sort, many_after_sort}
 use Rattle.regress_unicode.proofs.checks.check_classes.Goals as goal
 
-pub returns-then-stands_four_times-clause-err : goal.returns-then-stands_four_times-clause-err
-returns-then-stands_four_times-clause-err c =
-    let some = c.stands_four_times.ensures.some c.if-stands_four_times.true in
+pub returns-then-occurs_four_times-clause-err : goal.returns-then-occurs_four_times-clause-err
+returns-then-occurs_four_times-clause-err c =
+    let some = c.occurs_four_times.ensures.some c.if-occurs_four_times.true in
     let found = subst (λ (xs : List ℕ). (some.0 + 3 < length xs) × (get_or xs some.0 0 ≡ get_or xs (some.0 + 3) 0)) c.deref.ensures.value
     (some.1, some.2) in
     let many = many_after_sort c.args.images.items c.sort.new.self.items some.0 c.in_ok-sort.ensures.stable c.in_ok-sort.ensures.sorted
@@ -16,4 +16,4 @@ returns-then-stands_four_times-clause-err c =
 pub returns-clause-ok : goal.returns-clause-ok
 returns-clause-ok c =
     few_after_sort c.args.images.items c.sort.new.self.items c.in_ok-sort.ensures.stable c.in_ok-sort.ensures.sorted
-    (subst HasNoFour c.deref.ensures.value (c.stands_four_times.ensures.none c.if-stands_four_times.false))
+    (subst HasNoFour c.deref.ensures.value (c.occurs_four_times.ensures.none c.if-occurs_four_times.false))

@@ -1,30 +1,30 @@
 -- The canonical forms of the members, followed by the code points that are mapped to them, are the closure.
 use Rattle.std.proofs.Common.{◌≤◌, ◌||◌, List, All, refl, subst, ap, ◌∙◌}
 use Rattle.regress_base.specs.Intervals.{is_member}
-use Rattle.regress_base.proofs.laws.Sets.{member_above, canonical_unique}
-use Rattle.regress_unicode.specs.FoldRows.{FoldRow}
-use Rattle.regress_unicode.specs.Shifts.{lands_by, forward, backward}
+use Rattle.regress_base.proofs.lemmas.Sets.{member_above, canonical_unique}
+use Rattle.regress_unicode.specs.FoldEntries.{FoldEntry}
+use Rattle.regress_unicode.specs.Shifts.{maps_to_by, forward, backward}
 use Rattle.regress_unicode.specs.TableOf.{table_of}
-use Rattle.regress_unicode.proofs.ClosureLemmas.{ClosesOver, good_rows, closure_is, closure_twice}
+use Rattle.regress_unicode.proofs.ClosureLemmas.{ClosesOver, good_mappings, closure_is, closure_twice}
 use Rattle.regress_unicode.proofs.closure.add_icase_code_points.Goals as goal
 
 pub returns-clause-members : goal.returns-clause-members
 returns-clause-members c =
-    let rows : List FoldRow = c.args.tables.now.folds.items in
+    let mappings : List FoldEntry = c.args.tables.now.folds.items in
     let sound = c.args.tables.now.sound.folds in
-    let nonempty = subst (λ (rows : List FoldRow). All (λ row. 1 ≤ row.length) rows) c.deref-2.ensures.value
+    let nonempty = subst (λ (mappings : List FoldEntry). All (λ mapping. 1 ≤ mapping.length) mappings) c.deref-2.ensures.value
     c.in_ok-add_sources.ensures.nonempty in
-    let over : ClosesOver rows c.args.input (is_member c.add_images.new.set) (is_member c.add_sources.new.set) = record {
+    let over : ClosesOver mappings c.args.input (is_member c.add_images.new.set) (is_member c.add_sources.new.set) = record {
       in_order = sound.in_order;
-      good = good_rows rows sound.in_range nonempty;
+      good = good_mappings mappings sound.in_range nonempty;
       idempotent = sound.idempotent;
       images = λ x. c.in_ok-add_images.ensures x
-          ∙ ap (λ (rs : List FoldRow). is_member c.args.input x || lands_by forward rs (is_member c.args.input) x) c.deref.ensures.value;
+          ∙ ap (λ (rs : List FoldEntry). is_member c.args.input x || maps_to_by forward rs (is_member c.args.input) x) c.deref.ensures.value;
       sources = λ x. c.in_ok-add_sources.ensures.members x
-          ∙ ap (λ (rs : List FoldRow). is_member c.add_images.new.set x || lands_by backward rs (is_member c.add_images.new.set) x)
+          ∙ ap (λ (rs : List FoldEntry). is_member c.add_images.new.set x || maps_to_by backward rs (is_member c.add_images.new.set) x)
           c.deref-2.ensures.value;
     } in
-    closure_is (table_of c.args.tables.now) rows c.args.input (is_member c.add_images.new.set) (is_member c.add_sources.new.set)
+    closure_is (table_of c.args.tables.now) mappings c.args.input (is_member c.add_images.new.set) (is_member c.add_sources.new.set)
     (λ x. refl) over
     (λ x member. (member_above 0 c.add_sources.new.set x c.set_is_canonical.ensures member).1)
 

@@ -3,15 +3,15 @@ use Rattle.std.proofs.Common.{◌≡◌, ℕ, ◌+◌, ◌<◌, ◌≤◌, ◌�
 use Rattle.std.proofs.lemmas.Bool.{eqb-true}
 use Rattle.regress_base.specs.Intervals.{Bounds, is_member}
 use Rattle.regress_unicode.specs.declared.shift.Shift.{Shift}
-use Rattle.regress_unicode.specs.FoldRows.{FoldRow, is_target_in_range}
+use Rattle.regress_unicode.specs.FoldEntries.{FoldEntry, is_target_in_range}
 use Rattle.regress_unicode.specs.Shifts.{forward}
-use Rattle.regress_unicode.proofs.RowLemmas.{target_at}
-use Rattle.regress_unicode.proofs.ClosingLemmas.{found_none, row_more, row_no_more, rows_done, left, below_first_none, no_members, positive}
+use Rattle.regress_unicode.proofs.ListLemmas.{target_at}
+use Rattle.regress_unicode.proofs.ClosingLemmas.{found_none, mapping_more, mapping_no_more, mappings_done, left, below_first_none, no_members, positive}
 use Rattle.regress_unicode.proofs.closure.images.Goals as goal
 use Rattle.regress_unicode.proofs.closure.images.Goals.{then-first-last+in_ok-push_moved, else-first-last}
 
-pub loop-row-init : goal.loop-row-init
-loop-row-init c = record {
+pub loop-mapping-init : goal.loop-mapping-init
+loop-mapping-init c = record {
   members = λ x. found_none forward (is_member c.args.intervals.now) x c.new-found.result.items c.new-found.ensures.items;
   canonical = c.requires.canonical;
   same = λ k d le lt x from. refl;
@@ -19,48 +19,48 @@ loop-row-init c = record {
 
 pub returns-then-is_empty : goal.returns-then-is_empty
 returns-then-is_empty c x =
-    let rest = left c.args.rows.now c.loop-row.row-index c.first.result c.row-item.result c.args.intervals.now c.loop-row.rest.now
-    c.pass_over-rest.result.now c.requires.in_order c.row-item.is c.first.ensures.value c.loop-row.invariant.same
-    c.pass_over-rest.ensures.members in
-    let none = eqb-true (length c.pass_over-rest.result.now) 0 (sym c.if-is_empty.ensures) in
-    c.loop-row.invariant.members x
-    ∙ rows_done forward (is_member c.args.intervals.now) c.args.rows.now c.loop-row.row-index x c.row-item.result
-    (λ k le lt y from. sym (rest k c.row-item.result le lt y from) ∙ no_members c.pass_over-rest.result.now y none)
+    let rest = left c.args.mappings.now c.loop-mapping.mapping-index c.first.result c.mapping-item.result c.args.intervals.now c.loop-mapping.rest.now
+    c.skip_below-rest.result.now c.requires.in_order c.mapping-item.is c.first.ensures.value c.loop-mapping.invariant.same
+    c.skip_below-rest.ensures.members in
+    let none = eqb-true (length c.skip_below-rest.result.now) 0 (sym c.if-is_empty.ensures) in
+    c.loop-mapping.invariant.members x
+    ∙ mappings_done forward (is_member c.args.intervals.now) c.args.mappings.now c.loop-mapping.mapping-index x c.mapping-item.result
+    (λ k le lt y from. sym (rest k c.mapping-item.result le lt y from) ∙ no_members c.skip_below-rest.result.now y none)
 
 pub forward-requires : goal.forward-requires
 forward-requires c =
-    subst (λ (r : FoldRow). IsTrue (is_target_in_range r)) (sym c.row-item.is)
-    (target_at c.args.rows.now c.loop-row.row-index c.row-item.result c.requires.in_range c.loop-row-test.true)
+    subst (λ (r : FoldEntry). IsTrue (is_target_in_range r)) (sym c.mapping-item.is)
+    (target_at c.args.mappings.now c.loop-mapping.mapping-index c.mapping-item.result c.requires.in_range c.loop-mapping-test.true)
 
-pub loop-row-preserved : goal.loop-row-preserved
-loop-row-preserved c =
-    let rows = c.args.rows.now in
-    let i = c.loop-row.row-index in
-    let row : FoldRow = c.row-item.result in
-    let rest = left rows i c.first.result row c.args.intervals.now c.loop-row.rest.now
-    c.pass_over-rest.result.now c.requires.in_order c.row-item.is c.first.ensures.value c.loop-row.invariant.same
-    c.pass_over-rest.ensures.members in
-    let here : (y : ℕ) → row.start ≤ y → is_member c.pass_over-rest.result.now y ≡ is_member c.args.intervals.now y = λ y from.
-    rest i row (le_refl i) c.loop-row-test.true y (subst (λ (r : FoldRow). r.start ≤ y) c.row-item.is from) in
-    let same = λ (k : ℕ) (d : FoldRow) (le : i + 1 ≤ k). rest k d (omega arith) in
+pub loop-mapping-preserved : goal.loop-mapping-preserved
+loop-mapping-preserved c =
+    let mappings = c.args.mappings.now in
+    let i = c.loop-mapping.mapping-index in
+    let mapping : FoldEntry = c.mapping-item.result in
+    let rest = left mappings i c.first.result mapping c.args.intervals.now c.loop-mapping.rest.now
+    c.skip_below-rest.result.now c.requires.in_order c.mapping-item.is c.first.ensures.value c.loop-mapping.invariant.same
+    c.skip_below-rest.ensures.members in
+    let here : (y : ℕ) → mapping.start ≤ y → is_member c.skip_below-rest.result.now y ≡ is_member c.args.intervals.now y = λ y from.
+    rest i mapping (le_refl i) c.loop-mapping-test.true y (subst (λ (r : FoldEntry). r.start ≤ y) c.mapping-item.is from) in
+    let same = λ (k : ℕ) (d : FoldEntry) (le : i + 1 ≤ k). rest k d (omega arith) in
     elim c.if-first-last.branch [
       | then-first-last+in_ok-push_moved w ↦ rw w.found-is (record {
-        members = λ x. row_more forward (is_member c.args.intervals.now) (is_member c.pass_over-rest.result.now) rows i x row
-            w.forward.result _ _ c.loop-row-test.true c.row-item.is w.forward.ensures.value
+        members = λ x. mapping_more forward (is_member c.args.intervals.now) (is_member c.skip_below-rest.result.now) mappings i x mapping
+            w.forward.result _ _ c.loop-mapping-test.true c.mapping-item.is w.forward.ensures.value
             (λ y from to. here y (subst (λ (s : Shift). s.first ≤ y) w.forward.ensures.value from))
-            (c.loop-row.invariant.members x) (w.in_ok-push_moved.ensures x);
-        canonical = c.pass_over-rest.ensures.canonical;
+            (c.loop-mapping.invariant.members x) (w.in_ok-push_moved.ensures x);
+        canonical = c.skip_below-rest.ensures.canonical;
         same = same;
       })
       | else-first-last w ↦ rw w.found-is (record {
-        members = λ x. row_no_more forward (is_member c.args.intervals.now) rows i x row _ c.loop-row-test.true c.row-item.is
+        members = λ x. mapping_no_more forward (is_member c.args.intervals.now) mappings i x mapping _ c.loop-mapping-test.true c.mapping-item.is
             (λ y from to. sym (here y from)
-            ∙ below_first_none c.pass_over-rest.result.now y c.index-rest-0.result c.pass_over-rest.ensures.canonical
+            ∙ below_first_none c.skip_below-rest.result.now y c.index-rest-0.result c.skip_below-rest.ensures.canonical
             (positive _ (sym c.if-is_empty.ensures))
             (subst (λ (iv : Bounds). y < iv.first) c.index-rest-0.is
-            (omega (arith, to, w.if-first-last.false, c.last.ensures.value, c.first-in-loop-row.ensures.value))))
-            (c.loop-row.invariant.members x);
-        canonical = c.pass_over-rest.ensures.canonical;
+            (omega (arith, to, w.if-first-last.false, c.last.ensures.value, c.first-in-loop-mapping.ensures.value))))
+            (c.loop-mapping.invariant.members x);
+        canonical = c.skip_below-rest.ensures.canonical;
         same = same;
       })
     ]

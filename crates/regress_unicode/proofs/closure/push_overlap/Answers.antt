@@ -2,7 +2,7 @@
 use Rattle.std.proofs.Common.{◌≡◌, ◌+◌, ◌||◌, min, max, sym, ap, ◌∙◌, arith}
 use Rattle.regress_base.specs.Intervals.{is_member, is_within}
 use Rattle.std.proofs.Math.Bool.{or-false}
-use Rattle.regress_unicode.specs.Shifts.{lands}
+use Rattle.regress_unicode.specs.Shifts.{maps_to}
 use Rattle.regress_unicode.proofs.ShiftLemmas.{overlap_none, overlap_whole, between, lands_between_none, between_more, between_no_more, between_all}
 use Rattle.regress_unicode.proofs.ClosingLemmas.{pushed, pushed_one}
 use Rattle.regress_unicode.proofs.closure.push_overlap.Goals as goal
@@ -49,6 +49,6 @@ returns c x =
     let last = c.min-last.ensures ∙ ap (min c.args.shift.now.last) c.last.ensures.value in
     let done : c.loop-c.c ≡ c.min-last.result + 1 = omega arith in
     c.loop-c.invariant x
-    ∙ ap (λ k. is_member c.args.found.now.items x || lands c.args.shift.now (between c.max-first.result k) x) done
+    ∙ ap (λ k. is_member c.args.found.now.items x || maps_to c.args.shift.now (between c.max-first.result k) x) done
     ∙ ap (λ b. is_member c.args.found.now.items x || b) (between_all c.args.shift.now c.args.interval c.max-first.result c.min-last.result x first
     last)

@@ -1,7 +1,7 @@
 use Rattle.std.proofs.Common.{◌≡◌, ◌≤◌, ◌++◌, drop}
 use Rattle.regress_tree.specs.declared.ir.node.Node.{size-Node}
 use Rattle.regress_tree.specs.Tree.{tree, trees}
-use Rattle.regress_words.specs.Words.{encode, encode_row}
+use Rattle.regress_words.specs.Words.{encode, encode_list}
 use Rattle.regress_words.proofs.tree_words.+push.Given as goal
 
 -- The remaining words complete the whole. The loop descends, and the calls in it are on smaller nodes.
@@ -16,4 +16,4 @@ decreases-push_tree-loop-parts l = size-Node l.node
 
 abbrev pub invariant-push_trees-loop-part : goal.invariant-push_trees-loop-part
 invariant-push_trees-loop-part l =
-    l.words.items ++ encode_row (trees (drop l.part-index l.parts)) ≡ l.initial.words.items ++ encode_row (trees l.parts)
+    l.words.items ++ encode_list (trees (drop l.part-index l.parts)) ≡ l.initial.words.items ++ encode_list (trees l.parts)

@@ -11,7 +11,7 @@ pub loop-group-preserved : goal.loop-group-preserved
 loop-group-preserved g c plain =
     let found = c.args.self.now.found.now in
     let groups = c.args.self.now.groups.now in
-    let front = span (start_of found, (state_of found).place) in
+    let front = span (start_of found, (state_of found).position) in
     let i = c.loop-group.group-index in
     let so_far = c.loop-group.invariant plain in
     let own = c.in_ok-write_group.ensures so_far.plain refl in
@@ -24,7 +24,7 @@ pub returns-clause-writes : goal.returns-clause-writes
 returns-clause-writes g c plain ok =
     let found = c.args.self.now.found.now in
     let groups = c.args.self.now.groups.now in
-    let front = span (start_of found, (state_of found).place) in
+    let front = span (start_of found, (state_of found).position) in
     let i = c.loop-group.group-index in
     let so_far = c.loop-group.invariant plain in
     let last = c.write_str.ensures.writes so_far.plain ok in

@@ -10,4 +10,4 @@ abbrev pub invariant-loop-group : goal.invariant-loop-group
 invariant-loop-group g l =
     let found = l.fn.self.found.now in
     IsPlainFormatter l.fn.f → HasWritten g.W.Write.write_str_gives l.fn.f
-    (span (start_of found, (state_of found).place) ++ fields found (take l.group-index l.fn.self.groups.now)) l.f
+    (span (start_of found, (state_of found).position) ++ fields found (take l.group-index l.fn.self.groups.now)) l.f

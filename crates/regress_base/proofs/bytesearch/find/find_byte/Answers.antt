@@ -11,25 +11,25 @@ overflow_add-result g c =
     omega arith
 
 pub returns-in-Some : goal.returns-in-Some
-returns-in-Some g c = λ set tells.
+returns-in-Some g c = λ set reports.
     let chunk = chunk-IsStretch c.args.text.now c.as_chunks.result.0.now c.loop-i.i c.as_chunks.ensures.front (omega arith) in
-    found_in_part set c.args.text.now _ _ c.in-Some.lane chunk.0 (c.loop-i.invariant set tells) (c.in-Some.ensures.least set tells)
+    found_in_part set c.args.text.now _ _ c.in-Some.lane chunk.0 (c.loop-i.invariant set reports) (c.in-Some.ensures.least set reports)
 
 pub loop-i-preserved : goal.loop-i-preserved
-loop-i-preserved g c = λ set tells.
+loop-i-preserved g c = λ set reports.
     let chunk = chunk-IsStretch c.args.text.now c.as_chunks.result.0.now c.loop-i.i c.as_chunks.ensures.front (omega arith) in
     let four = chunk.1 in
-    let none = none_in_part set c.args.text.now _ _ chunk.0 (c.loop-i.invariant set tells) (c.in_default.ensures.least set tells) in
+    let none = none_in_part set c.args.text.now _ _ chunk.0 (c.loop-i.invariant set reports) (c.in_default.ensures.least set reports) in
     λ k h. none k (omega arith)
 
-pub returns-in_err-behind : goal.returns-in_err-behind
-returns-in_err-behind g c = λ set tells.
+pub returns-in_err-after : goal.returns-in_err-after
+returns-in_err-after g c = λ set reports.
     let text = c.args.text.now in
     let chunks = c.as_chunks.result.0.now in
     let rest = rest-IsStretch text c.as_chunks.result.1.now (length chunks) c.as_chunks.ensures.front_len c.as_chunks.ensures.back in
     let all = rest.1 in
-    let none : NoneBefore set text (length chunks * 4) = λ k h. c.loop-i.invariant set tells k (omega arith) in
-    let nowhere = none_in_part set text _ _ rest.0 none (c.in_err-behind.ensures.least set tells) in
+    let none : NoneBefore set text (length chunks * 4) = λ k h. c.loop-i.invariant set reports k (omega arith) in
+    let nowhere = none_in_part set text _ _ rest.0 none (c.in_err-after.ensures.least set reports) in
     rw c.from_residual.ensures (none_past set text (λ k h. nowhere k (omega arith)))
 
 pub overflow_add-result-2 : goal.overflow_add-result-2
@@ -38,13 +38,13 @@ overflow_add-result-2 g c =
     let rest =
     rest-IsStretch c.args.text.now c.as_chunks.result.1.now (length chunks) c.as_chunks.ensures.front_len c.as_chunks.ensures.back in
     let all = rest.1 in
-    let behind = c.in_ok-behind.ensures.inside in
+    let after = c.in_ok-after.ensures.inside in
     omega arith
 
 pub returns : goal.returns
-returns g c = λ set tells.
+returns g c = λ set reports.
     let text = c.args.text.now in
     let chunks = c.as_chunks.result.0.now in
     let rest = rest-IsStretch text c.as_chunks.result.1.now (length chunks) c.as_chunks.ensures.front_len c.as_chunks.ensures.back in
-    let none : NoneBefore set text (length chunks * 4) = λ k h. c.loop-i.invariant set tells k (omega arith) in
-    found_in_part set text _ _ c.in_ok-behind.behind rest.0 none (c.in_ok-behind.ensures.least set tells)
+    let none : NoneBefore set text (length chunks * 4) = λ k h. c.loop-i.invariant set reports k (omega arith) in
+    found_in_part set text _ _ c.in_ok-after.after rest.0 none (c.in_ok-after.ensures.least set reports)

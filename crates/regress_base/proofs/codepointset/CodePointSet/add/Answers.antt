@@ -4,13 +4,13 @@ use Rattle.regress_base.specs.Intervals.{is_within, is_member, IsTouchingRange}
 use Rattle.regress_base.proofs.JoinLemmas.{IsAdded, added_new, added_joined}
 use Rattle.regress_base.proofs.codepointset.CodePointSet.add.Goals as goal
 
-inserted : (c : goal.In_ok-put_in) → IsAdded c.self.inside.ivs.items c.args.new_iv c.put_in.new.ivs.items
+inserted : (c : goal.In_ok-insert_interval) → IsAdded c.self.inside.ivs.items c.args.new_iv c.insert_interval.new.ivs.items
 inserted c =
     let old = c.self.inside.ivs.items in
     let found = subst (λ l. IsTouchingRange l c.args.new_iv c.touching-start.result.start c.touching-start.result.end)
     c.deref.ensures.value c.touching-start.ensures.range in
-    added_new old c.args.new_iv _ _ c.put_in.new.ivs.items c.self.invariant c.touching-start.ensures.interval found c.if-start-end.true
-    c.in_ok-put_in.ensures.ok
+    added_new old c.args.new_iv _ _ c.insert_interval.new.ivs.items c.self.invariant c.touching-start.ensures.interval found c.if-start-end.true
+    c.in_ok-insert_interval.ensures.ok
 
 joined : (c : goal.After-drop-drain) → IsAdded c.self.inside.ivs.items c.args.new_iv c.drop-drain.new.self.0.items
 joined c =
@@ -28,7 +28,7 @@ invariant_of-self-then-start-end c = (inserted c).canonical
 
 pub returns-then-start-end-clause-members : goal.returns-then-start-end-clause-members
 returns-then-start-end-clause-members c =
-    subst (λ l. (n : ℕ) → is_member c.put_in.new.ivs.items n ≡ (is_member l n || is_within c.args.new_iv n)) c.self.view_is
+    subst (λ l. (n : ℕ) → is_member c.insert_interval.new.ivs.items n ≡ (is_member l n || is_within c.args.new_iv n)) c.self.view_is
     (inserted c).members
 
 pub returns-then-start-end-clause-canonical : goal.returns-then-start-end-clause-canonical

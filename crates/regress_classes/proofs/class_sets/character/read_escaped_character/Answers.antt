@@ -1,18 +1,18 @@
 -- What remains of a list of code points is one too.
 use Rattle.std.proofs.Common.{◌∷◌, sym, ap, ◌∙◌}
 use Rattle.std.proofs.lemmas.Bool.{cond-true, cond-false, ne_eqb}
-use Rattle.regress_lexical.specs.Escapes.{escape_at}
+use Rattle.regress_lexer.specs.Escapes.{escape_at}
 use Rattle.regress_classes.specs.ClassSets.{escaped_character_at}
-use Rattle.regress_lexical.proofs.laws.Behind.{behind_all, escape_at-ends}
+use Rattle.regress_lexer.proofs.lemmas.After.{after_all, escape_at-ends}
 use Rattle.regress_classes.proofs.class_sets.character.read_escaped_character.Goals as goal
 
 pub invariant_of-cursor-2 : goal.invariant_of-cursor-2
 invariant_of-cursor-2 c = record {
   in_range =
       let text = c.args.cursor.now.rest.now in
-      behind_all text c.in-Some-read_escape.behind.now
-      ((escape_at-ends c.args.unicode text).each (c.in-Some-read_escape.point, c.in-Some-read_escape.behind.now)
-      (sym c.in-Some-read_escape.ensures.value)) c.args.cursor.now.in_range;
+      after_all text c.in-Some-parse_escape.after.now
+      ((escape_at-ends c.args.unicode text).each (c.in-Some-parse_escape.point, c.in-Some-parse_escape.after.now)
+      (sym c.in-Some-parse_escape.ensures.value)) c.args.cursor.now.in_range;
 }
 
 pub returns-then-c-from-clause-value : goal.returns-then-c-from-clause-value
@@ -32,12 +32,12 @@ returns-clause-value c =
     let front = c.in-Some.ensures.cases.0 in
     let other = ap (escaped_character_at c.args.unicode) front ∙ cond-false _ _ _ (ne_eqb letter 98 (λ e. c.if-c-from.false (e ∙ sym c.from.ensures))) in
     other ∙ cond-false _ _ _ (sym c.is_reserved.ensures ∙ c.if-is_reserved.false)
-    ∙ ap (escape_at c.args.unicode) (sym front) ∙ sym c.in-Some-read_escape.ensures.value
+    ∙ ap (escape_at c.args.unicode) (sym front) ∙ sym c.in-Some-parse_escape.ensures.value
 
-pub returns-in_default-read_escape-clause-value : goal.returns-in_default-read_escape-clause-value
-returns-in_default-read_escape-clause-value c =
+pub returns-in_default-parse_escape-clause-value : goal.returns-in_default-parse_escape-clause-value
+returns-in_default-parse_escape-clause-value c =
     let letter = c.in-Some.c.now in
     let front = c.in-Some.ensures.cases.0 in
     let other = ap (escaped_character_at c.args.unicode) front ∙ cond-false _ _ _ (ne_eqb letter 98 (λ e. c.if-c-from.false (e ∙ sym c.from.ensures))) in
     other ∙ cond-false _ _ _ (sym c.is_reserved.ensures ∙ c.if-is_reserved.false)
-    ∙ ap (escape_at c.args.unicode) (sym front) ∙ sym c.in_default-read_escape.ensures.value
+    ∙ ap (escape_at c.args.unicode) (sym front) ∙ sym c.in_default-parse_escape.ensures.value

@@ -1,4 +1,4 @@
-use Rattle.regress_classes.specs.ClassRows.{class_members}
+use Rattle.regress_classes.specs.ClassProductions.{class_members}
 use Rattle.regress_classes.proofs.class_sets.operand.class_value.Goals as goal
 
 pub returns : goal.returns

@@ -1,5 +1,5 @@
 use Rattle.std.proofs.Common.{◌∙◌}
-use Rattle.regress_classes.specs.ClassRows.{complement_if}
+use Rattle.regress_classes.specs.ClassProductions.{complement_if}
 use Rattle.regress_classes.proofs.ClassSetLemmas.{members_complement, members_same}
 use Rattle.regress_classes.proofs.class_sets.operand.point_value.Goals as goal
 use Rattle.regress_classes.proofs.class_sets.operand.point_value.Goals.{then-negated+in_ok-set, else-negated+in_ok-set-2}

@@ -5,20 +5,20 @@ use Rattle.std.proofs.lemmas.List.{nil_from_length}
 use Rattle.std.proofs.lemmas.Result.{err_from_is_err_and}
 use Rattle.regress_base.specs.declared.charclasses.CharacterClassType.{CharacterClassType}
 use Rattle.regress_unicode.specs.TableOf.{table_of}
-use Rattle.regress_lexical.specs.Reads.{ReadsAs}
-use Rattle.regress_lexical.specs.Source.{found_map}
-use Rattle.regress_lexical.specs.Views.{source}
-use Rattle.regress_classes.specs.ClassRows.{class_members}
+use Rattle.regress_lexer.specs.Reads.{ParsesAs}
+use Rattle.regress_lexer.specs.Source.{found_map}
+use Rattle.regress_lexer.specs.Views.{source}
+use Rattle.regress_classes.specs.ClassProductions.{class_members}
 use Rattle.regress_classes.specs.ClassSets.{only, character, class, property_operand_at, escaped_operand_at}
 use Rattle.regress_classes.specs.ClassViews.{IsOperand}
-use Rattle.regress_lexical.proofs.laws.Sources.{on_refused}
-use Rattle.regress_classes.proofs.EscapeRows.{class_escape_read, quoted_read, property_operand_read, character_escape_read}
+use Rattle.regress_lexer.proofs.lemmas.Sources.{on_rejected}
+use Rattle.regress_classes.proofs.EscapeProductions.{class_escape_read, quoted_read, property_operand_read, character_escape_read}
 use Rattle.regress_classes.proofs.class_sets.operand.read_escaped_operand.Goals as goal
 
 pub returns-in_default-clause-value : goal.returns-in_default-clause-value
 returns-in_default-clause-value c =
     let around = c.args.around.now in
-    on_refused c.refused.result
+    on_rejected c.rejected.result
     (ap (escaped_operand_at (table_of around.tables.now) around.unicode around.negated)
     (nil_from_length (source c.args.cursor.now) c.in_default.ensures.cases))
 
@@ -39,7 +39,7 @@ returns-then-c-from-clause-value c =
     let around = c.args.around.now in
     let letter = c.in-Some.c.now in
     let front = c.in-Some.ensures.cases.0 in
-    subst (ReadsAs IsOperand (source c.read_quoted.new.cursor) c.read_quoted.result)
+    subst (ParsesAs IsOperand (source c.read_quoted.new.cursor) c.read_quoted.result)
     (sym (quoted_read (table_of around.tables.now) around.unicode around.negated (source c.args.cursor.now) letter c.in-Some.rest.now front
     (c.if-c-from.true ∙ c.from.ensures)))
     c.read_quoted.ensures.value
@@ -49,11 +49,11 @@ returns-then-is_property_letter-clause-value c =
     let around = c.args.around.now in
     let letter = c.in-Some.c.now in
     let front = c.in-Some.ensures.cases.0 in
-    let row = property_operand_read (table_of around.tables.now) around.unicode around.negated (source c.args.cursor.now) letter c.in-Some.rest.now front
+    let list = property_operand_read (table_of around.tables.now) around.unicode around.negated (source c.args.cursor.now) letter c.in-Some.rest.now front
     (sym c.is_property_letter.ensures ∙ c.if-is_property_letter.true) in
-    subst (ReadsAs IsOperand (source c.read_property_operand.new.cursor) c.read_property_operand.result)
+    subst (ParsesAs IsOperand (source c.read_property_operand.new.cursor) c.read_property_operand.result)
     (ap (λ d. property_operand_at (table_of around.tables.now) around.negated (letter == d) c.in-Some.rest.now) c.from-then-is_property_letter.ensures
-    ∙ sym row)
+    ∙ sym list)
     c.read_property_operand.ensures.value
 
 pub returns-in_ok-character-clause-value : goal.returns-in_ok-character-clause-value
@@ -61,11 +61,11 @@ returns-in_ok-character-clause-value c =
     let around = c.args.around.now in
     let letter = c.in-Some.c.now in
     let front = c.in-Some.ensures.cases.0 in
-    let row = character_escape_read (table_of around.tables.now) around.unicode around.negated (source c.args.cursor.now) letter c.in-Some.rest.now front
+    let list = character_escape_read (table_of around.tables.now) around.unicode around.negated (source c.args.cursor.now) letter c.in-Some.rest.now front
     (sym c.class_letter.ensures ∙ c.in_default-class_letter.is) (ne_eqb letter 113 (λ e. c.if-c-from.false (e ∙ sym c.from.ensures)))
     (sym c.is_property_letter.ensures ∙ c.if-is_property_letter.false) in (
       character c.in_ok-character.character,
-      row ∙ ap (found_map character) c.in_ok-character.ensures.value,
+      list ∙ ap (found_map character) c.in_ok-character.ensures.value,
       (refl, c.in_ok-character.ensures.in_range),
     )
 
@@ -74,7 +74,7 @@ returns-in_err-character-clause-value c =
     let p = err_from_is_err_and c.from_residual-in_err-character.result c.from_residual-in_err-character.ensures.1 in
     let around = c.args.around.now in
     let letter = c.in-Some.c.now in
-    rw (p.1, p.2) (on_refused c.in_err-character.field-0.0
+    rw (p.1, p.2) (on_rejected c.in_err-character.field-0.0
     (character_escape_read (table_of around.tables.now) around.unicode around.negated (source c.args.cursor.now) letter c.in-Some.rest.now
     c.in-Some.ensures.cases.0 (sym c.class_letter.ensures ∙ c.in_default-class_letter.is)
     (ne_eqb letter 113 (λ e. c.if-c-from.false (e ∙ sym c.from.ensures))) (sym c.is_property_letter.ensures ∙ c.if-is_property_letter.false)

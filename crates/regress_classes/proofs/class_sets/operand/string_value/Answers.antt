@@ -1,7 +1,7 @@
 -- Each iteration adds one string.
 use Rattle.std.proofs.Common.{sym, subst, ◌∙◌}
 use Rattle.std.specs.List.{All}
-use Rattle.regress_lexical.specs.Source.{IsCodePoint}
+use Rattle.regress_lexer.specs.Source.{IsCodePoint}
 use Rattle.regress_classes.proofs.ClassStringLemmas.{string_at, one_more_held}
 use Rattle.regress_classes.proofs.class_sets.operand.string_value.Goals as goal
 

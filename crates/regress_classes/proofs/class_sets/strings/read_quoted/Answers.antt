@@ -1,7 +1,7 @@
 use Rattle.std.proofs.Common.{sym, refl, ◌∙◌}
 use Rattle.std.proofs.lemmas.Bool.{cond-true}
 use Rattle.regress_classes.specs.ClassSets.{class, value_of_strings}
-use Rattle.regress_lexical.specs.Views.{source}
+use Rattle.regress_lexer.specs.Views.{source}
 use Rattle.regress_classes.proofs.ClassStringLemmas.{quoted}
 use Rattle.regress_classes.proofs.class_sets.strings.read_quoted.Goals as goal
 

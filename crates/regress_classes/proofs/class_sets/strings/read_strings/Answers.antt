@@ -3,9 +3,9 @@ use Rattle.std.proofs.Common.{◌≡◌, length, sym, ap, arith, ◌∙◌}
 use Rattle.std.proofs.lemmas.Bool.{cond-true, cond-false}
 use Rattle.std.proofs.lemmas.Result.{err_from_is_err_and}
 use Rattle.regress_classes.specs.ClassSets.{value_of_strings}
-use Rattle.regress_lexical.specs.Views.{source}
-use Rattle.regress_lexical.proofs.laws.Sources.{on_refused}
-use Rattle.regress_lexical.proofs.laws.Sources.{length-none}
+use Rattle.regress_lexer.specs.Views.{source}
+use Rattle.regress_lexer.proofs.lemmas.Sources.{on_rejected}
+use Rattle.regress_lexer.proofs.lemmas.Sources.{length-none}
 use Rattle.regress_classes.proofs.ClassStringLemmas.{character_shortens, character_at_end, no_strings, more_character, more_string, all_strings_read, no_character}
 use Rattle.regress_classes.proofs.class_sets.strings.read_strings.Goals as goal
 
@@ -26,18 +26,18 @@ pub returns-then-is_empty-clause-value : goal.returns-then-is_empty-clause-value
 returns-then-is_empty-clause-value c =
     let l = c.loop-cursor in
     let same : source c.try_consume.new.self ≡ source l.cursor = c.try_consume.ensures.moves ∙ cond-false _ _ _ c.if-try_consume.false in
-    on_refused c.refused.result
+    on_rejected c.rejected.result
     (no_character c.args.unicode (source c.args.cursor.now) (source l.cursor) l.string.items l.value l.invariant
     (sym c.is_at.ensures ∙ c.loop-cursor-test.true) (sym c.try_consume.ensures.found ∙ c.if-try_consume.false)
     (character_at_end c.args.unicode (source l.cursor) (sym same ∙ length-none (source c.try_consume.new.self) (sym c.if-is_empty.ensures))))
 
-pub returns-in_err-read_set_character-clause-value : goal.returns-in_err-read_set_character-clause-value
-returns-in_err-read_set_character-clause-value c =
-    let p = err_from_is_err_and c.from_residual-in_err-read_set_character.result c.from_residual-in_err-read_set_character.ensures.1 in
+pub returns-in_err-parse_set_character-clause-value : goal.returns-in_err-parse_set_character-clause-value
+returns-in_err-parse_set_character-clause-value c =
+    let p = err_from_is_err_and c.from_residual-in_err-parse_set_character.result c.from_residual-in_err-parse_set_character.ensures.1 in
     let l = c.loop-cursor in
     let same : source c.try_consume.new.self ≡ source l.cursor = c.try_consume.ensures.moves ∙ cond-false _ _ _ c.if-try_consume.false in
-    let none = c.in_err-read_set_character.ensures.value in
-    rw (p.1, p.2) (on_refused c.in_err-read_set_character.field-0.0
+    let none = c.in_err-parse_set_character.ensures.value in
+    rw (p.1, p.2) (on_rejected c.in_err-parse_set_character.field-0.0
     (no_character c.args.unicode (source c.args.cursor.now) (source l.cursor) l.string.items l.value l.invariant
     (sym c.is_at.ensures ∙ c.loop-cursor-test.true) (sym c.try_consume.ensures.found ∙ c.if-try_consume.false) (rw same at none)))
 
@@ -46,8 +46,8 @@ loop-cursor-smaller c =
     let same = c.try_consume.ensures.moves ∙ cond-false _ _ _ c.if-try_consume.false in
     omega (
       arith,
-      character_shortens c.args.unicode (source c.try_consume.new.self) (c.in_ok-read_set_character.field-0, source c.read_set_character.new.cursor)
-          c.in_ok-read_set_character.ensures.value,
+      character_shortens c.args.unicode (source c.try_consume.new.self) (c.in_ok-parse_set_character.field-0, source c.parse_set_character.new.cursor)
+          c.in_ok-parse_set_character.ensures.value,
       ap length same,
     )
 
@@ -55,10 +55,10 @@ pub loop-cursor-preserved : goal.loop-cursor-preserved
 loop-cursor-preserved c =
     let l = c.loop-cursor in
     let same : source c.try_consume.new.self ≡ source l.cursor = c.try_consume.ensures.moves ∙ cond-false _ _ _ c.if-try_consume.false in
-    more_character c.args.unicode (source c.args.cursor.now) (source l.cursor) (source c.read_set_character.new.cursor) l.string.items
-    c.push.new.self.items c.in_ok-read_set_character.field-0 l.value l.invariant (sym c.is_at.ensures ∙ c.loop-cursor-test.true)
-    (sym c.try_consume.ensures.found ∙ c.if-try_consume.false) (rw same at c.in_ok-read_set_character.ensures.value)
-    c.in_ok-read_set_character.ensures.in_range c.in_ok-push.ensures.items
+    more_character c.args.unicode (source c.args.cursor.now) (source l.cursor) (source c.parse_set_character.new.cursor) l.string.items
+    c.push.new.self.items c.in_ok-parse_set_character.field-0 l.value l.invariant (sym c.is_at.ensures ∙ c.loop-cursor-test.true)
+    (sym c.try_consume.ensures.found ∙ c.if-try_consume.false) (rw same at c.in_ok-parse_set_character.ensures.value)
+    c.in_ok-parse_set_character.ensures.in_range c.in_ok-push.ensures.items
 
 pub returns-clause-value : goal.returns-clause-value
 returns-clause-value c =

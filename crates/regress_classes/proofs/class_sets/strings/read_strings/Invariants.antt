@@ -1,6 +1,6 @@
 -- The strings before the cursor are parsed.
 use Rattle.std.proofs.Common.{length}
-use Rattle.regress_lexical.specs.Views.{source}
+use Rattle.regress_lexer.specs.Views.{source}
 use Rattle.regress_classes.proofs.ClassStringLemmas.{StringsUpTo}
 use Rattle.regress_classes.proofs.class_sets.strings.read_strings.Given as goal
 

@@ -9,13 +9,13 @@ use Rattle.regress_match.proofs.captures.Captures.unset.Goals.{then-is_some+in_o
 
 pub loop-group-init : goal.loop-group-init
 loop-group-init c = record {
-  spans = sym (unset-none 0 c.args.start (min c.args.start c.min-behind.result) c.args.self.now.spans.items (omega arith));
+  spans = sym (unset-none 0 c.args.start (min c.args.start c.min-after.result) c.args.self.now.spans.items (omega arith));
   kept = refl;
   later = Later-refl c.args.self.now;
 }
 
 pub index-requires : goal.index-requires
-index-requires c = omega (arith, c.loop-group.invariant.kept, c.min-behind.ensures, c.len.ensures, c.loop-group-test.true)
+index-requires c = omega (arith, c.loop-group.invariant.kept, c.min-after.ensures, c.len.ensures, c.loop-group-test.true)
 
 pub loop-group-preserved : goal.loop-group-preserved
 loop-group-preserved c =
@@ -23,11 +23,11 @@ loop-group-preserved c =
     let spans = c.args.self.now.spans.items in
     let start = c.args.start in
     let group = c.loop-group.group in
-    let behind = c.min-behind.result in
-    let now : min group behind ≡ group = omega arith in
-    let then' : min (group + 1) behind ≡ group + 1 = omega arith in
+    let after = c.min-after.result in
+    let now : min group after ≡ group = omega arith in
+    let then' : min (group + 1) after ≡ group + 1 = omega arith in
     let was : c.loop-group.self.spans.items ≡ unset_from 0 start group spans = so_far.spans ∙ ap (λ k. unset_from 0 start k spans) now in
-    let next : unset_from 0 start (min (group + 1) behind) spans ≡ set (unset_from 0 start group spans) group None =
+    let next : unset_from 0 start (min (group + 1) after) spans ≡ set (unset_from 0 start group spans) group None =
     ap (λ k. unset_from 0 start k spans) then' ∙ unset-more start group spans (omega arith) in
     elim c.if-is_some.branch [
       | then-is_some+in_ok-set w ↦ record {
@@ -45,16 +45,16 @@ loop-group-preserved c =
     ]
 
 pub returns-clause-state : goal.returns-clause-state
-returns-clause-state c = λ place.
+returns-clause-state c = λ position.
     let spans = c.args.self.now.spans.items in
     let start = c.args.start in
-    let behind = c.min-behind.result in
-    let now : min c.loop-group.group behind ≡ behind = omega arith in
-    let all : unset_from 0 start behind spans ≡ unset_from 0 start c.args.end spans =
-    past c.args.start c.args.end behind spans (search rules) in
-    ap (λ xs. record { place = place; captures = xs })
+    let after = c.min-after.result in
+    let now : min c.loop-group.group after ≡ after = omega arith in
+    let all : unset_from 0 start after spans ≡ unset_from 0 start c.args.end spans =
+    past c.args.start c.args.end after spans (search rules) in
+    ap (λ xs. record { position = position; captures = xs })
     (c.loop-group.invariant.spans ∙ ap (λ k. unset_from 0 start k spans) now ∙ all)
   where
-    past : (start end behind : ℕ) (spans : List (Option CaptureSpan)) → behind ≡ min end (length spans) →
-        unset_from 0 start behind spans ≡ unset_from 0 start end spans
-    past start end behind spans is = unset-clipped start end behind spans is
+    past : (start end after : ℕ) (spans : List (Option CaptureSpan)) → after ≡ min end (length spans) →
+        unset_from 0 start after spans ≡ unset_from 0 start end spans
+    past start end after spans is = unset-clipped start end after spans is

@@ -1,46 +1,46 @@
 -- Each clause follows from a lemma on what was parsed, at the values of the call.
 use Rattle.std.proofs.Common.{◌≡◌, ◌+◌, ◌-◌, ◌<◌, Bool, false, not, ◌∷◌, inr, drop, Some, None, Ok, Err, length, refl, sym, ap, ◌∙◌, subst, arith, length-drop}
 use Rattle.std.proofs.lemmas.Result.{err_from_is_err_and}
-use Rattle.regress_lexical.specs.declared.fault.FaultKind.TheVariants.{TooDeep}
-use Rattle.regress_lexical.specs.Source.{Source, Found, found_map, opening, is_at, ends_alternative, bar as the_bar}
+use Rattle.regress_lexer.specs.declared.fault.FaultKind.TheVariants.{TooDeep}
+use Rattle.regress_lexer.specs.Source.{Source, Found, found_map, opening, is_at, ends_alternative, bar as the_bar}
 use Rattle.regress_syntax.specs.Syntax.{Group, Counts, atom}
-use Rattle.regress_syntax.specs.Rows.{Context, opens, allows, group_at, head_at}
+use Rattle.regress_syntax.specs.Productions.{Context, opens, allows, group_at, head_at}
 use Rattle.regress_syntax.specs.Views.{group_of}
 use Rattle.regress_base.specs.Limits.{max_nesting_depth}
-use Rattle.regress_lexical.specs.Views.{source}
-use Rattle.regress_lexical.proofs.laws.Sources.{at_front, on_kind_then, on_each_kind}
-use Rattle.regress_lexical.specs.Fault.{OnKind, FailsBy}
-use Rattle.regress_lexical.proofs.laws.Faults.{fails_then, by_levels_then}
-use Rattle.regress_syntax.proofs.laws.Rows.{head_at-shortens}
-use Rattle.regress_syntax.proofs.laws.Lengths.{opened_by-one}
-use Rattle.regress_parse.proofs.ReachLemmas.{no_limit, levels_reach, groups_reach, reaches_before, spends_same, spends_then, spends_read, costs_spends, terms_at-costs, item_at-costs, term_at-costs}
+use Rattle.regress_lexer.specs.Views.{source}
+use Rattle.regress_lexer.proofs.lemmas.Sources.{at_front, on_kind_then, on_each_kind}
+use Rattle.regress_lexer.specs.Fault.{OnKind, FailsBy}
+use Rattle.regress_lexer.proofs.lemmas.Faults.{fails_then, by_nesting_then}
+use Rattle.regress_syntax.proofs.lemmas.Productions.{head_at-shortens}
+use Rattle.regress_syntax.proofs.lemmas.Lengths.{opened_by-one}
+use Rattle.regress_parse.proofs.ReachLemmas.{no_limit, nesting_reach, groups_reach, reaches_before, spends_same, spends_then, spends_read, costs_spends, terms_at-costs, item_at-costs, term_at-costs}
 use Rattle.regress_parse.specs.TreeOf.{joined}
-use Rattle.regress_parse.specs.Reader.{Term, item_behind, pattern_at, terms_at, term_at, item_at, with_times}
-use Rattle.regress_parse.specs.Parsing.{text, counted, context_in, table_in, names_around, direction_of, terms_part, term_part, item_part, atom_at, ReadsAtom, Yields, Reaches, Spends}
+use Rattle.regress_parse.specs.Reader.{Term, item_after_head, pattern_at, terms_at, term_at, item_at, with_quantifier}
+use Rattle.regress_parse.specs.Parsing.{text, counted, context_in, table_in, names_in_context, direction_of, terms_part, term_part, item_part, atom_at, ReadsAtom, Yields, Reaches, CountsAtMostConsumed}
 use Rattle.regress_parse.proofs.CountLemmas.{added-nothing}
 use Rattle.regress_parse.proofs.ReaderLemmas.{terms_at-shortens, term_at-shortens, term_at-is}
-use Rattle.regress_parse.proofs.SoFarLemmas.{TermsSoFar, terms-first, terms-step, terms-end, terms-fail, no_terms-yield, one_term-yields, first_term-fails}
+use Rattle.regress_parse.proofs.TermLoopInvariant.{TermsSoFar, terms-first, terms-step, terms-end, terms-fail, no_terms-yield, one_term-yields, first_term-fails}
 use Rattle.regress_parse.proofs.AlternativesLemmas.{alternatives-start, alternatives-step, lone-yields, first-fail, alternatives-fail}
 use Rattle.regress_parse.proofs.TermLemmas.{front_is, times-fail, too_deep, plain_yields, no_term, opening_head, opening_item, opened_same, atom_item, atom_yields, atom_allowed}
 use Rattle.regress_parse.proofs.ParserLemmas.{built, built_here, of_built}
 use Rattle.regress_parse.proofs.parser.Parser.+parser.Goals as goal
 
 -- A `|` takes one code point.
-behind_bar_spends : (now : Counts) (t rest : Source) → rest ≡ drop 1 t → Spends now now t rest
-behind_bar_spends now t rest same = spends_read now t rest (omega (arith, ap length same, length-drop 1 t))
+bar_spends : (now : Counts) (t rest : Source) → rest ≡ drop 1 t → CountsAtMostConsumed now now t rest
+bar_spends now t rest same = spends_read now t rest (omega (arith, ap length same, length-drop 1 t))
 
 pub consume_alternative-returns-then-ends_alternative-clause-value : goal.consume_alternative-returns-then-ends_alternative-clause-value
 consume_alternative-returns-then-ends_alternative-clause-value t c =
     let around = c.args.around.now in
     let old = c.args.self.now in
-    no_terms-yield (table_in around) (names_around around) (direction_of around) (context_in around) around.depth old
+    no_terms-yield (table_in around) (names_in_context around) (direction_of around) (context_in around) around.depth old
     (sym c.ends_alternative.ensures ∙ c.if-ends_alternative.true) c.requires
 
 pub consume_alternative-returns-then-ends_alternative-2-clause-value : goal.consume_alternative-returns-then-ends_alternative-2-clause-value
 consume_alternative-returns-then-ends_alternative-2-clause-value t c =
     let around = c.args.around.now in
     let old = c.args.self.now in
-    one_term-yields (table_in around) (names_around around) (direction_of around) (context_in around) around.depth old
+    one_term-yields (table_in around) (names_in_context around) (direction_of around) (context_in around) around.depth old
     c.consume_first_term-first.new.self c.consume_first_term-first.result
     (sym c.ends_alternative.ensures ∙ c.if-ends_alternative.false)
     (sym c.ends_alternative-2.ensures ∙ c.if-ends_alternative-2.true) c.requires c.consume_first_term-first.ensures.value
@@ -51,7 +51,7 @@ consume_alternative-returns-in_err-first-clause-value t c =
     let around = c.args.around.now in
     let old = c.args.self.now in
     rw (p.1, p.2) (on_kind_then c.in_err-first.field-0.0
-    (λ kind. first_term-fails (table_in around) (names_around around) (direction_of around) (context_in around) around.depth old kind
+    (λ kind. first_term-fails (table_in around) (names_in_context around) (direction_of around) (context_in around) around.depth old kind
     (sym c.ends_alternative.ensures ∙ c.if-ends_alternative.false) c.requires)
     c.in_err-first.ensures.value)
 
@@ -59,7 +59,7 @@ pub consume_alternative-consume_terms-requires : goal.consume_alternative-consum
 consume_alternative-consume_terms-requires t c =
     let around = c.args.around.now in
     let old = c.args.self.now in
-    let found = built (term_part (table_in around) (names_around around)) (direction_of around) around.depth (counted old) c.consume_first_term-first.new.self
+    let found = built (term_part (table_in around) (names_in_context around)) (direction_of around) around.depth (counted old) c.consume_first_term-first.new.self
     (term_at (context_in around) (text old)) c.in_ok-first.field-0 c.in_ok-first.ensures.value in
     omega (arith, c.requires, term_at-shortens (context_in around) (text old) found.0 found.1, ap length found.2.rest)
 
@@ -68,7 +68,7 @@ consume_alternative-returns-clause-value t c =
     let around = c.args.around.now in
     let old = c.args.self.now in
     let ctx = context_in around in
-    let found = built (term_part (table_in around) (names_around around)) (direction_of around) around.depth (counted old) c.consume_first_term-first.new.self
+    let found = built (term_part (table_in around) (names_in_context around)) (direction_of around) around.depth (counted old) c.consume_first_term-first.new.self
     (term_at ctx (text old)) c.in_ok-first.field-0 c.in_ok-first.ensures.value in
     let b = found.2 in
     c.consume_terms.ensures.value (text old) (counted old) found.0.0 (sym c.ends_alternative.ensures ∙ c.if-ends_alternative.false)
@@ -78,7 +78,7 @@ consume_alternative-returns-clause-value t c =
 pub consume_first_term-returns-in_ok-make_literal-in-Some-clause-value : goal.consume_first_term-returns-in_ok-make_literal-in-Some-clause-value
 consume_first_term-returns-in_ok-make_literal-in-Some-clause-value t c =
     let around = c.args.around.now in
-    plain_yields (table_in around) (names_around around) (context_in around) (direction_of around) around.depth c.args.self.now _
+    plain_yields (table_in around) (names_in_context around) (context_in around) (direction_of around) around.depth c.args.self.now _
     c.in_ok-make_literal-in-Some.field-0 c.in-Some.c (source c.next_plain.new.self) c.requires c.in-Some.ensures.some c.in-Some.ensures.plain
     c.in-Some.ensures.alone refl refl c.in_ok-make_literal-in-Some.ensures
 
@@ -86,7 +86,7 @@ pub consume_first_term-returns-in-None-clause-value : goal.consume_first_term-re
 consume_first_term-returns-in-None-clause-value t c =
     let around = c.args.around.now in
     let here : source c.next_plain.new.self ≡ text c.args.self.now = c.in-None.ensures.none in
-    subst (λ (u : Source). Yields (term_part (table_in around) (names_around around)) (direction_of around) around.depth (counted c.args.self.now)
+    subst (λ (u : Source). Yields (term_part (table_in around) (names_in_context around)) (direction_of around) around.depth (counted c.args.self.now)
     c.consume_term.new.self c.consume_term.result (term_at (context_in around) u)) here c.consume_term.ensures.value
 
 pub consume_first_term-returns-in-None-clause-reached : goal.consume_first_term-returns-in-None-clause-reached
@@ -102,7 +102,7 @@ consume_terms-loop-self-init t c =
     let old = c.args.self.now in
     rw (c.in_ok-push.ensures.items, c.new-parts.ensures.items) (
       (λ t before x goes_on found b.
-          terms-first (table_in around) (names_around around) (direction_of around) (context_in around) around.depth t before c.args.first x (text old)
+          terms-first (table_in around) (names_in_context around) (direction_of around) (context_in around) around.depth t before c.args.first x (text old)
           (counted old) goes_on found b.node b.counts b.fits),
       omega arith,
       spends_same (counted old) (text old),
@@ -122,7 +122,7 @@ consume_terms-loop-self-preserved-then-taken t c =
           terms-step _ _ _ _ _ _ _ (text l.self) (counted l.self) l.parts.items x.pushed.node
           (atom x.item, None) rest (counted l.self) (l.invariant.0 t before y begins first b) goes_on x.found x.pushed.is
           (sym (added-nothing (counted l.self)))
-          (record { groups = omega (arith, l.self.groups_within); loops = omega (arith, l.self.loops_within); levels = omega (arith, c.requires, x.flat) })),
+          (record { groups = omega (arith, l.self.groups_within); loops = omega (arith, l.self.loops_within); nesting = omega (arith, c.requires, x.flat) })),
       omega (arith, l.invariant.1, shorter),
       spends_then l.invariant.2 (spends_read (counted l.self) (text l.self) rest (omega (arith, shorter))),
     )
@@ -136,7 +136,7 @@ consume_terms-returns-in_err-consume_term-clause-value t c =
     let here : source c.push_simple_term.new.cursor ≡ text l.self = (rw c.if-taken.false at c.in_ok-taken.ensures).0 in
     let goes_on = ap ends_alternative here ∙ sym c.ends_alternative.ensures ∙ c.loop-self-test.true in
     λ t before x begins first b.
-    let h = subst (λ (u : Source). TermsSoFar (table_in around) (names_around around) (direction_of around) (context_in around) around.depth
+    let h = subst (λ (u : Source). TermsSoFar (table_in around) (names_in_context around) (direction_of around) (context_in around) around.depth
     t before u (counted l.self) l.parts.items) (sym here) (l.invariant.0 t before x begins first b) in
     rw (p.1, p.2) (on_kind_then c.in_err-consume_term.field-0.0
     (λ kind. terms-fail _ _ _ _ _ _ _ kind (source c.push_simple_term.new.cursor) (counted l.self) l.parts.items h goes_on)
@@ -147,7 +147,7 @@ consume_terms-loop-self-smaller t c =
     let around = c.args.around.now in
     let here = source c.push_simple_term.new.cursor in
     let same : here ≡ text c.loop-self.self = (rw c.if-taken.false at c.in_ok-taken.ensures).0 in
-    let found = built (term_part (table_in around) (names_around around)) (direction_of around) around.depth (counted c.loop-self.self) c.consume_term.new.self
+    let found = built (term_part (table_in around) (names_in_context around)) (direction_of around) around.depth (counted c.loop-self.self) c.consume_term.new.self
     (term_at (context_in around) here) c.in_ok-consume_term.field-0 c.in_ok-consume_term.ensures.value in
     omega (arith, term_at-shortens (context_in around) here found.0 found.1, ap length found.2.rest, ap length same)
 
@@ -165,17 +165,17 @@ consume_terms-loop-self-preserved t c =
     let kept = rw c.if-taken.false at c.in_ok-taken.ensures in
     let here : there ≡ text l.self = kept.0 in
     let goes_on = ap ends_alternative here ∙ sym c.ends_alternative.ensures ∙ c.loop-self-test.true in
-    let found = built (term_part (table_in around) (names_around around)) (direction_of around) around.depth (counted l.self) c.consume_term.new.self
+    let found = built (term_part (table_in around) (names_in_context around)) (direction_of around) around.depth (counted l.self) c.consume_term.new.self
     (term_at (context_in around) there) c.in_ok-consume_term.field-0 c.in_ok-consume_term.ensures.value in
     let b = found.2 in
     rw (b.rest, c.in_ok-push-2.ensures.items, kept.1) (
       (λ t before x begins first bs.
-          let h = subst (λ (u : Source). TermsSoFar (table_in around) (names_around around) (direction_of around) (context_in around) around.depth
+          let h = subst (λ (u : Source). TermsSoFar (table_in around) (names_in_context around) (direction_of around) (context_in around) around.depth
           t before u (counted l.self) l.parts.items) (sym here) (l.invariant.0 t before x begins first bs) in
           terms-step _ _ _ _ _ _ _ there (counted l.self) l.parts.items c.in_ok-consume_term.field-0 found.0.0 found.0.1
           (counted c.consume_term.new.self) h goes_on found.1 b.node b.counts b.fits),
       omega (arith, l.invariant.1, term_at-shortens (context_in around) there found.0 found.1, ap length here),
-      spends_then l.invariant.2 (subst (λ (u : Source). Spends (counted l.self) (counted c.consume_term.new.self) u found.0.1) here
+      spends_then l.invariant.2 (subst (λ (u : Source). CountsAtMostConsumed (counted l.self) (counted c.consume_term.new.self) u found.0.1) here
           (costs_spends (counted l.self) b.counts (term_at-costs (context_in around) there found.0 found.1))),
     )
 
@@ -196,14 +196,14 @@ consume_terms-returns-clause-value t c =
 pub consume_disjunction-returns-then-around-ge-MAX_NESTING_DEPTH-clause-value : goal.consume_disjunction-returns-then-around-ge-MAX_NESTING_DEPTH-clause-value
 consume_disjunction-returns-then-around-ge-MAX_NESTING_DEPTH-clause-value t c =
     let around = c.args.around.now in
-    rw c.refuse.ensures (too_deep (table_in around) (names_around around) (context_in around) TooDeep (counted c.args.self.now) around.depth
+    rw c.reject.ensures (too_deep (table_in around) (names_in_context around) (context_in around) TooDeep (counted c.args.self.now) around.depth
     (pattern_at (context_in around) (text c.args.self.now)) c.if-around-ge-MAX_NESTING_DEPTH.true)
 
 pub consume_disjunction-returns-then-not-is_at-clause-value : goal.consume_disjunction-returns-then-not-is_at-clause-value
 consume_disjunction-returns-then-not-is_at-clause-value t c =
     let around = c.args.around.now in
     let old = c.args.self.now in
-    lone-yields (table_in around) (names_around around) (direction_of around) (context_in around) around.depth (text old) (counted old)
+    lone-yields (table_in around) (names_in_context around) (direction_of around) (context_in around) around.depth (text old) (counted old)
     c.consume_alternative-first.new.self c.consume_alternative-first.result (sym c.is_at.ensures ∙ c.if-not-is_at.true)
     c.consume_alternative-first.ensures.value
 
@@ -212,14 +212,14 @@ consume_disjunction-returns-in_err-last-clause-value t c =
     let p = err_from_is_err_and c.from_residual.result c.from_residual.ensures.1 in
     let around = c.args.around.now in
     rw (p.1, p.2) (on_kind_then c.in_err-last.field-0.0
-    (λ kind. first-fail (table_in around) (names_around around) (context_in around) kind around.depth (text c.args.self.now) (counted c.args.self.now))
+    (λ kind. first-fail (table_in around) (names_in_context around) (context_in around) kind around.depth (text c.args.self.now) (counted c.args.self.now))
     c.in_err-last.ensures.value)
 
 pub consume_disjunction-loop-inside-init : goal.consume_disjunction-loop-inside-init
 consume_disjunction-loop-inside-init t c =
     let around = c.args.around.now in
     let old = c.args.self.now in
-    let found = built (terms_part (table_in around) (names_around around)) (direction_of around) (around.depth + 1) (counted old)
+    let found = built (terms_part (table_in around) (names_in_context around)) (direction_of around) (around.depth + 1) (counted old)
     c.consume_alternative-first.new.self
     (terms_at (context_in around) (text old)) c.in_ok-last.last c.in_ok-last.ensures.value in
     let b = found.2 in
@@ -235,8 +235,8 @@ consume_disjunction-returns-in_err-last-2-clause-value t c =
     let l = c.loop-inside in
     let past = c.loop-inside-test.ensures in
     rw (p.1, p.2) (on_kind_then c.in_err-last-2.field-0.0
-    (λ kind refused. alternatives-fail _ _ _ _ kind _ _ _ (text l.self) (counted l.self) l.before.items l.last l.invariant.0 (sym past.found)
-    (rw past.moves at refused))
+    (λ kind rejected. alternatives-fail _ _ _ _ kind _ _ _ (text l.self) (counted l.self) l.before.items l.last l.invariant.0 (sym past.found)
+    (rw past.moves at rejected))
     c.in_err-last-2.ensures.value)
 
 pub consume_disjunction-loop-inside-smaller : goal.consume_disjunction-loop-inside-smaller
@@ -244,7 +244,7 @@ consume_disjunction-loop-inside-smaller t c =
     let l = c.loop-inside in
     let past = c.loop-inside-test.ensures in
     let around = c.args.around.now in
-    let found = built (terms_part (table_in around) (names_around around)) (direction_of around) (around.depth + 1) (counted l.self)
+    let found = built (terms_part (table_in around) (names_in_context around)) (direction_of around) (around.depth + 1) (counted l.self)
     c.consume_alternative.new.self (terms_at (context_in around) (source c.try_consume.new.self)) c.in_ok-last-2.last
     c.in_ok-last-2.ensures.value in
     omega (
@@ -261,7 +261,7 @@ consume_disjunction-loop-inside-preserved t c =
     let l = c.loop-inside in
     let past = c.loop-inside-test.ensures in
     let around = c.args.around.now in
-    let found = built (terms_part (table_in around) (names_around around)) (direction_of around) (around.depth + 1) (counted l.self)
+    let found = built (terms_part (table_in around) (names_in_context around)) (direction_of around) (around.depth + 1) (counted l.self)
     c.consume_alternative.new.self (terms_at (context_in around) (source c.try_consume.new.self)) c.in_ok-last-2.last
     c.in_ok-last-2.ensures.value in
     let b = found.2 in
@@ -269,7 +269,7 @@ consume_disjunction-loop-inside-preserved t c =
       alternatives-step _ _ _ _ _ _ _ (text l.self) (counted l.self) l.before.items l.last c.in_ok-last-2.last found.0.0 found.0.1
           (counted c.consume_alternative.new.self) l.invariant.0 (sym past.found)
           (subst (λ u. terms_at (context_in around) u ≡ Some found.0) past.moves found.1) b.node b.counts b.fits,
-      spends_then l.invariant.1 (spends_then (behind_bar_spends (counted l.self) (text l.self) (source c.try_consume.new.self) past.moves)
+      spends_then l.invariant.1 (spends_then (bar_spends (counted l.self) (text l.self) (source c.try_consume.new.self) past.moves)
           (costs_spends (counted l.self) b.counts (terms_at-costs (context_in around) (source c.try_consume.new.self) found.0 found.1))),
     )
 
@@ -282,8 +282,8 @@ consume_term-returns-in_err-kind-clause-value t c =
     let here = source c.try_consume.new.self in
     let front : text old ≡ opening ∷ here = front_is opening (text old) here (sym past.found) past.moves in
     rw (p.1, p.2) (on_each_kind c.in_err-kind.field-0.0
-    (λ kind none. rw (no_term (table_in around) (names_around around) (context_in around) (text old)
-    (ap (head_at (context_in around)) front ∙ opening_head (table_in around) (names_around around) (context_in around) here ∙ none)) tt)
+    (λ kind none. rw (no_term (table_in around) (names_in_context around) (context_in around) (text old)
+    (ap (head_at (context_in around)) front ∙ opening_head (table_in around) (names_in_context around) (context_in around) here ∙ none)) tt)
     c.in_err-kind.ensures.value)
 
 pub consume_term-consume_group-requires : goal.consume_term-consume_group-requires
@@ -294,7 +294,7 @@ consume_term-consume_group-requires t c =
     let here = source c.try_consume.new.self in
     let front : text old ≡ opening ∷ here = front_is opening (text old) here (sym past.found) past.moves in
     let shorter = head_at-shortens (context_in around) (text old) _
-    (ap (head_at (context_in around)) front ∙ opening_head (table_in around) (names_around around) (context_in around) here ∙ c.in_ok-kind.ensures.value) in
+    (ap (head_at (context_in around)) front ∙ opening_head (table_in around) (names_in_context around) (context_in around) here ∙ c.in_ok-kind.ensures.value) in
     omega (arith, shorter)
 
 pub consume_term-returns-in_err-item-clause-value : goal.consume_term-returns-in_err-item-clause-value
@@ -305,13 +305,13 @@ consume_term-returns-in_err-item-clause-value t c =
     let old = c.args.self.now in
     let past = c.if-try_consume.ensures in
     let here = source c.try_consume.new.self in
-    let there = source c.read_group.new.cursor in
+    let there = source c.parse_group.new.cursor in
     let front : text old ≡ opening ∷ here = front_is opening (text old) here (sym past.found) past.moves in
-    let same : item_at ctx (text old) ≡ item_behind pattern_at ctx (opens (group_of c.in_ok-kind.kind), there) =
-    ap (item_at ctx) front ∙ opening_item (table_in around) (names_around around) ctx here (opens (group_of c.in_ok-kind.kind), there)
+    let same : item_at ctx (text old) ≡ item_after_head pattern_at ctx (opens (group_of c.in_ok-kind.kind), there) =
+    ap (item_at ctx) front ∙ opening_item (table_in around) (names_in_context around) ctx here (opens (group_of c.in_ok-kind.kind), there)
     c.in_ok-kind.ensures.value in
     rw (p.1, p.2, term_at-is ctx (text old), same)
-    (on_kind_then c.in_err-item.field-0.0 (λ kind. times-fail (table_in around) (names_around around) ctx kind _ (counted old) around.depth)
+    (on_kind_then c.in_err-item.field-0.0 (λ kind. times-fail (table_in around) (names_in_context around) ctx kind _ (counted old) around.depth)
     c.in_err-item.ensures.value)
 
 pub consume_term-returns-then-try_consume-clause-value : goal.consume_term-returns-then-try_consume-clause-value
@@ -322,19 +322,19 @@ consume_term-returns-then-try_consume-clause-value t c =
     let past = c.if-try_consume.ensures in
     let here = source c.try_consume.new.self in
     let kind = group_of c.in_ok-kind.kind in
-    let there = source c.read_group.new.cursor in
+    let there = source c.parse_group.new.cursor in
     let front : text old ≡ opening ∷ here = front_is opening (text old) here (sym past.found) past.moves in
-    let same : item_at ctx (text old) ≡ item_behind pattern_at ctx (opens kind, there) =
-    ap (item_at ctx) front ∙ opening_item (table_in around) (names_around around) ctx here (opens kind, there) c.in_ok-kind.ensures.value in
-    let x = built_here (item_part (table_in around) (names_around around)) (direction_of around) around.depth (counted old) c.consume_group.new.self
-    (item_behind pattern_at ctx (opens kind, there)) c.in_ok-item.item c.in_ok-item.ensures.value in
-    subst (λ (f : Found Term). Yields (term_part (table_in around) (names_around around)) (direction_of around) around.depth (counted old)
+    let same : item_at ctx (text old) ≡ item_after_head pattern_at ctx (opens kind, there) =
+    ap (item_at ctx) front ∙ opening_item (table_in around) (names_in_context around) ctx here (opens kind, there) c.in_ok-kind.ensures.value in
+    let x = built_here (item_part (table_in around) (names_in_context around)) (direction_of around) around.depth (counted old) c.consume_group.new.self
+    (item_after_head pattern_at ctx (opens kind, there)) c.in_ok-item.item c.in_ok-item.ensures.value in
+    subst (λ (f : Found Term). Yields (term_part (table_in around) (names_in_context around)) (direction_of around) around.depth (counted old)
     c.consume_times.new.self c.consume_times.result f)
-    (sym (term_at-is ctx (text old) ∙ ap (with_times ctx) (same ∙ x.1)))
+    (sym (term_at-is ctx (text old) ∙ ap (with_quantifier ctx) (same ∙ x.1)))
     (c.consume_times.ensures.value x.0 (counted old) refl
     (c.allows_quantifier-allowed.ensures
     ∙ sym (ap (allows ctx.setting.flags.unicode)
-    (opened_same (table_in around) (names_around around) ctx kind there (x.0, text c.consume_group.new.self) x.1)))
+    (opened_same (table_in around) (names_in_context around) ctx kind there (x.0, text c.consume_group.new.self) x.1)))
     x.2)
 
 pub consume_term-returns-in_err-item-2-clause-value : goal.consume_term-returns-in_err-item-2-clause-value
@@ -348,12 +348,12 @@ consume_term-returns-in_err-item-2-clause-value t c =
     let same : here ≡ text old = past.moves in
     let none : is_at opening here ≡ false = ap (is_at opening) same ∙ sym past.found in
     let all : around.depth + (max_nesting_depth - around.depth) ≡ max_nesting_depth = omega (arith, c.requires) in
-    let read = subst (λ (b : Bool). ReadsAtom ctx (max_nesting_depth - around.depth) (not b) (source c.read_atom.new.cursor) (Err c.in_err-item-2.field-0.0)
+    let read = subst (λ (b : Bool). ReadsAtom ctx (max_nesting_depth - around.depth) (not b) (source c.parse_atom.new.cursor) (Err c.in_err-item-2.field-0.0)
     (atom_at ctx here))
     (sym c.begins_anchor-allowed.ensures) c.in_err-item-2.ensures.value in
     rw (p.1, p.2, ← same, term_at-is ctx here)
-    (on_kind_then c.in_err-item-2.field-0.0 (λ kind. times-fail (table_in around) (names_around around) ctx kind _ (counted old) around.depth)
-    (atom_yields (table_in around) (names_around around) ctx (direction_of around) around.depth (max_nesting_depth - around.depth)
+    (on_kind_then c.in_err-item-2.field-0.0 (λ kind. times-fail (table_in around) (names_in_context around) ctx kind _ (counted old) around.depth)
+    (atom_yields (table_in around) (names_in_context around) ctx (direction_of around) around.depth (max_nesting_depth - around.depth)
     (not c.begins_anchor-allowed.result) old old (Err c.in_err-item-2.field-0.0) here none
     all refl read refl refl))
 
@@ -368,22 +368,22 @@ consume_term-returns-clause-value t c =
     let none : is_at opening here ≡ false = ap (is_at opening) same ∙ sym past.found in
     let all : around.depth + (max_nesting_depth - around.depth) ≡ max_nesting_depth = omega (arith, c.requires) in
     let built_atom = c.in_ok-item-2.item in
-    let read = subst (λ (b : Bool). ReadsAtom ctx (max_nesting_depth - around.depth) (not b) (source c.read_atom.new.cursor) (Ok built_atom) (atom_at ctx here))
+    let read = subst (λ (b : Bool). ReadsAtom ctx (max_nesting_depth - around.depth) (not b) (source c.parse_atom.new.cursor) (Ok built_atom) (atom_at ctx here))
     (sym c.begins_anchor-allowed.ensures) c.in_ok-item-2.ensures.value in
-    subst (λ (u : Source). Yields (term_part (table_in around) (names_around around)) (direction_of around) around.depth (counted old)
+    subst (λ (u : Source). Yields (term_part (table_in around) (names_in_context around)) (direction_of around) around.depth (counted old)
     c.consume_times-2.new.self c.consume_times-2.result (term_at ctx u)) same
-    (subst (λ (f : Found Term). Yields (term_part (table_in around) (names_around around)) (direction_of around) around.depth (counted old)
+    (subst (λ (f : Found Term). Yields (term_part (table_in around) (names_in_context around)) (direction_of around) around.depth (counted old)
     c.consume_times-2.new.self c.consume_times-2.result f)
     (sym (term_at-is ctx here))
-    (of_built (item_part (table_in around) (names_around around)) (direction_of around) around.depth (counted old) _ (item_at ctx here)
-    (with_times ctx)
-    (Yields (term_part (table_in around) (names_around around)) (direction_of around) around.depth (counted old)
+    (of_built (item_part (table_in around) (names_in_context around)) (direction_of around) around.depth (counted old) _ (item_at ctx here)
+    (with_quantifier ctx)
+    (Yields (term_part (table_in around) (names_in_context around)) (direction_of around) around.depth (counted old)
     c.consume_times-2.new.self c.consume_times-2.result)
     built_atom
     (λ x found b. c.consume_times-2.ensures.value x (counted old) refl
-    (atom_allowed (table_in around) (names_around around) ctx (max_nesting_depth - around.depth)
+    (atom_allowed (table_in around) (names_in_context around) ctx (max_nesting_depth - around.depth)
     (not c.begins_anchor-allowed.result) _ (Ok built_atom) here none read (x, _) found) b)
-    (atom_yields (table_in around) (names_around around) ctx (direction_of around) around.depth (max_nesting_depth - around.depth)
+    (atom_yields (table_in around) (names_in_context around) ctx (direction_of around) around.depth (max_nesting_depth - around.depth)
     (not c.begins_anchor-allowed.result) old _ (Ok built_atom) here none
     all refl read refl refl)))
 
@@ -394,7 +394,7 @@ consume_alternative-returns-clause-reached t c =
     let around = c.args.around.now in
     let old = c.args.self.now in
     let new = c.consume_first_term-first.new.self in
-    let found = built_here (term_part (table_in around) (names_around around)) (direction_of around) around.depth (counted old) new
+    let found = built_here (term_part (table_in around) (names_in_context around)) (direction_of around) around.depth (counted old) new
     (term_at (context_in around) (text old)) c.in_ok-first.field-0 c.in_ok-first.ensures.value in
     fails_then c.consume_terms.result
     (reaches_before around.depth around.depth
@@ -420,8 +420,8 @@ pub consume_disjunction-returns-then-around-ge-MAX_NESTING_DEPTH-clause-reached 
 consume_disjunction-returns-then-around-ge-MAX_NESTING_DEPTH-clause-reached t c =
     let around = c.args.around.now in
     let old = c.args.self.now in
-    rw c.refuse.ensures
-    (levels_reach (counted old) (around.depth + 1) (text old) TooDeep (inr (refl, omega (arith, c.if-around-ge-MAX_NESTING_DEPTH.true))))
+    rw c.reject.ensures
+    (nesting_reach (counted old) (around.depth + 1) (text old) TooDeep (inr (refl, omega (arith, c.if-around-ge-MAX_NESTING_DEPTH.true))))
 
 pub consume_disjunction-returns-in_err-last-2-clause-reached : goal.consume_disjunction-returns-in_err-last-2-clause-reached
 consume_disjunction-returns-in_err-last-2-clause-reached t c =
@@ -431,7 +431,7 @@ consume_disjunction-returns-in_err-last-2-clause-reached t c =
     let past = c.loop-inside-test.ensures in
     rw (p.1, p.2) (on_kind_then c.in_err-last-2.field-0.0
     (reaches_before (around.depth + 1) (around.depth + 1)
-    (spends_then l.invariant.1 (behind_bar_spends (counted l.self) (text l.self) (source c.try_consume.new.self) past.moves))
+    (spends_then l.invariant.1 (bar_spends (counted l.self) (text l.self) (source c.try_consume.new.self) past.moves))
     (omega (arith, l.invariant.0.shorter, ap length past.moves, length-drop 1 (text l.self))))
     c.in_err-last-2.ensures.reached)
 
@@ -454,7 +454,7 @@ consume_term-returns-in_err-item-clause-reached t c =
     let old = c.args.self.now in
     let past = c.if-try_consume.ensures in
     let here = source c.try_consume.new.self in
-    let there = source c.read_group.new.cursor in
+    let there = source c.parse_group.new.cursor in
     let shorter = opened_shorter (context_in around) (text old) here there (group_of c.in_ok-kind.kind)
     (front_is opening (text old) here (sym past.found) past.moves) c.in_ok-kind.ensures.value in
     rw (p.1, p.2) (on_kind_then c.in_err-item.field-0.0
@@ -470,12 +470,12 @@ consume_term-returns-then-try_consume-clause-reached t c =
     let past = c.if-try_consume.ensures in
     let here = source c.try_consume.new.self in
     let kind = group_of c.in_ok-kind.kind in
-    let there = source c.read_group.new.cursor in
+    let there = source c.parse_group.new.cursor in
     let front : text old ≡ opening ∷ here = front_is opening (text old) here (sym past.found) past.moves in
-    let same : item_at ctx (text old) ≡ item_behind pattern_at ctx (opens kind, there) =
-    ap (item_at ctx) front ∙ opening_item (table_in around) (names_around around) ctx here (opens kind, there) c.in_ok-kind.ensures.value in
-    let x = built_here (item_part (table_in around) (names_around around)) (direction_of around) around.depth (counted old) new
-    (item_behind pattern_at ctx (opens kind, there)) c.in_ok-item.item c.in_ok-item.ensures.value in
+    let same : item_at ctx (text old) ≡ item_after_head pattern_at ctx (opens kind, there) =
+    ap (item_at ctx) front ∙ opening_item (table_in around) (names_in_context around) ctx here (opens kind, there) c.in_ok-kind.ensures.value in
+    let x = built_here (item_part (table_in around) (names_in_context around)) (direction_of around) around.depth (counted old) new
+    (item_after_head pattern_at ctx (opens kind, there)) c.in_ok-item.item c.in_ok-item.ensures.value in
     let cost = item_at-costs ctx (text old) (x.0, text new) (same ∙ x.1) in
     fails_then c.consume_times.result
     (reaches_before around.depth around.depth (costs_spends (counted old) x.2.counts cost) (omega (arith, cost.groups))) c.consume_times.ensures.reached
@@ -487,8 +487,8 @@ consume_term-returns-in_err-item-2-clause-reached t c =
     let old = c.args.self.now in
     let same : source c.try_consume.new.self ≡ text old = c.if-try_consume.ensures.moves in
     rw (p.1, p.2) (on_kind_then c.in_err-item-2.field-0.0
-    (λ kind told. levels_reach (counted old) around.depth (text old) kind
-    (by_levels_then (λ few. omega (arith, few, c.requires, ap length same)) kind told))
+    (λ kind reported. nesting_reach (counted old) around.depth (text old) kind
+    (by_nesting_then (λ few. omega (arith, few, c.requires, ap length same)) kind reported))
     c.in_err-item-2.ensures.kind)
 
 pub consume_term-returns-clause-reached : goal.consume_term-returns-clause-reached
@@ -497,12 +497,12 @@ consume_term-returns-clause-reached t c =
     let ctx = context_in around in
     let old = c.args.self.now in
     let here = source c.try_consume.new.self in
-    let there = source c.read_atom.new.cursor in
+    let there = source c.parse_atom.new.cursor in
     let same : here ≡ text old = c.if-try_consume.ensures.moves in
     let none : is_at opening here ≡ false = ap (is_at opening) same ∙ sym c.if-try_consume.ensures.found in
     let found = c.in_ok-item-2.ensures.value in
     let cost = item_at-costs ctx here (atom found.0, there)
-    (atom_item (table_in around) (names_around around) ctx here none ∙ ap (found_map atom) found.1) in
+    (atom_item (table_in around) (names_in_context around) ctx here none ∙ ap (found_map atom) found.1) in
     fails_then c.consume_times-2.result
     (reaches_before around.depth around.depth (spends_read (counted old) (text old) there (omega (arith, cost.groups, ap length same)))
     (omega (arith, cost.groups, ap length same)))
@@ -514,8 +514,8 @@ consume_group-returns-in_err-count_group-clause-reached t c =
     let around = c.args.around.now in
     let old = c.args.self.now in
     rw (p.1, p.2) (on_kind_then c.in_err-count_group.field-0.0
-    (λ kind told. groups_reach (counted old) around.depth (opening ∷ text old) kind told.0
-    (omega (arith, told.1, opened_by-one (group_of c.args.kind))))
+    (λ kind reported. groups_reach (counted old) around.depth (opening ∷ text old) kind reported.0
+    (omega (arith, reported.1, opened_by-one (group_of c.args.kind))))
     c.in_err-count_group.ensures.err)
 
 pub consume_group-returns-in_err-contents-clause-reached : goal.consume_group-returns-in_err-contents-clause-reached
@@ -525,7 +525,7 @@ consume_group-returns-in_err-contents-clause-reached t c =
     let old = c.args.self.now in
     let counts = c.in_ok-count_group.ensures.ok in
     let same = c.in_ok-count_group.ensures.text in
-    let spent : Spends (counted old) (counted c.count_group.new.self) (opening ∷ text old) (text c.count_group.new.self) =
+    let spent : CountsAtMostConsumed (counted old) (counted c.count_group.new.self) (opening ∷ text old) (text c.count_group.new.self) =
     record {
       groups = omega (arith, ap (λ (n : Counts). n.groups) counts, opened_by-one (group_of c.args.kind), ap length same);
       loops = omega (arith, ap (λ (n : Counts). n.loops) counts, ap length same);

@@ -1,9 +1,9 @@
 use Rattle.std.proofs.Common.{◌≡◌, ◌≤◌, ◌+◌, ◌*◌, false, Some, length}
-use Rattle.regress_lexical.specs.Source.{Source, ends_alternative}
+use Rattle.regress_lexer.specs.Source.{Source, ends_alternative}
 use Rattle.regress_syntax.specs.Syntax.{Counts}
 use Rattle.regress_parse.specs.Reader.{Term, term_at}
-use Rattle.regress_parse.specs.Parsing.{text, counted, context_in, table_in, names_around, direction_of, term_part, Builds, Spends}
-use Rattle.regress_parse.proofs.SoFarLemmas.{TermsSoFar}
+use Rattle.regress_parse.specs.Parsing.{text, counted, context_in, table_in, names_in_context, direction_of, term_part, Builds, CountsAtMostConsumed}
+use Rattle.regress_parse.proofs.TermLoopInvariant.{TermsSoFar}
 use Rattle.regress_parse.proofs.AlternativesLemmas.{AlternativesSoFar}
 use Rattle.regress_parse.proofs.parser.Parser.+parser.Given as goal
 
@@ -30,21 +30,21 @@ decreases-consume_terms l = 8 * length (text l.self.now) + 3
 abbrev pub invariant-consume_terms-loop-self : goal.invariant-consume_terms-loop-self
 invariant-consume_terms-loop-self l =
     ((t : Source) (before : Counts) (x : Term) → ends_alternative t ≡ false → term_at (context_in l.around) t ≡ Some (x, text l.fn.self) →
-    Builds (direction_of l.around) l.around.depth before l.fn.self l.fn.first (term_part (table_in l.around) (names_around l.around) x) (text l.fn.self) →
-    TermsSoFar (table_in l.around) (names_around l.around) (direction_of l.around) (context_in l.around) l.around.depth t before
+    Builds (direction_of l.around) l.around.depth before l.fn.self l.fn.first (term_part (table_in l.around) (names_in_context l.around) x) (text l.fn.self) →
+    TermsSoFar (table_in l.around) (names_in_context l.around) (direction_of l.around) (context_in l.around) l.around.depth t before
     (text l.self) (counted l.self) l.parts.items)
     × (length (text l.self) ≤ length (text l.fn.self))
-    × Spends (counted l.fn.self) (counted l.self) (text l.fn.self) (text l.self)
+    × CountsAtMostConsumed (counted l.fn.self) (counted l.self) (text l.fn.self) (text l.self)
 
 abbrev pub decreases-consume_terms-loop-self : goal.decreases-consume_terms-loop-self
 decreases-consume_terms-loop-self l = length (text l.self)
 
 abbrev pub invariant-consume_disjunction-loop-inside : goal.invariant-consume_disjunction-loop-inside
 invariant-consume_disjunction-loop-inside l =
-    AlternativesSoFar (table_in l.around) (names_around l.around) (direction_of l.around) (context_in l.around) l.around.depth (text l.fn.self)
+    AlternativesSoFar (table_in l.around) (names_in_context l.around) (direction_of l.around) (context_in l.around) l.around.depth (text l.fn.self)
     (counted l.fn.self)
     (text l.self) (counted l.self) l.before.items l.last
-    × Spends (counted l.fn.self) (counted l.self) (text l.fn.self) (text l.self)
+    × CountsAtMostConsumed (counted l.fn.self) (counted l.self) (text l.fn.self) (text l.self)
 
 abbrev pub decreases-consume_disjunction-loop-inside : goal.decreases-consume_disjunction-loop-inside
 decreases-consume_disjunction-loop-inside l = length (text l.self)

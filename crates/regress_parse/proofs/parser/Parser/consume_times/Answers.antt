@@ -1,12 +1,12 @@
 -- The quantifier is parsed after the item that was found.
 use Rattle.std.proofs.Common.{◌≡◌, ◌+◌, Some, None, Ok, refl, sym, ap, ap₂, ◌∙◌, arith}
 use Rattle.std.proofs.lemmas.Result.{err_from_is_err_and}
-use Rattle.regress_lexical.specs.Views.{source}
-use Rattle.regress_lexical.proofs.laws.Sources.{on_refused, on_kind_then, on_each_kind}
+use Rattle.regress_lexer.specs.Views.{source}
+use Rattle.regress_lexer.proofs.lemmas.Sources.{on_rejected, on_kind_then, on_each_kind}
 use Rattle.regress_syntax.specs.Syntax.{Counts, added, one_loop, counts_of_item}
 use Rattle.regress_tree.specs.Tree.{tree}
-use Rattle.regress_parse.specs.TreeOf.{tree_of_times}
-use Rattle.regress_parse.specs.Parsing.{text, counted, context_in, table_in, names_around, direction_of, term_part, item_part}
+use Rattle.regress_parse.specs.TreeOf.{tree_of_quantified}
+use Rattle.regress_parse.specs.Parsing.{text, counted, context_in, table_in, names_in_context, direction_of, term_part, item_part}
 use Rattle.regress_parse.proofs.CountLemmas.{added-assoc, added-nothing, Fits-inside}
 use Rattle.regress_parse.proofs.ReachLemmas.{no_limit, loops_reach, begins_some}
 use Rattle.regress_parse.proofs.TermLemmas.{alone, times_read, times-too_many}
@@ -16,7 +16,7 @@ pub returns-then-not-may_begin-clause-value : goal.returns-then-not-may_begin-cl
 returns-then-not-may_begin-clause-value c =
     let around = c.args.around.now in
     let table = table_in around in
-    let names = names_around around in
+    let names = names_in_context around in
     let ctx = context_in around in
     let old = c.args.self.now in
     λ x before first allowed b.
@@ -28,24 +28,24 @@ returns-in_err-times-clause-value c =
     let p = err_from_is_err_and c.from_residual.result c.from_residual.ensures.1 in
     let around = c.args.around.now in
     let table = table_in around in
-    let names = names_around around in
+    let names = names_in_context around in
     let ctx = context_in around in
     let old = c.args.self.now in
     λ x before first allowed b.
     rw (p.1, p.2) (on_each_kind c.in_err-times.field-0.0
     (λ kind none. rw (times_read table names ctx (Some (x, text old)) (x, text old) c.args.allowed None refl allowed none) tt)
-    (on_refused c.in_err-times.field-0.0 c.in_err-times.ensures.value))
+    (on_rejected c.in_err-times.field-0.0 c.in_err-times.ensures.value))
 
 pub returns-in_default-clause-value : goal.returns-in_default-clause-value
 returns-in_default-clause-value c =
     let around = c.args.around.now in
     let table = table_in around in
-    let names = names_around around in
+    let names = names_in_context around in
     let ctx = context_in around in
     let old = c.args.self.now in
     λ x before first allowed b.
-    let read = times_read table names ctx (Some (x, text old)) (x, text old) c.args.allowed (Some (None, source c.read_times.new.cursor)) refl allowed
-    (c.in_ok-times.ensures.value ∙ ap (λ q. Some (q, source c.read_times.new.cursor)) c.in_default.is) in
+    let read = times_read table names ctx (Some (x, text old)) (x, text old) c.args.allowed (Some (None, source c.parse_optional_quantifier.new.cursor)) refl allowed
+    (c.in_ok-times.ensures.value ∙ ap (λ q. Some (q, source c.parse_optional_quantifier.new.cursor)) c.in_default.is) in
     rw read (record {
       node = b.node;
       fits = Fits-inside before before around.depth around.depth (item_part table names x) (term_part table names (x, None))
@@ -59,40 +59,40 @@ returns-in_err-count_loop-clause-value c =
     let p = err_from_is_err_and c.from_residual-in_err-count_loop.result c.from_residual-in_err-count_loop.ensures.1 in
     let around = c.args.around.now in
     let table = table_in around in
-    let names = names_around around in
+    let names = names_in_context around in
     let ctx = context_in around in
     let old = c.args.self.now in
     λ x before first allowed b.
     let read = times_read table names ctx (Some (x, text old)) (x, text old) c.args.allowed
-    (Some (Some c.in-Some.quantifier, source c.read_times.new.cursor)) refl allowed
-    (c.in_ok-times.ensures.value ∙ ap (λ q. Some (q, source c.read_times.new.cursor)) c.in-Some.is) in
+    (Some (Some c.in-Some.quantifier, source c.parse_optional_quantifier.new.cursor)) refl allowed
+    (c.in_ok-times.ensures.value ∙ ap (λ q. Some (q, source c.parse_optional_quantifier.new.cursor)) c.in-Some.is) in
     rw (p.1, p.2) (on_kind_then c.in_err-count_loop.field-0.0
-    (λ kind told. times-too_many table names ctx kind told.0 _ _ x c.in-Some.quantifier before around.depth read
-    (omega (arith, ap (λ (n : Counts). n.loops) b.counts, told.1)))
+    (λ kind reported. times-too_many table names ctx kind reported.0 _ _ x c.in-Some.quantifier before around.depth read
+    (omega (arith, ap (λ (n : Counts). n.loops) b.counts, reported.1)))
     c.in_err-count_loop.ensures.err)
 
 pub returns-clause-value : goal.returns-clause-value
 returns-clause-value c =
     let around = c.args.around.now in
     let table = table_in around in
-    let names = names_around around in
+    let names = names_in_context around in
     let ctx = context_in around in
     let old = c.args.self.now in
     λ x before first allowed b.
     let read = times_read table names ctx (Some (x, text old)) (x, text old) c.args.allowed
-    (Some (Some c.in-Some.quantifier, source c.read_times.new.cursor)) refl allowed
-    (c.in_ok-times.ensures.value ∙ ap (λ q. Some (q, source c.read_times.new.cursor)) c.in-Some.is) in
+    (Some (Some c.in-Some.quantifier, source c.parse_optional_quantifier.new.cursor)) refl allowed
+    (c.in_ok-times.ensures.value ∙ ap (λ q. Some (q, source c.parse_optional_quantifier.new.cursor)) c.in-Some.is) in
     let counts = c.in_ok-count_loop.ensures.ok ∙ ap (λ n. added n one_loop) b.counts ∙ added-assoc before _ one_loop in
     let groups : c.count_loop.new.self.group_count ≡ before.groups + (counts_of_item x).groups =
     omega (arith, ap (λ (n : Counts). n.groups) counts) in
     rw read (record {
       node = c.in_ok-make_loop.ensures
-          ∙ ap (λ start. tree_of_times (Some c.in-Some.quantifier) start c.count_loop.new.self.group_count (tree c.args.item)) (sym first)
-          ∙ ap₂ (λ end body. tree_of_times (Some c.in-Some.quantifier) before.groups end body) groups b.node;
+          ∙ ap (λ start. tree_of_quantified (Some c.in-Some.quantifier) start c.count_loop.new.self.group_count (tree c.args.item)) (sym first)
+          ∙ ap₂ (λ end body. tree_of_quantified (Some c.in-Some.quantifier) before.groups end body) groups b.node;
       fits = record {
         groups = omega (arith, b.fits.groups);
         loops = omega (arith, ap (λ (n : Counts). n.loops) counts, c.count_loop.new.self.loops_within);
-        levels = b.fits.levels;
+        nesting = b.fits.nesting;
       };
       counts = counts;
       rest = c.in_ok-count_loop.ensures.text;
@@ -110,4 +110,4 @@ returns-in_err-count_loop-clause-reached c =
     let old = c.args.self.now in
     let some = begins_some (text old) (sym c.may_begin.ensures ∙ c.if-not-may_begin.false) in
     rw (p.1, p.2) (on_kind_then c.in_err-count_loop.field-0.0
-    (λ kind told. loops_reach (counted old) c.args.around.now.depth (text old) kind told.0 (omega (arith, told.1, some))) c.in_err-count_loop.ensures.err)
+    (λ kind reported. loops_reach (counted old) c.args.around.now.depth (text old) kind reported.0 (omega (arith, reported.1, some))) c.in_err-count_loop.ensures.err)

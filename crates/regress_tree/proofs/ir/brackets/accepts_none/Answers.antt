@@ -1,6 +1,6 @@
 use Rattle.std.proofs.Common.{subst}
 use Rattle.regress_base.specs.Intervals.{IsCanonical}
-use Rattle.regress_tree.proofs.laws.Accepting.{accepts_none-is}
+use Rattle.regress_tree.proofs.lemmas.Accepting.{accepts_none-is}
 use Rattle.regress_tree.proofs.ir.brackets.accepts_none.Goals as goal
 
 pub returns-clause-value : goal.returns-clause-value

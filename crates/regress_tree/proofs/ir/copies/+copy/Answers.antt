@@ -1,6 +1,6 @@
 -- One more node is copied.
 use Rattle.std.proofs.Common.{ap}
-use Rattle.regress_tree.specs.Tree.{tree, row}
+use Rattle.regress_tree.specs.Tree.{tree, list}
 use Rattle.regress_tree.proofs.LoopLemmas.{copied_next, copied_all}
 use Rattle.regress_tree.proofs.ir.copies.+copy.Goals as goal
 
@@ -14,4 +14,4 @@ copy_nodes-loop-node-preserved t c =
 pub copy_nodes-returns : goal.copy_nodes-returns
 copy_nodes-returns t c =
     let l = c.loop-node in
-    ap row (copied_all tree c.args.nodes.now l.node-index l.copies.items l.invariant c.loop-node-test.false)
+    ap list (copied_all tree c.args.nodes.now l.node-index l.copies.items l.invariant c.loop-node-test.false)

@@ -3,10 +3,10 @@ use Rattle.std.proofs.Common.{rules, sym, ap, ◌∙◌}
 use Rattle.std.proofs.lemmas.List.{drop_all}
 use Rattle.std.proofs.lemmas.Result.{IfOk-from_err}
 use Rattle.regress_tree.specs.declared.ir.node.Node.{the_lemmas}
-use Rattle.regress_tree.specs.Tree.{tree, trees, row}
-use Rattle.regress_tree.specs.Duplicates.{may_duplicate_row}
+use Rattle.regress_tree.specs.Tree.{tree, trees, list}
+use Rattle.regress_tree.specs.Duplicates.{may_duplicate_list}
 use Rattle.regress_tree.proofs.LoopLemmas.{copied_next, copied_all}
-use Rattle.regress_tree.proofs.DuplicateLemmas.{have_no_group, still_next, refused}
+use Rattle.regress_tree.proofs.DuplicateLemmas.{have_no_group, still_next, rejected}
 use Rattle.regress_tree.proofs.ir.copies.+duplicate.Goals as goal
 
 pub duplicate_nodes-duplicate_node-requires : goal.duplicate_nodes-duplicate_node-requires
@@ -19,31 +19,31 @@ duplicate_nodes-loop-node-preserved t c =
     let l = c.loop-node in
     let nodes = c.args.nodes.now in
     let node = c.node-item.result in
-    let in_row = c.loop-node-test.true in
+    let in_list = c.loop-node-test.true in
     let is = c.node-item.is in
     record {
       copied =
           rw c.in_ok-push-in-Some.ensures.items
-          (copied_next tree nodes l.node-index l.copies.items l.invariant.copied node c.in-Some.copy in_row is (rw c.in-Some.is at c.in_ok-copy.ensures.copy));
-      still = still_next nodes l.node-index node in_row is c.args.depth l.invariant.still (rw c.in-Some.is at c.in_ok-copy.ensures.some);
-      groups = (have_no_group nodes l.node-index node in_row is l.invariant.groups).1;
+          (copied_next tree nodes l.node-index l.copies.items l.invariant.copied node c.in-Some.copy in_list is (rw c.in-Some.is at c.in_ok-copy.ensures.copy));
+      still = still_next nodes l.node-index node in_list is c.args.depth l.invariant.still (rw c.in-Some.is at c.in_ok-copy.ensures.some);
+      groups = (have_no_group nodes l.node-index node in_list is l.invariant.groups).1;
     }
 
 pub duplicate_nodes-returns-in-None-clause-some : goal.duplicate_nodes-returns-in-None-clause-some
 duplicate_nodes-returns-in-None-clause-some t c =
     let l = c.loop-node in
-    refused c.args.nodes.now l.node-index c.node-item.result c.loop-node-test.true c.node-item.is c.args.depth l.invariant.still
+    rejected c.args.nodes.now l.node-index c.node-item.result c.loop-node-test.true c.node-item.is c.args.depth l.invariant.still
     (rw c.in-None.is at c.in_ok-copy.ensures.some)
 
 pub duplicate_nodes-returns-clause-copy : goal.duplicate_nodes-returns-clause-copy
 duplicate_nodes-returns-clause-copy t c =
     let l = c.loop-node in
-    ap row (copied_all tree c.args.nodes.now l.node-index l.copies.items l.invariant.copied c.loop-node-test.false)
+    ap list (copied_all tree c.args.nodes.now l.node-index l.copies.items l.invariant.copied c.loop-node-test.false)
 
 pub duplicate_nodes-returns-clause-some : goal.duplicate_nodes-returns-clause-some
 duplicate_nodes-returns-clause-some t c =
     let l = c.loop-node in
-    ap (λ nodes. may_duplicate_row c.args.depth (trees nodes)) (sym (drop_all l.node-index c.args.nodes.now c.loop-node-test.false)) ∙ l.invariant.still
+    ap (λ nodes. may_duplicate_list c.args.depth (trees nodes)) (sym (drop_all l.node-index c.args.nodes.now c.loop-node-test.false)) ∙ l.invariant.still
 
 pub duplicate_nodes-returns-in_err-push-in-Some-clause-copy : goal.duplicate_nodes-returns-in_err-push-in-Some-clause-copy
 duplicate_nodes-returns-in_err-push-in-Some-clause-copy t c = IfOk-from_err _ _ c.from_residual-in_err-push-in-Some.ensures.0

@@ -1,5 +1,5 @@
 -- The text that is written is that of the node's tree.
-use Rattle.regress_tree.proofs.laws.Nodes.{tree-Empty, tree-Goal, tree-ByteSequence, tree-ByteSet, tree-CharSet, tree-Cat, tree-Alt, tree-CaptureGroup, tree-Anchor, tree-Bracket, tree-Loop, tree-LookaroundAssertion}
+use Rattle.regress_tree.proofs.lemmas.Nodes.{tree-Empty, tree-Goal, tree-ByteSequence, tree-ByteSet, tree-CharSet, tree-Cat, tree-Alt, tree-CaptureGroup, tree-Anchor, tree-Bracket, tree-Loop, tree-LookaroundAssertion}
 use Rattle.regress_tree.proofs.ir.display.write_node.Goals as goal
 
 pub returns-in-Empty : goal.returns-in-Empty

@@ -1,7 +1,7 @@
 use Rattle.std.proofs.Common.{arith}
 use Rattle.regress_tree.specs.Tree.{tree}
 use Rattle.regress_tree.specs.Visits.{Calls}
-use Rattle.regress_tree.proofs.laws.Visits.{Climbed-one, Climbed-two}
+use Rattle.regress_tree.proofs.lemmas.Visits.{Climbed-one, Climbed-two}
 use Rattle.regress_tree.proofs.ir.visit.+climb.Goals as goal
 
 pub loop-upper-preserved : goal.loop-upper-preserved

@@ -1,26 +1,26 @@
 -- The visits of a node are composed of those of its calls.
 use Rattle.std.proofs.Common.{rules, arith, refl, ◌∙◌, ap, ◌≡◌, true, false, sym, length-set, [], take, drop}
 use Rattle.std.proofs.lemmas.List.{drop_all, take_all}
-use Rattle.regress_tree.proofs.laws.Rows.{row_append-none}
+use Rattle.regress_tree.proofs.lemmas.Lists.{append_trees-none}
 use Rattle.regress_tree.specs.declared.ir.node.Node.{Node}
 use Rattle.regress_tree.specs.Tree.{alt, tree, no_trees}
 use Rattle.regress_tree.specs.Visits.{CallsMut, nodes, Visited, before_children, without_children, after_children, in_cat, in_alt, in_wrapped, no_more, one_more}
 use Rattle.regress_tree.specs.Climbs.{further}
-use Rattle.regress_tree.proofs.laws.Nodes.{tree-Cat, tree-Alt}
-use Rattle.regress_tree.proofs.laws.Levels.{out-Cat, out-Alt}
+use Rattle.regress_tree.proofs.lemmas.Nodes.{tree-Cat, tree-Alt}
+use Rattle.regress_tree.proofs.lemmas.Nesting.{out-Cat, out-Alt}
 use Rattle.regress_tree.proofs.NodeLemmas.{leaf_of}
-use Rattle.regress_tree.proofs.laws.Visits.{at_leaf, further_next, nodes_down, levels_down, before_down, after_down, call_adds, next_is, nodes_next, unvisited_next, visited_next}
-use Rattle.regress_tree.proofs.laws.There.{called_there, visited_there, inside_there, row_visited_there}
-use Rattle.regress_tree.proofs.ir.visit_mut.+visit_mut.Goals.{visit_before-else-loop-here-test, visit_before-then-loop-here-test+then-not-shift, visit_after-then-loop-levels-test+else-shift, visit_after-else-loop-levels-test}
+use Rattle.regress_tree.proofs.lemmas.Visits.{at_leaf, further_next, nodes_down, nesting_down, before_down, after_down, call_adds, next_is, nodes_next, unvisited_next, visited_next}
+use Rattle.regress_tree.proofs.lemmas.WalkCongruence.{called_there, visited_there, inside_there, list_visited_there}
+use Rattle.regress_tree.proofs.ir.visit_mut.+visit_mut.Goals.{visit_before-else-loop-here-test, visit_before-then-loop-here-test+then-not-rotate_right_spine, visit_after-then-loop-nesting-test+else-rotate_right_spine, visit_after-else-loop-nesting-test}
 use Rattle.regress_tree.proofs.ir.visit_mut.+visit_mut.Goals as goal
 
 pub visit_inside-returns-in-Cat-clause-visited : goal.visit_inside-returns-in-Cat-clause-visited
 visit_inside-returns-in-Cat-clause-visited g t c =
     let inner = c.walk_inside-inner.ensures in
     let same = rw (c.in-Cat.is, tree-Cat) at inner.direction in
-    let visited = row_visited_there (CallsMut (goal.F-step g)) inner.unicode inner.depth same c.visit_row.ensures.visited in
+    let visited = list_visited_there (CallsMut (goal.F-step g)) inner.unicode inner.depth same c.visit_list.ensures.visited in
     let whole = in_cat (rw (c.in-Cat.is, out-Cat) at visited) in
-    rw (c.in-Cat.is, out-Cat) (rw (tree-Cat c.in-Cat.parts, tree-Cat c.visit_row.new.parts) whole)
+    rw (c.in-Cat.is, out-Cat) (rw (tree-Cat c.in-Cat.parts, tree-Cat c.visit_list.new.parts) whole)
 
 pub visit_inside-returns-in-Alt-clause-visited : goal.visit_inside-returns-in-Alt-clause-visited
 visit_inside-returns-in-Alt-clause-visited g t c =
@@ -64,7 +64,7 @@ visit_before-loop-here-preserved-in-Some g t c =
     let Call = CallsMut (goal.F-step g) walk.unicode in
     let so_far = l.invariant in
     let here = c.inside-here.ensures in
-    let shifted = c.if-not-shift.ensures in
+    let shifted = c.if-not-rotate_right_spine.ensures in
     let node = c.deref_mut.result.now in
     let left = c.in-Some.ensures.left in
     let top_is = left.is ∙ ap (λ n. alt (tree n) left.right) (sym c.deref_mut.ensures.value) in
@@ -72,7 +72,7 @@ visit_before-loop-here-preserved-in-Some g t c =
     let called = called_there (CallsMut (goal.F-step g)) so_far.unicode refl so_far.direction c.loop-here-test.ensures.called in
     let first = visited_there (CallsMut (goal.F-step g)) (here.unicode ∙ so_far.unicode) here.depth (here.direction ∙ so_far.direction)
     c.visit_mut.ensures.visited in
-    let fewer = nodes_down Call l.here.depth 0 walk.in_lookbehind (tree c.call.new.n) (tree l.above) (tree c.shift.new.from) (tree c.shift.new.onto)
+    let fewer = nodes_down Call l.here.depth 0 walk.in_lookbehind (tree c.call.new.n) (tree l.above) (tree c.rotate_right_spine.new.from) (tree c.rotate_right_spine.new.onto)
     (tree node) (tree node) left.right shifted top_is in
     let no_more = call_adds (goal.F-step g) _ _ _ _ _ _ _ _ c.requires.ends called in
     record {
@@ -82,7 +82,7 @@ visit_before-loop-here-preserved-in-Some g t c =
       unicode = here.unicode ∙ so_far.unicode;
       visited = λ u e second.
           rw ends
-          (before_down Call l.here.depth 0 walk.in_lookbehind (tree c.call.new.n) (tree l.above) (tree c.shift.new.from) (tree c.shift.new.onto) (tree node)
+          (before_down Call l.here.depth 0 walk.in_lookbehind (tree c.call.new.n) (tree l.above) (tree c.rotate_right_spine.new.from) (tree c.rotate_right_spine.new.onto) (tree node)
           (tree c.visit_mut.new.n) left.right shifted top_is (tree l.n) l.func c.call.new.func c.visit_mut.new.func e u
           (λ v. Visited Call false walk.depth walk.in_lookbehind (tree c.args.n.now) v c.args.func.now e) (λ v whole. so_far.visited v e whole) called first
           (rw here.depth at second));
@@ -91,47 +91,47 @@ visit_before-loop-here-preserved-in-Some g t c =
 pub visit_before-returns-clause-visited : goal.visit_before-returns-clause-visited
 visit_before-returns-clause-visited g t c =
     let so_far = c.loop-here.invariant in
-    rw c.relink.ensures
+    rw c.restore_spine.ensures
     (elim c.loop-here-test.branch [
       | visit_before-else-loop-here-test w ↦
           let called = called_there (CallsMut (goal.F-step g)) so_far.unicode refl so_far.direction w.loop-here-test.ensures.called in
           rw (w.n-is, w.func-is, w.above-is) (so_far.visited _ _ (without_children called))
-      | visit_before-then-loop-here-test+then-not-shift w ↦
-          let stays = w.if-not-shift.ensures in
+      | visit_before-then-loop-here-test+then-not-rotate_right_spine w ↦
+          let stays = w.if-not-rotate_right_spine.ensures in
           let called = called_there (CallsMut (goal.F-step g)) so_far.unicode refl so_far.direction w.loop-here-test.ensures.called in
           let inside = rw stays.1 at (inside_there (CallsMut (goal.F-step g)) so_far.unicode refl so_far.direction w.visit_inside.ensures.visited) in
           rw (w.n-is, w.func-is, w.above-is, stays.2) (so_far.visited _ _ (before_children called inside))
     ])
 
-pub visit_after-loop-levels-preserved-in-Some : goal.visit_after-loop-levels-preserved-in-Some
-visit_after-loop-levels-preserved-in-Some g t c =
-    let l = c.loop-levels in
+pub visit_after-loop-nesting-preserved-in-Some : goal.visit_after-loop-nesting-preserved-in-Some
+visit_after-loop-nesting-preserved-in-Some g t c =
+    let l = c.loop-nesting in
     let walk = c.args.walk.now in
     let Call = CallsMut (goal.F-step g) walk.unicode in
     let so_far = l.invariant in
     let here = c.inside-here.ensures in
-    let shifted = c.if-shift.ensures in
+    let shifted = c.if-rotate_right_spine.ensures in
     let node = c.deref_mut.result.now in
     let left = c.in-Some.ensures.left in
     let top_is = left.is ∙ ap (λ n. alt (tree n) left.right) (sym c.deref_mut.ensures.value) in
     let ends = rw (c.in-Some.is, left.is) at (c.left_mut.follows.holds (record c.in-Some.left.now { value = c.visit_mut.new.n })) in
     let first = visited_there (CallsMut (goal.F-step g)) (here.unicode ∙ so_far.unicode) here.depth (here.direction ∙ so_far.direction)
     c.visit_mut.ensures.visited in
-    let depth = so_far.depth ∙ ap (λ k. further k walk.depth) so_far.levels in
-    let fewer = nodes_down Call l.here.depth walk.depth walk.in_lookbehind (tree l.n) (tree l.above) (tree c.shift.new.from) (tree c.shift.new.onto)
+    let depth = so_far.depth ∙ ap (λ k. further k walk.depth) so_far.nesting in
+    let fewer = nodes_down Call l.here.depth walk.depth walk.in_lookbehind (tree l.n) (tree l.above) (tree c.rotate_right_spine.new.from) (tree c.rotate_right_spine.new.onto)
     (tree node) (tree node) left.right shifted top_is in
     record {
       callable = c.visit_mut.ensures.callable;
       smaller = omega (arith, fewer, so_far.smaller);
-      levels = rw ends (levels_down Call l.here.depth walk.depth walk.in_lookbehind (tree l.n) (tree l.above) (tree c.shift.new.from)
-          (tree c.shift.new.onto) (tree node) (tree node) left.right shifted top_is
-          l.levels so_far.levels);
-      depth = here.depth ∙ further_next l.levels l.here.depth walk.depth so_far.depth;
+      nesting = rw ends (nesting_down Call l.here.depth walk.depth walk.in_lookbehind (tree l.n) (tree l.above) (tree c.rotate_right_spine.new.from)
+          (tree c.rotate_right_spine.new.onto) (tree node) (tree node) left.right shifted top_is
+          l.nesting so_far.nesting);
+      depth = here.depth ∙ further_next l.nesting l.here.depth walk.depth so_far.depth;
       direction = here.direction ∙ so_far.direction;
       unicode = here.unicode ∙ so_far.unicode;
       visited = λ u v m e second climbed.
           let ways = rw ends at climbed in
-          after_down Call l.here.depth walk.depth walk.in_lookbehind (tree l.n) (tree l.above) (tree c.shift.new.from) (tree c.shift.new.onto) (tree node)
+          after_down Call l.here.depth walk.depth walk.in_lookbehind (tree l.n) (tree l.above) (tree c.rotate_right_spine.new.from) (tree c.rotate_right_spine.new.onto) (tree node)
           (tree c.visit_mut.new.n) left.right shifted top_is l.func c.visit_mut.new.func m e u v
           (Visited Call true walk.depth walk.in_lookbehind (tree c.args.n.now) v c.args.func.now e) depth
           (λ x b whole rest. so_far.visited x v b e whole rest) first (rw here.depth at second) ways;
@@ -139,32 +139,32 @@ visit_after-loop-levels-preserved-in-Some g t c =
 
 pub visit_after-returns-clause-visited : goal.visit_after-returns-clause-visited
 visit_after-returns-clause-visited g t c =
-    let l = c.loop-levels in
+    let l = c.loop-nesting in
     let so_far = l.invariant in
-    let n_is : tree c.loop-levels-test.n ≡ tree l.n =
-    elim c.loop-levels-test.branch [
-      | visit_after-then-loop-levels-test+else-shift w ↦ ap tree w.n-is ∙ w.if-shift.ensures.1
-      | visit_after-else-loop-levels-test w ↦ ap tree w.n-is
+    let n_is : tree c.loop-nesting-test.n ≡ tree l.n =
+    elim c.loop-nesting-test.branch [
+      | visit_after-then-loop-nesting-test+else-rotate_right_spine w ↦ ap tree w.n-is ∙ w.if-rotate_right_spine.ensures.1
+      | visit_after-else-loop-nesting-test w ↦ ap tree w.n-is
     ] in
-    let above_is : tree c.loop-levels-test.above ≡ tree l.above =
-    elim c.loop-levels-test.branch [
-      | visit_after-then-loop-levels-test+else-shift w ↦ ap tree w.above-is ∙ w.if-shift.ensures.2
-      | visit_after-else-loop-levels-test w ↦ ap tree w.above-is
+    let above_is : tree c.loop-nesting-test.above ≡ tree l.above =
+    elim c.loop-nesting-test.branch [
+      | visit_after-then-loop-nesting-test+else-rotate_right_spine w ↦ ap tree w.above-is ∙ w.if-rotate_right_spine.ensures.2
+      | visit_after-else-loop-nesting-test w ↦ ap tree w.above-is
     ] in
     let inside = rw n_is at (inside_there (CallsMut (goal.F-step g)) so_far.unicode refl so_far.direction c.visit_inside.ensures.visited) in
     let called = called_there (CallsMut (goal.F-step g)) so_far.unicode refl so_far.direction c.call.ensures.called in
     so_far.visited (tree c.call.new.n) (tree c.climb.new.n) c.call.new.func c.climb.new.func (after_children inside called)
     (rw above_is at c.climb.ensures.climbed)
 
-pub visit_row-visit_mut-requires : goal.visit_row-visit_mut-requires
-visit_row-visit_mut-requires g t c κs lives =
+pub visit_list-visit_mut-requires : goal.visit_list-visit_mut-requires
+visit_list-visit_mut-requires g t c κs lives =
     let l = c.loop-i in
     let node = c.index_mut.result.now in
     let fewer = nodes_next l.parts.items c.args.parts.now.items l.i (search rules) node c.index_mut.ensures.value l.invariant.unvisited in
     (omega (arith, fewer), search rules)
 
-pub visit_row-loop-i-preserved : goal.visit_row-loop-i-preserved
-visit_row-loop-i-preserved g t c =
+pub visit_list-loop-i-preserved : goal.visit_list-loop-i-preserved
+visit_list-loop-i-preserved g t c =
     let l = c.loop-i in
     let so_far = l.invariant in
     let old = c.args.parts.now.items in
@@ -181,11 +181,11 @@ visit_row-loop-i-preserved g t c =
           (so_far.visited _ b (rw next (one_more c.visit_mut.ensures.visited rest)));
     }
 
-pub visit_row-returns-clause-visited : goal.visit_row-returns-clause-visited
-visit_row-returns-clause-visited g t c =
+pub visit_list-returns-clause-visited : goal.visit_list-returns-clause-visited
+visit_list-returns-clause-visited g t c =
     let l = c.loop-i in
     let old = c.args.parts.now.items in
     let done : drop l.i old ≡ [] = drop_all l.i old (search rules) in
     let all : take l.i l.parts.items ≡ l.parts.items = take_all l.i l.parts.items (search rules) in
     let whole = l.invariant.visited no_trees l.func (rw done no_more) in
-    rw (all, row_append-none) at whole
+    rw (all, append_trees-none) at whole

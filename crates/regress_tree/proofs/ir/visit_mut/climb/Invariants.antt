@@ -6,16 +6,16 @@ use Rattle.regress_tree.specs.Visits.{CallsMut}
 use Rattle.regress_tree.specs.Climbs.{ClimbedMut}
 use Rattle.regress_tree.proofs.ir.visit_mut.climb.Given as goal
 
-abbrev pub invariant-loop-levels : goal.invariant-loop-levels
-invariant-loop-levels g l =
+abbrev pub invariant-loop-nesting : goal.invariant-loop-nesting
+invariant-loop-nesting g l =
     let Call = CallsMut (goal.F-step g) l.walk.unicode in
     record {
       callable : goal.F-IsAlwaysCallable g l.func;
-      levels : l.levels ≡ spine_length (tree l.above);
+      nesting : l.nesting ≡ spine_length (tree l.above);
       climbed : (last : _) (b : _) →
           ClimbedMut Call (tree l.above) l.walk.depth l.walk.in_lookbehind (tree l.n) last l.func b →
           ClimbedMut Call (tree l.initial.above) l.walk.depth l.walk.in_lookbehind (tree l.initial.n) last l.initial.func b;
     }
 
-abbrev pub decreases-loop-levels : goal.decreases-loop-levels
-decreases-loop-levels g l = spine_length (tree l.above)
+abbrev pub decreases-loop-nesting : goal.decreases-loop-nesting
+decreases-loop-nesting g l = spine_length (tree l.above)

@@ -3,11 +3,11 @@ use Rattle.std.proofs.Common.{◌≡◌, ◌<◌, true, false, length, inl, inr,
 use Rattle.std.specs.Prelude.{option_map, string_bytes}
 use Rattle.std.proofs.lemmas.Bool.{false≢true, not-true}
 use Rattle.regress_tree.specs.Tree.{tree, wrapped, capture_group, loop, lookaround}
-use Rattle.regress_tree.proofs.laws.Nodes.{tree-CaptureGroup, tree-Loop, tree-LookaroundAssertion}
-use Rattle.regress_tree.proofs.laws.Levels.{alt_of}
-use Rattle.regress_tree.proofs.laws.Visits.{right_smaller}
+use Rattle.regress_tree.proofs.lemmas.Nodes.{tree-CaptureGroup, tree-Loop, tree-LookaroundAssertion}
+use Rattle.regress_tree.proofs.lemmas.Nesting.{alt_of}
+use Rattle.regress_tree.proofs.lemmas.Visits.{right_smaller}
 use Rattle.regress_tree.specs.WellFormed.{inside}
-use Rattle.regress_tree.specs.Survey.{fill, SurveyedAt, RefusedAt}
+use Rattle.regress_tree.specs.Survey.{fill, SurveyedAt, RejectedAt}
 use Rattle.regress_tree.proofs.PassLemmas.{SpineSurveyed, spine-start, spine-next, spine-last, spine-fail, spine-fail-last, parts-next, parts-fail, group-pass, loop-pass, loop-fail, look-pass, look-fail}
 use Rattle.regress_tree.proofs.ir.well_formed.+survey.Goals as goal
 use Rattle.regress_tree.proofs.ir.well_formed.+survey.Goals.{survey_other-else-is_quantifier-via-then-is_quantifier+else-are, survey_other-else-is_quantifier-via-else-is_quantifier}
@@ -56,16 +56,16 @@ survey-returns t c =
 pub survey_parts-returns-in_err-survey : goal.survey_parts-returns-in_err-survey
 survey_parts-returns-in_err-survey t c =
     let l = c.loop-part in
-    let in_row : l.part-index < length c.args.parts.now = search rules in
+    let in_list : l.part-index < length c.args.parts.now = search rules in
     rw c.from_residual.ensures
-    (parts-fail c.args.parts.now l.part-index in_row _ c.part-item.result c.part-item.is c.args.ids.now l.ids l.groups l.invariant c.in_err-survey.ensures)
+    (parts-fail c.args.parts.now l.part-index in_list _ c.part-item.result c.part-item.is c.args.ids.now l.ids l.groups l.invariant c.in_err-survey.ensures)
 
 pub survey_parts-loop-part-preserved : goal.survey_parts-loop-part-preserved
 survey_parts-loop-part-preserved t c =
     let l = c.loop-part in
-    let in_row : l.part-index < length c.args.parts.now = search rules in
+    let in_list : l.part-index < length c.args.parts.now = search rules in
     rw c.join-groups.ensures
-    (parts-next c.args.parts.now l.part-index in_row _ c.part-item.result c.part-item.is c.args.ids.now l.ids l.groups l.invariant c.survey.new.ids
+    (parts-next c.args.parts.now l.part-index in_list _ c.part-item.result c.part-item.is c.args.ids.now l.ids l.groups l.invariant c.survey.new.ids
     c.in_ok-survey.field-0 c.in_ok-survey.ensures)
 
 pub survey_other-returns-in_ok-survey-in-CaptureGroup : goal.survey_other-returns-in_ok-survey-in-CaptureGroup
@@ -109,7 +109,7 @@ survey_other-returns-else-is_quantifier t c =
     let is : tree c.args.node.now ≡ wrapped (loop at.quant start end) (tree body) =
     ap tree at.is ∙ tree-Loop at.loopee at.quant at.enclosed_groups
     ∙ ap (λ n. wrapped (loop at.quant start end) (tree n)) (sym c.deref-in-Loop.ensures) in
-    subst (λ x. RefusedAt inside x c.args.ids.now) (sym is)
+    subst (λ x. RejectedAt inside x c.args.ids.now) (sym is)
     (loop-fail (tree body) c.args.ids.now c.survey-in-Loop.new.ids groups c.in_ok-groups-in-Loop.ensures start end at.quant
     (omega arith) (omega arith)
     (elim c.else-is_quantifier.branch [
@@ -142,6 +142,6 @@ survey_other-returns-else-are-2 t c =
     ap tree at.is ∙ tree-LookaroundAssertion at.negate at.backwards at.start_group at.end_group at.contents
     ∙ ap (λ n. wrapped wrapper (tree n)) (sym c.deref-in-LookaroundAssertion.ensures) in
     let other : fill at.start_group at.end_group groups ≡ false = grind (arith, c.if-are-2.ensures) in
-    subst (λ x. RefusedAt inside x c.args.ids.now) (sym is)
+    subst (λ x. RejectedAt inside x c.args.ids.now) (sym is)
     (look-fail (tree body) c.args.ids.now c.survey-in-LookaroundAssertion.new.ids groups c.in_ok-groups-in-LookaroundAssertion.ensures
     at.start_group at.end_group at.negate at.backwards (omega arith) (omega arith) other)

@@ -8,11 +8,11 @@ use Rattle.regress_tree.proofs.ir.well_formed.are_strings.Goals as goal
 
 pub returns-then-not-are_code_points : goal.returns-then-not-are_code_points
 returns-then-not-are_code_points c =
-    let in_row : c.loop-string.string-index < length c.args.strings.now = search rules in (
+    let in_list : c.loop-string.string-index < length c.args.strings.now = search rules in (
       λ denied. absurd (false≢true denied),
       λ all. c.if-not-are_code_points.ensures.all.1
           (rw c.deref.ensures.value
-          (at-image (All (λ c. c ≤ code_point_max)) boxed_slice_items c.args.strings.now c.loop-string.string-index _ c.string-item.result in_row
+          (at-image (All (λ c. c ≤ code_point_max)) boxed_slice_items c.args.strings.now c.loop-string.string-index _ c.string-item.result in_list
           c.string-item.is all)),
     )
 

@@ -4,7 +4,7 @@ use Rattle.regress_tree.specs.Tree.{tree, trees}
 use Rattle.regress_tree.specs.Shapes.{is_cat}
 use Rattle.regress_tree.specs.NodeTests.{is_goal}
 use Rattle.regress_tree.specs.Survey.{without_goal}
-use Rattle.regress_tree.proofs.laws.Nodes.{tree-Cat}
+use Rattle.regress_tree.proofs.lemmas.Nodes.{tree-Cat}
 use Rattle.regress_tree.proofs.RootLemmas.{cat-passes, cat-fails, other-passes, other-fails, MatchOption-as}
 use Rattle.regress_tree.proofs.ir.well_formed.survey_root.Goals as goal
 

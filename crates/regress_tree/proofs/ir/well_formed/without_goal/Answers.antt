@@ -1,7 +1,7 @@
 use Rattle.std.proofs.Common.{◌∙◌, [], ◌∷◌, sym, ap}
 use Rattle.regress_tree.specs.Tree.{tree, trees}
 use Rattle.regress_tree.specs.Survey.{without_goal}
-use Rattle.regress_tree.proofs.laws.Rows.{trees-append}
+use Rattle.regress_tree.proofs.lemmas.Lists.{trees-append}
 use Rattle.regress_tree.proofs.RootLemmas.{drop-goal, keep-last}
 use Rattle.regress_tree.proofs.ir.well_formed.without_goal.Goals as goal
 

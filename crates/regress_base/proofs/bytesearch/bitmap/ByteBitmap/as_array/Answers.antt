@@ -1,6 +1,6 @@
 use Rattle.std.proofs.Common.{◌≡◌, ◌+◌, sym, ◌∙◌, subst, inl, inr, arith}
 use Rattle.regress_base.specs.ByteBitmap.{contains}
-use Rattle.regress_base.proofs.CountLemmas.{IsFilled, IsFilled-none, IsFilled-turn, IsFilled-room, IsFilled-all}
+use Rattle.regress_base.proofs.CountLemmas.{IsFilled, IsFilled-none, IsFilled-iteration, IsFilled-room, IsFilled-all}
 use Rattle.regress_base.proofs.bytesearch.bitmap.ByteBitmap.as_array.Goals as goal
 use Rattle.regress_base.proofs.bytesearch.bitmap.ByteBitmap.as_array.Goals.{then-contains, else-contains}
 
@@ -20,7 +20,7 @@ overflow_add-len g c =
 
 pub loop-b-preserved : goal.loop-b-preserved
 loop-b-preserved g c =
-    IsFilled-turn (contains c.args.self.now) g.row.N c.loop-b.b c.loop-b.len _ c.loop-b.array _ (omega arith) c.requires c.loop-b.invariant
+    IsFilled-iteration (contains c.args.self.now) g.row.N c.loop-b.b c.loop-b.len _ c.loop-b.array _ (omega arith) c.requires c.loop-b.invariant
     (elim c.if-contains.branch [
       | then-contains w ↦ inl (sym c.contains.ensures ∙ w.if-contains.true, w.len-is, w.array-is)
       | else-contains w ↦ inr (sym c.contains.ensures ∙ w.if-contains.false, w.len-is, w.array-is)
@@ -30,7 +30,7 @@ pub returns-after-contains : goal.returns-after-contains
 returns-after-contains g c =
     let p = contains c.args.self.now in
     let all =
-    IsFilled-turn p g.row.N c.loop-b.b c.loop-b.len c.if-contains.len c.loop-b.array c.if-contains.array (omega arith) c.requires
+    IsFilled-iteration p g.row.N c.loop-b.b c.loop-b.len c.if-contains.len c.loop-b.array c.if-contains.array (omega arith) c.requires
     c.loop-b.invariant (elim c.if-contains.branch [
       | then-contains w ↦ inl (sym c.contains.ensures ∙ w.if-contains.true, w.len-is, w.array-is)
       | else-contains w ↦ inr (sym c.contains.ensures ∙ w.if-contains.false, w.len-is, w.array-is)

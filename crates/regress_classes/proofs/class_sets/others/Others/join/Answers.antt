@@ -9,5 +9,5 @@ returns c = λ a b h k. record {
       ∙ map-append (λ string. string.items) c.args.self.now.strings.items c.args.other.strings.items
       ∙ ap₂ (λ xs ys. xs ++ ys) h.strings k.strings;
   has_empty = ap₂ (λ x y. x || y) h.has_empty k.has_empty;
-  levels = c.max-self.ensures ∙ ap₂ max h.levels k.levels;
+  nesting = c.max-self.ensures ∙ ap₂ max h.nesting k.nesting;
 }

@@ -1,7 +1,7 @@
 use Rattle.std.proofs.Common.{◌||◌, [], ◌∷◌, sym, ap, ◌∙◌}
 use Rattle.std.proofs.lemmas.Result.{on_ok_weaker}
 use Rattle.regress_base.specs.Intervals.{is_member}
-use Rattle.regress_base.proofs.laws.Sets.{is_member-one}
+use Rattle.regress_base.proofs.lemmas.Sets.{is_member-one}
 use Rattle.regress_classes.proofs.ClassSetLemmas.{union_points}
 use Rattle.regress_classes.proofs.class_sets.union.Union.add.Goals as goal
 

@@ -1,6 +1,6 @@
 use Rattle.std.proofs.Common.{◌||◌, ap₂, sym, ◌∙◌}
 use Rattle.std.proofs.lemmas.Result.{on_ok_weaker}
-use Rattle.regress_base.proofs.laws.Sets.{is_member-append}
+use Rattle.regress_base.proofs.lemmas.Sets.{is_member-append}
 use Rattle.regress_classes.proofs.class_sets.union.Union.join.Goals as goal
 
 pub returns : goal.returns

@@ -1,7 +1,7 @@
 use Rattle.std.proofs.Common.{◌||◌, ◌==◌, List, ap, ◌∙◌}
 use Rattle.regress_base.specs.Intervals.{Bounds, is_member}
-use Rattle.regress_base.proofs.laws.Sets.{is_member-nil}
-use Rattle.regress_classes.specs.ClassRows.{one_point}
+use Rattle.regress_base.proofs.lemmas.Sets.{is_member-nil}
+use Rattle.regress_classes.specs.ClassProductions.{one_point}
 use Rattle.regress_classes.proofs.ClassSetLemmas.{is_one_point}
 use Rattle.regress_classes.proofs.class_sets.value.Value.of_point.Goals as goal
 

@@ -5,4 +5,4 @@ use Rattle.regress_syntax.proofs.scan.path.Path.next_alternative.Goals as goal
 pub returns-in-Some : goal.returns-in-Some
 returns-in-Some c =
     let item = c.in-Some.ensures.item in
-    counted_on c.args.self.now.levels.items _ c.in-Some.level.now (omega (arith, item.0)) item.1
+    counted_on c.args.self.now.nesting.items _ c.in-Some.level.now (omega (arith, item.0)) item.1

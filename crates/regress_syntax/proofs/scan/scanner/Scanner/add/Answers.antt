@@ -26,8 +26,8 @@ returns-clause-numbered c = λ before many.
           let names : w.in_ok-clone.field-0.items ≡ w.in-Some.name.items = same_from_all_zip _ _ _ w.in_ok-clone.ensures.cases.0 (λ x y h. h) in
           let kept = ap (λ (scanner : Scanner). scanner.names.items) w.self-is in
           let few : length old.names.items + 1 < 2 ^ 32 = omega (arith, many, ap length pushed, long, ap length kept) in
-          let told = rw w.deref.ensures.value at w.number_behind.ensures in
-          number_added old.named.items _ _ w.in-Some.name c.args.name old.names.items _ w.in-Some.is names (told few)
+          let reported = rw w.deref.ensures.value at w.next_number.ensures in
+          number_added old.named.items _ _ w.in-Some.name c.args.name old.names.items _ w.in-Some.is names (reported few)
           (ap (λ (scanner : Scanner). scanner.named.items) w.self-is ∙ w.in_ok-push.ensures.items)
           (pushed ∙ ap (λ ns. ns ++ c.args.name ∷ []) kept) (before (omega (arith, few)))
       | in_default w ↦

@@ -4,28 +4,28 @@ use Rattle.regress_syntax.specs.Numbering.{names_of, AreSortedByName}
 use Rattle.regress_syntax.specs.declared.scan.scanner.NamedGroup.{NamedGroup}
 use Rattle.regress_syntax.proofs.ConflictLemmas.{apart_in_any_order, conflict_in_any_order}
 use Rattle.regress_syntax.proofs.NumberingLemmas.{sorted_by_name}
-use Rattle.regress_syntax.proofs.ScannerLemmas.{apart_behind, refused_behind, levels_behind, many_behind}
+use Rattle.regress_syntax.proofs.ScannerLemmas.{apart_after, rejected_after, open_groups_after, many_after}
 use Rattle.regress_syntax.proofs.scan.scanner.Scanner.finish.Goals as goal
 
-pub returns-then-not-are_neighbours_apart-clause-refused : goal.returns-then-not-are_neighbours_apart-clause-refused
-returns-then-not-are_neighbours_apart-clause-refused c = λ all behind.
+pub returns-then-not-are_neighbours_apart-clause-rejected : goal.returns-then-not-are_neighbours_apart-clause-rejected
+returns-then-not-are_neighbours_apart-clause-rejected c = λ all after.
     let near = c.if-not-are_neighbours_apart.ensures in
     let here = rw c.deref-2.ensures.value at near in
-    rw c.refused.ensures
-    (refused_behind all c.args.self behind
+    rw c.rejected.ensures
+    (rejected_after all c.args.self after
     (conflict_in_any_order c.args.self.named.items c.sort.new.self.items
     (IsPermutation-trans _ _ _ c.in_ok-sort_by_name.ensures.permutation c.in_ok-sort.ensures.permutation) here))
 
-pub returns-then-len-clause-refused : goal.returns-then-len-clause-refused
-returns-then-len-clause-refused c = λ all behind.
+pub returns-then-len-clause-rejected : goal.returns-then-len-clause-rejected
+returns-then-len-clause-rejected c = λ all after.
     let many : 2 ^ 32 - 1 < length c.args.self.names.items = omega (arith, c.if-len.true) in
-    rw c.refused-then-len.ensures (many_behind all c.args.self behind many)
+    rw c.rejected-then-len.ensures (many_after all c.args.self after many)
 
 pub returns-clause-apart : goal.returns-clause-apart
-returns-clause-apart c = λ all behind.
+returns-clause-apart c = λ all after.
     let near = c.if-not-are_neighbours_apart.ensures in
     let here = rw c.deref-2.ensures.value at near in
-    apart_behind all c.args.self behind (levels_behind all c.args.self behind (omega (arith, c.if-self.false)))
+    apart_after all c.args.self after (open_groups_after all c.args.self after (omega (arith, c.if-self.false)))
     ∙ apart_in_any_order c.args.self.named.items c.sort.new.self.items
     (IsPermutation-trans _ _ _ c.in_ok-sort_by_name.ensures.permutation c.in_ok-sort.ensures.permutation) c.in_ok-sort.ensures.sorted here
 

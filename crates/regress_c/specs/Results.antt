@@ -1,0 +1,38 @@
+-- The results of calls.
+use Rattle.std.specs.Prelude.{◌≡◌, ◌<◌, ◌++◌, ℕ, Bool, true, false, List, drop, length}
+use Rattle.regress_tree.specs.NormalForm.{IsNormal}
+use Rattle.regress_tree.specs.Setting.{Setting}
+use Rattle.regress_tree.specs.Tree.{Tree}
+use Rattle.regress_tree.specs.WellFormed.{captures}
+use Rattle.regress_lexer.specs.Source.{Source}
+use Rattle.regress_lexer.specs.declared.fault.FaultKind.{FaultKind}
+use Rattle.regress_syntax.specs.Syntax.{Pattern}
+use Rattle.regress_parse.specs.TreeOf.{tree_of}
+use Rattle.regress_parse.specs.Accepted.{IsAccepted, IsTrueOf, Means}
+use Rattle.regress_parse.specs.Fault.{text_of}
+use Rattle.regress_words.specs.Words.{encode}
+
+-- A tree of the pattern that the source denotes: as parsed, or in normal form.
+pub record IsResult (setting : Setting) (source : Source) (optimized : Bool) (t : Tree) : Type 0 where
+  pub pattern : Pattern
+  pub accepted : IsAccepted setting source pattern
+  pub parsed : optimized ≡ false → t ≡ tree_of setting.table pattern
+  pub normal : optimized ≡ true → IsNormal t
+  pub meaning : Means setting t pattern
+  pub captures : captures t ≡ captures (tree_of setting.table pattern)
+
+-- the encoding of such a tree
+abbrev pub AreWords : Setting → Source → Bool → List ℕ → Type 0
+AreWords setting source optimized words = (t : Tree) × IsResult setting source optimized t × (words ≡ encode t)
+
+-- the text of a syntax error that the source has
+abbrev pub IsText : Setting → Source → List ℕ → Type 0
+IsText setting source text = (kind : FaultKind) × (text ≡ text_of kind) × IsTrueOf setting source kind
+
+-- All items of a list with this property are at the start of the buffer, and `needed` is their number.
+abbrev pub Gives : {X : Type 0} → (List X → Type 0) → (needed : ℕ) (old new : List X) → Type 0
+Gives {X} P needed old new = (items : List X) × P items × (needed ≡ length items) × (new ≡ items ++ drop (length items) old)
+
+-- The buffer is shorter than a list of items with this property, and `needed` is their number.
+abbrev pub IsTooSmall : {X : Type 0} → (List X → Type 0) → (needed : ℕ) (old : List X) → Type 0
+IsTooSmall {X} P needed old = (items : List X) × P items × (needed ≡ length items) × (length old < length items)

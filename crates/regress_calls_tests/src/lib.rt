@@ -1,6 +1,0 @@
-//! Tests of the callers in `regress_calls`, and of what test cases in data files cannot express. They are in a crate of
-//! their own, since a crate with tests is proved twice.
-#![tactic(auto)]
-
-#[cfg(test)]
-mod tests;

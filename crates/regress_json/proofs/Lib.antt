@@ -1,0 +1,5 @@
+pub mod JsonLemmas
+pub mod lemmas
+mod ReportingLemmas
+mod PieceLemmas
+mod KindLemmas

@@ -1,0 +1,9 @@
+pub mod Source
+pub mod Digits
+pub mod Escapes
+pub mod Quantifiers
+pub mod FirstCodePoint
+pub mod Modifiers
+pub mod Fault
+pub mod Reads
+pub mod Views

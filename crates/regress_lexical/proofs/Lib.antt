@@ -1,2 +1,0 @@
-pub mod laws
-mod ModifierLemmas

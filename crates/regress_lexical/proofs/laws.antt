@@ -1,7 +1,0 @@
--- Lemmas about this crate's definitions, for the crates that depend on it.
-pub mod Sources
-pub mod Digits
-pub mod Behind
-pub mod InRange
-pub mod Quantifiers
-pub mod Faults

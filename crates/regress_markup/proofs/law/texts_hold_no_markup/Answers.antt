@@ -1,6 +1,0 @@
-use Rattle.std.proofs.Common.{chars}
-use Rattle.regress_markup.proofs.EscapeLemmas.{plain_texts}
-use Rattle.regress_markup.proofs.law.texts_hold_no_markup.Goals as goal
-
-pub returns : goal.returns
-returns c = λ text. plain_texts (chars text)

@@ -1,0 +1,12 @@
+-- Finding one more match extends a list of matches.
+use Rattle.std.proofs.Common.{ℕ, List, [], ◌∷◌, ◌++◌, refl, subst}
+use Rattle.regress_tree.specs.Steps.{MatchState}
+use Rattle.regress_match.specs.Matched.{IsLeftmost}
+use Rattle.regress_match.specs.Searched.{AreMatches, next_offset}
+use Rattle.regress_match.specs.declared.matching.Match.{Match}
+
+pub AreMatches-more : (text : List ℕ) (at : ℕ → List MatchState) (from to : ℕ) (ms : List Match) (m : Match) →
+    AreMatches text at from to ms → IsLeftmost text at to m → AreMatches text at from (next_offset m) (ms ++ m ∷ [])
+AreMatches-more text at from to [] m found next = (subst (λ k. IsLeftmost text at k m) found next, refl)
+AreMatches-more text at from to (first ∷ ms) m found next =
+    (found.0, AreMatches-more text at (next_offset first) to ms m found.1 next)

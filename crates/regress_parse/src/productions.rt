@@ -1,0 +1,174 @@
+//! Parses the productions of the grammar.
+ghost use Rattle.std.specs.Prelude.{◌≡◌, ◌≤◌, ◌+◌, ◌∷◌, false, Some};
+ghost use Rattle.regress_lexer.specs.Fault.{FailsBy};
+ghost use Rattle.regress_lexer.specs.Source.{Source, opening, ends_alternative};
+ghost use Rattle.regress_syntax.specs.Views.{group_of};
+ghost use Rattle.regress_syntax.specs.Syntax.{Item, Counts};
+ghost use Rattle.regress_syntax.specs.Productions.{opens, allows, head_of_item};
+ghost use Rattle.regress_base.specs.Limits.{max_nesting_depth};
+ghost use Rattle.regress_parse.specs.Reader.{Term, pattern_at, terms_at, term_at, item_after_head, with_quantifier};
+ghost use Rattle.regress_parse.specs.Parsing.{text, counted, direction_of, context_in, table_in, names_in_context, pattern_part, terms_part, term_part, item_part, Builds, Yields, Reaches};
+
+use crate::atom::{begins_anchor, parse_atom, push_simple_term};
+use crate::build::{make_alt, make_cat, make_group, make_literal, make_loop};
+use crate::parser::{Parser, PartContext};
+use regress_base::types::{CaptureGroupID, MAX_NESTING_DEPTH};
+use regress_lexer::quantifier::may_begin;
+use regress_syntax::fault::FaultKind;
+use regress_syntax::{Fault, Group, parse_group, parse_optional_quantifier};
+use regress_tree::ir::Node;
+
+impl Parser<'_> {
+    /// Parses alternatives up to a `)` or the end (ECMA-262, Disjunction).
+    #[cycle(parser)]
+    pub(crate) fn consume_disjunction(&mut self, around: &PartContext) -> Result<Node, Fault>
+        ensures value { Yields (pattern_part (table_in around.now) (names_in_context around.now)) (direction_of around.now) around.now.depth (counted self.old) self.new result
+            (pattern_at (context_in around.now) (text self.old)) }
+        ensures reached { FailsBy result (λ kind. Reaches kind (counted self.old) (around.now.depth + 1) (text self.old)) }
+    {
+        if around.depth >= MAX_NESTING_DEPTH {
+            return Err(self.cursor.reject(FaultKind::TooDeep));
+        }
+        let inside = PartContext {
+            depth: around.depth + 1,
+            ..*around
+        };
+        let first = self.consume_alternative(&inside);
+        if !self.cursor.is_at('|') {
+            return first;
+        }
+        let mut before = Vec::new(self.cursor.alloc);
+        let mut last = first?;
+        while self.cursor.try_consume('|') {
+            before.push(last)?;
+            last = self.consume_alternative(&inside)?;
+        }
+        Ok(make_alt(self.cursor.alloc, before, last)?)
+    }
+
+    /// Parses terms up to the end of the alternative (ECMA-262, Alternative). A single term needs no list.
+    #[cycle(parser)]
+    fn consume_alternative(&mut self, around: &PartContext) -> Result<Node, Fault>
+        requires { around.now.depth ≤ max_nesting_depth }
+        ensures value { Yields (terms_part (table_in around.now) (names_in_context around.now)) (direction_of around.now) around.now.depth (counted self.old) self.new result
+            (terms_at (context_in around.now) (text self.old)) }
+        ensures reached { FailsBy result (λ kind. Reaches kind (counted self.old) around.now.depth (text self.old)) }
+    {
+        if self.cursor.ends_alternative() {
+            return Ok(Node::Empty);
+        }
+        let first = self.consume_first_term(around);
+        if self.cursor.ends_alternative() {
+            return first;
+        }
+        self.consume_terms(first?, around)
+    }
+
+    /// Parses the first term. Most often it is a literal character, which needs no test of the other productions.
+    #[cycle(parser)]
+    fn consume_first_term(&mut self, around: &PartContext) -> Result<Node, Fault>
+        requires { around.now.depth ≤ max_nesting_depth }
+        ensures value { Yields (term_part (table_in around.now) (names_in_context around.now)) (direction_of around.now) around.now.depth (counted self.old) self.new result
+            (term_at (context_in around.now) (text self.old)) }
+        ensures reached { FailsBy result (λ kind. Reaches kind (counted self.old) around.now.depth (text self.old)) }
+    {
+        match self.cursor.next_plain() {
+            Some(c) => Ok(make_literal(self.cursor.alloc, c, &around.scope)?),
+            None => self.consume_term(around),
+        }
+    }
+
+    /// Parses the terms after the first one, up to the end of the alternative. Most of them need no test of the other
+    /// productions.
+    #[cycle(parser)]
+    fn consume_terms(&mut self, first: Node, around: &PartContext) -> Result<Node, Fault>
+        requires { around.now.depth ≤ max_nesting_depth }
+        ensures value { (t : Source) (before : Counts) (x : Term) → ends_alternative t ≡ false →
+            term_at (context_in around.now) t ≡ Some (x, text self.old) →
+            Builds (direction_of around.now) around.now.depth before self.old first (term_part (table_in around.now) (names_in_context around.now) x) (text self.old) →
+            Yields (terms_part (table_in around.now) (names_in_context around.now)) (direction_of around.now) around.now.depth before self.new result
+            (terms_at (context_in around.now) t) }
+        ensures reached { FailsBy result (λ kind. Reaches kind (counted self.old) around.now.depth (text self.old)) }
+    {
+        let mut parts = Vec::new(self.cursor.alloc);
+        parts.push(first)?;
+        while !self.cursor.ends_alternative() {
+            let taken = push_simple_term(&mut self.cursor, &around.scope, &mut parts)?;
+            if taken {
+                continue;
+            }
+            parts.push(self.consume_term(around)?)?;
+        }
+        Ok(make_cat(parts, around.backwards))
+    }
+
+    /// Parses an item and the quantifier after it (ECMA-262, Term).
+    #[cycle(parser)]
+    fn consume_term(&mut self, around: &PartContext) -> Result<Node, Fault>
+        requires { around.now.depth ≤ max_nesting_depth }
+        ensures value { Yields (term_part (table_in around.now) (names_in_context around.now)) (direction_of around.now) around.now.depth (counted self.old) self.new result
+            (term_at (context_in around.now) (text self.old)) }
+        ensures reached { FailsBy result (λ kind. Reaches kind (counted self.old) around.now.depth (text self.old)) }
+    {
+        let first = self.group_count;
+        let opened = self.cursor.rest.len();
+        if self.cursor.try_consume('(') {
+            let kind = parse_group(&mut self.cursor, around.scope.tables)?;
+            let allowed = kind.allows_quantifier(around.scope.flags.unicode);
+            let item = self.consume_group(kind, opened, around)?;
+            return self.consume_times(item, allowed, first, around);
+        }
+        let allowed = !begins_anchor(self.cursor.rest);
+        let left = MAX_NESTING_DEPTH - around.depth;
+        let item = parse_atom(&mut self.cursor, &around.scope, left)?;
+        self.consume_times(item, allowed, first, around)
+    }
+
+    /// Parses the quantifier after an item, if there is one (ECMA-262, Quantifier). `first` is the number of groups
+    /// before the item.
+    #[inline(always)]
+    fn consume_times(
+        &mut self,
+        item: Node,
+        allowed: bool,
+        first: CaptureGroupID,
+        around: &PartContext,
+    ) -> Result<Node, Fault>
+        ensures value { (x : Item) (before : Counts) → before.groups ≡ first → allowed ≡ allows around.now.scope.flags.unicode (head_of_item x) →
+            Builds (direction_of around.now) around.now.depth before self.old item (item_part (table_in around.now) (names_in_context around.now) x) (text self.old) →
+            Yields (term_part (table_in around.now) (names_in_context around.now)) (direction_of around.now) around.now.depth before self.new result
+            (with_quantifier (context_in around.now) (Some (x, text self.old))) }
+        ensures reached { FailsBy result (λ kind. Reaches kind (counted self.old) around.now.depth (text self.old)) }
+    {
+        if !may_begin(self.cursor.rest) {
+            return Ok(item);
+        }
+        let left = self.cursor.rest.len();
+        let times = parse_optional_quantifier(&mut self.cursor, &around.scope, allowed)?;
+        let Some(quantifier) = times else {
+            return Ok(item);
+        };
+        self.count_loop(left)?;
+        Ok(make_loop(self.cursor.alloc, item, quantifier, first..self.group_count)?)
+    }
+
+    /// Parses a group, after the code points that open it. `opened` is the number of code points that remained before
+    /// them.
+    #[cycle(parser)]
+    fn consume_group(
+        &mut self,
+        kind: Group,
+        opened: usize,
+        around: &PartContext,
+    ) -> Result<Node, Fault>
+        ensures value { Yields (item_part (table_in around.now) (names_in_context around.now)) (direction_of around.now) around.now.depth (counted self.old) self.new result
+            (item_after_head pattern_at (context_in around.now) (opens (group_of kind), text self.old)) }
+        ensures reached { FailsBy result (λ kind. Reaches kind (counted self.old) around.now.depth (opening ∷ text self.old)) }
+    {
+        let first = self.group_count;
+        self.count_group(&kind, opened)?;
+        let contents = self.consume_disjunction(&around.inside(&kind))?;
+        self.cursor.consume_closing(opened)?;
+        Ok(make_group(self.cursor.alloc, kind, first..self.group_count, contents)?)
+    }
+}

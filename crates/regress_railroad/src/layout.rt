@@ -1,0 +1,223 @@
+//! Lays out a tree as a diagram.
+
+use crate::boxes::{boxed, framed, set_box, tracks, turning};
+use crate::diagram::{BoxKind, Diagram, FrameKind, Iterations};
+use crate::labels::{Label, anchor_words, group_text, iterations_text, lookaround_words};
+use crate::names::{gather, name_of};
+use crate::row::{Piece, Row};
+use crate::sets::{
+    Character, only_character, set_label, set_of_bytes, set_of_characters, strings_label, written,
+};
+use regress_base::codepointset::CodePointSet;
+use regress_base::types::Quantifier;
+use regress_spans::Span;
+use regress_tree::ir::Node;
+use std::alloc::{AllocError, Global};
+use std::{mem, slice};
+
+/// The context in which a node is laid out.
+#[derive(Drop)]
+struct Setting<'a> {
+    alloc: Global,
+    names: &'a [Option<String>],
+    pattern: &'a [u32],
+    /// The spans of the remaining nodes, in postorder.
+    spans: slice::Iter<'a, Span>,
+    /// Whether the node is inside a lookbehind, where the parts of a `Cat` are reversed.
+    turned: bool,
+}
+
+/// Lays out a tree.
+pub(crate) fn layout(
+    alloc: Global,
+    node: &Node,
+    pattern: &[u32],
+    spans: &[Span],
+) -> Result<Diagram, AllocError> {
+    let mut names = Vec::new(alloc);
+    gather(alloc, node, &mut names)?;
+    let mut setting = Setting {
+        alloc,
+        names: &names,
+        pattern,
+        spans: spans.iter(),
+        turned: false,
+    };
+    lay_out(node, &mut setting)
+}
+
+/// Lays out a node.
+#[cycle(lay_out)]
+fn lay_out(node: &Node, setting: &mut Setting<'_>) -> Result<Diagram, AllocError> {
+    let mut pieces = Vec::new(setting.alloc);
+    add(node, setting, &mut pieces)?;
+    if setting.turned {
+        pieces.reverse();
+    }
+    let mut row = Row::new(setting.alloc, setting.pattern);
+    for (piece, span) in pieces {
+        row.push(piece, span)?;
+    }
+    row.finish()
+}
+
+/// Pieces with their spans, in the order of the tree.
+type Pieces = Vec<(Piece, Option<Span>)>;
+
+/// Adds the piece of a node.
+#[cycle(lay_out)]
+fn add(node: &Node, setting: &mut Setting<'_>, pieces: &mut Pieces) -> Result<(), AllocError> {
+    if let Node::Cat(parts) = node {
+        for part in parts {
+            add(part, setting, pieces)?;
+        }
+    }
+    let piece = piece(node, setting)?;
+    let span = setting.spans.next().copied();
+    if let Some(piece) = piece {
+        pieces.push((piece, span))?;
+    }
+    Ok(())
+}
+
+/// Returns the piece of a node that is not a `Cat`.
+#[cycle(lay_out)]
+fn piece(node: &Node, setting: &mut Setting<'_>) -> Result<Option<Piece>, AllocError> {
+    let alloc = setting.alloc;
+    let part = match node {
+        Node::Alt(..) => lay_out_tracks(node, setting)?,
+        Node::CaptureGroup { id, contents, .. } => {
+            let group = u32::from(*id) + 1;
+            let label = group_text(alloc, "group ", group, name_of(group, setting.names))?;
+            framed(alloc, FrameKind::Group, label, lay_out(contents, setting)?)?
+        }
+        Node::Loop { loopee, quant, .. } | Node::Loop1CharBody { loopee, quant } => {
+            let body = lay_out(loopee, setting)?;
+            turning(alloc, iterations(alloc, quant)?, body)?
+        }
+        Node::LookaroundAssertion {
+            negate,
+            backwards,
+            contents,
+            ..
+        } => {
+            let turned = mem::replace(&mut setting.turned, *backwards);
+            let body = lay_out(contents, setting)?;
+            setting.turned = turned;
+            lookaround(alloc, *negate, *backwards, body)?
+        }
+        _ => return leaf(node, setting),
+    };
+    Ok(Some(Piece::Part(part)))
+}
+
+/// Lays out alternatives. It iterates over right sides: there may be as many nested ones as alternatives.
+#[cycle(lay_out)]
+fn lay_out_tracks(node: &Node, setting: &mut Setting<'_>) -> Result<Diagram, AllocError> {
+    let Node::Alt(left, right) = node else {
+        return Ok(Diagram::line());
+    };
+    let mut all = Vec::new(setting.alloc);
+    all.push(lay_out(left, setting)?)?;
+    let mut rest: &Node = right;
+    while let Node::Alt(left, right) = rest {
+        all.push(lay_out(left, setting)?)?;
+        rest = right;
+    }
+    all.push(lay_out(rest, setting)?)?;
+    // The spans of the inner `Alt`s come before that of the outermost one.
+    for _inner in 2..all.len() {
+        setting.spans.next();
+    }
+    Ok(tracks(all))
+}
+
+/// Returns the lines of a loop.
+fn iterations(alloc: Global, quant: &Quantifier) -> Result<Iterations, AllocError> {
+    let again = match quant.max {
+        Some(max) => max > 1,
+        None => true,
+    };
+    let none = quant.min == 0;
+    let label = iterations_text(alloc, quant)?;
+    Ok(Iterations { again, none, label })
+}
+
+fn lookaround(
+    alloc: Global,
+    negate: bool,
+    backwards: bool,
+    body: Diagram,
+) -> Result<Diagram, AllocError> {
+    let kind = if negate {
+        FrameKind::Without
+    } else {
+        FrameKind::PartContext
+    };
+    let label = String::from_str(alloc, lookaround_words(negate, backwards))?;
+    framed(alloc, kind, label, body)
+}
+
+/// Returns the piece of a leaf.
+fn leaf(node: &Node, setting: &Setting<'_>) -> Result<Option<Piece>, AllocError> {
+    let alloc = setting.alloc;
+    Ok(Some(match node {
+        Node::Char { c } => Piece::Character(Character::plain(*c)),
+        Node::ByteSequence(bytes) => Piece::Text(String::from_utf8_lossy(alloc, bytes)?),
+        Node::ByteSet(bytes) => set(alloc, false, set_of_bytes(alloc, bytes)?)?,
+        Node::CharSet(all) => set(alloc, false, set_of_characters(alloc, all)?)?,
+        Node::Bracket(contents) => {
+            let (negated, all) = written(alloc, contents)?;
+            set(alloc, negated, all)?
+        }
+        Node::StringSet {
+            alternatives,
+            icase,
+        } => Piece::Part(set_box(alloc, strings_label(alloc, alternatives, *icase)?)),
+        Node::BackRef { group, icase } => Piece::Part(reference(*group, *icase, setting)?),
+        Node::Goal => Piece::Part(Diagram::end()),
+        Node::MatchAny => words(alloc, BoxKind::Set, "any character"),
+        Node::MatchAnyExceptLineTerminator => words(alloc, BoxKind::Set, "any but a line end"),
+        Node::Anchor {
+            anchor_type,
+            multiline,
+        } => words(
+            alloc,
+            BoxKind::Position,
+            anchor_words(*anchor_type, *multiline),
+        ),
+        Node::WordBoundary { invert: false, .. } => {
+            words(alloc, BoxKind::Position, "word boundary")
+        }
+        Node::WordBoundary { invert: true, .. } => {
+            words(alloc, BoxKind::Position, "no word boundary")
+        }
+        _ => return Ok(None),
+    }))
+}
+
+/// Returns a box of words only.
+fn words(alloc: Global, kind: BoxKind, words: &'static str) -> Piece {
+    Piece::Part(boxed(kind, Label::words(alloc, words)))
+}
+
+fn reference(group: u32, icase: bool, setting: &Setting<'_>) -> Result<Diagram, AllocError> {
+    let label = Label {
+        front: "what group",
+        text: group_text(setting.alloc, "", group, name_of(group, setting.names))?,
+        after: if icase {
+            "captured, in either case"
+        } else {
+            "captured"
+        },
+    };
+    Ok(boxed(BoxKind::Reference, label))
+}
+
+/// Returns the piece of a set or, if `negated`, of its complement. A set of one character is that character.
+fn set(alloc: Global, negated: bool, set: CodePointSet) -> Result<Piece, AllocError> {
+    if !negated && let Some(character) = only_character(set.intervals()) {
+        return Ok(Piece::Character(character));
+    }
+    Ok(Piece::Part(set_box(alloc, set_label(alloc, negated, set)?)))
+}

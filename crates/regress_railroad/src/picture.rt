@@ -1,0 +1,100 @@
+//! Diagrams of patterns as SVG documents.
+ghost use Rattle.std.specs.Prelude.{◌≡◌, IfOk, OnOk, string_bytes};
+ghost use Rattle.regress_svg.specs.Markup.{IsDocument};
+
+use crate::diagram::{Diagram, Point};
+use crate::draw::draw;
+use crate::layout::layout;
+use crate::parts::draw_circle;
+use crate::style::{MARGIN, STYLE};
+use crate::ways::{Drawn, draw_line};
+use regress_spans::Span;
+use regress_svg::{Element, Sheet};
+use regress_tree::ir::Regex;
+use std::alloc::{AllocError, Global};
+
+/// Returns a railroad diagram of a pattern, as an SVG 1.1 document with its own style sheet and without references to
+/// other files.
+///
+/// The diagram reads from left to right: the parts of a sequence are matched in order, and of branches one above the
+/// other one is taken. Lines that lead back are further iterations of a loop, and lines above a box bypass it. Names of
+/// groups and characters of the pattern are text; invisible characters are shown by their numbers, as `U+000A`. A long
+/// set is cut off, with the number of omitted items. Parts of a lookbehind are in the order of the pattern.
+///
+/// # Errors
+/// Returns [`AllocError`] if an allocation fails. `regex` is only read.
+///
+/// # Complexity
+/// Time and memory are linear in the size of the tree. The depth of recursion is the nesting depth; right sides of
+/// alternatives take no stack.
+pub fn svg(alloc: Global, regex: &Regex) -> Result<String, AllocError>
+    ensures { IfOk result (λ text. IsDocument (string_bytes text)) }
+{
+    svg_with_titles(alloc, regex, &[], &[])
+}
+
+/// Returns the diagram of [`svg`] for a parsed tree, with titles: pointing at a box, a frame or a loop shows the part
+/// of the pattern that it came from, up to 60 code points.
+///
+/// `pattern` is the parsed pattern as code points, and `spans` are the spans that `try_parse_with_spans` returns for
+/// it. A node without a span, or with one that is not inside the pattern, has no such title.
+///
+/// # Errors
+/// Returns [`AllocError`] if an allocation fails. The arguments are only read.
+///
+/// # Complexity
+/// As [`svg`].
+pub fn svg_with_titles(
+    alloc: Global,
+    regex: &Regex,
+    pattern: &[u32],
+    spans: &[Span],
+) -> Result<String, AllocError>
+    ensures { IfOk result (λ text. IsDocument (string_bytes text)) }
+{
+    let diagram = layout(alloc, &regex.node, pattern, spans)?;
+    let extent = diagram.extent;
+    let margins = 2 * MARGIN;
+    let width = extent.width.saturating_add(margins);
+    let height = extent
+        .above
+        .saturating_add(extent.below)
+        .saturating_add(margins);
+    let mut sheet = Sheet::new(alloc, width, height)?;
+    draw_paper(width, height, &mut sheet)?;
+    let start = Point {
+        x: MARGIN,
+        y: extent.above.saturating_add(MARGIN),
+    };
+    draw_whole(&diagram, start, &mut sheet)?;
+    sheet.finish()
+}
+
+/// Draws the background, and the title and description of the whole.
+fn draw_paper(width: u32, height: u32, sheet: &mut Sheet) -> Drawn
+    ensures { OnOk result (sheet.new.depth ≡ sheet.old.depth) }
+{
+    sheet.draw(Element::Title("Railroad diagram of a regular expression"))?;
+    sheet.draw(Element::Description(
+        "Follow the lines from left to right. A box is what is matched. Of branches one above the other, one is taken. \
+         A line that leads back below is a further iteration of a loop, and a line above bypasses it.",
+    ))?;
+    sheet.draw(Element::Style(STYLE))?;
+    sheet.draw(Element::Rectangle {
+        class: "paper",
+        x: 0,
+        y: 0,
+        width,
+        height,
+        radius: 0,
+    })
+}
+
+/// Draws the start of the line, and the diagram after it.
+fn draw_whole(diagram: &Diagram, start: Point, sheet: &mut Sheet) -> Drawn
+    ensures { OnOk result (sheet.new.depth ≡ sheet.old.depth) }
+{
+    draw_line(start.left(MARGIN / 2), start, sheet)?;
+    draw_circle("mark", 5, start.left(MARGIN / 2), sheet)?;
+    draw(diagram, start, sheet)
+}

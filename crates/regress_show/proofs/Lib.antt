@@ -1,5 +1,0 @@
-pub mod JsonLemmas
-pub mod laws
-mod TellingLemmas
-mod PieceLemmas
-mod KindLemmas

@@ -1,2 +1,0 @@
--- Lemmas about this crate's definitions, for use in the crates above.
-pub mod Telling

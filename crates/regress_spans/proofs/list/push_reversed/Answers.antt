@@ -1,0 +1,18 @@
+use Rattle.std.proofs.Common.{◌++◌, List, Vec, sym, ap, ◌∙◌}
+use Rattle.std.specs.declared.alloc.Global.{Global}
+use Rattle.std.proofs.lemmas.List.{append_assoc}
+use Rattle.regress_spans.specs.declared.span.Span.{Span}
+use Rattle.regress_spans.specs.Reading.{turned}
+use Rattle.regress_spans.proofs.ListLemmas.{turned-push}
+use Rattle.regress_spans.proofs.list.push_reversed.Goals as goal
+
+pub loop-part-preserved : goal.loop-part-preserved
+loop-part-preserved c =
+    let before = c.loop-part.spans.items in
+    let rest = c.pop.new.self.items in
+    ap (λ (ss : List Span). ss ++ turned rest) c.in_ok-extend_from_slice.ensures.items
+    ∙ append_assoc before c.deref.result.now (turned rest)
+    ∙ ap (λ (ss : List Span). before ++ (ss ++ turned rest)) c.deref.ensures.value
+    ∙ ap (λ (ss : List Span). before ++ ss) (sym (turned-push rest c.in-Some.part))
+    ∙ ap (λ (ps : List (Vec Span Global)). before ++ turned ps) (sym c.in-Some.ensures.items)
+    ∙ c.loop-part.invariant

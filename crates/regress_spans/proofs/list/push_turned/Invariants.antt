@@ -1,9 +1,0 @@
-use Rattle.std.proofs.Common.{◌≡◌, ◌++◌, vec_len}
-use Rattle.regress_spans.specs.Reading.{turned}
-use Rattle.regress_spans.proofs.list.push_turned.Given as goal
-
-abbrev pub invariant-loop-part : goal.invariant-loop-part
-invariant-loop-part l = l.spans.items ++ turned l.parts.items ≡ l.fn.spans.items ++ turned l.fn.parts.items
-
-abbrev pub decreases-loop-part : goal.decreases-loop-part
-decreases-loop-part l = vec_len l.parts

@@ -1,0 +1,87 @@
+-- A picture: a document of XML 1.0 that contains elements of SVG.
+use Rattle.std.specs.Prelude.{◌≡◌, ℕ, zero, suc, List, [], ◌++◌, codes, flat_map, if◌then◌else◌, length, ◌==◌}
+use Rattle.std.specs.Fmt.{decimal}
+use Rattle.regress_svg.specs.Escape.{escaped_text}
+use Rattle.regress_svg.specs.declared.element.Element.{Element}
+use Rattle.regress_svg.specs.declared.element.Element.TheVariants.{Rectangle, Circle, Path, Text, Title, Description, Style}
+use Rattle.regress_svg.specs.declared.element.Step.{Step}
+use Rattle.regress_svg.specs.declared.element.Step.TheVariants.{Move, Line, Horizontal, Vertical, Curve}
+
+-- a path command
+abbrev pub step_bytes : Step → List ℕ
+step_bytes (Move x y) = codes "M" ++ decimal x ++ codes " " ++ decimal y
+step_bytes (Line x y) = codes "L" ++ decimal x ++ codes " " ++ decimal y
+step_bytes (Horizontal x) = codes "H" ++ decimal x
+step_bytes (Vertical y) = codes "V" ++ decimal y
+step_bytes (Curve control_x control_y x y) =
+    codes "Q" ++ decimal control_x ++ codes " " ++ decimal control_y ++ codes " " ++ decimal x ++ codes " " ++ decimal y
+
+abbrev pub steps_bytes : List Step → List ℕ
+steps_bytes steps = flat_map step_bytes steps
+
+-- the note after a text, or nothing if it is empty
+abbrev pub note_bytes : List ℕ → List ℕ
+note_bytes note = if length note == 0 then [] else codes "<tspan class=\"note\">" ++ escaped_text note ++ codes "</tspan>"
+
+abbrev pub path_bytes : List ℕ → ℕ → ℕ → List Step → List ℕ
+path_bytes class x y steps =
+    codes "<path class=\"" ++ escaped_text class ++ codes "\" d=\"M" ++ decimal x ++ codes " " ++ decimal y ++ steps_bytes steps ++ codes "\"/>"
+
+abbrev pub text_bytes : List ℕ → ℕ → ℕ → List ℕ → List ℕ → List ℕ
+text_bytes class x y text note =
+    codes "<text class=\"" ++ escaped_text class ++ codes "\" x=\"" ++ decimal x ++ codes "\" y=\"" ++ decimal y ++ codes "\">"
+    ++ escaped_text text ++ note_bytes note ++ codes "</text>"
+
+-- an element that contains no other element
+abbrev pub element_bytes : Element → List ℕ
+element_bytes (Rectangle class x y width height radius) =
+    codes "<rect class=\"" ++ escaped_text class.now ++ codes "\" x=\"" ++ decimal x ++ codes "\" y=\"" ++ decimal y ++ codes "\" width=\"" ++ decimal width
+    ++ codes "\" height=\"" ++ decimal height ++ codes "\" rx=\"" ++ decimal radius ++ codes "\"/>"
+element_bytes (Circle class x y radius) =
+    codes "<circle class=\"" ++ escaped_text class.now ++ codes "\" cx=\"" ++ decimal x ++ codes "\" cy=\"" ++ decimal y ++ codes "\" r=\"" ++ decimal radius
+    ++ codes "\"/>"
+element_bytes (Path class x y steps) = path_bytes class.now x y steps.now
+element_bytes (Text class x y text note) = text_bytes class.now x y text.now note.now
+element_bytes (Title text) = codes "<title>" ++ escaped_text text.now ++ codes "</title>"
+element_bytes (Description text) = codes "<desc>" ++ escaped_text text.now ++ codes "</desc>"
+element_bytes (Style text) = codes "<style>" ++ escaped_text text.now ++ codes "</style>"
+
+-- the start tag of a group; its end tag is `</g>`
+abbrev pub group_tag : List ℕ → List ℕ
+group_tag class = codes "<g class=\"" ++ escaped_text class ++ codes "\">"
+
+-- the start tag of the picture; its end tag is `</svg>`
+abbrev pub root_tag : ℕ → ℕ → List ℕ
+root_tag width height =
+    codes "<svg xmlns=\"http://www.w3.org/2000/svg\" viewBox=\"0 0 " ++ decimal width ++ codes " " ++ decimal height
+    ++ codes "\" width=\"" ++ decimal width ++ codes "\" height=\"" ++ decimal height ++ codes "\" role=\"img\">"
+
+-- content: a list of elements and of groups with content
+pub data Content : Type 0 where
+  nothing : Content
+  element : Element → Content → Content
+  group : (class : List ℕ) → (inside more : Content) → Content
+
+abbrev pub content_bytes : Content → List ℕ
+content_bytes nothing = []
+content_bytes (element e more) = element_bytes e ++ content_bytes more
+content_bytes (group class inside more) = group_tag class ++ content_bytes inside ++ codes "</g>" ++ content_bytes more
+
+-- the bytes of a whole picture
+abbrev pub IsDocument : List ℕ → Type 0
+IsDocument bytes =
+    (width : ℕ) × (height : ℕ) × (content : Content) × (bytes ≡ root_tag width height ++ content_bytes content ++ codes "</svg>")
+
+-- an unfinished picture
+pub record Drawn : Type 0 where
+  -- the number of open groups
+  pub depth : ℕ
+  -- its bytes
+  pub written : List ℕ
+
+-- The bytes of an unfinished picture with that number of open groups: each open group contains content, and then the
+-- next open group.
+abbrev pub IsFirstSet : ℕ → List ℕ → Type 0
+IsFirstSet zero bytes = (width : ℕ) × (height : ℕ) × (content : Content) × (bytes ≡ root_tag width height ++ content_bytes content)
+IsFirstSet (suc depth) bytes =
+    (before class : List ℕ) × (content : Content) × IsFirstSet depth before × (bytes ≡ before ++ group_tag class ++ content_bytes content)

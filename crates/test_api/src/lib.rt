@@ -1,0 +1,6 @@
+//! Tests of the callers in `example_callers`, and of what test cases in data files cannot express. They are in a crate of
+//! their own, since a crate with tests is proved twice.
+#![tactic(auto)]
+
+#[cfg(test)]
+mod tests;

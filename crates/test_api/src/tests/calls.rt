@@ -1,0 +1,73 @@
+//! The callers of docs/guide.md, and functions that state a theorem and do nothing.
+
+use example_callers::caller::optimized_text;
+use example_callers::caret::pointed_at;
+use example_callers::quickstart::{compile, find_matches};
+use example_callers::underline::underlined_loop;
+use regress_front::codepointset::canonical_form_is_unique;
+use regress_front::types::{Flags, limits_are_as_defined};
+use regress_front::unicode::Tables;
+use std::test::Fail;
+
+#[test]
+fn functions_that_state_theorems_return(_rt: HostRuntime) {
+    canonical_form_is_unique();
+    limits_are_as_defined();
+}
+
+#[test]
+fn another_crate_calls_the_library(rt: HostRuntime) -> Result<(), Fail> {
+    let alloc = rt.alloc();
+    let text = optimized_text(alloc, "(?:a|\u{E9})", Flags::default())?;
+    assert_eq!(rt;
+        text.as_str(),
+        "Cat\n..Alt\n....ByteSeq1 0x61\n....ByteSeq2 0xc3a9\n..Goal\n"
+    );
+    match optimized_text(alloc, "a)", Flags::default()) {
+        Ok(_text) => assert!(rt; false, "it is accepted"),
+        Err(fault) => {
+            let message = fault.to_string(alloc)?;
+            assert_eq!(rt; message.as_str(), "Unbalanced parenthesis");
+        }
+    }
+    Ok(())
+}
+
+#[test]
+fn a_caret_is_below_the_position_of_a_syntax_error(rt: HostRuntime) -> Result<(), Fail> {
+    let alloc = rt.alloc();
+    let tables = Tables::small(alloc)?;
+    match pointed_at(alloc, "ab[c", Flags::default(), &tables)? {
+        Some(shown) => assert_eq!(rt; shown.as_str(), "ab[c\n  ^ Unbalanced bracket"),
+        None => assert!(rt; false, "it is accepted"),
+    }
+    assert!(rt; pointed_at(alloc, "ab", Flags::default(), &tables)?.is_none());
+    Ok(())
+}
+
+#[test]
+fn a_loop_without_a_bound_is_underlined(rt: HostRuntime) -> Result<(), Fail> {
+    let alloc = rt.alloc();
+    let tables = Tables::small(alloc)?;
+    match underlined_loop(alloc, "x(?:ab)*y", Flags::default(), &tables)? {
+        Some(shown) => assert_eq!(rt; shown.as_str(), "x(?:ab)*y\n ~~~~~~~"),
+        None => assert!(rt; false, "there is a loop"),
+    }
+    assert!(rt; underlined_loop(alloc, "a{2}", Flags::default(), &tables)?.is_none());
+    Ok(())
+}
+
+#[test]
+fn the_matches_of_a_pattern_are_found(rt: HostRuntime) -> Result<(), Fail> {
+    let alloc = rt.alloc();
+    let tables = Tables::small(alloc)?;
+    let regex = compile(alloc, "a?b", Flags::default(), &tables)?;
+    match find_matches(alloc, &regex, &tables, "ab ba aab", 9)? {
+        Some(spans) => {
+            assert_eq!(rt; spans.len(), 3);
+            assert_eq!(rt; spans[2], (7, 9));
+        }
+        None => assert!(rt; false, "the steps are enough"),
+    }
+    Ok(())
+}

@@ -1,0 +1,53 @@
+//! The linter of docs/guide.md.
+
+use super::parsed;
+use example_callers::linter::lint;
+use std::test::Fail;
+
+#[test]
+fn a_linter_lists_groups_and_warns_of_nested_loops(rt: HostRuntime) -> Result<(), Fail> {
+    let alloc = rt.alloc();
+    for (pattern, wanted) in [
+        (
+            "(?<year>a)|(b(c))",
+            "Report { groups: [Group { id: 0, name: Some(\"year\") }, Group { id: 1, name: None }, Group { id: 2, name: None }], loops: 0, lookarounds: 0, nested: false }",
+        ),
+        (
+            "(?:a+b)*(?=c)",
+            "Report { groups: [], loops: 2, lookarounds: 1, nested: true }",
+        ),
+        // loops in sequence, and with a maximum
+        (
+            "a+b*(?:c+){3}",
+            "Report { groups: [], loops: 4, lookarounds: 0, nested: false }",
+        ),
+    ] {
+        let report = lint(alloc, &parsed(alloc, pattern, false)?)?;
+        assert_eq!(rt;
+            format!(in alloc; "{report:?}")?.as_str(),
+            wanted,
+            "{pattern}"
+        );
+    }
+    Ok(())
+}
+
+#[test]
+fn nested_unbounded_loops_are_reported(rt: HostRuntime) -> Result<(), Fail> {
+    let alloc = rt.alloc();
+    for (pattern, wanted) in [
+        ("(a*)*", true),
+        ("(?:b|(?=a{2,}))+", true),
+        ("a*(?:b(?:c+d)?)*", true),
+        ("(?:a+){2}", false),
+        // the earlier loop is not around
+        ("(?:b(?:c(?:a+)))(?:d?)e*", false),
+        ("(?:a*|b+)c*", false),
+        // two ways to match with one loop
+        ("(?:a|a)*", false),
+    ] {
+        let report = lint(alloc, &parsed(alloc, pattern, false)?)?;
+        assert_eq!(rt; report.nested, wanted, "{pattern}");
+    }
+    Ok(())
+}

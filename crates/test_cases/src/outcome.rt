@@ -1,0 +1,112 @@
+//! The question that a test case asks about a text, and the notation of its outcome.
+
+use crate::positions::{byte_position, characters_before};
+use regress_match::{Match, Matches, Outcome, find, match_at};
+use regress_tree::ir::Regex;
+use regress_unicode::Tables;
+use test_notation::{Call, Fault, parse_decimal};
+
+/// The step limit of a test case that states none.
+const STEPS: u64 = 10_000_000;
+
+/// The question about a text.
+#[derive(Clone, Copy)]
+pub(crate) enum Question {
+    /// The first match, with this step limit.
+    First(u64),
+    /// The match that starts after this number of characters.
+    At(u32),
+    /// All matches.
+    All,
+}
+
+pub(crate) fn parse_question(call: &mut Call) -> Question {
+    let field = call.field();
+    if field == "find" {
+        return Question::First(STEPS);
+    }
+    if field == "all" {
+        return Question::All;
+    }
+    let (name, number) = field.split_once(' ').unwrap_or((field, ""));
+    let number = call.read(parse_decimal(number), 0);
+    match name {
+        "at" => Question::At(number),
+        "find" => Question::First(u64::from(number)),
+        _ => {
+            call.fail(Fault::Line);
+            Question::All
+        }
+    }
+}
+
+/// Appends the outcome for a tree.
+pub(crate) fn response_question(
+    call: &mut Call,
+    question: Question,
+    regex: &Regex,
+    tables: &Tables,
+    text: &str,
+) {
+    match question {
+        Question::First(steps) => {
+            let outcome = find(call.alloc(), regex, tables, text, 0, steps);
+            let outcome = call.made(outcome, Outcome::NoMatch);
+            report(call, text, &outcome);
+        }
+        Question::At(characters) => {
+            let position = call.read(byte_position(text, characters), 0);
+            let outcome = match_at(call.alloc(), regex, tables, text, position, STEPS);
+            let outcome = call.made(outcome, Outcome::NoMatch);
+            report(call, text, &outcome);
+        }
+        Question::All => report_all(call, regex, tables, text),
+    }
+}
+
+/// Appends all matches, separated by ` | `, at most a hundred.
+fn report_all(call: &mut Call, regex: &Regex, tables: &Tables, text: &str) {
+    let mut matches = Matches::new(regex, tables, text, 0, STEPS);
+    for number in 0..100 {
+        let outcome = matches.next(call.alloc());
+        let outcome = call.made(outcome, Outcome::NoMatch);
+        let is_last = matches!(&outcome, Outcome::NoMatch);
+        if is_last && number > 0 {
+            return;
+        }
+        if number > 0 {
+            call.say(" | ");
+        }
+        report(call, text, &outcome);
+        if is_last {
+            return;
+        }
+    }
+}
+
+/// Appends an outcome in the notation of test cases.
+fn report(call: &mut Call, text: &str, outcome: &Outcome) {
+    match outcome {
+        Outcome::Matched(found) => report_spans(call, text, found),
+        Outcome::NoMatch => call.say("none"),
+        Outcome::OutOfSteps => call.say("out of steps"),
+    }
+}
+
+/// Appends the spans of a match and of its groups, counted in characters.
+fn report_spans(call: &mut Call, text: &str, found: &Match) {
+    report_span(call, text, found.start(), found.end());
+    for id in 0..found.group_count() {
+        call.say(" ");
+        match found.group(id) {
+            Some((start, end)) => report_span(call, text, start, end),
+            None => call.say("-"),
+        }
+    }
+}
+
+fn report_span(call: &mut Call, text: &str, start: usize, end: usize) {
+    call.add(&characters_before(text, start));
+    call.say("-");
+    call.add(&characters_before(text, end));
+}
