@@ -123,9 +123,9 @@ TestCase = ℕ × List MatchState
 -- The source is a pattern with these outcomes on the text, and its tree has the same, as byte offsets.
 unfoldable pub Gives : Setting → Source → List ℕ → List TestCase → Type 0
 unfolding outcomes tree_outcomes
-Gives setting source text productions =
-    (outcomes setting source text (map (λ r. r.0) productions) ≡ Some (map (λ r. r.1) productions))
-    × (tree_outcomes setting source text (map (λ r. r.0) productions) ≡ Some (map (λ r. map (byte_state text) r.1) productions))
+Gives setting source text searches =
+    (outcomes setting source text (map (λ r. r.0) searches) ≡ Some (map (λ r. r.1) searches))
+    × (tree_outcomes setting source text (map (λ r. r.0) searches) ≡ Some (map (λ r. map (byte_state text) r.1) searches))
 
 -- short forms of test cases and outcomes: a position, and the capture of each group
 abbrev pub from : ℕ → List MatchState → TestCase

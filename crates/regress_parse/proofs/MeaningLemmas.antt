@@ -32,7 +32,7 @@ use Rattle.regress_tree.proofs.lemmas.ByteStates.{distinct-byte_state}
 use Rattle.regress_tree.proofs.lemmas.Outcomes.{flat_map-stay}
 use Rattle.regress_tree.proofs.lemmas.Simulation.{Simulates, Simulates-within, Simulates-same_right, Simulates-stay, Simulates-fail, Simulates-then, Simulates-or, Simulates-one_character, Simulates-capture, Simulates-look}
 use Rattle.regress_tree.proofs.lemmas.Strings.{Simulates-any_string}
-use Rattle.regress_tree.proofs.lemmas.Turned.{steps-reverse_trees}
+use Rattle.regress_tree.proofs.lemmas.ReversedParts.{steps-reverse_trees}
 
 module _ (setting : Setting) (bytes : List ℕ) (d : Direction) where
   -- Reversing a list of one tree changes nothing.
@@ -65,8 +65,8 @@ Simulates-along text forwards e f g h k first second = Simulates-then text e f g
 Simulates-along text backwards e f g h k first second = Simulates-then text e h k f g second first
 
 module _ (setting : Setting) (text : List ℕ) where
-  -- Over the bytes of the text, the tree (or the list, in the order of the direction) does what the step does over its
-  -- characters.
+  -- Over the bytes of the text, the tree (or the list, in the order of the direction) does what the matcher does over
+  -- its characters.
   abbrev pub TreeSimulates : Direction → Matcher → Tree → Type 0
   TreeSimulates d f t = Simulates text d f (steps setting (encode_utf8_all text) d t)
 

@@ -104,7 +104,7 @@ spends_same now t = record { groups = omega arith; loops = omega arith }
 pub spends_then : {before mid now : Counts} {t u rest : Source} → CountsAtMostConsumed before mid t u → CountsAtMostConsumed mid now u rest → CountsAtMostConsumed before now t rest
 spends_then h k = record { groups = omega (arith, h.groups, k.groups); loops = omega (arith, h.loops, k.loops) }
 
--- Parsing without counting spends nothing.
+-- Parsing without counting keeps the bound.
 pub spends_read : (now : Counts) (t rest : Source) → length rest ≤ length t → CountsAtMostConsumed now now t rest
 spends_read now t rest shorter = record { groups = omega (arith, shorter); loops = omega (arith, shorter) }
 

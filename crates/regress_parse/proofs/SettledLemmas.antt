@@ -1,4 +1,4 @@
--- A source that starts with a misplaced code point, as the scan finds it, is not accepted.
+-- A source with an error that the scan finds is not accepted.
 use Rattle.std.proofs.Common.{◌≡◌, ℕ, suc, ◌+◌, ◌-◌, false, ◌++◌, take, drop, length, Some, Err, refl, sym, ap, subst, arith}
 use Rattle.regress_base.specs.Table.{IsValidTable}
 use Rattle.regress_tree.specs.Setting.{Setting}

@@ -15,7 +15,7 @@ use Rattle.regress_tree.specs.Tree.{Tree, Trees, no_trees, more_trees, char, mat
 use Rattle.regress_tree.specs.Setting.{Setting}
 use Rattle.regress_tree.specs.WellFormed.{inside, LeafIsAllowed, IsQuantifier, HasGroups, IsAllowed, PartsAllowed, IsWellFormed, captures}
 use Rattle.regress_base.proofs.lemmas.Literals.{class_of-bounded, class_of-few}
-use Rattle.regress_tree.proofs.lemmas.Turned.{PartsAllowed-reverse_trees}
+use Rattle.regress_tree.proofs.lemmas.ReversedParts.{PartsAllowed-reverse_trees}
 use Rattle.regress_classes.specs.ClassProductions.{members_of}
 use Rattle.regress_classes.specs.ClassSets.{Value}
 use Rattle.regress_lexer.specs.Source.{Source, IsCodePoint}

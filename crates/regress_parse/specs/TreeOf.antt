@@ -58,6 +58,7 @@ alternation [] = leaf (char_set [])
 alternation (t ∷ []) = t
 alternation (t ∷ next ∷ ts) = alt t (alternation (next ∷ ts))
 
+-- a back reference to each of these groups
 abbrev pub references : (icase : Bool) → List ℕ → List Tree
 references icase = map (λ k. leaf (back_ref k icase))
 
@@ -73,13 +74,14 @@ strings_or_points false true has_empty strings points = or_empty has_empty (leaf
 strings_or_points true false has_empty strings points = or_empty has_empty (leaf strings)
 strings_or_points true true has_empty strings points = alt (leaf strings) (or_empty has_empty (leaf points))
 
--- The tree of a class with the flag v, given the closure of its code points. A negated class always has a bracket.
+-- The tree of a class with the flag v, given the closure of its code points. An inverted class always has a bracket.
 abbrev pub tree_of_class : (icase negated : Bool) → Value → (closed : List Bounds) → Tree
 tree_of_class icase negated value closed =
     strings_or_points (not (length value.strings == 0)) (negated || not (length closed == 0)) value.has_empty
     (string_set (longest_first value.strings) icase) (bracket negated closed)
 
 module _ (table : Table) (names : List (Option Name)) where
+  -- the tree of an atom, with the flags in force there
   abbrev pub tree_of_atom : Atom → Tree
   tree_of_atom (literal flags c) = leaf (leaf_of_literal table flags c)
   tree_of_atom (dot flags) = leaf (if flags.dot_all then match_any else match_any_except_line_terminator)

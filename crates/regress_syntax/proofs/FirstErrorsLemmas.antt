@@ -1,4 +1,4 @@
--- The scan's notes on misplaced code points, from one code point to the next.
+-- The first errors that the scan notes, from one code point to the next.
 use Rattle.std.proofs.Common.{◌≡◌, ℕ, ◌+◌, ◌-◌, max, Bool, true, false, cond, ◌==◌, ◌&&◌, [], ◌∷◌, drop, length, Option, Some, None, refl, sym, ap, ◌∙◌, subst, arith}
 use Rattle.std.specs.Option.{option_or}
 use Rattle.std.proofs.lemmas.Option.{none-some, same_Some}
@@ -28,7 +28,7 @@ left_quiet too_deep true (in_class depth deepest) n c t e =
 left_quiet too_deep false (in_class depth deepest) n c t e =
     let no = unquiet (c == 92) (c == 91) (c == 93) (c == opening) (c == closing) (c == bar) e in rw (no.0, no.1, no.2) refl
 
--- An escape has no misplaced code point.
+-- An escape has none of these errors.
 pub left_escape : (flaw : Flaw) (sets : Bool) (w : Home) (n : ℕ) (t : Source) →
     remaining_at flaw sets (home w) n (92 ∷ t) ≡ remaining_at flaw sets (home w) n (drop 1 t)
 unfolding remaining_at

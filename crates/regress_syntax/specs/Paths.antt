@@ -81,5 +81,6 @@ are_apart (g ∷ gs) = list_all (λ other. not (conflict g other)) gs && are_apa
 abbrev pub are_marks_apart : List Mark → Bool
 are_marks_apart ms = are_apart (groups_by at_the_start ms)
 
+-- No two groups of the marks conflict.
 abbrev pub NoMarksConflict : List Mark → Type 0
 NoMarksConflict ms = IsTrue (are_marks_apart ms)

@@ -27,10 +27,12 @@ use Rattle.regress_syntax.specs.declared.scan.first_errors.FirstErrors.{FirstErr
 
 -- ---- marks
 
+-- a mode of the code; it has no mode for after a backslash, since it skips an escape at once
 abbrev pub mode_of : CodeMode → Mode
 mode_of modes.Plain = plain
 mode_of (modes.Class depth deepest) = class depth deepest
 
+-- a mark of the code
 abbrev pub mark_of : CodeMark → Mark
 mark_of code_marks.Opens = opens
 mark_of (code_marks.Captures name) = captures (option_map (λ name. name.items) name)
@@ -47,6 +49,7 @@ depth_of (class_escape depth deepest) = depth
 
 -- ---- paths and positions
 
+-- an entry of a path of the code
 abbrev pub enclosing_disjunction_of : CodeLevel → Level
 enclosing_disjunction_of level = record { opening = level.opening; alternative = level.alternative }
 
@@ -54,6 +57,7 @@ enclosing_disjunction_of level = record { opening = level.opening; alternative =
 abbrev pub path_of : CodePath → Path
 path_of path = reverse (map enclosing_disjunction_of path.nesting.items)
 
+-- the position that the scanner has reached
 abbrev pub position_of : Scanner → Position
 position_of scanner = record { path = path_of scanner.path; opened = scanner.opened }
 
@@ -84,6 +88,7 @@ capture_of group = record { path = path_of group.path; name = Some group.name.it
 abbrev pub name_and_number : NamedGroup → Name × ℕ
 name_and_number group = (group.name.items, group.number)
 
+-- The name of the one group is less than that of the other.
 abbrev pub is_before : NamedGroup → NamedGroup → Bool
 is_before group other = is_lt (slice_cmp nat_cmp group.name.items other.name.items)
 
@@ -92,6 +97,7 @@ abbrev pub HasNumbers : Scanner → Type 0
 HasNumbers scanner =
     length scanner.names.items < 2 ^ 32 → map name_and_number scanner.named.items ≡ numbered 1 (names_of scanner.names.items)
 
+-- The group has a name.
 abbrev pub bears_name : CaptureAt → Bool
 bears_name group = is_some group.name
 
@@ -106,7 +112,7 @@ pub record After (all rest : List Mark) (scanner : Scanner) : Type 0 where
   -- The depth saturates at `usize::MAX`.
   pub nesting : min (deepest 1 all) (2 ^ 64 - 1) ≡ min (max scanner.deepest (deepest (length (path_of scanner.path)) rest)) (2 ^ 64 - 1)
 
--- ---- misplaced positions
+-- ---- first errors
 
 -- the position that was noted for a flaw, as the number of code points that remain from it on
 abbrev pub noted : Flaw → FirstErrors → Option ℕ
@@ -126,6 +132,7 @@ abbrev pub OnRejection : Fault → (Rejection → Type 0) → Type 0
 OnRejection (Rejected r) P = P r
 OnRejection (Memory e) P = Unit {0}
 
+-- If the call fails with a syntax error, the property holds of it.
 abbrev pub FailsAt : {X : Type 0} → Result X Fault → (Rejection → Type 0) → Type 0
 FailsAt (Ok x) P = Unit {0}
 FailsAt (Err fault) P = OnRejection fault P

@@ -65,7 +65,7 @@ pub fn scan(alloc: Global, pattern: &[u32], sets: bool, tables: &Tables) -> Resu
     })
 }
 
-/// Returns the capture groups and the misplaced positions, with the errors of `scan`.
+/// Returns the capture groups and the first errors, with the errors of `scan`.
 fn find_groups(
     alloc: Global,
     pattern: &[u32],

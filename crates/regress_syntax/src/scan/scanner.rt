@@ -35,8 +35,8 @@ pub(super) struct Scanner {
     named: Vec<NamedGroup>,
 }
 
-/// A capture group with a name, and the path of its position. The path has at most `MAX_NESTING_DEPTH` levels, so that
-/// the paths of a deeply nested pattern do not take quadratic memory.
+/// A capture group with a name, and the path of its position. The path has at most `MAX_NESTING_DEPTH` disjunctions, so
+/// that the paths of a deeply nested pattern do not take quadratic memory.
 #[derive(PartialEq, Eq, PartialOrd, Ord, Drop)]
 struct NamedGroup {
     name: Name,

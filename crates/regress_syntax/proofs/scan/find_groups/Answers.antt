@@ -69,7 +69,7 @@ loop-c-preserved c =
       depth = omega (arith, depth-mode_after c.args.sets (mode_of c.loop-c.mode) c.in-Some.c.now, ap length c.in-Some.ensures.cases.0);
     })
 
--- At the end of the source all marks are passed, and the first misplaced code point of each kind is noted.
+-- At the end of the source all marks are passed, and the first error of each kind is noted.
 module _ (sets : Bool) (table : Table) (mode : Mode) (t rest here : Source) (empty : length here ≡ 0) where
   passed : (scanner : Scanner) → marks sets table mode rest ≡ marks sets table mode here →
       After (marks sets table plain t) (marks sets table mode rest) scanner → After (marks sets table plain t) [] scanner

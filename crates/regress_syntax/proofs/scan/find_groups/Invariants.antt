@@ -1,6 +1,6 @@
 -- What was found so far, with what the marks of the remaining source add, is what the marks of the whole pattern
--- determine. The same holds of misplaced code points. The number of open classes, and each number in the position, is
--- at most the number of code points passed.
+-- determine. The same holds of the first errors. The number of open classes, and each number in the position, is at
+-- most the number of code points passed.
 use Rattle.std.proofs.Common.{◌≡◌, ◌+◌, ◌≤◌, length}
 use Rattle.std.specs.Option.{option_or}
 use Rattle.regress_unicode.specs.TableOf.{table_of}

@@ -1,4 +1,4 @@
--- The remaining source has the same marks in each mode, and no misplaced code point was passed.
+-- The remaining source has the same marks in each mode, and no error was passed.
 use Rattle.std.proofs.Common.{◌≡◌, ℕ, Bool, ◌≤◌, length}
 use Rattle.regress_base.specs.Table.{Table}
 use Rattle.regress_syntax.specs.Scan.{marks}
