@@ -23,7 +23,7 @@ use Rattle.regress_lexer.specs.Views.{source}
 use Rattle.regress_parse.specs.declared.parser.Parser.{Parser}
 use Rattle.regress_parse.specs.declared.parser.PartContext.{PartContext}
 use Rattle.regress_parse.specs.Reader.{Term, pattern_at, term_at}
-use Rattle.regress_parse.specs.TreeOf.{tree_of_atom, tree_of_pattern, trees_of_terms, tree_of_item, tree_of_quantified, joined}
+use Rattle.regress_parse.specs.TreeOf.{tree_of_atom, tree_of_pattern, trees_of_terms, tree_of_item, tree_of_quantified, concatenation}
 use Rattle.regress_base.specs.Limits.{max_capture_groups, max_loops, max_nesting_depth}
 
 -- A part of the pattern: its tree in a direction after n opened groups, its counts and its nesting depth.
@@ -40,7 +40,7 @@ module _ (table : Table) (names : List (Option Name)) where
   -- a sequence of terms as a part
   abbrev pub terms_part : Terms → Part
   terms_part ts = record {
-    node = λ d n. joined d (trees_of_terms table names d n ts);
+    node = λ d n. concatenation d (trees_of_terms table names d n ts);
     counts = counts_of_terms ts;
     nesting = nesting_of_terms ts;
   }

@@ -14,15 +14,15 @@ use Rattle.regress_syntax.specs.Syntax.{Name, Atom, literal, dot, anchor, bounda
 use Rattle.regress_syntax.specs.Meaning.{is_in_class, longest_first, direction_of_group, referred}
 
 -- A list of parts is reversed where matching runs backwards.
-abbrev pub turned : Direction → Trees → Trees
-turned forwards ts = ts
-turned backwards ts = reverse_trees ts
+abbrev pub in_direction : Direction → Trees → Trees
+in_direction forwards ts = ts
+in_direction backwards ts = reverse_trees ts
 
 -- the tree of an alternative: `Empty` for no part, the part itself for one, a `Cat` for several
-abbrev pub joined : Direction → Trees → Tree
-joined d no_trees = leaf empty
-joined d (more_trees t no_trees) = t
-joined d (more_trees t (more_trees u us)) = cat (turned d (more_trees t (more_trees u us)))
+abbrev pub concatenation : Direction → Trees → Tree
+concatenation d no_trees = leaf empty
+concatenation d (more_trees t no_trees) = t
+concatenation d (more_trees t (more_trees u us)) = cat (in_direction d (more_trees t (more_trees u us)))
 
 abbrev pub is_backwards : Direction → Bool
 is_backwards forwards = false
@@ -99,8 +99,8 @@ module _ (table : Table) (names : List (Option Name)) where
   -- the trees in a direction, after n opened groups
   abbrev mutual
     pub tree_of_pattern : Direction → ℕ → Pattern → Tree
-    tree_of_pattern d n (one ts) = joined d (trees_of_terms d n ts)
-    tree_of_pattern d n (either ts p) = alt (joined d (trees_of_terms d n ts)) (tree_of_pattern d (n + (counts_of_terms ts).groups) p)
+    tree_of_pattern d n (one ts) = concatenation d (trees_of_terms d n ts)
+    tree_of_pattern d n (either ts p) = alt (concatenation d (trees_of_terms d n ts)) (tree_of_pattern d (n + (counts_of_terms ts).groups) p)
 
     -- in the order in which the terms are written
     pub trees_of_terms : Direction → ℕ → Terms → Trees

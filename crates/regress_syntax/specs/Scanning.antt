@@ -5,13 +5,13 @@ use Rattle.std.specs.Ordering.{nat_cmp, is_lt}
 use Rattle.regress_base.specs.Limits.{max_nesting_depth}
 use Rattle.regress_syntax.specs.Numbering.{names_of, numbered}
 use Rattle.regress_syntax.specs.Syntax.{Name}
-use Rattle.regress_syntax.specs.Marks.{Mark, opens, captures, closes, next, nests}
+use Rattle.regress_syntax.specs.GroupTokens.{GroupToken, opens, captures, closes, next, nests}
 use Rattle.regress_syntax.specs.Paths.{Level, Path, Position, CaptureAt, groups_by, at_the_start}
 use Rattle.regress_syntax.specs.Scan.{Mode, plain, escape, class, class_escape, named_by, deepest}
-use Rattle.regress_syntax.specs.declared.scan.mark.Mode.{Mode as CodeMode}
-use Rattle.regress_syntax.specs.declared.scan.mark.Mode.TheVariants as modes
-use Rattle.regress_syntax.specs.declared.scan.mark.Mark.{Mark as CodeMark}
-use Rattle.regress_syntax.specs.declared.scan.mark.Mark.TheVariants as code_marks
+use Rattle.regress_syntax.specs.declared.scan.token.Mode.{Mode as CodeMode}
+use Rattle.regress_syntax.specs.declared.scan.token.Mode.TheVariants as modes
+use Rattle.regress_syntax.specs.declared.scan.token.GroupToken.{GroupToken as CodeToken}
+use Rattle.regress_syntax.specs.declared.scan.token.GroupToken.TheVariants as code_tokens
 use Rattle.regress_syntax.specs.declared.scan.path.Level.{Level as CodeLevel}
 use Rattle.regress_syntax.specs.declared.scan.path.Path.{Path as CodePath}
 use Rattle.regress_syntax.specs.declared.scan.scanner.Scanner.{Scanner}
@@ -33,12 +33,12 @@ mode_of modes.Plain = plain
 mode_of (modes.Class depth deepest) = class depth deepest
 
 -- a mark of the code
-abbrev pub mark_of : CodeMark → Mark
-mark_of code_marks.Opens = opens
-mark_of (code_marks.Captures name) = captures (option_map (λ name. name.items) name)
-mark_of code_marks.Closes = closes
-mark_of code_marks.Next = next
-mark_of (code_marks.Nests nesting) = nests nesting
+abbrev pub token_of : CodeToken → GroupToken
+token_of code_tokens.Opens = opens
+token_of (code_tokens.Captures name) = captures (option_map (λ name. name.items) name)
+token_of code_tokens.Closes = closes
+token_of code_tokens.Next = next
+token_of (code_tokens.Nests nesting) = nests nesting
 
 -- the number of classes that are open inside the outermost one
 abbrev pub depth_of : Mode → ℕ
@@ -71,12 +71,12 @@ abbrev pub highest_at : Position → ℕ
 highest_at position = max position.opened (highest position.path)
 
 -- the number of open groups after a mark, the whole pattern included
-abbrev pub open_groups_after_mark : Mark → ℕ → ℕ
-open_groups_after_mark opens n = n + 1
-open_groups_after_mark (captures name) n = n + 1
-open_groups_after_mark closes n = max 1 (n - 1)
-open_groups_after_mark next n = n
-open_groups_after_mark (nests nesting) n = n
+abbrev pub open_groups_after_token : GroupToken → ℕ → ℕ
+open_groups_after_token opens n = n + 1
+open_groups_after_token (captures name) n = n + 1
+open_groups_after_token closes n = max 1 (n - 1)
+open_groups_after_token next n = n
+open_groups_after_token (nests nesting) n = n
 
 -- ---- groups
 
@@ -102,7 +102,7 @@ abbrev pub bears_name : CaptureAt → Bool
 bears_name group = is_some group.name
 
 -- The scanner's invariant: what it has found, with what the remaining marks add, is what all marks determine.
-pub record After (all rest : List Mark) (scanner : Scanner) : Type 0 where
+pub record After (all rest : List GroupToken) (scanner : Scanner) : Type 0 where
   pub names : named_by all ≡ names_of scanner.names.items ++ named_by rest
   -- Past the limit of the nesting depth, paths are cut short.
   pub named : deepest 1 all ≤ max_nesting_depth → filter bears_name (groups_by at_the_start all)

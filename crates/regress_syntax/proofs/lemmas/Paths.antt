@@ -7,7 +7,7 @@ use Rattle.std.proofs.lemmas.Bool.Decides.{nat_tests}
 use Rattle.std.proofs.lemmas.List.{reverse-append}
 use Rattle.std.proofs.lemmas.List.Folds.{list_any-append}
 use Rattle.std.specs.List.{list_all, list_any}
-use Rattle.regress_syntax.specs.Marks.{Mark, opens, captures, closes, next, nests}
+use Rattle.regress_syntax.specs.GroupTokens.{GroupToken, opens, captures, closes, next, nests}
 use Rattle.regress_syntax.specs.SameNames.{same_name}
 use Rattle.regress_syntax.specs.Paths.{Level, Path, Position, at_the_start, enter, outside, next_alternative, CaptureAt, groups_by, are_alternatives, conflict, are_apart}
 
@@ -244,7 +244,7 @@ abbrev pub are_apart_anywhere : List CaptureAt → Bool
 are_apart_anywhere [] = true
 are_apart_anywhere (g ∷ gs) = list_all (λ other. not (conflict_anywhere g other)) gs && are_apart_anywhere gs
 
-later_alike : (g : CaptureAt) (n k : ℕ) → Falls k g.path → Below n g.path → (position : Position) (ms : List Mark) →
+later_alike : (g : CaptureAt) (n k : ℕ) → Falls k g.path → Below n g.path → (position : Position) (ms : List GroupToken) →
     n ≤ position.opened + 1 → Occurs g.path n position.path →
     list_all (λ other. not (conflict g other)) (groups_by position ms) ≡ list_all (λ other. not (conflict_anywhere g other)) (groups_by position ms)
 later_alike g n k falls below position [] l occurs = refl
@@ -268,7 +268,7 @@ falls_next : (n : ℕ) (path : Path) → Falls n path → Falls n (next_alternat
 falls_next n [] h = tt
 falls_next n (level ∷ path) h = h
 
-apart_alike : (position : Position) (ms : List Mark) → Falls (position.opened + 1) position.path →
+apart_alike : (position : Position) (ms : List GroupToken) → Falls (position.opened + 1) position.path →
     are_apart (groups_by position ms) ≡ are_apart_anywhere (groups_by position ms)
 apart_alike position [] h = refl
 apart_alike position (opens ∷ ms) h = apart_alike (enter position) ms (omega arith, h)
@@ -283,7 +283,7 @@ apart_alike position (next ∷ ms) h = apart_alike (record position { path = nex
 apart_alike position (nests nesting ∷ ms) h = apart_alike position ms h
 
 -- Comparing paths from the outermost disjunction on finds all conflicts.
-pub apart_anywhere : (ms : List Mark) → are_apart (groups_by at_the_start ms) ≡ are_apart_anywhere (groups_by at_the_start ms)
+pub apart_anywhere : (ms : List GroupToken) → are_apart (groups_by at_the_start ms) ≡ are_apart_anywhere (groups_by at_the_start ms)
 apart_anywhere ms = apart_alike at_the_start ms (omega arith, tt)
 
 -- ---- by the numbers of alternatives alone
