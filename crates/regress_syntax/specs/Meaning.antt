@@ -54,7 +54,7 @@ abbrev pub group_steps : ℕ → Group → Matcher → Matcher
 group_steps n grouping body = body
 group_steps n (modified change) body = body
 group_steps n (capture name) body = Steps.capture n body
-group_steps n (look negate direction) body = Lookaround.look negate body
+group_steps n (look negate direction) body = Lookaround.lookaround_matcher negate body
 
 -- the numbers of the groups with this name, in a list whose first group has number n
 abbrev pub groups_named : Name → ℕ → List (Option Name) → List ℕ
