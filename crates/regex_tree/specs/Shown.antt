@@ -30,21 +30,27 @@ pub record Asked : Type 0 where
   pub flags : Flags
   pub small : Bool
 
+-- the request for this pattern with these flags
 abbrev pub asked : List ℕ → Flags → Bool → Asked
 asked text flags small = record { text = text; flags = flags; small = small }
 
+-- the small table, or the table of all of Unicode
 abbrev pub table_asked : Bool → Table
 table_asked small = if small then small_table else unicode_table
 
+-- the flags and the table of a request
 abbrev pub setting_asked : Asked → Setting
 setting_asked asked = record { flags = asked.flags; table = table_asked asked.small }
 
+-- The requested text denotes this pattern under its flags.
 abbrev pub IsAccepted : Asked → Pattern → Type 0
 IsAccepted asked p = parse.IsAccepted (setting_asked asked) asked.text p
 
+-- The requested text denotes some pattern.
 abbrev pub IsAcceptedPattern : Asked → Type 0
 IsAcceptedPattern asked = (p : Pattern) × IsAccepted asked p
 
+-- The requested text denotes no pattern.
 abbrev pub NoneIsAcceptedOf : Asked → Type 0
 NoneIsAcceptedOf asked = parse.NoneIsAccepted (setting_asked asked) asked.text
 

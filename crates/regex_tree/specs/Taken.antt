@@ -30,6 +30,7 @@ options_of options (first ∷ rest) =
     else option_and_then (λ more. options_of more rest) (with_option options (string_bytes first)))
     else Some (options, first ∷ rest)
 
+-- the options where none is given
 abbrev pub no_options : Options
 no_options = record { help = false; format = Text; stage = None; small = false }
 

@@ -14,6 +14,7 @@ use Rattle.regress_match.specs.declared.search.Matches.{Matches}
 abbrev pub next_from : Matches → ℕ
 next_from m = m.from
 
+-- the text that is searched
 abbrev pub searched_text : Matches → List ℕ
 searched_text m = m.text.now
 

@@ -36,7 +36,8 @@ abbrev pub is_in_class : Table → Flags → (inverted : Bool) → List Bounds �
 is_in_class table flags inverted members x =
     differ inverted (if flags.icase then is_in_closure table members x else is_member members x)
 
--- a sequence of two steps, in reverse order where matching runs backwards (ECMA-262, CompileSubpattern of Alternative)
+-- a sequence of two matchers, in reverse order where matching runs backwards (ECMA-262, CompileSubpattern of
+-- Alternative)
 abbrev pub along : Direction → Matcher → Matcher → Matcher
 along forwards f g = f then_ g
 along backwards f g = g then_ f

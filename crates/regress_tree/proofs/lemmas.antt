@@ -30,7 +30,7 @@ pub mod Reversed
 pub mod Lists
 pub mod Simulation
 pub mod Strings
-pub mod Turned
+pub mod ReversedParts
 pub mod Iterations
 pub mod Visits
 pub mod WalkCongruence

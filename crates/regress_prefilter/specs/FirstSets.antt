@@ -24,7 +24,7 @@ BeginsWith set through bytes from to = IsMemberAt set bytes from ⊎ ((through �
 abbrev pub Begins : (set : ℕ → Bool) → (through : Bool) → (bytes : List ℕ) → Matcher → Type 0
 Begins set through bytes f = (s : MatchState) → All (λ t. BeginsWith set through bytes s.position t.position) (f s)
 
--- the same for the fields of a front
+-- the same for the fields of a first set
 abbrev pub IsFirstSetOf : FirstSet → (bytes : List ℕ) → Matcher → Type 0
 IsFirstSetOf front bytes f = Begins (contains front.bytes) front.through bytes f
 

@@ -3,10 +3,10 @@ ghost use Rattle.std.specs.Prelude.{◌≡◌, ℕ, ◌<◌, ◌≤◌, ◌+◌,
 ghost use Rattle.regress_base.specs.Table.{Table};
 ghost use Rattle.regress_unicode.specs.TableOf.{table_of};
 ghost use Rattle.regress_lexer.specs.Source.{char, is_at};
-ghost use Rattle.regress_syntax.specs.Scan.{opened_at, mode_after, is_insignificant, mark_at, marks};
+ghost use Rattle.regress_syntax.specs.Scan.{opened_at, mode_after, is_insignificant, token_at, tokens};
 ghost use Rattle.regress_syntax.specs.FirstErrors.{Flaw, remaining_at};
-ghost use Rattle.regress_syntax.specs.Scanning.{mode_of, mark_of, depth_of};
-ghost use Rattle.regress_syntax.specs.declared.scan.mark.Mode.{Mode as CodeMode};
+ghost use Rattle.regress_syntax.specs.Scanning.{mode_of, token_of, depth_of};
+ghost use Rattle.regress_syntax.specs.declared.scan.token.Mode.{Mode as CodeMode};
 
 use crate::names::{Name, parse_group_name};
 use regress_lexer::digits::strip_char;
@@ -27,7 +27,7 @@ pub(super) enum Mode {
 
 /// A parenthesis, a `|`, or, with the flag v, a whole class.
 #[derive(Drop)]
-pub(super) enum Mark {
+pub(super) enum GroupToken {
     /// A parenthesis that opens no capture group.
     Opens,
     /// A parenthesis that opens a capture group, with its name if it has one.
@@ -91,7 +91,7 @@ fn skip_escaped(source: &[u32]) -> &[u32]
 /// Skips escapes, and code points that are no marks and never change the mode: nearly all of a pattern.
 pub(super) fn skip_insignificant(source: &[u32]) -> &[u32]
     ensures same { (sets : Bool) (table : Table) (mode : CodeMode) →
-        marks sets table (mode_of mode) source.now ≡ marks sets table (mode_of mode) result.now }
+        tokens sets table (mode_of mode) source.now ≡ tokens sets table (mode_of mode) result.now }
     ensures flaws { (flaw : Flaw) (sets : Bool) (mode : CodeMode) (n : ℕ) →
         remaining_at flaw sets (mode_of mode) n source.now ≡ remaining_at flaw sets (mode_of mode) n result.now }
     ensures unescaped { is_at (char "\\") result.now ≡ false }
@@ -111,34 +111,34 @@ pub(super) fn skip_insignificant(source: &[u32]) -> &[u32]
 }
 
 /// Returns the mark that the code point `c` is, if it is one; `after` is the source after it.
-pub(super) fn find_mark(
+pub(super) fn find_token(
     alloc: Global,
     mode: Mode,
     c: u32,
     after: &[u32],
     sets: bool,
     tables: &Tables,
-) -> Result<Option<Mark>, AllocError>
-    ensures { IfOk result (λ mark. option_map mark_of mark ≡ mark_at sets (table_of tables.now) (mode_of mode) c after.now) }
+) -> Result<Option<GroupToken>, AllocError>
+    ensures { IfOk result (λ token. option_map token_of token ≡ token_at sets (table_of tables.now) (mode_of mode) c after.now) }
 {
     Ok(match (mode, char::from_u32(c)) {
         (Mode::Plain, Some('(')) => Some(read_opening(alloc, after, tables)?),
-        (Mode::Plain, Some(')')) => Some(Mark::Closes),
-        (Mode::Plain, Some('|')) => Some(Mark::Next),
-        (Mode::Class { depth: 0, deepest }, Some(']')) if sets => Some(Mark::Nests(deepest)),
+        (Mode::Plain, Some(')')) => Some(GroupToken::Closes),
+        (Mode::Plain, Some('|')) => Some(GroupToken::Next),
+        (Mode::Class { depth: 0, deepest }, Some(']')) if sets => Some(GroupToken::Nests(deepest)),
         _ => None,
     })
 }
 
 /// Returns the mark of an opening parenthesis: it opens a capture group if no `?` follows, or `?` and a name.
-fn read_opening(alloc: Global, text: &[u32], tables: &Tables) -> Result<Mark, AllocError>
-    ensures { IfOk result (λ mark. mark_of mark ≡ opened_at (table_of tables.now) text.now) }
+fn read_opening(alloc: Global, text: &[u32], tables: &Tables) -> Result<GroupToken, AllocError>
+    ensures { IfOk result (λ token. token_of token ≡ opened_at (table_of tables.now) text.now) }
 {
     let Some(after) = strip_char(text, '?') else {
-        return Ok(Mark::Captures(None));
+        return Ok(GroupToken::Captures(None));
     };
     Ok(match parse_group_name(alloc, after, tables)? {
-        Some((name, _)) => Mark::Captures(Some(name)),
-        None => Mark::Opens,
+        Some((name, _)) => GroupToken::Captures(Some(name)),
+        None => GroupToken::Opens,
     })
 }

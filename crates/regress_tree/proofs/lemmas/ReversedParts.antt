@@ -31,7 +31,7 @@ steps-reverse_trees setting bytes d t ts s =
     steps-append setting bytes d (reverse_trees ts) (more_trees t no_trees) s
     ∙ ap (λ f. flat_map f (steps_of_parts setting bytes d (reverse_trees ts) s)) (fun_ext (λ u. flat_map-stay (steps setting bytes d t u)))
 
--- A reversed list has the same capture groups,
+-- A reversed list has the same capture groups.
 pub captures-reverse_trees : (ts : Trees) → IsPermutation (captures_of_trees ts) (captures_of_trees (reverse_trees ts))
 captures-reverse_trees no_trees = IsPermutation-refl []
 captures-reverse_trees (more_trees t ts) =
@@ -42,7 +42,7 @@ captures-reverse_trees (more_trees t ts) =
     (IsPermutation-append_comm (captures t) (captures_of_trees ts))
     (IsPermutation-append_left (captures t) _ _ (captures-reverse_trees ts)))
 
--- and is allowed where the list is.
+-- A reversed list is allowed where the list is.
 pub PartsAllowed-reverse_trees : (n : ℕ) (ts : Trees) → PartsAllowed n ts inside → PartsAllowed n (reverse_trees ts) inside
 PartsAllowed-reverse_trees n no_trees m = tt
 PartsAllowed-reverse_trees n (more_trees t no_trees) m = m
