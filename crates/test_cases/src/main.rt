@@ -27,7 +27,7 @@ use std::fs::File;
 use std::io::{self, BufReader, BufWriter, Write};
 use std::process::ExitCode;
 use tables::TablesOfLines;
-use test_notation::{Failure, Tally, end, run_lines};
+use test_notation::{Failure, Tally, report_tally, run_lines};
 
 fn main(rt: HostRuntime) -> ExitCode {
     ExitCode::from(match arguments(&rt) {
@@ -52,7 +52,7 @@ fn run<'a>(rt: &HostRuntime, files: &'a [String]) -> Result<u8, Failure<'a>> {
             Err(error) => return Err(Failure::of_input(file, &error)),
         }
     }
-    end(tally, &mut out)
+    report_tally(tally, &mut out)
 }
 
 fn open(rt: &HostRuntime, file: &str) -> io::Result<BufReader<File>> {

@@ -151,7 +151,7 @@ fn written<'a>(done: io::Result<()>) -> Result<(), Failure<'a>> {
 ///
 /// # Errors
 /// Returns a [`Failure`] if the output cannot be written, or if there is no test case.
-pub fn end<'a, W: Write>(tally: Tally, out: &mut W) -> Result<u8, Failure<'a>> {
+pub fn report_tally<'a, W: Write>(tally: Tally, out: &mut W) -> Result<u8, Failure<'a>> {
     let Tally { hold, differ, .. } = tally;
     if differ > 0 {
         written(writeln!(out, "{differ} test cases fail"))?;
