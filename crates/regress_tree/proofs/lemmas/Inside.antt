@@ -1,6 +1,6 @@
 -- Matching a well-formed tree stays inside a text in UTF-8, on its character boundaries. In a tree that is not well
 -- formed, a byte sequence could end inside a character.
-use Rattle.std.proofs.Common.{◌≡◌, ℕ, ◌<◌, ◌≤◌, ◌==◌, not, true, List, [], ◌∷◌, ◌++◌, length, take, drop, map, Option, Some, None, IfSome, All, encode_utf8_all, refl, sym, ap, ap₂, ◌∙◌, subst, ⊎_elim, arith}
+use Rattle.std.proofs.Common.{◌≡◌, ℕ, ◌<◌, ◌≤◌, ◌==◌, not, true, List, [], ◌∷◌, ◌++◌, length, take, drop, map, Option, Some, None, All, encode_utf8_all, refl, sym, ap, ap₂, ◌∙◌, subst, ⊎_elim, arith}
 use Rattle.std.proofs.lemmas.List.{take-append-drop, length-take-le, length-append, take_at}
 use Rattle.std.proofs.lemmas.List.Elements.{All-nil, All-cons, All-head, All-tail, All-drop, All-weaker, All-map}
 use Rattle.std.proofs.lemmas.Bool.{cases_lt}
@@ -15,9 +15,9 @@ use Rattle.regress_tree.specs.Inside.{IsSpanInside, IsCaptureInside, IsStateInsi
 use Rattle.regress_tree.specs.Matching.{direction_in, leaf_steps, wrapper_steps, steps, steps_of_parts, matches}
 use Rattle.regress_tree.specs.Reading.{Direction, forwards, backwards, IsText, byte_position}
 use Rattle.regress_tree.specs.Setting.{Setting}
-use Rattle.regress_tree.specs.Steps.{CaptureSpan, MatchState, Matcher, IsCaptureOf, IsStateOf, byte_capture, byte_state, dedup, stay, these_bytes}
+use Rattle.regress_tree.specs.Steps.{CaptureSpan, MatchState, Matcher, IsCaptureOf, IsStateOf, byte_capture, byte_state, stay, these_bytes}
 use Rattle.regress_tree.specs.Tree.{Leaf, empty, goal, char, byte_sequence, byte_set, char_set, match_any, match_any_except_line_terminator, anchor, word_boundary, bracket, back_ref, string_set, Wrapper, capture_group, loop, loop_one, lookaround, Tree, Trees, leaf, cat, alt, wrapped, no_trees, more_trees}
-use Rattle.regress_tree.specs.WellFormed.{Position, inside, root, last_of, position_in, AreUtf8, LeafIsAllowed, IsAllowed, PartsAllowed, IsWellFormed}
+use Rattle.regress_tree.specs.WellFormed.{Position, inside, root, last_of, position_in, LeafIsAllowed, IsAllowed, PartsAllowed, IsWellFormed}
 use Rattle.regress_tree.proofs.TextLemmas.{utf8-from, are-utf8}
 use Rattle.regress_tree.proofs.lemmas.Assertions.{Simulates-anchor, Simulates-boundary}
 use Rattle.regress_tree.proofs.lemmas.ByteSequences.{these_bytes-none, these_bytes-append, these_bytes-one, these_bytes_before-append, these_bytes_before-one}
