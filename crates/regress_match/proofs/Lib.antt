@@ -9,6 +9,7 @@ pub mod ReadingLemmas
 pub mod PeekLemmas
 pub mod RunLemmas
 pub mod FirstLemmas
+pub mod InsideLemmas
 pub mod BetweenLemmas
 pub mod CharacterLoopLemmas
 pub mod LeafLemmas

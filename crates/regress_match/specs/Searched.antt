@@ -1,7 +1,7 @@
 -- Repeated searches: all non-overlapping matches from left to right.
 use Rattle.std.specs.Prelude.{◌≡◌, ℕ, ◌+◌, List, [], ◌∷◌, length, max}
 use Rattle.regress_tree.specs.Steps.{MatchState}
-use Rattle.regress_tree.specs.Tree.{tree}
+use Rattle.regress_tree.specs.Tree.{Tree, tree}
 use Rattle.regress_unicode.specs.TableOf.{table_of}
 use Rattle.regress_match.specs.Matched.{IsLeftmost, outcomes_at, start_of, state_of}
 use Rattle.regress_match.specs.declared.matching.Match.{Match}
@@ -17,6 +17,10 @@ next_from m = m.from
 -- the text that is searched
 abbrev pub searched_text : Matches → List ℕ
 searched_text m = m.text.now
+
+-- the tree of the pattern of a repeated search
+abbrev pub searched_tree : Matches → Tree
+searched_tree m = tree m.prepared.regex.now.node
 
 -- the outcomes of a pattern on a text, from each position
 abbrev pub outcomes_of : Prepared → (text : List ℕ) → (position : ℕ) → List MatchState
@@ -41,6 +45,7 @@ offset_after text from outcomes.OutOfSteps = from
 -- the pattern and the text of a repeated search are unchanged
 pub record IsSameSearch (old new : Matches) : Type 0 where
   pub text : searched_text new ≡ searched_text old
+  pub tree : searched_tree new ≡ searched_tree old
   pub outcomes : searched_outcomes new ≡ searched_outcomes old
 
 -- The list has the matches that a repeated search finds in order, each the leftmost one, from the offset `from` until

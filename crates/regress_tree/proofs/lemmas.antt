@@ -14,6 +14,7 @@ pub mod Gathered
 pub mod Goal
 pub mod Groups
 pub mod Inherited
+pub mod Inside
 pub mod Nesting
 pub mod Literals
 pub mod Measures
