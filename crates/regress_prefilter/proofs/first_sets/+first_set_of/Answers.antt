@@ -8,7 +8,7 @@ use Rattle.regress_tree.proofs.lemmas.Nodes.{tree-Cat, tree-CaptureGroup, tree-L
 use Rattle.regress_tree.proofs.lemmas.Lists.{trees-append}
 use Rattle.regress_prefilter.specs.Fronts.{IsFirstSet}
 use Rattle.regress_prefilter.proofs.FirstSetLemmas.{IsSpine, spine-start, spine-next, spine-last, list-next, list-rest, if-some, front-capture, front-look}
-use Rattle.regress_prefilter.proofs.first_sets.+front_of.Goals as goal
+use Rattle.regress_prefilter.proofs.first_sets.+first_set_of.Goals as goal
 
 pub first_set_of-loop-node-init : goal.first_set_of-loop-node-init
 first_set_of-loop-node-init t c = record { smaller = omega arith; so_far = spine-start _ (tree c.args.node.now) }

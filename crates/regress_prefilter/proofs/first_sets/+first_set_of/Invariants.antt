@@ -4,7 +4,7 @@ use Rattle.regress_tree.specs.Tree.{tree, trees, cat}
 use Rattle.regress_tree.specs.declared.ir.node.Node.{size-Node}
 use Rattle.regress_prefilter.specs.Fronts.{IsFirstSet}
 use Rattle.regress_prefilter.proofs.FirstSetLemmas.{IsSpine}
-use Rattle.regress_prefilter.proofs.first_sets.+front_of.Given as goal
+use Rattle.regress_prefilter.proofs.first_sets.+first_set_of.Given as goal
 
 abbrev pub invariant-first_set_of-loop-node : goal.invariant-first_set_of-loop-node
 invariant-first_set_of-loop-node l = record {
