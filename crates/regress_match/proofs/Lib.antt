@@ -14,3 +14,4 @@ pub mod CharacterLoopLemmas
 pub mod LeafLemmas
 pub mod SingleLemmas
 pub mod NamesLemmas
+pub mod AllMatchesLemmas
