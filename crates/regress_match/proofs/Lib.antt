@@ -15,3 +15,4 @@ pub mod CharacterLoopLemmas
 pub mod LeafLemmas
 pub mod SingleLemmas
 pub mod NamesLemmas
+pub mod AllMatchesLemmas

@@ -16,7 +16,11 @@ use regress_base::util::add_utf8_first_bytes_to_bitmap;
 use regress_tree::ir::Node;
 
 /// Returns the first set of a tree: bytes, one of which is at the start of every match in the forward direction.
-/// Returns `None` if a match can be empty, or if the tree does not determine the bytes.
+///
+/// Returns `None` if a match can be empty. It may also give up and return `None`, and does so if a part with which a
+/// match can begin is any character (`.`), an inverted bracket, a backreference, a set of strings or an empty byte
+/// sequence. So `None` does not state that there is no such set, and the set may contain bytes with which no match
+/// begins.
 ///
 /// # Complexity
 /// At most one pass over the tree, without allocations. The depth of recursion is the depth of the tree, where the
