@@ -7,7 +7,7 @@ use Rattle.regress_tree.specs.Reading.{direction_if}
 use Rattle.regress_tree.specs.Steps.{MatchState, Matcher}
 use Rattle.regress_tree.proofs.lemmas.Outcomes.{flat_map-then}
 use Rattle.regress_match.specs.Captures.{undone, state, Later}
-use Rattle.regress_match.specs.Machine.{frame_step, continuation, pending, backtrack_outcomes, saved, IsMachine, onward, Pushed, Chosen, Does, Continues}
+use Rattle.regress_match.specs.Machine.{frame_step, frames_from, known_from, continuation, pending, backtrack_outcomes, saved, IsMachine, onward, Pushed, Chosen, Does, Continues}
 use Rattle.regress_match.specs.Subject.{Subject}
 use Rattle.regress_match.specs.Leaves.{put}
 use Rattle.regress_match.specs.declared.machine.Looking.{Looking}
@@ -54,6 +54,22 @@ chosen u m m' c d tasks choices known noted le =
           ∙ ap (λ s. continuation u m.tasks.items d.task s ++ backtrack_outcomes u m c) here;
       machine = λ machine. push_choice m m' c d machine known noted le tasks choices;
     }
+
+-- The number of examined bytes makes no difference.
+pub does_counted : (u : Subject) (f : Matcher) (m m' : Machine) (c : Captures) (position next : ℕ) (m'' : Machine) (c' : Captures) (r : Transition) →
+    m'.tasks.items ≡ m.tasks.items → m'.choices.items ≡ m.choices.items →
+    Does u f m' c position next m'' c' r → Does u f m c position next m'' c' r
+does_counted u f m m' c position next m'' c' r tasks choices does = record {
+  continues = λ le machine.
+      let known = subst (λ cs. known_from 0 0 cs (length m.tasks.items) (length c.trail.items)) (sym choices) machine.known in
+      subst (λ states. Continues u states m'' c' r)
+      (ap₂ (λ ts cs. flat_map (continuation u ts next) (f (state c position)) ++ pending u ts cs c) tasks choices)
+      (does.continues (omega (arith, le, ap length tasks)) (record {
+        linked = subst (frames_from 0) (sym tasks) machine.linked;
+        known = subst (λ ts. known_from 0 0 m'.choices.items (length ts) (length c.trail.items)) (sym tasks) known;
+      }));
+  later = does.later;
+}
 
 -- A matcher with one outcome and nothing pushed goes on with the next frame.
 pub goes_on : (u : Subject) (f : Matcher) (m : Machine) (c : Captures) (position next to : ℕ) → f (state c position) ≡ state c to ∷ [] →

@@ -12,7 +12,7 @@ use regress_unicode::Tables;
 use std::alloc::{AllocError, Global};
 
 /// Returns all non-overlapping matches of `regex` in `text`, from left to right, as [`Matches`] finds them; or `None`
-/// if the search takes more than `steps` steps, counted as in `match_at`.
+/// if the search takes more than `steps` steps, counted as in `find`.
 ///
 /// # Errors
 /// Returns [`AllocError`] if an allocation fails. The arguments are unchanged.
@@ -56,7 +56,7 @@ pub fn find_all(
 
 /// Calls `func` on each of the non-overlapping matches of `regex` in `text`, from left to right, as [`Matches`] finds
 /// them. Returns whether these are all matches: false if the search takes more than `steps` steps, counted as in
-/// `match_at`.
+/// `find`.
 ///
 /// # Preconditions
 /// `func` has no precondition: it may be called with any match.

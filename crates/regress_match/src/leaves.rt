@@ -20,13 +20,14 @@ ghost use Rattle.regress_match.specs.Iterations.{one_of};
 use crate::captures::Captures;
 use crate::characters::{denotes, is_line_terminator, is_word_character};
 use crate::known::Known;
+use crate::machine::count;
 use crate::reading::{next_read, read_after, read_before};
 use crate::rules::MatchContext;
 use regress_tree::ir::{AnchorType, Node};
 use std::alloc::{AllocError, Global};
 
 /// Returns the position at which a leaf with at most one outcome ends that is matched from `position`, or `None` if it
-/// fails.
+/// fails. What a backreference has captured is counted as examined.
 ///
 /// # Errors
 /// Returns [`AllocError`] if an allocation fails, which a backreference needs.
@@ -38,6 +39,7 @@ pub fn leaf(
     node: &Node,
     position: usize,
     captures: &Captures,
+    examined: &mut u64,
 ) -> Result<Option<usize>, AllocError>
     ensures { IfOk result (λ to. has_one_outcome (tree node.now) ≡ true →
         (let u = subject rules.entry text.now in
@@ -45,7 +47,9 @@ pub fn leaf(
 {
     match node {
         Node::BackRef { group, icase } => {
-            back_reference(alloc, text, rules, *group, *icase, position, captures)
+            back_reference(
+                alloc, text, rules, *group, *icase, position, captures, examined,
+            )
         }
         _ => Ok(simple_leaf(text, rules, node, position)),
     }
@@ -308,8 +312,8 @@ fn is_word(known: Known<'_>, unicode_icase: bool, neighbour: Option<(u32, usize)
     }
 }
 
-/// Returns the position after what the group has captured (BackreferenceMatcher). An unset group matches the empty
-/// text.
+/// Returns the position after what the group has captured (BackreferenceMatcher), the bytes of which are counted as
+/// examined. An unset group matches the empty text.
 fn back_reference(
     alloc: Global,
     text: &str,
@@ -318,6 +322,7 @@ fn back_reference(
     icase: bool,
     position: usize,
     captures: &Captures,
+    examined: &mut u64,
 ) -> Result<Option<usize>, AllocError>
     ensures { IfOk result (λ to. let u = subject rules.entry text.now in put (state captures.now position) to
         ≡ back_reference u.direction (of_bytes u.bytes) (denotes u.setting.table icase u.setting.flags.unicode) (group - 1) (state captures.now position)) }
@@ -329,6 +334,7 @@ fn back_reference(
     let Some((start, end)) = captures.spans[id] else {
         return Ok(Some(position));
     };
+    count(examined, end.abs_diff(start));
     let characters = characters_between(alloc, text, start, end)?;
     Ok(all_of(text, rules, icase, &characters, position))
 }

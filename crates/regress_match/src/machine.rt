@@ -1,5 +1,5 @@
 //! The state of the backtracking machine: frames, which are the continuation, and backtrack points.
-ghost use Rattle.std.specs.Prelude.{◌≡◌, ◌≤◌, [], IfOk, length};
+ghost use Rattle.std.specs.Prelude.{◌≡◌, ◌+◌, ◌≤◌, [], IfOk, length, min};
 ghost use Rattle.regress_match.specs.Captures.{undone};
 ghost use Rattle.regress_match.specs.Machine.{IsMachine, Resumed, Pushed, Chosen, backtrack_outcomes, frame_step};
 ghost use Rattle.regress_match.specs.Subject.{Subject};
@@ -150,6 +150,9 @@ pub struct Machine<'a> {
     pub tasks: Vec<Task<'a>>,
     /// The backtrack points, from the oldest to the latest.
     pub choices: Vec<Choice>,
+    /// The number of bytes that the steps so far have examined, other than those by which they moved the position. Each
+    /// string of a set counts as one byte.
+    pub examined: u64,
 }
 
 impl<'a> Machine<'a> {
@@ -158,6 +161,7 @@ impl<'a> Machine<'a> {
         Machine {
             tasks: Vec::new(alloc),
             choices: Vec::new(alloc),
+            examined: 0,
         }
     }
 
@@ -219,6 +223,13 @@ impl<'a> Machine<'a> {
         })?;
         Ok(())
     }
+}
+
+/// Adds a number of bytes to those that were examined.
+pub fn count(examined: &mut u64, bytes: usize)
+    ensures { examined.new ≡ min (examined.old + bytes) u64.MAX }
+{
+    *examined = examined.saturating_add(bytes as u64);
 }
 
 /// The memory of runs, kept from one to the next: a machine, and idle machines for lookarounds.

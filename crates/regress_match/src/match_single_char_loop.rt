@@ -13,7 +13,7 @@ ghost use Rattle.regress_match.specs.Iterations.{giving_back, one_of};
 
 use crate::captures::Captures;
 use crate::leaves::{one_character, takes_one};
-use crate::machine::{Frame, Machine, Repeat, Transition};
+use crate::machine::{Frame, Machine, Repeat, Transition, count};
 use crate::peek::frame_fails;
 use crate::reading::next_read;
 use crate::rules::MatchContext;
@@ -58,7 +58,14 @@ pub fn match_single_char_loop<'a>(
     ensures { IfOk result (let u = subject rules.entry text.now in
         Does u (frame_step u (Frame.Iterations repeat.entry least)) machine.old captures.now position next machine.new captures.now) }
 {
-    let Some(start) = exactly(text, rules, repeat.body, least, position) else {
+    let Some(start) = exactly(
+        text,
+        rules,
+        repeat.body,
+        least,
+        position,
+        &mut machine.examined,
+    ) else {
         return Ok(Transition::Back);
     };
     if repeat.greedy {
@@ -86,6 +93,8 @@ fn give_some_back<'a>(
         Does u f machine.old captures.now position next machine.new captures.now to)) }
 {
     let here = last_stop(text, rules, start, end, next, machine);
+    // examined on the way to `end` and on the way back, and no part of the move to `here`
+    count(&mut machine.examined, end.abs_diff(here).saturating_mul(2));
     if here == start {
         return Ok(Transition::Go(here, next));
     }
@@ -123,21 +132,27 @@ fn last_stop(
     here
 }
 
-/// Returns the position after `count` iterations, or `None` if one of them fails.
+/// Returns the position after `least` iterations. If one of them fails, the bytes of those before it are counted as
+/// examined, and the result is `None`.
 fn exactly(
     text: &str,
     rules: MatchContext<'_>,
     body: &Node,
-    count: usize,
+    least: usize,
     position: usize,
+    examined: &mut u64,
 ) -> Option<usize>
     ensures { (s : MatchState) → s.position ≡ position →
-        iterations count (one_of (direction_if rules.entry.backwards) text.now (tree body.now)) s ≡ put s result }
+        iterations least (one_of (direction_if rules.entry.backwards) text.now (tree body.now)) s ≡ put s result }
 {
     let mut here = position;
-    let mut left = count;
+    let mut left = least;
     while left > 0 {
-        here = one_character(text, rules, body, here)?;
+        let Some(to) = one_character(text, rules, body, here) else {
+            count(examined, here.abs_diff(position));
+            return None;
+        };
+        here = to;
         left -= 1;
     }
     Some(here)

@@ -91,16 +91,22 @@ pub enum Outcome {
 ///
 /// # Complexity
 /// A step is one visit of a node or of a frame of the continuation, where up to eight leaves at the start of a `Cat`
-/// belong to the same step. A step counts 1, and one that succeeds counts also the number of bytes by which it moves
-/// the position. One that fails counts 1, no matter how many bytes it has compared. The result is
-/// [`Outcome::OutOfSteps`] as soon as `steps` are used up.
+/// belong to the same step. It counts 1, and also 1 for each of these:
+/// - the bytes by which it moves the position, if it succeeds;
+/// - the bytes that a loop over one character takes and gives back in the same step, once in each direction, and those
+///   that it takes before it fails to reach its minimum;
+/// - the bytes that the group of a backreference has captured;
+/// - the strings of a set of strings that are compared.
 ///
-/// So the limit bounds the number of steps, which may be exponential without it, but not the time of a step. That may
-/// be linear in the length of `text`: a loop over one character scans forwards, and then back over all positions at
-/// which what follows can't match; a backreference compares all that its group has captured.
+/// The result is [`Outcome::OutOfSteps`] as soon as `steps` are used up. A step that is begun is completed, even if it
+/// counts more than remains.
 ///
-/// The frames and backtrack points take memory linear in the number of steps. Recursion of the matcher is as deep as
-/// lookarounds are nested in the pattern.
+/// So the limit bounds the time, which may be exponential in the length of `text` without it. The time is at most
+/// `steps` and the length of `text` together, times a factor that depends only on the pattern and the tables. What is
+/// in this factor is not counted: the literals and tests of leaves that fail, the tests of up to sixteen alternatives
+/// or strings before they are begun, and the groups that an iteration of a loop unsets.
+///
+/// The memory is bounded in the same way. Recursion of the matcher is as deep as lookarounds are nested in the pattern.
 ///
 /// # Errors
 /// Returns [`AllocError`] if an allocation fails. The arguments are unchanged.

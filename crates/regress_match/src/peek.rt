@@ -19,9 +19,9 @@ use std::boxed::BoxedSlice;
 /// the test.
 const NESTING: usize = 6;
 
-/// The maximal number of alternatives and of strings that are tested. So a test looks at a bounded number of nodes.
-/// This does not bound the time of a step: a loop over one character runs the test at each position to which it goes
-/// back.
+/// The maximal number of alternatives and of strings that are tested. So the time of a test is bounded by the pattern,
+/// and no test counts as a step. A loop over one character runs the test at each position to which it goes back, but
+/// the bytes that it goes back over are counted.
 const ALTERNATIVES: usize = 16;
 
 /// Returns true only if a node fails at a position, as its start shows: a leaf, a lookaround of a leaf, a set of few

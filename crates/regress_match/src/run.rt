@@ -31,8 +31,10 @@ use std::mem;
 /// No change of `captures` is recorded.
 ///
 /// # Complexity
-/// A step counts 1, and one that succeeds counts also the bytes by which it moves the position. The time of a single
-/// step is not bounded by a constant. Recursion is as deep as lookarounds are nested in the node.
+/// A step counts 1, the bytes by which it moves the position if it succeeds, and what it adds to `examined` of the
+/// machine, also if it fails. Its time is at most this sum times a factor that depends only on the node and the tables.
+/// A step that is begun is completed, so the last one may count more than remains, up to a multiple of the length of the
+/// text. Recursion is as deep as lookarounds are nested in the node.
 ///
 /// # Errors
 /// Returns [`AllocError`] if an allocation fails.
@@ -62,10 +64,11 @@ pub fn run<'a>(
             return Ok(Response::At(position));
         }
         *budget -= 1;
+        let before = machine.examined;
         let next = advance(alloc, text, rules, ahead, position, machine, captures)?;
+        *budget = budget.saturating_sub(machine.examined.saturating_sub(before));
         match settle(alloc, text, rules, next, idle, captures, budget)? {
             Settled::On(to, with) => {
-                // a frame that succeeds counts the bytes it moves by; one that fails has counted 1
                 *budget = budget.saturating_sub(to.abs_diff(position) as u64);
                 position = to;
                 ahead = with;

@@ -26,12 +26,14 @@ use std::alloc::{AllocError, Global};
 /// `text`, on character boundaries, so that `text` may be sliced by them.
 ///
 /// # Complexity
-/// The matches that are tried at all positions together take at most `steps` steps, counted as in `match_at`; after
-/// these the result is [`Outcome::OutOfSteps`]. A position counts no step if the pattern can't match there by its first
-/// set or by the leaf at its start.
+/// The matches that are tried at all positions together take at most `steps` steps, counted as in `match_at`. Each byte
+/// offset up to the match counts 1 more, also where the pattern can't match by its first set or by the leaf at its start.
+/// The result is [`Outcome::OutOfSteps`] as soon as `steps` are used up, and with 0 steps for each `from` in `text`. If
+/// the first set shows that there is no match in the rest of the text, that rest counts nothing.
 ///
-/// The limit bounds the number of steps, not the running time: `a*b` on `n` times the letter `a` takes a number of
-/// steps linear in `n`, and time quadratic in `n`.
+/// So the limit bounds the time, as in `match_at`: at most `steps` and the length of `text` together, times a factor
+/// that depends only on the pattern and the tables. `a*b` on `n` times the letter `a` takes a number of steps quadratic
+/// in `n`.
 ///
 /// # Errors
 /// Returns [`AllocError`] if an allocation fails. The arguments are unchanged.
@@ -86,9 +88,14 @@ pub(crate) fn find_within<'a>(
     let mut captures = unset_captures(alloc, prepared.groups)?;
     let mut from = from;
     while from <= text.len() {
+        if *left == 0 {
+            return Ok(Outcome::OutOfSteps);
+        }
         let Some(position) = next_candidate_from(&prepared.candidates, text, from) else {
             return Ok(Outcome::NoMatch);
         };
+        // the bytes that are passed over, and the position that is tried
+        *left = left.saturating_sub((position - from) as u64 + 1);
         if text.is_char_boundary(position) && !fails_from(regex, known, text, position) {
             match first_at(
                 alloc,
@@ -124,8 +131,12 @@ pub struct Matches<'a> {
 }
 
 impl<'a> Matches<'a> {
-    /// Returns a search for the matches that start at the byte offset `from` or later. All calls of [`Matches::next`]
-    /// together take at most `steps` steps, counted as in `match_at`.
+    /// Returns a search for the matches that start at the byte offset `from` or later.
+    ///
+    /// # Complexity
+    /// All calls of [`Matches::next`] together take at most `steps` steps, counted as in `find`. So their time is at
+    /// most `steps`, the length of `text` and the number of calls together, times a factor that depends only on the
+    /// pattern and the tables.
     pub fn new(
         regex: &'a Regex,
         tables: &'a Tables,

@@ -11,7 +11,7 @@ ghost use Rattle.regress_match.specs.Subject.{Subject, subject};
 
 use crate::captures::Captures;
 use crate::leaves::{all_of, is_leaf, leaf};
-use crate::machine::{Frame, Looking, Machine, Repeat, Task, Transition};
+use crate::machine::{Frame, Looking, Machine, Repeat, Task, Transition, count};
 use crate::match_single_char_loop::{
     give_back, is_single_char_loop, match_single_char_loop, take_more,
 };
@@ -159,7 +159,18 @@ pub fn visit<'a>(
             machine,
             captures,
         ),
-        _ => Ok(go(leaf(alloc, text, rules, node, position, captures)?, next)),
+        _ => {
+            let to = leaf(
+                alloc,
+                text,
+                rules,
+                node,
+                position,
+                captures,
+                &mut machine.examined,
+            )?;
+            Ok(go(to, next))
+        }
     }
 }
 
@@ -226,7 +237,15 @@ fn sequence<'a>(
     ensures { IfOk result (let u = subject rules.entry text.now in
         Does u (sequence_of u parts.now) machine.old captures.now position next machine.new captures.now) }
 {
-    let found = leading_leaves(alloc, text, rules, parts, position, captures)?;
+    let found = leading_leaves(
+        alloc,
+        text,
+        rules,
+        parts,
+        position,
+        captures,
+        &mut machine.examined,
+    )?;
     match found {
         None => Ok(Transition::Back),
         Some((here, rest)) => enter(rest, here, next, machine),
@@ -262,6 +281,7 @@ fn leading_leaves<'a>(
     parts: &'a [Node],
     position: usize,
     captures: &Captures,
+    examined: &mut u64,
 ) -> Result<Option<(usize, &'a [Node])>, AllocError>
     ensures { IfOk result (λ found. let sequence = sequence_of (subject rules.entry text.now) in
         MatchOption found (sequence parts.now (state captures.now position) ≡ [])
@@ -277,7 +297,7 @@ fn leading_leaves<'a>(
         if !is_leaf(first) {
             break;
         }
-        let Some(to) = leaf(alloc, text, rules, first, here, captures)? else {
+        let Some(to) = leaf(alloc, text, rules, first, here, captures, examined)? else {
             return Ok(None);
         };
         here = to;
@@ -343,9 +363,15 @@ fn strings<'a>(
 {
     let open = skip_missing_strings(text, rules, alternatives, icase, position);
     let Some((first, rest)) = open.split_first() else {
+        count(&mut machine.examined, alternatives.len());
         return Ok(Transition::Back);
     };
     let others = skip_missing_strings(text, rules, rest, icase, position);
+    // each string that is compared counts as one byte
+    count(
+        &mut machine.examined,
+        alternatives.len().abs_diff(others.len()),
+    );
     let Some(to) = all_of(text, rules, icase, first, position) else {
         let other = machine.push(Frame::Strings(others, icase), next)?;
         return Ok(Transition::Go(position, other));

@@ -10,7 +10,7 @@ use Rattle.regress_match.proofs.match_single_char_loop.exactly.Given as goal
 abbrev pub invariant-loop-left : goal.invariant-loop-left
 invariant-loop-left l = record {
   same : (s : MatchState) → s.position ≡ l.position →
-      (let C = one_of (direction_if l.rules.backwards) l.text (tree l.body) in iterations l.count C s ≡ iterations l.left C (record s { position = l.here }));
+      (let C = one_of (direction_if l.rules.backwards) l.text (tree l.body) in iterations l.least C s ≡ iterations l.left C (record s { position = l.here }));
 }
 
 abbrev pub decreases-loop-left : goal.decreases-loop-left

@@ -8,8 +8,9 @@ use Rattle.regress_match.specs.Leaves.{any_of}
 use Rattle.regress_match.specs.Machine.{frame_step}
 use Rattle.regress_match.specs.Subject.{subject}
 use Rattle.regress_match.specs.declared.machine.Frame.TheVariants as whats
+use Rattle.regress_match.specs.declared.machine.Machine.{Machine}
 use Rattle.regress_match.proofs.CaptureLemmas.{Later-refl}
-use Rattle.regress_match.proofs.DoesLemmas.{goes_back, goes_on, goes_pushed, does_stay_or, nothing_in}
+use Rattle.regress_match.proofs.DoesLemmas.{does_counted, goes_back, goes_on, goes_pushed, does_stay_or, nothing_in}
 use Rattle.regress_match.proofs.LeafLemmas.{none_of, any-nil, any_opened}
 use Rattle.regress_match.proofs.visits.strings.Goals as goal
 
@@ -21,9 +22,11 @@ returns-in_default c =
     let s = state captures position in
     let same = denotes u.setting.table c.args.icase u.setting.flags.unicode in
     let any = λ (strings : List (BoxedSlice ℕ Global)). any_of u c.args.icase strings s in
-    goes_back u (any_of u c.args.icase c.args.alternatives.now) c.args.machine.now captures position c.args.next
+    let counted : Machine = record c.args.machine.now { examined = c.count.new.examined } in
+    does_counted u _ c.args.machine.now counted captures position c.args.next counted captures _ refl refl
+    (goes_back u (any_of u c.args.icase c.args.alternatives.now) counted captures position c.args.next
     (sym (c.skip_missing_strings-open.ensures s refl) ∙ ap any (nothing_in c.skip_missing_strings-open.result.now c.in_default.ensures.cases)
-    ∙ any-nil u.direction (of_bytes u.bytes) same s)
+    ∙ any-nil u.direction (of_bytes u.bytes) same s))
 
 pub returns-in_default-all_of : goal.returns-in_default-all_of
 returns-in_default-all_of c =
@@ -38,8 +41,10 @@ returns-in_default-all_of c =
     let opened = any_opened u c.args.icase c.args.alternatives.now c.skip_missing_strings-open.result.now c.in-Some.rest.now c.skip_missing_strings-others.result.now
     c.in-Some.first.now c.all_of.result None s (c.skip_missing_strings-open.ensures s refl) split occurs
     (c.skip_missing_strings-others.ensures s refl) (none_of c.all_of.result c.in_default-all_of.not-Some) in
-    goes_pushed u (any_of u c.args.icase c.args.alternatives.now) (any_of u c.args.icase c.skip_missing_strings-others.result.now) c.args.machine.now c.push.new.self
-    captures captures position next c.in_ok-other.other (c.in_ok-other.ensures u) (Later-refl captures) opened
+    let counted : Machine = record c.args.machine.now { examined = c.count-2.new.examined } in
+    does_counted u _ c.args.machine.now counted captures position next c.push.new.self captures _ refl refl
+    (goes_pushed u (any_of u c.args.icase c.args.alternatives.now) (any_of u c.args.icase c.skip_missing_strings-others.result.now) counted c.push.new.self
+    captures captures position next c.in_ok-other.other (c.in_ok-other.ensures u) (Later-refl captures) opened)
 
 pub returns-then-is_empty : goal.returns-then-is_empty
 returns-then-is_empty c =
@@ -55,9 +60,11 @@ returns-then-is_empty c =
     c.in-Some.first.now c.all_of.result (Some c.in-Some-all_of.to) s (c.skip_missing_strings-open.ensures s refl) split occurs
     (c.skip_missing_strings-others.ensures s refl) c.in-Some-all_of.is in
     let none : c.skip_missing_strings-others.result.now ≡ [] = nothing_in c.skip_missing_strings-others.result.now (search rules) in
-    goes_on u (any_of u c.args.icase c.args.alternatives.now) c.args.machine.now captures position next c.in-Some-all_of.to
+    let counted : Machine = record c.args.machine.now { examined = c.count-2.new.examined } in
+    does_counted u _ c.args.machine.now counted captures position next counted captures _ refl refl
+    (goes_on u (any_of u c.args.icase c.args.alternatives.now) counted captures position next c.in-Some-all_of.to
     (opened ∙ ap (λ xs. record s { position = c.in-Some-all_of.to } ∷ xs)
-    (ap (λ (strings : List (BoxedSlice ℕ Global)). any_of u c.args.icase strings s) none ∙ any-nil u.direction (of_bytes u.bytes) same s))
+    (ap (λ (strings : List (BoxedSlice ℕ Global)). any_of u c.args.icase strings s) none ∙ any-nil u.direction (of_bytes u.bytes) same s)))
 
 pub returns : goal.returns
 returns c =
@@ -72,6 +79,8 @@ returns c =
     let opened = any_opened u c.args.icase c.args.alternatives.now c.skip_missing_strings-open.result.now c.in-Some.rest.now c.skip_missing_strings-others.result.now
     c.in-Some.first.now c.all_of.result (Some c.in-Some-all_of.to) s (c.skip_missing_strings-open.ensures s refl) split occurs
     (c.skip_missing_strings-others.ensures s refl) c.in-Some-all_of.is in
-    does_stay_or u (frame_step u (whats.Strings c.skip_missing_strings-others.result c.args.icase)) (any_of u c.args.icase c.args.alternatives.now) c.args.machine.now
+    let counted : Machine = record c.args.machine.now { examined = c.count-2.new.examined } in
+    does_counted u _ c.args.machine.now counted captures position next c.choose.new.self captures _ refl refl
+    (does_stay_or u (frame_step u (whats.Strings c.skip_missing_strings-others.result c.args.icase)) (any_of u c.args.icase c.args.alternatives.now) counted
     c.push-2.new.self c.choose.new.self captures position next c.in_ok-other-2.other c.in-Some-all_of.to (c.in_ok-other-2.ensures u)
-    (c.in_ok-choose.ensures u) opened
+    (c.in_ok-choose.ensures u) opened)

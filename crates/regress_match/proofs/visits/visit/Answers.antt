@@ -7,9 +7,10 @@ use Rattle.regress_tree.proofs.lemmas.Nodes.{tree-Cat, tree-CaptureGroup, tree-L
 use Rattle.regress_match.specs.Captures.{state}
 use Rattle.regress_match.specs.Leaves.{has_one_outcome}
 use Rattle.regress_match.specs.Subject.{subject}
-use Rattle.regress_match.proofs.DoesLemmas.{does_same, ok_map, goes_look, goes_put}
+use Rattle.regress_match.proofs.DoesLemmas.{does_counted, does_same, ok_map, goes_look, goes_put}
 use Rattle.regress_match.proofs.LoopLemmas.{loop_is}
 use Rattle.regress_match.specs.declared.machine.Looking.{Looking}
+use Rattle.regress_match.specs.declared.machine.Machine.{Machine}
 use Rattle.regress_match.specs.declared.machine.Repeat.{Repeat}
 use Rattle.regress_match.proofs.visits.visit.Goals as goal
 
@@ -103,12 +104,14 @@ returns-in-LookaroundAssertion c =
     (ap tree g.is ∙ tree-LookaroundAssertion g.negate g.backwards g.start_group g.end_group g.contents
     ∙ ap (λ x. wrapped (lookaround g.negate g.backwards g.start_group g.end_group) (tree x)) (sym c.deref-in-LookaroundAssertion.ensures)))
 
-pub returns-in_ok-leaf-in_default : goal.returns-in_ok-leaf-in_default
-returns-in_ok-leaf-in_default c =
+pub returns-in_ok-to-in_default : goal.returns-in_ok-to-in_default
+returns-in_ok-to-in_default c =
     let u = subject c.args.rules c.args.text.now in
     let m = c.args.machine.now in
     let captures = c.args.captures.now in
     let s = state captures c.args.position in
     let one : has_one_outcome (tree c.args.node.now) ≡ true = first_of (search (rules, the_lemmas), grind (arith, the_lemmas)) in
-    goes_put u _ m captures c.args.position c.args.next c.in_ok-leaf-in_default.field-0 c.go.result (c.in_ok-leaf-in_default.ensures one)
-    (c.go.ensures u m captures c.args.position)
+    let counted : Machine = record m { examined = c.leaf.new.examined } in
+    does_counted u _ m counted captures c.args.position c.args.next counted captures _ refl refl
+    (goes_put u _ counted captures c.args.position c.args.next c.in_ok-to-in_default.to c.go.result (c.in_ok-to-in_default.ensures one)
+    (c.go.ensures u counted captures c.args.position))
