@@ -1,6 +1,6 @@
 #!/bin/sh
-# Prints each match of a pattern in a file on a line, as `grep -o` does: only.sh PATTERN FILE. It needs regex-match on the
-# path, and ends with its status.
+# Prints each match of a pattern in a file on a line of its own, as `grep -o` does: only.sh PATTERN FILE. It needs
+# regex-match on the path. If there is no match, or on an error, it exits with the status of regex-match.
 set -u
 spans=$(regex-match -- "$1" <"$2") || exit
 printf '%s\n' "$spans" | while read -r span _; do

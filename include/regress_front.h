@@ -31,8 +31,8 @@ extern "C" {
 #define REGRESS_FRONT_DOT_ALL 4u      /* s */
 #define REGRESS_FRONT_UNICODE 8u      /* u */
 #define REGRESS_FRONT_UNICODE_SETS 16u /* v */
-/* Use the small table instead of the one of all of Unicode, which each call takes half a millisecond or more to make:
-   for patterns in ASCII, and for tests. It has few properties; letters in names are those of ASCII and from U+00C0 to
+/* Use the small table instead of the one of all of Unicode, which each call takes about a millisecond to make: for
+   patterns in ASCII, and for tests. It has few properties; letters in names are those of ASCII and from U+00C0 to
    U+00F6. */
 #define REGRESS_FRONT_SMALL_TABLE 32u
 
@@ -96,7 +96,7 @@ uint32_t regress_front_tell_fault_of_text(const uint8_t *pattern, size_t pattern
    Writes the encoding of its tree to `words`, a buffer of `room` words; words after the encoding are unchanged. For OK
    and ROOM `needed` is the length of the encoding in words, else 0: call with `room` 0 first, and then with a buffer of
    that size. For FAULT `place` is the position of the syntax error, a code-point index from 0 to the pattern's length,
-   else 0. */
+   else 0. With a NULL pointer that is not allowed, nothing is written. */
 static inline uint32_t regress_front_parse(const uint32_t *pattern, size_t pattern_length, uint32_t flags,
                                           uint32_t optimize, uint32_t *words, size_t room, size_t *needed,
                                           size_t *place) {

@@ -46,7 +46,7 @@ pub struct Flags {
 /// The table of Unicode data under which a pattern is parsed.
 #[derive(Clone, Copy, Debug, Default, PartialEq, Eq)]
 pub enum Table {
-    /// All of Unicode. Each call takes half a millisecond or more to make it.
+    /// All of Unicode. Each call takes about a millisecond to make it.
     #[default]
     Whole,
     /// A small table, for patterns in ASCII and for tests.

@@ -9,7 +9,8 @@ use regress_front::ir::Node;
 /// Returns a lower bound of the length in bytes of each match of the tree, if it is matched forwards, saturating at
 /// `usize::MAX`.
 ///
-/// A character counts as one byte. Backreferences and sets of strings count as none.
+/// The bound is not the greatest one, and may be 0 although no match is empty: a character counts as one byte, and a
+/// backreference or a set of strings as none.
 ///
 /// # Complexity
 /// Linear in the size of the tree. The depth of recursion is the nesting depth; right sides of alternatives take no

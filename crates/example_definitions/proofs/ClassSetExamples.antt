@@ -13,8 +13,8 @@ use Rattle.regress_lexer.specs.Digits.{front, after}
 use Rattle.regress_lexer.specs.Escapes.{escape_at, unicode_at}
 use Rattle.regress_syntax.specs.Meaning.{longest_first}
 use Rattle.regress_classes.specs.Properties.{Property, of_points, of_strings, property_at}
-use Rattle.regress_syntax.specs.Marks.{captures, closes, nests}
-use Rattle.regress_syntax.specs.Scan.{plain, marks}
+use Rattle.regress_syntax.specs.GroupTokens.{captures, closes, nests}
+use Rattle.regress_syntax.specs.Scan.{plain, tokens}
 use Rattle.regress_lexer.specs.Source.{Source, Found}
 
 abbrev run : ℕ → ℕ → Bounds
@@ -332,11 +332,11 @@ no_property_without_its_first_brace = refl
 
 -- ---- marks
 
-with_v_a_class_says_how_deep_it_is : marks true small_table plain (codes "[[\\(]b]\\1(a)") ≡ nests 1 ∷ captures None ∷ closes ∷ []
-unfolding marks
+with_v_a_class_says_how_deep_it_is : tokens true small_table plain (codes "[[\\(]b]\\1(a)") ≡ nests 1 ∷ captures None ∷ closes ∷ []
+unfolding tokens
 with_v_a_class_says_how_deep_it_is = refl
 
 -- The class ends at its first `]`.
-without_v_a_class_has_no_mark : marks false small_table plain (codes "[[\\(]b]\\1(a)") ≡ captures None ∷ closes ∷ []
-unfolding marks
+without_v_a_class_has_no_mark : tokens false small_table plain (codes "[[\\(]b]\\1(a)") ≡ captures None ∷ closes ∷ []
+unfolding tokens
 without_v_a_class_has_no_mark = refl

@@ -6,9 +6,9 @@ use Rattle.regress_tree.specs.Setting.{Setting}
 use Rattle.regress_tree.specs.Reading.{forwards}
 use Rattle.regress_tree.specs.Tree.{Tree, leaf, goal, back_ref, cat, alt, wrapped, capture_group, lookaround}
 use Rattle.regress_lexer.specs.Modifiers.{Change}
-use Rattle.regress_syntax.specs.Marks.{Mark, opens, captures, closes, next, marks_of}
+use Rattle.regress_syntax.specs.GroupTokens.{GroupToken, opens, captures, closes, next, tokens_of}
 use Rattle.regress_syntax.specs.SameNames.{are_names_apart}
-use Rattle.regress_syntax.specs.Scan.{marks, plain as outside_classes}
+use Rattle.regress_syntax.specs.Scan.{tokens, plain as outside_classes}
 use Rattle.regress_lexer.specs.Source.{Source}
 use Rattle.regress_syntax.specs.Syntax.{Pattern, one, no_terms, more_terms, atom, literal, class, back_reference, by_number, group, modified, capture, look}
 use Rattle.regress_parse.specs.TreeOf.{tree_of}
@@ -149,26 +149,26 @@ reference_to_two_groups = refl
 -- ---- marks
 
 -- The source and the syntax tree have these marks.
-unfoldable HasMarks : Setting → Source → List Mark → Type 0
+unfoldable HasTokens : Setting → Source → List GroupToken → Type 0
 unfolding pattern_of
-HasMarks setting source ms =
-    (marks setting.flags.unicode_sets setting.table outside_classes source ≡ ms)
-    × (option_map marks_of (pattern_of setting source) ≡ Some ms)
+HasTokens setting source ms =
+    (tokens setting.flags.unicode_sets setting.table outside_classes source ≡ ms)
+    × (option_map tokens_of (pattern_of setting source) ≡ Some ms)
 
 -- Parentheses in classes and after backslashes leave no mark.
-marks_of_each_kind : HasMarks named (codes "(?<a>x)(?:y)[(]\\((z)")
+marks_of_each_kind : HasTokens named (codes "(?<a>x)(?:y)[(]\\((z)")
     (captures (Some (codes "a")) ∷ closes ∷ opens ∷ closes ∷ captures None ∷ closes ∷ [])
-unfolding HasMarks
+unfolding HasTokens
 marks_of_each_kind = (refl, refl)
 
-marks_of_groups_in_each_other : HasMarks plain (codes "(?<!(?i:a|(b)))")
+marks_of_groups_in_each_other : HasTokens plain (codes "(?<!(?i:a|(b)))")
     (opens ∷ opens ∷ next ∷ captures None ∷ closes ∷ closes ∷ closes ∷ [])
-unfolding HasMarks
+unfolding HasTokens
 marks_of_groups_in_each_other = (refl, refl)
 
 -- In a class, neither `[` nor an escaped `]` starts or ends anything.
-marks_after_a_class : HasMarks plain (codes "[[\\](]|(a)") (next ∷ captures None ∷ closes ∷ [])
-unfolding HasMarks
+marks_after_a_class : HasTokens plain (codes "[[\\](]|(a)") (next ∷ captures None ∷ closes ∷ [])
+unfolding HasTokens
 marks_after_a_class = (refl, refl)
 
 -- whether the source is a pattern without conflicting names

@@ -29,7 +29,7 @@ use Rattle.regress_syntax.specs.Names.{name_at, rest_of_name_by}
 use Rattle.regress_classes.specs.Properties.{property_at}
 use Rattle.regress_lexer.specs.Quantifiers.{quantifier_at}
 use Rattle.regress_syntax.specs.Productions.{Context, head_at, optional_quantifier_at}
-use Rattle.regress_syntax.specs.Scan.{marks, plain as outside_classes, named_by}
+use Rattle.regress_syntax.specs.Scan.{tokens, plain as outside_classes, named_by}
 use Rattle.regress_lexer.specs.Source.{Source, Found}
 use Rattle.regress_syntax.specs.Syntax.{Name, Pattern, counts}
 use Rattle.regress_parse.specs.Reader.{parse_terms, pattern_at}
@@ -89,8 +89,8 @@ of_groups setting names = record { setting = setting; groups = length names; nam
 
 -- the context with the groups that the scan finds in the source
 unfoldable pub context : Setting → Source → Context
-unfolding marks name_at rest_of_name_by unicode_at is_member is_within
-context setting source = of_groups setting (named_by (marks setting.flags.unicode_sets setting.table outside_classes source))
+unfolding tokens name_at rest_of_name_by unicode_at is_member is_within
+context setting source = of_groups setting (named_by (tokens setting.flags.unicode_sets setting.table outside_classes source))
 
 -- the pattern that the whole source is, or `None`
 unfoldable pub pattern_of : Setting → Source → Option Pattern
@@ -123,9 +123,9 @@ TestCase = ℕ × List MatchState
 -- The source is a pattern with these outcomes on the text, and its tree has the same, as byte offsets.
 unfoldable pub Gives : Setting → Source → List ℕ → List TestCase → Type 0
 unfolding outcomes tree_outcomes
-Gives setting source text productions =
-    (outcomes setting source text (map (λ r. r.0) productions) ≡ Some (map (λ r. r.1) productions))
-    × (tree_outcomes setting source text (map (λ r. r.0) productions) ≡ Some (map (λ r. map (byte_state text) r.1) productions))
+Gives setting source text searches =
+    (outcomes setting source text (map (λ r. r.0) searches) ≡ Some (map (λ r. r.1) searches))
+    × (tree_outcomes setting source text (map (λ r. r.0) searches) ≡ Some (map (λ r. map (byte_state text) r.1) searches))
 
 -- short forms of test cases and outcomes: a position, and the capture of each group
 abbrev pub from : ℕ → List MatchState → TestCase

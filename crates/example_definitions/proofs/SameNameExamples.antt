@@ -5,12 +5,12 @@ use Rattle.regress_base.specs.Intervals.{is_member, is_within}
 use Rattle.regress_unicode.specs.SmallTable.{small_table}
 use Rattle.regress_lexer.specs.Source.{Source}
 use Rattle.regress_syntax.specs.Names.{name_at, rest_of_name_by}
-use Rattle.regress_syntax.specs.Paths.{are_marks_apart}
-use Rattle.regress_syntax.specs.Scan.{plain, marks}
+use Rattle.regress_syntax.specs.Paths.{are_tokens_apart}
+use Rattle.regress_syntax.specs.Scan.{plain, tokens}
 
 unfoldable apart : Source → Bool
-unfolding marks name_at rest_of_name_by small_table is_member is_within
-apart t = are_marks_apart (marks false small_table plain t)
+unfolding tokens name_at rest_of_name_by small_table is_member is_within
+apart t = are_tokens_apart (tokens false small_table plain t)
 
 -- The groups are in different alternatives of the whole pattern.
 alternatives_of_the_pattern : apart (codes "(?<a>x)|(?<a>y)") ≡ true

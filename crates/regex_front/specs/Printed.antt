@@ -19,9 +19,11 @@ setting_of_request (text, flags) = record { flags = flags; table = small_table }
 abbrev pub IsAccepted : Request → Pattern → Type 0
 IsAccepted request p = parse.IsAccepted (setting_of_request request) request.0 p
 
+-- The request's text denotes some pattern.
 abbrev pub IsAcceptedPattern : Request → Type 0
 IsAcceptedPattern request = (p : Pattern) × IsAccepted request p
 
+-- The request's text denotes no pattern.
 abbrev pub NoneIsAccepted : Request → Type 0
 NoneIsAccepted request = parse.NoneIsAccepted (setting_of_request request) request.0
 

@@ -2,6 +2,7 @@
 use Rattle.std.specs.Prelude.{ℕ, true, false, List, [], ◌∷◌, Option, Some, None, option_and_then, if◌then◌else◌, ◌==◌}
 use Rattle.regress_base.specs.declared.types.Flags.{Flags}
 
+-- all flags off
 abbrev pub no_flags : Flags
 no_flags = record { icase = false; multiline = false; dot_all = false; unicode = false; unicode_sets = false }
 

@@ -13,7 +13,7 @@ use Rattle.regress_syntax.specs.Productions.{Context, context_inside, single, op
 use Rattle.regress_syntax.specs.Grammar.{IsPattern, AreTerms, IsItem}
 use Rattle.regress_syntax.proofs.lemmas.Productions.{head_at-ends, head_at-shortens, optional_quantifier_at-ends}
 use Rattle.regress_syntax.proofs.lemmas.Lengths.{optional_quantifier_at-takes}
-use Rattle.regress_parse.specs.TreeOf.{joined, tree_of_group, tree_of_quantified, tree_of_atom, tree_of_pattern, trees_of_terms, tree_of_item}
+use Rattle.regress_parse.specs.TreeOf.{concatenation, tree_of_group, tree_of_quantified, tree_of_atom, tree_of_pattern, trees_of_terms, tree_of_item}
 use Rattle.regress_parse.proofs.lemmas.Nodes.{nodes-turned}
 use Rattle.regress_bound.specs.Bound.{total, nodes_at}
 use Rattle.regress_bound.proofs.SourceLemmas.{total-after, after_first, nodes-shorter}
@@ -21,7 +21,7 @@ use Rattle.regress_bound.proofs.HeadLemmas.{head_by-fits, AtMost, atom_by-nodes}
 
 -- ---- trees
 
-nodes-joined : (d : Direction) (ts : Trees) → nodes (joined d ts) ≤ 1 + nodes_in_list ts
+nodes-joined : (d : Direction) (ts : Trees) → nodes (concatenation d ts) ≤ 1 + nodes_in_list ts
 nodes-joined d no_trees = omega arith
 nodes-joined d (more_trees t no_trees) = omega arith
 nodes-joined d (more_trees t (more_trees u us)) = omega (arith, nodes-turned d (more_trees t (more_trees u us)))

@@ -11,6 +11,7 @@ use Rattle.regress_tree.specs.Setting.{Setting}
 abbrev pub has : ℕ → ℕ → Bool
 has bits bit = not (bit_and bits bit == 0)
 
+-- the flags that bits 0 to 4 specify
 abbrev pub flags_of : ℕ → Flags
 flags_of bits = record {
   icase = has bits 1;
@@ -24,6 +25,7 @@ flags_of bits = record {
 abbrev pub table_by : ℕ → Table
 table_by bits = if has bits 32 then small_table else unicode_table
 
+-- the flags and the table that the bits specify
 abbrev pub setting_by : ℕ → Setting
 setting_by bits = record { flags = flags_of bits; table = table_by bits }
 

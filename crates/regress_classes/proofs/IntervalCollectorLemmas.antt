@@ -125,10 +125,10 @@ module _ {S : Type 0} (R : S → Bounds → Bounds → Bool → S → Bounds →
       ∙ ap (λ (iv : Bounds). is_within iv c || is_member xs c) same ∙ sym (is_member-cons x xs c))
 
   pub joined_canonical : (s : S) (xs ys : List Bounds) (d : Bounds) → IsDeduped R s xs ys → IsInterval (get_or xs 0 d) → IsCanonical ys
-  joined_canonical s [] ys d is interval = subst IsCanonical (sym is.reported) refl
-  joined_canonical s (x ∷ xs) ys d is interval = canonical_after 0 s x xs ys is.reported interval (omega arith)
+  joined_canonical s [] ys d is interval = subst IsCanonical (sym is.told) refl
+  joined_canonical s (x ∷ xs) ys d is interval = canonical_after 0 s x xs ys is.told interval (omega arith)
 
   pub joined_members : (s : S) (xs ys : List Bounds) → IsDeduped R s xs ys → IsNonDecreasingBy (λ iv. iv.first) xs → (c : ℕ) →
       is_member ys c ≡ is_member xs c
-  joined_members s [] ys is order c = ap (λ (l : List Bounds). is_member l c) is.reported
-  joined_members s (x ∷ xs) ys is order c = members_after s x xs ys is.reported (ascends_from x xs order) c ∙ sym (is_member-cons x xs c)
+  joined_members s [] ys is order c = ap (λ (l : List Bounds). is_member l c) is.told
+  joined_members s (x ∷ xs) ys is order c = members_after s x xs ys is.told (ascends_from x xs order) c ∙ sym (is_member-cons x xs c)

@@ -34,6 +34,7 @@ class_letter c =
 abbrev pub complement : List Bounds → List Bounds
 complement members = intervals_of (λ c. not (is_member members c))
 
+-- the complement of the code points if the class is negated, else the code points themselves
 abbrev pub complement_if : Bool → List Bounds → List Bounds
 complement_if negated members = if negated then complement members else members
 
@@ -48,6 +49,7 @@ pub data ClassAtom : Type 0 where
   point : (c : ℕ) → ClassAtom
   set : (members : List Bounds) → ClassAtom
 
+-- the interval of one code point
 abbrev pub one_point : ℕ → List Bounds
 one_point c = record { first = c; last = c } ∷ []
 
@@ -88,6 +90,7 @@ module _ (table : Table) (unicode : Bool) where
   class_escape_by c t =
       elim (class_letter c) [ None ↦ first_production (class_escape_productions c t) | Some named ↦ Some (set (class_members named), t) ]
 
+  -- a class escape, after its backslash (ECMA-262, CharacterClassEscape)
   abbrev pub class_escape_at : Source → Found ClassAtom
   class_escape_at [] = None
   class_escape_at (c ∷ t) = class_escape_by c t

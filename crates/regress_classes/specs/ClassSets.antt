@@ -21,6 +21,7 @@ pub record Value : Type 0 where
   pub has_empty : Bool
   pub nesting : ℕ
 
+-- the contents of the empty class `[]`
 abbrev pub nothing : Value
 nothing = record { members = []; strings = []; has_empty = false; nesting = 0 }
 
@@ -46,6 +47,7 @@ abbrev pub folded_left : (Value → Value → Value) → Value → List Value �
 folded_left f first [] = first
 folded_left f first (next ∷ rest) = folded_left f (f first next) rest
 
+-- whether the string is one of the strings
 abbrev pub is_among : List (List ℕ) → List ℕ → Bool
 is_among strings s = list_any (λ other. bytes_eq other s) strings
 
@@ -73,11 +75,12 @@ value_of_string [] = record nothing { has_empty = true }
 value_of_string (c ∷ []) = only (one_point c)
 value_of_string (c ∷ d ∷ cs) = record nothing { strings = (c ∷ d ∷ cs) ∷ [] }
 
+-- the contents of a class with these strings
 abbrev pub value_of_strings : List (List ℕ) → Value
 value_of_strings [] = nothing
 value_of_strings (s ∷ ss) = joined (value_of_string s) (value_of_strings ss)
 
--- a class inside another class, where a negated class is its complement already (ECMA-262, NestedClass)
+-- a class inside another class, where an inverted class is its complement already (ECMA-262, NestedClass)
 abbrev pub nested : Bool × Value → Value
 nested (negated, v) = record v { members = complement_if negated v.members; nesting = v.nesting + 1 }
 
@@ -93,6 +96,7 @@ pub data Operand : Type 0 where
   character : (c : ℕ) → Operand
   class : (value : Value) → Operand
 
+-- the contents of a class with this operand alone
 abbrev pub value_of : Operand → Value
 value_of (character c) = only (one_point c)
 value_of (class value) = value
@@ -111,6 +115,7 @@ is_set_syntax c = is_one_of "()[]{}/-|\\" c
 abbrev pub is_double : ℕ → Bool
 is_double c = is_one_of "&!#$%*+,.:;<=>?@^`~" c
 
+-- whether the source starts with such a literal
 abbrev pub begins_double : Source → Bool
 begins_double [] = false
 begins_double (c ∷ t) = is_double c
@@ -185,6 +190,7 @@ module _ (table : Table) (unicode : Bool) where
 
   -- In what follows, `inner` parses a class after its `[`, and `in_negated` means that the class around is negated.
   module _ (inner : Source → Found (Bool × Value)) (in_negated : Bool) where
+    -- an operand: a nested class, an escape, or a character (ECMA-262, ClassSetOperand)
     unfoldable pub operand_at : Source → Found Operand
     operand_at t =
         if is_at (char "[") t then found_map (λ inside. class (nested inside)) (inner (drop 1 t))
@@ -193,6 +199,7 @@ module _ (table : Table) (unicode : Bool) where
 
     -- ---- unions (ECMA-262, ClassUnion)
 
+    -- a range, after its first end and the hyphen (ECMA-262, ClassSetRange)
     abbrev pub range_at : Operand → Source → Found Value
     range_at first t =
         operand_at t >>= λ (last, rest).

@@ -31,6 +31,7 @@ class_atom_of (class_atoms.Point c) = point c
 class_atom_of (class_atoms.Class kind negated) = set (class_members (kind, negated))
 class_atom_of (class_atoms.Property members negated) = set (complement_if negated members.now)
 
+-- A class atom that is a single number is a code point.
 abbrev pub IsClassAtomInRange : CodeClassAtom → Type 0
 IsClassAtomInRange (class_atoms.Point c) = IsCodePoint c
 IsClassAtomInRange (class_atoms.Class kind negated) = Unit {0}
@@ -101,6 +102,7 @@ abbrev pub symbol_of : Operator → ℕ
 symbol_of operators.Intersection = char "&"
 symbol_of operators.Subtraction = char "-"
 
+-- what an operator makes of two operands
 abbrev pub applied : Operator → Value → Value → Value
 applied operators.Intersection = common
 applied operators.Subtraction = without

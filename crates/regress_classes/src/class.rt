@@ -22,7 +22,9 @@ use std::alloc::{AllocError, Global};
 /// A class without the flag v: the set of its members as written, and whether the class is inverted.
 #[derive(Drop)]
 pub struct Class {
+    /// Whether the class begins with `[^`: it then matches the characters that are not in `set`.
     pub inverted: bool,
+    /// The members as written, without the characters that only the flag i adds, and not complemented.
     pub set: CodePointSet,
 }
 

@@ -25,12 +25,16 @@ pub enum ClassAtom<'a> {
     Point(u32),
     /// A class escape, or its complement.
     Class {
+        /// The kind of class: digits, white space or word characters.
         kind: CharacterClassType,
+        /// Whether the escape is that of the complement: `\D`, `\S` or `\W`.
         negated: bool,
     },
     /// A property of code points, or its complement.
     Property {
+        /// The code points that have the property.
         set: &'a CodePointSet,
+        /// Whether the escape is that of the complement: `\P`.
         negated: bool,
     },
 }

@@ -30,12 +30,14 @@ pub use value::Value;
 /// A class with the flag v: its contents as written, and whether the class is negated.
 #[derive(Drop)]
 pub struct ClassSet {
+    /// Whether the class begins with `[^`. An inverted class has no strings.
     pub negated: bool,
+    /// The contents as written, not complemented.
     pub value: Value,
 }
 
 impl ClassSet {
-    /// Returns the contents as those of an operand, where a negated class is its complement.
+    /// Returns the contents as those of an operand, where an inverted class is its complement.
     fn into_nested(self) -> Result<Value, AllocError>
         requires { self.value.others.nesting < 2 ^ 32 - 1 }
         ensures { IfOk result (λ held. (read : Bool × Written) → IsClassSetRead self read → IsValue held (nested read)) }

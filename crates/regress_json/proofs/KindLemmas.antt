@@ -5,8 +5,8 @@ use Rattle.std.proofs.lemmas.List.{append_cancel_left}
 use Rattle.regress_tree.specs.Tree.{Leaf, empty, goal, char, byte_sequence, byte_set, char_set, match_any, match_any_except_line_terminator, anchor, word_boundary, bracket, back_ref, string_set, Wrapper, capture_group, loop, loop_one, lookaround}
 use Rattle.regress_json.specs.Json.{is_word, numbers, interval, leaf_json, front}
 use Rattle.regress_json.specs.Numbers.{AllFit, IntervalFits, LeafFits, WrapperFits}
-use Rattle.regress_json.proofs.ReportingLemmas.{ReportsKind, gives, if_ended, then, start, more, more_items, items-report, words-report, number-reports}
-use Rattle.regress_json.proofs.PieceLemmas.{truth-reports, anchored-reports, numbers-report, pair-reports, interval-reports, quantifier-reports, name-reports}
+use Rattle.regress_json.proofs.DeterminingLemmas.{Determines, gives, if_ended, then, start, more, more_items, items-determine, words-determine, number-determines}
+use Rattle.regress_json.proofs.PieceLemmas.{truth-determines, anchored-determines, numbers-determine, pair-determines, interval-determines, quantifier-determines, name-determines}
 
 pub record HasKind (text kind : List ℕ) : Type 0 where
   pub letters : is_word kind ≡ true
@@ -25,14 +25,14 @@ begun_more {p} {kind} h s = record {
 }
 
 -- two kinds that f distinguishes
-pub kinds-apart : (f : List ℕ → ℕ) {p q k l : List ℕ} {E : Type 0} → HasKind p k → HasKind q l → (f k == f l) ≡ false → ReportsKind p q E
-kinds-apart f {p} {q} {k} {l} hp hq differ = record { reported = λ a b e. absurd (none a b e) }
+pub kinds-apart : (f : List ℕ → ℕ) {p q k l : List ℕ} {E : Type 0} → HasKind p k → HasKind q l → (f k == f l) ≡ false → Determines p q E
+kinds-apart f {p} {q} {k} {l} hp hq differ = record { determined = λ a b e. absurd (none a b e) }
   where
     none : (a b : List ℕ) → p ++ a ≡ q ++ b → ⊥
     none a b e =
         let ha = begun_more hp a in
         let hb = begun_more hq b in
-        let same_kind : k ≡ l = ((words-report k l hp.letters hq.letters).reported (codes "\"" ++ ha.rest) (codes "\"" ++ hb.rest) refl refl
+        let same_kind : k ≡ l = ((words-determine k l hp.letters hq.letters).determined (codes "\"" ++ ha.rest) (codes "\"" ++ hb.rest) refl refl
         (append_cancel_left (codes "{\"kind\":\"") (k ++ (codes "\"" ++ ha.rest)) (l ++ (codes "\"" ++ hb.rest))
         (sym ha.begins ∙ e ∙ hb.begins))).0 in
         let bad : true ≡ false = sym (eq-eqb (f k) (f l) (ap f same_kind)) ∙ differ in
@@ -80,41 +80,41 @@ ended l = leaf_json l ++ codes "}"
 pub ended-kind : (l : Leaf) → HasKind (ended l) (leaf_kind l)
 ended-kind l = begun_more (leaf-kind l) (codes "}")
 
-pub leaf-reports : (l m : Leaf) → LeafFits l → LeafFits m → ReportsKind (ended l) (ended m) (l ≡ m)
-leaf-reports empty empty h k = gives (λ u. refl) (start (ended empty))
-leaf-reports goal goal h k = gives (λ u. refl) (start (ended goal))
-leaf-reports (char c) (char d) h k = gives (λ e. ap char e.1)
-    (more (start (codes "{\"kind\":\"Char\",\"c\":")) (number-reports c d h k) (codes "}") refl)
-leaf-reports (byte_sequence xs) (byte_sequence ys) h k = gives (λ e. ap byte_sequence e.1)
-    (more (start (codes "{\"kind\":\"ByteSequence\",\"bytes\":")) (if_ended (numbers-report xs ys h k)) (codes "}") refl)
-leaf-reports (byte_set xs) (byte_set ys) h k = gives (λ e. ap byte_set e.1)
-    (more (start (codes "{\"kind\":\"ByteSet\",\"bytes\":")) (if_ended (numbers-report xs ys h k)) (codes "}") refl)
-leaf-reports (char_set xs) (char_set ys) h k = gives (λ e. ap char_set e.1)
-    (more (start (codes "{\"kind\":\"CharSet\",\"characters\":")) (if_ended (numbers-report xs ys h k)) (codes "}") refl)
-leaf-reports match_any match_any h k = gives (λ u. refl) (start (ended match_any))
-leaf-reports match_any_except_line_terminator match_any_except_line_terminator h k =
+pub leaf-determines : (l m : Leaf) → LeafFits l → LeafFits m → Determines (ended l) (ended m) (l ≡ m)
+leaf-determines empty empty h k = gives (λ u. refl) (start (ended empty))
+leaf-determines goal goal h k = gives (λ u. refl) (start (ended goal))
+leaf-determines (char c) (char d) h k = gives (λ e. ap char e.1)
+    (more (start (codes "{\"kind\":\"Char\",\"c\":")) (number-determines c d h k) (codes "}") refl)
+leaf-determines (byte_sequence xs) (byte_sequence ys) h k = gives (λ e. ap byte_sequence e.1)
+    (more (start (codes "{\"kind\":\"ByteSequence\",\"bytes\":")) (if_ended (numbers-determine xs ys h k)) (codes "}") refl)
+leaf-determines (byte_set xs) (byte_set ys) h k = gives (λ e. ap byte_set e.1)
+    (more (start (codes "{\"kind\":\"ByteSet\",\"bytes\":")) (if_ended (numbers-determine xs ys h k)) (codes "}") refl)
+leaf-determines (char_set xs) (char_set ys) h k = gives (λ e. ap char_set e.1)
+    (more (start (codes "{\"kind\":\"CharSet\",\"characters\":")) (if_ended (numbers-determine xs ys h k)) (codes "}") refl)
+leaf-determines match_any match_any h k = gives (λ u. refl) (start (ended match_any))
+leaf-determines match_any_except_line_terminator match_any_except_line_terminator h k =
     gives (λ u. refl) (start (ended match_any_except_line_terminator))
-leaf-reports (anchor x m) (anchor y n) h k = gives (λ e. λ i. anchor (e.0.1 i) (e.1 i))
+leaf-determines (anchor x m) (anchor y n) h k = gives (λ e. λ i. anchor (e.0.1 i) (e.1 i))
     (more (more (start (codes "{\"kind\":\"Anchor\",\"anchor_type\":\""))
-    (anchored-reports x y) (codes "\",\"multiline\":") refl)
-    (truth-reports m n) (codes "}") refl)
-leaf-reports (word_boundary x m) (word_boundary y n) h k = gives (λ e. λ i. word_boundary (e.0.1 i) (e.1 i))
+    (anchored-determines x y) (codes "\",\"multiline\":") refl)
+    (truth-determines m n) (codes "}") refl)
+leaf-determines (word_boundary x m) (word_boundary y n) h k = gives (λ e. λ i. word_boundary (e.0.1 i) (e.1 i))
     (more (more (start (codes "{\"kind\":\"WordBoundary\",\"invert\":"))
-    (truth-reports x y) (codes ",\"unicode_icase\":") refl)
-    (truth-reports m n) (codes "}") refl)
-leaf-reports (bracket x xs) (bracket y ys) h k = gives (λ e. λ i. bracket (e.0.1 i) (e.1 i))
+    (truth-determines x y) (codes ",\"unicode_icase\":") refl)
+    (truth-determines m n) (codes "}") refl)
+leaf-determines (bracket x xs) (bracket y ys) h k = gives (λ e. λ i. bracket (e.0.1 i) (e.1 i))
     (then (more_items (more (start (codes "{\"kind\":\"Bracket\",\"invert\":"))
-    (truth-reports x y) (codes ",\"cps\":[") refl)
-    (items-report interval IntervalFits (λ iv jv p q. if_ended (interval-reports iv jv p q)) (λ iv p a. refl) xs ys h k) []) (codes "}"))
-leaf-reports (back_ref x m) (back_ref y n) h k = gives (λ e. λ i. back_ref (e.0.1 i) (e.1 i))
+    (truth-determines x y) (codes ",\"cps\":[") refl)
+    (items-determine interval IntervalFits (λ iv jv p q. if_ended (interval-determines iv jv p q)) (λ iv p a. refl) xs ys h k) []) (codes "}"))
+leaf-determines (back_ref x m) (back_ref y n) h k = gives (λ e. λ i. back_ref (e.0.1 i) (e.1 i))
     (more (more (start (codes "{\"kind\":\"BackRef\",\"group\":"))
-    (number-reports x y h k) (codes ",\"icase\":") refl)
-    (truth-reports m n) (codes "}") refl)
-leaf-reports (string_set xs m) (string_set ys n) h k = gives (λ e. λ i. string_set (e.0.1 i) (e.1 i))
+    (number-determines x y h k) (codes ",\"icase\":") refl)
+    (truth-determines m n) (codes "}") refl)
+leaf-determines (string_set xs m) (string_set ys n) h k = gives (λ e. λ i. string_set (e.0.1 i) (e.1 i))
     (more (more_items (start (codes "{\"kind\":\"StringSet\",\"alternatives\":["))
-    (items-report numbers AllFit (λ s t p q. if_ended (numbers-report s t p q)) (λ s p a. refl) xs ys h k) (codes ",\"icase\":"))
-    (truth-reports m n) (codes "}") refl)
-leaf-reports l m h k = kinds-apart code (ended-kind l) (ended-kind m) refl
+    (items-determine numbers AllFit (λ s t p q. if_ended (numbers-determine s t p q)) (λ s p a. refl) xs ys h k) (codes ",\"icase\":"))
+    (truth-determines m n) (codes "}") refl)
+leaf-determines l m h k = kinds-apart code (ended-kind l) (ended-kind m) refl
 
 abbrev pub wrapper_kind : Wrapper → List ℕ
 wrapper_kind (capture_group id name) = codes "CaptureGroup"
@@ -128,22 +128,22 @@ wrapper-kind (loop q start end) = begun (codes "Loop") _ refl
 wrapper-kind (loop_one q) = begun (codes "Loop1CharBody") _ refl
 wrapper-kind (lookaround negate backwards start end) = begun (codes "LookaroundAssertion") _ refl
 
-pub wrapper-reports : (w v : Wrapper) → WrapperFits w → WrapperFits v → ReportsKind (front w) (front v) (w ≡ v)
-wrapper-reports (capture_group a m) (capture_group b n) h k = gives (λ e. λ i. capture_group (e.0.1 i) (e.1 i))
+pub wrapper-determines : (w v : Wrapper) → WrapperFits w → WrapperFits v → Determines (front w) (front v) (w ≡ v)
+wrapper-determines (capture_group a m) (capture_group b n) h k = gives (λ e. λ i. capture_group (e.0.1 i) (e.1 i))
     (more (more (start (codes "{\"kind\":\"CaptureGroup\",\"id\":"))
-    (number-reports a b h.0 k.0) (codes ",\"name\":") refl)
-    (if_ended (name-reports m n h.1 k.1)) (codes ",\"contents\":") refl)
-wrapper-reports (loop p a b) (loop q c d) h k = gives (λ e. λ i. loop (e.1 i) (e.0.1.0 i) (e.0.1.1 i))
+    (number-determines a b h.0 k.0) (codes ",\"name\":") refl)
+    (if_ended (name-determines m n h.1 k.1)) (codes ",\"contents\":") refl)
+wrapper-determines (loop p a b) (loop q c d) h k = gives (λ e. λ i. loop (e.1 i) (e.0.1.0 i) (e.0.1.1 i))
     (more (more (start (codes "{\"kind\":\"Loop\",\"enclosed_groups\":"))
-    (if_ended (pair-reports a b c d h.1 h.2 k.1 k.2)) (codes ",\"quant\":") refl)
-    (if_ended (quantifier-reports p q h.0 k.0)) (codes ",\"loopee\":") refl)
-wrapper-reports (loop_one p) (loop_one q) h k = gives (λ e. ap loop_one e.1)
-    (more (start (codes "{\"kind\":\"Loop1CharBody\",\"quant\":")) (if_ended (quantifier-reports p q h k)) (codes ",\"loopee\":") refl)
-wrapper-reports (lookaround m x a b) (lookaround n y c d) h k =
+    (if_ended (pair-determines a b c d h.1 h.2 k.1 k.2)) (codes ",\"quant\":") refl)
+    (if_ended (quantifier-determines p q h.0 k.0)) (codes ",\"loopee\":") refl)
+wrapper-determines (loop_one p) (loop_one q) h k = gives (λ e. ap loop_one e.1)
+    (more (start (codes "{\"kind\":\"Loop1CharBody\",\"quant\":")) (if_ended (quantifier-determines p q h k)) (codes ",\"loopee\":") refl)
+wrapper-determines (lookaround m x a b) (lookaround n y c d) h k =
     gives (λ e. λ i. lookaround (e.0.0.0.1 i) (e.0.0.1 i) (e.0.1 i) (e.1 i))
     (more (more (more (more (start (codes "{\"kind\":\"LookaroundAssertion\",\"negate\":"))
-    (truth-reports m n) (codes ",\"backwards\":") refl)
-    (truth-reports x y) (codes ",\"start_group\":") refl)
-    (number-reports a c h.0 k.0) (codes ",\"end_group\":") refl)
-    (number-reports b d h.1 k.1) (codes ",\"contents\":") refl)
-wrapper-reports w v h k = kinds-apart code (wrapper-kind w) (wrapper-kind v) refl
+    (truth-determines m n) (codes ",\"backwards\":") refl)
+    (truth-determines x y) (codes ",\"start_group\":") refl)
+    (number-determines a c h.0 k.0) (codes ",\"end_group\":") refl)
+    (number-determines b d h.1 k.1) (codes ",\"contents\":") refl)
+wrapper-determines w v h k = kinds-apart code (wrapper-kind w) (wrapper-kind v) refl

@@ -1,5 +1,5 @@
 pub mod JsonLemmas
 pub mod lemmas
-mod ReportingLemmas
+mod DeterminingLemmas
 mod PieceLemmas
 mod KindLemmas

@@ -14,10 +14,10 @@ use Rattle.regress_base.specs.declared.types.Quantifier.{Quantifier}
 use Rattle.regress_tree.specs.Display.{anchored, truth}
 use Rattle.regress_json.specs.Json.{is_word, numbers, pair, interval, number_or_null, quantifier, name, flags_json}
 use Rattle.regress_json.specs.Numbers.{Fits, AllFit, IntervalFits, QuantifierFits}
-use Rattle.regress_json.proofs.ReportingLemmas.{ReportsKind, ReportsIfEnded, gives, start, apart, more, more_items, items-report, words-report, read-reports, number-is_word, number-reports, number-goes_on}
+use Rattle.regress_json.proofs.DeterminingLemmas.{Determines, DeterminesIfEnded, gives, start, apart, more, more_items, items-determine, words-determine, read-determines, number-is_word, number-determines, number-goes_on}
 
-pub truth-reports : (x y : Bool) → ReportsIfEnded (truth x) (truth y) (x ≡ y)
-truth-reports x y = read-reports truth (λ b. Unit {0}) read letters back x y tt tt
+pub truth-determines : (x y : Bool) → DeterminesIfEnded (truth x) (truth y) (x ≡ y)
+truth-determines x y = read-determines truth (λ b. Unit {0}) read letters back x y tt tt
   where
     read : List ℕ → Bool
     read [] = false
@@ -31,8 +31,8 @@ truth-reports x y = read-reports truth (λ b. Unit {0}) read letters back x y tt
     back true u = refl
     back false u = refl
 
-pub anchored-reports : (x y : AnchorType) → ReportsIfEnded (anchored x) (anchored y) (x ≡ y)
-anchored-reports x y = read-reports anchored (λ k. Unit {0}) read letters back x y tt tt
+pub anchored-determines : (x y : AnchorType) → DeterminesIfEnded (anchored x) (anchored y) (x ≡ y)
+anchored-determines x y = read-determines anchored (λ k. Unit {0}) read letters back x y tt tt
   where
     read : List ℕ → AnchorType
     read [] = EndOfLine
@@ -46,8 +46,8 @@ anchored-reports x y = read-reports anchored (λ k. Unit {0}) read letters back 
     back StartOfLine u = refl
     back EndOfLine u = refl
 
-pub number_or_null-reports : (x y : Option ℕ) → IfSome x Fits → IfSome y Fits → ReportsIfEnded (number_or_null x) (number_or_null y) (x ≡ y)
-number_or_null-reports = read-reports number_or_null (λ o. IfSome o Fits) read letters back
+pub number_or_null-determines : (x y : Option ℕ) → IfSome x Fits → IfSome y Fits → DeterminesIfEnded (number_or_null x) (number_or_null y) (x ≡ y)
+number_or_null-determines = read-determines number_or_null (λ o. IfSome o Fits) read letters back
   where
     read : List ℕ → Option ℕ
     read [] = None
@@ -68,27 +68,27 @@ number_or_null-reports = read-reports number_or_null (λ o. IfSome o Fits) read 
     back None h = refl
     back (Some n) h = let d = decimal_is_IsNumeral n h in digits_read (decimal n) d.0.0 d.0.1 ∙ ap Some d.1
 
-pub numbers-report : (xs ys : List ℕ) → AllFit xs → AllFit ys → ReportsKind (numbers xs) (numbers ys) (xs ≡ ys)
-numbers-report xs ys hx hy =
-    gives (λ e. e.1) (more_items (start (codes "[")) (items-report decimal Fits number-reports number-goes_on xs ys hx hy) [])
+pub numbers-determine : (xs ys : List ℕ) → AllFit xs → AllFit ys → Determines (numbers xs) (numbers ys) (xs ≡ ys)
+numbers-determine xs ys hx hy =
+    gives (λ e. e.1) (more_items (start (codes "[")) (items-determine decimal Fits number-determines number-goes_on xs ys hx hy) [])
 
-pub pair-reports : (a b c d : ℕ) → Fits a → Fits b → Fits c → Fits d → ReportsKind (pair a b) (pair c d) ((a ≡ c) × (b ≡ d))
-pair-reports a b c d ha hb hc hd = gives (λ e. (e.0.1, e.1))
-    (more (more (start (codes "[")) (number-reports a c ha hc) (codes ",") refl) (number-reports b d hb hd) (codes "]") refl)
+pub pair-determines : (a b c d : ℕ) → Fits a → Fits b → Fits c → Fits d → Determines (pair a b) (pair c d) ((a ≡ c) × (b ≡ d))
+pair-determines a b c d ha hb hc hd = gives (λ e. (e.0.1, e.1))
+    (more (more (start (codes "[")) (number-determines a c ha hc) (codes ",") refl) (number-determines b d hb hd) (codes "]") refl)
 
-pub interval-reports : (x y : Bounds) → IntervalFits x → IntervalFits y → ReportsKind (interval x) (interval y) (x ≡ y)
-interval-reports x y hx hy = gives (λ e. λ i. record { first = e.0 i; last = e.1 i })
-    (pair-reports x.first x.last y.first y.last hx.0 hx.1 hy.0 hy.1)
+pub interval-determines : (x y : Bounds) → IntervalFits x → IntervalFits y → Determines (interval x) (interval y) (x ≡ y)
+interval-determines x y hx hy = gives (λ e. λ i. record { first = e.0 i; last = e.1 i })
+    (pair-determines x.first x.last y.first y.last hx.0 hx.1 hy.0 hy.1)
 
-pub quantifier-reports : (x y : Quantifier) → QuantifierFits x → QuantifierFits y → ReportsKind (quantifier x) (quantifier y) (x ≡ y)
-quantifier-reports x y hx hy = gives (λ e. λ i. record { min = e.0.0.1 i; max = e.0.1 i; greedy = e.1 i })
+pub quantifier-determines : (x y : Quantifier) → QuantifierFits x → QuantifierFits y → Determines (quantifier x) (quantifier y) (x ≡ y)
+quantifier-determines x y hx hy = gives (λ e. λ i. record { min = e.0.0.1 i; max = e.0.1 i; greedy = e.1 i })
     (more (more (more (start (codes "{\"min\":"))
-    (number-reports x.min y.min hx.0 hy.0) (codes ",\"max\":") refl)
-    (number_or_null-reports x.max y.max hx.1 hy.1) (codes ",\"greedy\":") refl)
-    (truth-reports x.greedy y.greedy) (codes "}") refl)
+    (number-determines x.min y.min hx.0 hy.0) (codes ",\"max\":") refl)
+    (number_or_null-determines x.max y.max hx.1 hy.1) (codes ",\"greedy\":") refl)
+    (truth-determines x.greedy y.greedy) (codes "}") refl)
 
-pub flags-report : (x y : Flags) → ReportsKind (flags_json x) (flags_json y) (x ≡ y)
-flags-report x y = gives (λ e. λ i. record {
+pub flags-determine : (x y : Flags) → Determines (flags_json x) (flags_json y) (x ≡ y)
+flags-determine x y = gives (λ e. λ i. record {
   icase = e.0.0.0.0.1 i;
   multiline = e.0.0.0.1 i;
   dot_all = e.0.0.1 i;
@@ -96,11 +96,11 @@ flags-report x y = gives (λ e. λ i. record {
   unicode_sets = e.1 i;
 })
     (more (more (more (more (more (start (codes "{\"icase\":"))
-    (truth-reports x.icase y.icase) (codes ",\"multiline\":") refl)
-    (truth-reports x.multiline y.multiline) (codes ",\"dot_all\":") refl)
-    (truth-reports x.dot_all y.dot_all) (codes ",\"unicode\":") refl)
-    (truth-reports x.unicode y.unicode) (codes ",\"unicode_sets\":") refl)
-    (truth-reports x.unicode_sets y.unicode_sets) (codes "}") refl)
+    (truth-determines x.icase y.icase) (codes ",\"multiline\":") refl)
+    (truth-determines x.multiline y.multiline) (codes ",\"dot_all\":") refl)
+    (truth-determines x.dot_all y.dot_all) (codes ",\"unicode\":") refl)
+    (truth-determines x.unicode y.unicode) (codes ",\"unicode_sets\":") refl)
+    (truth-determines x.unicode_sets y.unicode_sets) (codes "}") refl)
 
 -- A name is `null`, a quoted word or a list. Its first byte determines which.
 data IsName : Option (List ℕ) → List ℕ → Type 0 where
@@ -116,17 +116,17 @@ name-is (Some bytes) = by (is_word bytes) refl
     by true e = quoted bytes e
     by false e = listed bytes
 
-names-report : {m n : Option (List ℕ)} {p q : List ℕ} → IsName m p → IsName n q → IfSome m AllFit → IfSome n AllFit → ReportsKind p q (m ≡ n)
-names-report null null hm hn = gives (λ u. refl) (start (codes "null"))
-names-report null (quoted ys wy) hm hn = apart refl
-names-report null (listed ys) hm hn = apart refl
-names-report (quoted xs wx) null hm hn = apart refl
-names-report (quoted xs wx) (quoted ys wy) hm hn =
-    gives (λ e. ap Some e.1) (more (start (codes "\"")) (words-report xs ys wx wy) (codes "\"") refl)
-names-report (quoted xs wx) (listed ys) hm hn = apart refl
-names-report (listed xs) null hm hn = apart refl
-names-report (listed xs) (quoted ys wy) hm hn = apart refl
-names-report (listed xs) (listed ys) hm hn = gives (λ e. ap Some e) (numbers-report xs ys hm hn)
+names-determine : {m n : Option (List ℕ)} {p q : List ℕ} → IsName m p → IsName n q → IfSome m AllFit → IfSome n AllFit → Determines p q (m ≡ n)
+names-determine null null hm hn = gives (λ u. refl) (start (codes "null"))
+names-determine null (quoted ys wy) hm hn = apart refl
+names-determine null (listed ys) hm hn = apart refl
+names-determine (quoted xs wx) null hm hn = apart refl
+names-determine (quoted xs wx) (quoted ys wy) hm hn =
+    gives (λ e. ap Some e.1) (more (start (codes "\"")) (words-determine xs ys wx wy) (codes "\"") refl)
+names-determine (quoted xs wx) (listed ys) hm hn = apart refl
+names-determine (listed xs) null hm hn = apart refl
+names-determine (listed xs) (quoted ys wy) hm hn = apart refl
+names-determine (listed xs) (listed ys) hm hn = gives (λ e. ap Some e) (numbers-determine xs ys hm hn)
 
-pub name-reports : (m n : Option (List ℕ)) → IfSome m AllFit → IfSome n AllFit → ReportsKind (name m) (name n) (m ≡ n)
-name-reports m n hm hn = names-report (name-is m) (name-is n) hm hn
+pub name-determines : (m n : Option (List ℕ)) → IfSome m AllFit → IfSome n AllFit → Determines (name m) (name n) (m ≡ n)
+name-determines m n hm hn = names-determine (name-is m) (name-is n) hm hn

@@ -18,6 +18,7 @@ numbers ns = codes "[" ++ join_by decimal (codes ",") ns ++ codes "]"
 abbrev pub pair : ℕ → ℕ → List ℕ
 pair first last = codes "[" ++ decimal first ++ codes "," ++ decimal last ++ codes "]"
 
+-- an interval, as a pair of its first and its last code point
 abbrev pub interval : Bounds → List ℕ
 interval iv = pair iv.first iv.last
 
@@ -35,6 +36,7 @@ abbrev pub is_word_byte : ℕ → Bool
 is_word_byte b = (nat_le 48 b && nat_le b 57) || (nat_le 65 b && nat_le b 90) || (nat_le 97 b && nat_le b 122)
     || b == 95 || b == 36 || nat_le 128 b
 
+-- each byte is a word byte
 abbrev pub is_word : List ℕ → Bool
 is_word [] = true
 is_word (b ∷ bs) = is_word_byte b && is_word bs
@@ -45,6 +47,7 @@ abbrev pub name : Option (List ℕ) → List ℕ
 name None = codes "null"
 name (Some bytes) = if is_word bytes then codes "\"" ++ bytes ++ codes "\"" else numbers bytes
 
+-- the object of a leaf of this kind with bytes, without its end
 abbrev pub node_of_bytes : List ℕ → List ℕ → List ℕ
 node_of_bytes kind bytes = codes "{\"kind\":\"" ++ kind ++ codes "\",\"bytes\":" ++ numbers bytes
 
@@ -90,6 +93,7 @@ comma first = if first then [] else codes ","
 
 -- Objects whose nodes are numbered in postorder. The mark of a node's number is written at the end of its object.
 module _ (mark : ℕ → List ℕ) where
+  -- the end of the object of the node with this number
   abbrev pub ending : ℕ → List ℕ
   ending number = mark number ++ codes "}"
 
@@ -117,6 +121,7 @@ module _ (mark : ℕ → List ℕ) where
     list_json at first no_trees = []
     list_json at first (more_trees t ts) = comma first ++ (node_json at t ++ list_json (at + nodes t) false ts)
 
+-- `{"icase":false,"multiline":false,"dot_all":false,"unicode":false,"unicode_sets":false}`
 abbrev pub flags_json : Flags → List ℕ
 flags_json f = codes "{\"icase\":" ++ truth f.icase ++ codes ",\"multiline\":" ++ truth f.multiline ++ codes ",\"dot_all\":" ++ truth f.dot_all
     ++ codes ",\"unicode\":" ++ truth f.unicode ++ codes ",\"unicode_sets\":" ++ truth f.unicode_sets ++ codes "}"

@@ -4,6 +4,8 @@ use Rattle.regress_base.specs.Intervals.{Bounds}
 use Rattle.regress_base.specs.declared.types.Quantifier.{Quantifier}
 use Rattle.regress_tree.specs.Tree.{Leaf, char, byte_sequence, byte_set, char_set, bracket, back_ref, string_set, Wrapper, capture_group, loop, loop_one, lookaround, Tree, Trees, leaf, cat, alt, wrapped, no_trees, more_trees}
 
+-- The number fits in 64 bits. The definitions that follow state it of all numbers of a list, an interval, a quantifier,
+-- a leaf and a wrapper.
 abbrev pub Fits : ℕ → Type 0
 Fits n = n < 2 ^ 64
 
@@ -33,6 +35,7 @@ WrapperFits (loop_one q) = QuantifierFits q
 WrapperFits (lookaround negate backwards start end) = Fits start × Fits end
 
 abbrev mutual
+  -- All numbers of the tree fit in 64 bits.
   pub NumbersFit : Tree → Type 0
   NumbersFit (leaf l) = LeafFits l
   NumbersFit (cat parts) = ListFits parts

@@ -52,6 +52,7 @@ impl fmt::Display for Json<'_> {
 /// shown: it starts where its first alternative does.
 #[derive(Clone, Copy)]
 pub struct SpannedJson<'a> {
+    /// The pattern's tree and flags.
     pub regex: &'a Regex,
     /// A span for each node in postorder, as `try_parse_with_spans` returns them. If there are fewer spans than nodes,
     /// the remaining nodes have none.

@@ -3,6 +3,7 @@ use Rattle.std.specs.Prelude.{ℕ, ◌+◌, ◌-◌, ◌*◌, ◌%◌, Bool, ◌
 use Rattle.std.specs.List.{list_all}
 use Rattle.regress_lexer.specs.Source.{Source, Found, char}
 
+-- The code point is in the closed range from `first` to `last`.
 abbrev pub is_between : ℕ → ℕ → ℕ → Bool
 is_between first last c = nat_le first c && nat_le c last
 
@@ -31,14 +32,16 @@ abbrev pub number_from : ℕ → ℕ → List ℕ → ℕ
 number_from base n [] = n
 number_from base n (c ∷ cs) = number_from base (n * base + digit c) cs
 
+-- the number that these digits denote in a base
 abbrev pub number : ℕ → List ℕ → ℕ
 number base = number_from base 0
 
--- the longest prefix of the source whose code points pass the test, and the source after it
+-- the longest prefix of the source whose code points pass the test
 unfoldable pub front : (ℕ → Bool) → Source → Source
 front p [] = []
 front p (c ∷ t) = if p c then c ∷ front p t else []
 
+-- the source after that prefix
 unfoldable pub after : (ℕ → Bool) → Source → Source
 after p [] = []
 after p (c ∷ t) = if p c then after p t else c ∷ t

@@ -60,10 +60,12 @@ letter_escape c =
     else if c == char "v" then Some 0xB
     else None
 
+-- whether the source starts with a decimal digit
 abbrev pub begins_with_digit : Source → Bool
 begins_with_digit [] = false
 begins_with_digit (d ∷ t) = is_decimal d
 
+-- whether the source starts with an ASCII letter
 abbrev pub begins_with_letter : Source → Bool
 begins_with_letter [] = false
 begins_with_letter (d ∷ t) = is_letter d

@@ -11,6 +11,7 @@ pub record Change : Type 0 where
   pub multiline : Option Bool
   pub dot_all : Option Bool
 
+-- the flag after the change
 abbrev pub switched : Option Bool → Bool → Bool
 switched None old = old
 switched (Some new) old = new
@@ -23,9 +24,11 @@ changed change flags = record flags {
   dot_all = switched change.dot_all flags.dot_all;
 }
 
+-- a letter of a flag that modifiers can switch
 abbrev pub is_modifier : ℕ → Bool
 is_modifier c = is_one_of "ims" c
 
+-- the letter is in the list
 abbrev pub is_in : ℕ → List ℕ → Bool
 is_in c letters = list_any (λ d. d == c) letters
 
@@ -38,6 +41,7 @@ are_different (c ∷ cs) = not (is_in c cs) && are_different cs
 abbrev pub switch : (on off : List ℕ) → ℕ → Option Bool
 switch on off c = if is_in c on then Some true else if is_in c off then Some false else None
 
+-- the change by the letters that switch on and those that switch off
 abbrev pub change_by : (on off : List ℕ) → Change
 change_by on off = record { icase = switch on off (char "i"); multiline = switch on off (char "m"); dot_all = switch on off (char "s") }
 
@@ -45,6 +49,7 @@ change_by on off = record { icase = switch on off (char "i"); multiline = switch
 abbrev pub letters_off : Source → List ℕ
 letters_off t = if is_at (char "-") t then front is_modifier (drop 1 t) else []
 
+-- the source after the hyphen and those letters
 abbrev pub after_letters_off : Source → Source
 after_letters_off t = if is_at (char "-") t then after is_modifier (drop 1 t) else t
 

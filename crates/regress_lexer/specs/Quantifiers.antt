@@ -42,6 +42,7 @@ greedy_or_lazy (times, t) = Some (
   if is_at question_mark t then drop 1 t else t,
 )
 
+-- a quantifier at the start of a source
 unfoldable pub quantifier_at : Source → Found Quantifier
 quantifier_at [] = None
 quantifier_at (c ∷ t) = quantifier_prefix_by c t >>= greedy_or_lazy

@@ -43,6 +43,7 @@ pub fn is_plain(c: u32) -> bool
 /// A position in the source of a pattern: `rest` has the code points that remain to be parsed, each at most U+10FFFF.
 #[derive(Drop)]
 pub struct Cursor<'a> {
+    /// The code points that remain to be parsed.
     pub rest: &'a [u32],
     /// The allocator for what is parsed.
     pub alloc: Global,

@@ -56,7 +56,7 @@ pub enum FaultKind {
     UnbalancedStrings,
     /// With the flag v, a code point that is no literal inside a class.
     InvalidSetCharacter,
-    /// With the flag v, a negated class that contains strings.
+    /// With the flag v, an inverted class that contains strings.
     InvalidNegatedClass,
     /// A `\p` or `\P` that no `{` follows.
     PropertyWithoutBrace,
@@ -77,6 +77,7 @@ pub enum FaultKind {
 /// A syntax error: its kind and its position.
 #[derive(Drop)]
 pub struct Rejection {
+    /// What is wrong.
     pub kind: FaultKind,
     /// The position of the error, as the number of code points of the pattern that remain from there on.
     pub left: usize,

@@ -11,8 +11,11 @@ use regress_base::types::Flags;
 /// The change of flags that a group makes for its body: each flag is switched on, switched off, or unchanged (`None`).
 #[derive(Clone, Copy)]
 pub struct Change {
+    /// The flag i.
     pub icase: Option<bool>,
+    /// The flag m.
     pub multiline: Option<bool>,
+    /// The flag s.
     pub dot_all: Option<bool>,
 }
 

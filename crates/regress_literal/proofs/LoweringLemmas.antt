@@ -186,11 +186,11 @@ module _ (table : Table) (icase unicode : Bool) where
   lowered-piece written c cs h = cond-false _ _ _ h
 
   -- The pieces found, and those of the literals from i on after these bytes, are the pieces of all literals.
-  abbrev pub AreMatches : List Leaf → List ℕ → List ℕ → ℕ → Type 0
-  AreMatches found written cps i = found ++ lowered_after table icase unicode written (drop i cps) ≡ lowered table icase unicode cps
+  abbrev pub ArePieces : List Leaf → List ℕ → List ℕ → ℕ → Type 0
+  ArePieces found written cps i = found ++ lowered_after table icase unicode written (drop i cps) ≡ lowered table icase unicode cps
 
   module _
-      (found : List Leaf) (written cps : List ℕ) (i : ℕ) (so_far : AreMatches found written cps i) (within : i < length cps)
+      (found : List Leaf) (written cps : List ℕ) (i : ℕ) (so_far : ArePieces found written cps i) (within : i < length cps)
       (class : List ℕ) (listing : IsListing (denotes table icase unicode (slice_index cps i)) class)
     where
       at_position : found ++ lowered_after table icase unicode written (slice_index cps i ∷ drop (i + 1) cps)
@@ -201,7 +201,7 @@ module _ (table : Table) (icase unicode : Bool) where
       its_class = listing_is_listed (denotes table icase unicode (slice_index cps i)) class listing
 
       pub step_character : (ch : ℕ) → class ≡ ch ∷ [] → is_character class ≡ true →
-          AreMatches found (written ++ encode_utf8 ch) cps (i + 1)
+          ArePieces found (written ++ encode_utf8 ch) cps (i + 1)
       step_character ch one h =
           ap (λ leaves. found ++ leaves)
           (sym (lowered-character written (slice_index cps i) ch (drop (i + 1) cps) (sym its_class ∙ one)
@@ -209,7 +209,7 @@ module _ (table : Table) (icase unicode : Bool) where
           ∙ at_position
 
       pub step_piece : is_character class ≡ false →
-          AreMatches ((found ++ bytes_piece written) ++ piece_of class ∷ []) [] cps (i + 1)
+          ArePieces ((found ++ bytes_piece written) ++ piece_of class ∷ []) [] cps (i + 1)
       step_piece h =
           let rest = lowered_after table icase unicode [] (drop (i + 1) cps) in
           append_assoc (found ++ bytes_piece written) (piece_of class ∷ []) rest

@@ -50,6 +50,7 @@ module _ (table : Table) (icase unicode : Bool) where
       then lowered_after (bytes ++ encode_utf8_all (class_of table icase unicode c)) cs
       else bytes_piece bytes ++ piece_of (class_of table icase unicode c) ∷ lowered_after [] cs
 
+  -- the pieces of a list of literals
   abbrev pub lowered : List ℕ → List Leaf
   lowered = lowered_after []
 

@@ -55,7 +55,7 @@ chosen u m m' c d tasks choices known noted le =
       machine = λ machine. push_choice m m' c d machine known noted le tasks choices;
     }
 
--- A step with one outcome and nothing pushed goes on with the next frame.
+-- A matcher with one outcome and nothing pushed goes on with the next frame.
 pub goes_on : (u : Subject) (f : Matcher) (m : Machine) (c : Captures) (position next to : ℕ) → f (state c position) ≡ state c to ∷ [] →
     Does u f m c position next m c (nexts.Go to next)
 goes_on u f m c position next to is = record {
@@ -74,7 +74,7 @@ goes_back u f m c position next is = record {
   later = Later-refl c;
 }
 
--- A step that pushes a frame, and may change captures, goes on with that frame.
+-- A matcher that pushes a frame, and may change captures, goes on with that frame.
 pub goes_pushed : (u : Subject) (f g : Matcher) (m m' : Machine) (c c' : Captures) (position next task : ℕ) →
     (next ≤ length m.tasks.items → Pushed u m m' g next task) → Later c c' → f (state c position) ≡ g (state c' position) →
     Does u f m c position next m' c' (nexts.Go position task)
@@ -106,7 +106,7 @@ onward_or u m c next states s =
     ap (λ xs. xs ++ backtrack_outcomes u m c) (flat_map-append T states (s ∷ []) ∙ ap (λ xs. flat_map T states ++ xs) (append-nil (T s)))
     ∙ append_assoc (flat_map T states) (T s) (backtrack_outcomes u m c)
 
--- A step is tried first, and a backtrack point goes on with the next frame from the same state.
+-- A matcher is tried first, and a backtrack point goes on with the next frame from the same state.
 pub does_or_stay : (u : Subject) (f g : Matcher) (m m' : Machine) (c : Captures) (position next : ℕ) (m'' : Machine) (c' : Captures) (r : Transition) →
     (next ≤ length m.tasks.items → Chosen u m m' c position next) → g (state c position) ≡ f (state c position) ++ state c position ∷ [] →
     Does u f m' c position next m'' c' r → Does u g m c position next m'' c' r
@@ -224,7 +224,7 @@ goes_look u f m c l is = record {
   later = Later-refl c;
 }
 
--- A step with at most one outcome, which sets no group, goes on or backtracks.
+-- A matcher with at most one outcome, which sets no group, goes on or backtracks.
 pub goes_put : (u : Subject) (f : Matcher) (m : Machine) (c : Captures) (position next : ℕ) (to : Option ℕ) (r : Transition) →
     f (state c position) ≡ put (state c position) to →
     (next ≤ length m.tasks.items → IsMachine m c → Continues u (onward u m c next (put (state c position) to)) m c r) →

@@ -9,8 +9,10 @@ pub mod ReadingLemmas
 pub mod PeekLemmas
 pub mod RunLemmas
 pub mod FirstLemmas
+pub mod InsideLemmas
 pub mod BetweenLemmas
 pub mod CharacterLoopLemmas
 pub mod LeafLemmas
 pub mod SingleLemmas
 pub mod NamesLemmas
+pub mod AllMatchesLemmas

@@ -221,7 +221,7 @@ pub pending-nil : (u : Subject) (m : Machine) (c : Captures) → m.choices.items
 unfolding pending
 pending-nil u m c none = ap (λ ds. pending u m.tasks.items ds c) none
 
--- a frame does its own step and then the next frame
+-- a frame is its own matcher and then that of the next frame
 pub continuation-at : (u : Subject) (ts : List Task) (i : ℕ) (t : Task) → frames_from 0 ts → i < length ts → t ≡ slice_index_or ts i t →
     (t.next ≤ length ts) × (continuation u ts (i + 1) ≡ (frame_step u t.frame then_ continuation u ts t.next))
 continuation-at u ts i t linked lt is =

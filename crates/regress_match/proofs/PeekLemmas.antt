@@ -70,7 +70,7 @@ more_fails false (suc n) f s none = ap (λ xs. s ∷ flat_map (up_to false n f) 
 pub no_more : (u : Subject) (r : Repeat) (s : MatchState) → FailsAt u s.position (tree r.body.now) → optional_of u r s ≡ s ∷ []
 no_more u r s fails = more_fails r.greedy r.more (iteration_of u r) s (fails (unset r.start r.end s) refl)
 
--- a frame fails if its own step does, or the next frame after it
+-- a frame fails if its own matcher does, or the next frame after it
 module _ (u : Subject) (m : Machine) (c : Captures) (task : ℕ) (t : Task) (s : MatchState) (is : IsMachine m c) (some : 1 ≤ task)
     (within : task ≤ length m.tasks.items) (at : t ≡ slice_index_or m.tasks.items (task - 1) t) where
   by_what : continuation u m.tasks.items task s ≡ flat_map (continuation u m.tasks.items t.next) (frame_step u t.frame s)

@@ -9,5 +9,6 @@ use Rattle.regress_base.specs.Table.{Table}
 abbrev pub WordsFoldToWords : Table → Type 0
 WordsFoldToWords table = (c : ℕ) → is_member word_characters c ≡ true → is_member word_characters (table.fold c) ≡ true
 
+-- The property has at most one proof.
 pub WordsFoldToWords-prop : (known : Bool) (table : Table) → IsProp (known ≡ true → WordsFoldToWords table)
 WordsFoldToWords-prop known table = hlevel props

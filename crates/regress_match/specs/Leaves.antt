@@ -15,6 +15,7 @@ abbrev pub put : MatchState → Option ℕ → List MatchState
 put s None = []
 put s (Some k) = record s { position = k } ∷ []
 
+-- a pair of a character and the position after it, as a record
 abbrev pub read_of : ℕ × ℕ → Read
 read_of r = record { character = r.0; position = r.1 }
 
@@ -28,6 +29,7 @@ abbrev pub has_one_outcome_leaf : Leaf → Bool
 has_one_outcome_leaf (string_set strings icase) = false
 has_one_outcome_leaf l = true
 
+-- the tree is a leaf with at most one outcome
 abbrev pub has_one_outcome : Tree → Bool
 has_one_outcome (leaf l) = has_one_outcome_leaf l
 has_one_outcome t = false
@@ -38,6 +40,7 @@ is_simple_leaf (string_set strings icase) = false
 is_simple_leaf (back_ref group icase) = false
 is_simple_leaf l = true
 
+-- the tree is a leaf whose outcome does not depend on captures
 abbrev pub is_simple : Tree → Bool
 is_simple (leaf l) = is_simple_leaf l
 is_simple t = false

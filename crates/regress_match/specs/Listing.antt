@@ -1,4 +1,4 @@
--- What walks over capture groups collect.
+-- What the walks over the capture groups of a tree collect.
 use Rattle.std.specs.Prelude.{◌≡◌, true, List, ◌++◌, map, is_ok}
 use Rattle.std.specs.Option.{option_or}
 use Rattle.regress_tree.specs.WellFormed.{Capture}

@@ -40,6 +40,8 @@ known_from low mark [] n m = (low ≤ n) × (mark ≤ m)
 known_from low mark (c ∷ cs) n m =
     (low ≤ c.known) × (mark ≤ c.noted) × (c.task ≤ c.known) × known_from c.known c.noted cs n m
 
+-- The invariant of the machine: each frame's next frame is an earlier one, and each backtrack point refers to frames
+-- and recorded changes that exist.
 pub record IsMachine (m : Machine) (c : Captures) : Type 0 where
   pub linked : frames_from 0 m.tasks.items
   pub known : known_from 0 0 m.choices.items (length m.tasks.items) (length c.trail.items)
@@ -62,10 +64,11 @@ module _ (u : Subject) where
   abbrev pub optional_of : Repeat → Matcher
   optional_of r = up_to r.greedy r.more (iteration_of r)
 
-  -- the parts of a concatenation in order
+  -- the parts of a `Cat` in order
   abbrev pub sequence_of : List Node → Matcher
   sequence_of parts = steps_of_parts u.setting u.bytes u.direction (trees parts)
 
+  -- the matcher of one frame, without the frames after it
   abbrev pub frame_step : Frame → Matcher
   frame_step (whats.Match node) = steps u.setting u.bytes u.direction (tree node.now)
   frame_step (whats.Sequence parts) = sequence_of parts.now
@@ -77,17 +80,18 @@ module _ (u : Subject) where
   frame_step (whats.GiveBack stop) = giving_back u.direction u.bytes stop
   frame_step (whats.TakeMore node) = taking_more u.direction u.bytes (tree node.now)
 
+  -- the element with this index, or the matcher of the empty text if there is none
   abbrev pub choose : List Matcher → ℕ → Matcher
   choose [] i = stay
   choose (f ∷ fs) zero = f
   choose (f ∷ fs) (suc i) = choose fs i
 
-  -- the steps of the frames in order: each frame is its own step and then that of an earlier frame
+  -- the matchers of the frames in order: each is that of the frame itself and then that of an earlier frame
   abbrev pub after : List Matcher → List Task → List Matcher
   after fs [] = fs
   after fs (t ∷ ts) = after (fs ++ (frame_step t.frame then_ choose fs t.next) ∷ []) ts
 
-  -- the step of the frame with this number and of all frames after it; 0 is the end, which changes nothing
+  -- the matcher of the frame with this number and of all frames after it; 0 is the end, which matches the empty text
   unfoldable pub continuation : List Task → ℕ → Matcher
   continuation ts i = choose (after (stay ∷ []) ts) i
 
@@ -108,7 +112,7 @@ module _ (u : Subject) where
   abbrev pub remaining_at : Machine → Captures → ℕ → ℕ → List MatchState
   remaining_at m c position task = continuation m.tasks.items task (state c position) ++ backtrack_outcomes m c
 
-  -- the step of what comes next, and of the frames after it
+  -- the matcher of what comes next, and of the frames after it
   abbrev pub todo_ahead : List Task → Pending → Matcher
   todo_ahead ts (aheads.Task i) = continuation ts i
   todo_ahead ts (aheads.Node node next) = steps u.setting u.bytes u.direction (tree node.now) then_ continuation ts next
@@ -137,7 +141,7 @@ module _ (u : Subject) where
   Settles outcomes m c settleds.Off = IsMachine m c × (outcomes ≡ backtrack_outcomes m c)
   Settles outcomes m c settleds.Spent = Unit {0}
 
-  -- A frame was pushed that does the step `f` before the frame `next`. The other frames are unchanged.
+  -- A frame was pushed that is the matcher `f` and then the frame `next`. The other frames are unchanged.
   pub record Pushed (old new : Machine) (f : Matcher) (next task : ℕ) : Type 0 where
     pub fits : task ≤ length new.tasks.items
     pub grown : length old.tasks.items ≤ length new.tasks.items
@@ -152,7 +156,7 @@ module _ (u : Subject) where
     pub waits : backtrack_outcomes new c ≡ continuation old.tasks.items task (state c position) ++ backtrack_outcomes old c
     pub machine : IsMachine old c → IsMachine new c
 
-  -- From a position the machine does the step `f`, and then the frame `next`.
+  -- From a position the machine goes on as the matcher `f` does, and then with the frame `next`.
   pub record Does (f : Matcher) (old : Machine) (c : Captures) (position next : ℕ) (new : Machine) (c' : Captures) (r : Transition) : Type 0 where
     pub continues : next ≤ length old.tasks.items → IsMachine old c →
         Continues (onward old c next (f (state c position))) new c' r
@@ -169,7 +173,7 @@ Answers outcomes c (yields.At k) = (rest : List MatchState) × (outcomes ≡ sta
 Answers outcomes c yields.Nowhere = outcomes ≡ []
 Answers outcomes c yields.OutOfSteps = Unit {0}
 
--- the result of a lookaround, as its step gives it
+-- the result of a lookaround with these outcomes
 abbrev pub Looks : List MatchState → Captures → ℕ → Looked → Type 0
 Looks outcomes c position lookeds.Holds = outcomes ≡ state c position ∷ []
 Looks outcomes c position lookeds.Fails = outcomes ≡ []

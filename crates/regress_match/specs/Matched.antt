@@ -1,6 +1,7 @@
 -- What a match is, and what a search finds.
-use Rattle.std.specs.Prelude.{◌≡◌, ℕ, ◌≤◌, ◌<◌, List, [], ◌∷◌, None, length, replicate}
+use Rattle.std.specs.Prelude.{◌≡◌, ℕ, ◌≤◌, ◌<◌, List, [], ◌∷◌, All, None, length, replicate}
 use Rattle.std.specs.Str.{IsCharBoundary}
+use Rattle.regress_tree.specs.Inside.{IsSpanInside, IsCaptureInside}
 use Rattle.regress_tree.specs.Matching.{matches}
 use Rattle.regress_tree.specs.Reading.{forwards}
 use Rattle.regress_tree.specs.Setting.{Setting}
@@ -38,6 +39,18 @@ abbrev pub StartsAt : ℕ → Outcome → Type 0
 StartsAt position (outcomes.Matched m) = start_of m ≡ position
 StartsAt position outcomes.NoMatch = Unit {0}
 StartsAt position outcomes.OutOfSteps = Unit {0}
+
+-- If there is a match, P holds for it.
+abbrev pub IfMatched : Outcome → (Match → Type 0) → Type 0
+IfMatched (outcomes.Matched m) P = P m
+IfMatched outcomes.NoMatch P = Unit {0}
+IfMatched outcomes.OutOfSteps P = Unit {0}
+
+-- The span of the match, and that of each group that is set, is inside the text: it starts no later than it ends, and
+-- both are on character boundaries.
+pub record IsInside (text : List ℕ) (m : Match) : Type 0 where
+  pub span : IsSpanInside text (start_of m, (state_of m).position)
+  pub groups : All (IsCaptureInside text) (state_of m).captures
 
 module _ (text : List ℕ) (at : ℕ → List MatchState) (origin : ℕ) where
   -- No character boundary in the half-open range from `origin` to `to` has an outcome.

@@ -6,6 +6,7 @@ use Rattle.regress_prefilter.specs.Candidates.{AreCandidates}
 use Rattle.regress_prefilter.specs.declared.candidates.Candidates.{Candidates}
 use Rattle.regress_prefilter.specs.declared.candidates.Candidates.TheVariants as candidates
 
+-- The property has at most one proof.
 pub AreCandidates-prop : (c : Candidates) (t : Tree) → IsProp (AreCandidates c t)
 AreCandidates-prop candidates.Anywhere t = Unit-prop
 AreCandidates-prop candidates.Start t = hlevel props

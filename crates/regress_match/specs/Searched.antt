@@ -1,9 +1,12 @@
 -- Repeated searches: all non-overlapping matches from left to right.
 use Rattle.std.specs.Prelude.{◌≡◌, ℕ, ◌+◌, List, [], ◌∷◌, length, max}
+use Rattle.std.specs.Borrow.{Bor}
+use Rattle.std.specs.Fn.{CalledAt, Mut}
+use Rattle.std.specs.List.{FoldsTo}
 use Rattle.regress_tree.specs.Steps.{MatchState}
-use Rattle.regress_tree.specs.Tree.{tree}
+use Rattle.regress_tree.specs.Tree.{Tree, tree}
 use Rattle.regress_unicode.specs.TableOf.{table_of}
-use Rattle.regress_match.specs.Matched.{IsLeftmost, outcomes_at, start_of, state_of}
+use Rattle.regress_match.specs.Matched.{Finds, IsLeftmost, outcomes_at, start_of, state_of}
 use Rattle.regress_match.specs.declared.matching.Match.{Match}
 use Rattle.regress_match.specs.declared.matching.Outcome.{Outcome}
 use Rattle.regress_match.specs.declared.matching.Outcome.TheVariants as outcomes
@@ -14,8 +17,13 @@ use Rattle.regress_match.specs.declared.search.Matches.{Matches}
 abbrev pub next_from : Matches → ℕ
 next_from m = m.from
 
+-- the text that is searched
 abbrev pub searched_text : Matches → List ℕ
 searched_text m = m.text.now
+
+-- the tree of the pattern of a repeated search
+abbrev pub searched_tree : Matches → Tree
+searched_tree m = tree m.prepared.regex.now.node
 
 -- the outcomes of a pattern on a text, from each position
 abbrev pub outcomes_of : Prepared → (text : List ℕ) → (position : ℕ) → List MatchState
@@ -40,6 +48,7 @@ offset_after text from outcomes.OutOfSteps = from
 -- the pattern and the text of a repeated search are unchanged
 pub record IsSameSearch (old new : Matches) : Type 0 where
   pub text : searched_text new ≡ searched_text old
+  pub tree : searched_tree new ≡ searched_tree old
   pub outcomes : searched_outcomes new ≡ searched_outcomes old
 
 -- The list has the matches that a repeated search finds in order, each the leftmost one, from the offset `from` until
@@ -47,3 +56,19 @@ pub record IsSameSearch (old new : Matches) : Type 0 where
 abbrev pub AreMatches : (text : List ℕ) → (at : ℕ → List MatchState) → (from to : ℕ) → List Match → Type 0
 AreMatches text at from to [] = to ≡ from
 AreMatches text at from to (m ∷ ms) = IsLeftmost text at from m × AreMatches text at (next_offset m) to ms
+
+-- The list has all matches that a repeated search finds in order: after the last one there is none.
+pub record AreAllMatches (text : List ℕ) (at : ℕ → List MatchState) (ms : List Match) : Type 0 where
+  pub to : ℕ
+  pub found : AreMatches text at 0 to ms
+  pub none : Finds text at to outcomes.NoMatch
+
+-- A closure was called on the first matches of a repeated search, once on each and in order, which took it from the
+-- state `before` to `after`. If `ended` holds, they are all matches.
+pub record CalledOnMatches {F : Type 0} (g : Mut F (Bor Match × Unit {0}) (Unit {0})) (text : List ℕ) (at : ℕ → List MatchState)
+    (before after : F) (ended : Type 0) : Type 0 where
+  pub ms : List Match
+  pub to : ℕ
+  pub found : AreMatches text at 0 to ms
+  pub calls : FoldsTo (λ f m f'. CalledAt g f m tt f') before ms after
+  pub none : ended → Finds text at to outcomes.NoMatch

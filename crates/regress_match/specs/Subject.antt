@@ -11,7 +11,7 @@ pub record Subject : Type 0 where
   pub bytes : List ℕ
   pub direction : Direction
 
--- the text under the rules of a match
+-- the text in the context of a match
 abbrev pub subject : MatchContext → List ℕ → Subject
 subject rules bytes = record {
   setting = record { flags = rules.flags; table = table_of rules.known.tables.now };

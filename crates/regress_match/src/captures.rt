@@ -9,14 +9,18 @@ use std::alloc::AllocError;
 /// A change of a capture: the group, and its span before the change.
 #[derive(Clone, Copy)]
 pub struct Undo {
+    /// The id of the group, from 0.
     pub group: usize,
+    /// Its span before the change, `None` if it was unset.
     pub before: Option<(usize, usize)>,
 }
 
 /// The captures of all groups, and the trail of changes to them, the last change at the end.
 #[derive(Drop)]
 pub struct Captures {
+    /// The span of each group by its id, as a half-open range of byte offsets; `None` for an unset group.
     pub spans: Vec<Option<(usize, usize)>>,
+    /// The changes that are recorded, in the order in which they were made.
     pub trail: Vec<Undo>,
 }
 

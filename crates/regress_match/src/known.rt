@@ -10,6 +10,7 @@ use regress_unicode::{Tables, fold};
 /// The case mappings, with what is precomputed about them.
 #[derive(Clone, Copy)]
 pub struct Known<'t> {
+    /// The case mappings.
     pub tables: &'t Tables,
     /// Whether each word character is known to fold to a word character. Then a character is in the closure of the word
     /// characters if its own folding is a word character.

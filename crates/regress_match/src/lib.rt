@@ -1,6 +1,7 @@
 //! A backtracking matcher for the trees of `regress_tree`, proved against their definition.
 #![tactic(auto)]
 
+pub mod all_matches;
 mod captures;
 mod characters;
 mod known;
@@ -17,6 +18,7 @@ mod run;
 pub mod search;
 mod visits;
 
+pub use all_matches::{find_all, for_each_match};
 pub use matching::{Match, Outcome, match_at};
 pub use names::{Group, groups, named};
 pub use regress_prefilter::{first_bytes, next_candidate};

@@ -12,17 +12,22 @@ use std::boxed::BoxedSlice;
 /// A loop, with the number of optional iterations that may still follow the minimum.
 #[derive(Clone, Copy)]
 pub struct Repeat<'a> {
+    /// The body of the loop.
     pub body: &'a Node,
     /// The ids of the groups inside, as a half-open range from `start` to `end`.
     pub start: usize,
+    /// One more than the greatest of those ids.
     pub end: usize,
+    /// Whether a further iteration is tried before the end of the loop.
     pub greedy: bool,
+    /// The number of optional iterations that may still follow.
     pub more: usize,
 }
 
 /// What a frame does at a position.
 #[derive(Clone, Copy)]
 pub enum Frame<'a> {
+    /// Matches this node.
     Match(&'a Node),
     /// Matches these parts in order.
     Sequence(&'a [Node]),
@@ -47,7 +52,9 @@ pub enum Frame<'a> {
 /// end.
 #[derive(Clone, Copy)]
 pub struct Task<'a> {
+    /// What the frame does.
     pub frame: Frame<'a>,
+    /// The number of the next frame, or 0.
     pub next: usize,
 }
 
@@ -55,34 +62,48 @@ pub struct Task<'a> {
 /// and the trail to `noted` elements.
 #[derive(Clone, Copy)]
 pub struct Choice {
+    /// The byte offset from which matching goes on.
     pub position: usize,
+    /// The number of the frame with which it goes on.
     pub task: usize,
+    /// The number of frames at that time.
     pub known: usize,
+    /// The number of recorded changes of captures at that time.
     pub noted: usize,
 }
 
 /// The result of a run: the position of the first outcome, no outcome, or that the step limit was reached.
 #[derive(Clone, Copy)]
 pub enum Response {
+    /// The first outcome is at this byte offset.
     At(usize),
+    /// There is no outcome.
     Nowhere,
+    /// The step limit was reached.
     OutOfSteps,
 }
 
 /// A lookaround to be matched at a position, and the frame after it.
 #[derive(Clone, Copy)]
 pub struct Looking<'a> {
+    /// What is looked for.
     pub body: &'a Node,
+    /// Whether the lookaround is negated.
     pub negate: bool,
+    /// Whether it is a lookbehind.
     pub backwards: bool,
+    /// The byte offset at which it is matched.
     pub position: usize,
+    /// The number of the frame after it.
     pub next: usize,
 }
 
 /// What comes next at a position: a frame, where 0 is the end, or a node and then a frame.
 #[derive(Clone, Copy)]
 pub enum Pending<'a> {
+    /// The frame with this number.
     Task(usize),
+    /// This node, and then the frame with this number.
     Node(&'a Node, usize),
 }
 
@@ -90,32 +111,44 @@ pub enum Pending<'a> {
 /// lookaround first.
 #[derive(Clone, Copy)]
 pub enum Transition<'a> {
+    /// Go on from this byte offset with the frame of this number.
     Go(usize, usize),
+    /// Go on from this byte offset with this node, and then with the frame of this number.
     Visit(usize, &'a Node, usize),
+    /// Backtrack.
     Back,
+    /// Match this lookaround first.
     Look(Looking<'a>),
 }
 
 /// The same once lookarounds are matched, or that the step limit was reached.
 #[derive(Clone, Copy)]
 pub enum Settled<'a> {
+    /// Go on from this byte offset with what comes next.
     On(usize, Pending<'a>),
+    /// Backtrack.
     Off,
+    /// The step limit was reached.
     Spent,
 }
 
 /// The result of a lookaround: it holds, it fails, or the step limit was reached.
 #[derive(Clone, Copy)]
 pub enum Looked {
+    /// The lookaround holds.
     Holds,
+    /// The lookaround fails.
     Fails,
+    /// The step limit was reached.
     Spent,
 }
 
 /// The frames, each of which names an earlier one as its next, and the backtrack points, the last one at the end.
 #[derive(Drop)]
 pub struct Machine<'a> {
+    /// The frames, of which the first has the number 1.
     pub tasks: Vec<Task<'a>>,
+    /// The backtrack points, from the oldest to the latest.
     pub choices: Vec<Choice>,
 }
 
@@ -191,7 +224,9 @@ impl<'a> Machine<'a> {
 /// The memory of runs, kept from one to the next: a machine, and idle machines for lookarounds.
 #[derive(Drop)]
 pub struct Scratch<'a> {
+    /// The machine of the whole pattern.
     pub machine: Machine<'a>,
+    /// Machines for lookarounds that are not in use.
     pub idle: Vec<Machine<'a>>,
 }
 

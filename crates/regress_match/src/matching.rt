@@ -1,11 +1,11 @@
 //! Matching at one position.
-ghost use Rattle.std.specs.Prelude.{◌≡◌, ◌+◌, ◌<◌, ◌≤◌, ◌^◌, None, IfOk, length, min, replicate, slice_index_or};
+ghost use Rattle.std.specs.Prelude.{◌≡◌, ◌+◌, ◌<◌, ◌≤◌, ◌^◌, None, IfOk, IsCharBoundary, length, min, replicate, slice_index_or};
 ghost use Rattle.regress_tree.specs.Gathered.{own_group};
 ghost use Rattle.regress_tree.specs.Tree.{Tree, tree};
-ghost use Rattle.regress_tree.specs.WellFormed.{captures};
+ghost use Rattle.regress_tree.specs.WellFormed.{IsWellFormed, captures};
 ghost use Rattle.regress_unicode.specs.TableOf.{table_of};
 ghost use Rattle.regress_match.specs.Machine.{Answers};
-ghost use Rattle.regress_match.specs.Matched.{IsFirst, StartsAt, outcomes_at, start_of, state_of};
+ghost use Rattle.regress_match.specs.Matched.{IfMatched, IsFirst, IsInside, StartsAt, outcomes_at, start_of, state_of};
 ghost use Rattle.regress_match.specs.Fresh.{IsFresh, IfNoOutcome};
 
 use crate::captures::Captures;
@@ -86,6 +86,9 @@ pub enum Outcome {
 /// The result is the first outcome in the order of preference of ECMA-262. Every `position` is allowed: off a character
 /// boundary, or past the end of `text`, no character is found.
 ///
+/// If the tree is well formed and `position` is on a character boundary, the spans of the match and of its groups are
+/// inside `text`, on character boundaries.
+///
 /// # Complexity
 /// A step is one visit of a node or of a frame of the continuation, where up to eight leaves at the start of a `Cat`
 /// belong to the same step. A step counts 1, and one that succeeds counts also the number of bytes by which it moves
@@ -125,6 +128,8 @@ pub fn match_at(
     ensures start { IfOk result (StartsAt position) }
     ensures first { IfOk result (IsFirst (outcomes_at (record { flags = regex.now.flags; table = table_of tables.now }) text.now
         (tree regex.now.node) position)) }
+    ensures inside { IfOk result (λ outcome. IsWellFormed (tree regex.now.node) → IsCharBoundary text.now position →
+        IfMatched outcome (IsInside text.now)) }
 {
     let mut captures = unset_captures(alloc, group_count(&regex.node))?;
     let mut scratch = Scratch::new(alloc);

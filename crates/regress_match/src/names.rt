@@ -16,6 +16,7 @@ use std::alloc::{AllocError, Global};
 /// A capture group of a pattern: its id, from 0, and its name.
 #[derive(Debug, Drop)]
 pub struct Group {
+    /// The id, from 0: one less than the number of the group.
     pub id: CaptureGroupID,
     /// The name, which is not empty, or `None` for a group without one. Several groups in different alternatives may
     /// share a name.

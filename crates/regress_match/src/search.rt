@@ -1,9 +1,10 @@
 //! Searching a text from left to right.
 ghost use Rattle.std.specs.Prelude.{◌≡◌, ◌≤◌, [], true, IfOk, OnErr};
 ghost use Rattle.regress_tree.specs.Tree.{tree};
+ghost use Rattle.regress_tree.specs.WellFormed.{IsWellFormed};
 ghost use Rattle.regress_unicode.specs.TableOf.{table_of};
-ghost use Rattle.regress_match.specs.Matched.{Finds, outcomes_at};
-ghost use Rattle.regress_match.specs.Searched.{IsSameSearch, offset_after, next_from, outcomes_of, searched_outcomes, searched_text};
+ghost use Rattle.regress_match.specs.Matched.{Finds, IfMatched, IsInside, outcomes_at};
+ghost use Rattle.regress_match.specs.Searched.{IsSameSearch, offset_after, next_from, outcomes_of, searched_outcomes, searched_text, searched_tree};
 
 use crate::known::Known;
 use crate::machine::{Response, Scratch};
@@ -20,6 +21,9 @@ use std::alloc::{AllocError, Global};
 /// boundary.
 ///
 /// `from` may be off a character boundary; past the end of `text` there is no match.
+///
+/// If the tree is well formed, as parsed and optimized trees are, the spans of the match and of its groups are inside
+/// `text`, on character boundaries, so that `text` may be sliced by them.
 ///
 /// # Complexity
 /// The matches that are tried at all positions together take at most `steps` steps, counted as in `match_at`; after
@@ -54,8 +58,9 @@ pub fn find(
     from: usize,
     steps: u64,
 ) -> Result<Outcome, AllocError>
-    ensures { IfOk result (Finds text.now (outcomes_at (record { flags = regex.now.flags; table = table_of tables.now }) text.now
+    ensures finds { IfOk result (Finds text.now (outcomes_at (record { flags = regex.now.flags; table = table_of tables.now }) text.now
         (tree regex.now.node)) from) }
+    ensures inside { IfOk result (λ outcome. IsWellFormed (tree regex.now.node) → IfMatched outcome (IsInside text.now)) }
 {
     let prepared = Prepared::new(regex, tables);
     let mut scratch = Scratch::new(alloc);
@@ -73,6 +78,7 @@ pub(crate) fn find_within<'a>(
     left: &mut u64,
 ) -> Result<Outcome, AllocError>
     ensures finds { IfOk result (Finds text.now (outcomes_of prepared.now text.now) from) }
+    ensures inside { IfOk result (λ outcome. IsWellFormed (tree prepared.now.regex.now.node) → IfMatched outcome (IsInside text.now)) }
     ensures left { IfOk result (λ _. left.new ≤ left.old) }
 {
     let regex = prepared.regex;
@@ -129,6 +135,7 @@ impl<'a> Matches<'a> {
     ) -> Matches<'a>
         ensures from { next_from result ≡ from }
         ensures text { searched_text result ≡ text.now }
+        ensures tree { searched_tree result ≡ tree regex.now.node }
         ensures outcomes { searched_outcomes result ≡ outcomes_at (record { flags = regex.now.flags; table = table_of tables.now }) text.now
             (tree regex.now.node) }
     {
@@ -146,6 +153,8 @@ impl<'a> Matches<'a> {
     /// After an empty match the search goes on one character further. After the last match each call returns
     /// [`Outcome::NoMatch`]. Once the steps are used up it returns [`Outcome::OutOfSteps`], and the position of the
     /// search stays as it is.
+    ///
+    /// The spans of a match are as [`find`] states.
     ///
     /// # Errors
     /// Returns [`AllocError`] if an allocation fails. The position of the search stays as it is, so that the call may
@@ -167,6 +176,7 @@ impl<'a> Matches<'a> {
     /// ```
     pub fn next(&mut self, alloc: Global) -> Result<Outcome, AllocError>
         ensures finds { IfOk result (Finds (searched_text self.old) (searched_outcomes self.old) (next_from self.old)) }
+        ensures inside { IfOk result (λ outcome. IsWellFormed (searched_tree self.old) → IfMatched outcome (IsInside (searched_text self.old))) }
         ensures goes_on { IfOk result (λ outcome. next_from self.new ≡ offset_after (searched_text self.old) (next_from self.old) outcome) }
         ensures stays { OnErr result (next_from self.new ≡ next_from self.old) }
         ensures same { IsSameSearch self.old self.new }

@@ -87,12 +87,12 @@ module _ {S : Type 0} (R : S → Node → Node → Bool → S → Node → Node 
       (after_empties t x' xs zs rest ∙ ap (λ (u : Tree). is_empty u || some_part is_empty (trees xs)) same.1)
 
   pub deduped_packs : (s : S) (xs ys : List Node) → IsDeduped R s xs ys → (d : Direction) → Packs d (in_text_order d (trees xs)) (in_text_order d (trees ys))
-  deduped_packs s [] ys is d = subst (λ (ns : List Node). Packs d (in_text_order d no_trees) (in_text_order d (trees ns))) (sym is.reported) (Packs-refl d _)
-  deduped_packs s (x ∷ xs) ys is d = after_packs s x xs ys is.reported d no_trees
+  deduped_packs s [] ys is d = subst (λ (ns : List Node). Packs d (in_text_order d no_trees) (in_text_order d (trees ns))) (sym is.told) (Packs-refl d _)
+  deduped_packs s (x ∷ xs) ys is d = after_packs s x xs ys is.told d no_trees
 
   pub deduped_empties : (s : S) (xs ys : List Node) → IsDeduped R s xs ys → some_part is_empty (trees ys) ≡ some_part is_empty (trees xs)
-  deduped_empties s [] ys is = ap (λ ns. some_part is_empty (trees ns)) is.reported
-  deduped_empties s (x ∷ xs) ys is = after_empties s x xs ys is.reported
+  deduped_empties s [] ys is = ap (λ ns. some_part is_empty (trees ns)) is.told
+  deduped_empties s (x ∷ xs) ys is = after_empties s x xs ys is.told
 
 -- ---- neighbours searched from one end to the other
 

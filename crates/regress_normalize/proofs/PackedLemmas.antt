@@ -11,7 +11,7 @@ use Rattle.regress_tree.specs.Tree.{Tree, Trees, byte_sequence, leaf, empty, cat
 use Rattle.regress_tree.specs.Units.{charges}
 use Rattle.regress_tree.proofs.lemmas.Measures.{some_node-append, some_part-append, total-append, nesting-append}
 use Rattle.regress_tree.proofs.lemmas.Lists.{append_trees-assoc}
-use Rattle.regress_tree.proofs.lemmas.Turned.{reverse_trees-append}
+use Rattle.regress_tree.proofs.lemmas.ReversedParts.{reverse_trees-append}
 use Rattle.regress_rewrite.specs.Formed.{bytes_of}
 use Rattle.regress_rewrite.specs.Splice.{list_length}
 use Rattle.regress_rewrite.proofs.lemmas.Joining.{written, is_written}

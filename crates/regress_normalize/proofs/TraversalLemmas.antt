@@ -17,7 +17,7 @@ use Rattle.regress_tree.proofs.lemmas.TreeContexts.{TreeContext, put, direction_
 use Rattle.regress_tree.proofs.lemmas.Lists.{trees-append}
 use Rattle.regress_rewrite.specs.Law.{IsPart}
 use Rattle.regress_rewrite.proofs.lemmas.Keeps.{Keeps-trans, Keeps-put, Keeps-one_part, IsPart-kept}
-use Rattle.regress_rewrite.proofs.lemmas.Parts.{position, list_set, list_at}
+use Rattle.regress_rewrite.proofs.lemmas.Parts.{context, list_set, list_at}
 use Rattle.regress_rewrite.proofs.lemmas.Spine.{IsPart-reattach}
 use Rattle.regress_normalize.specs.declared.facts.PartFacts.{PartFacts}
 use Rattle.regress_normalize.specs.Normalized.{Finished, Normalized, IsCleanAround, ListIsNormal, IsWrapperOf, IsAltOf}
@@ -214,5 +214,5 @@ module _ (now : List Node) (i : ℕ) (in_list : i < length now) (new : Node) whe
       Denotes d (cat (trees initial)) (cat (trees now)) → Normalized d (tree old) (tree new) response →
       Denotes d (cat (trees initial)) (cat (trees (set now i new)))
   Denotes-part d initial old at response so_far here =
-      let there = Denotes-put (position now i in_list) d (tree old) (tree new) (Denotes-normalized d (tree old) (tree new) response here) in
+      let there = Denotes-put (context now i in_list) d (tree old) (tree new) (Denotes-normalized d (tree old) (tree new) response here) in
       Denotes-then d _ (cat (trees now)) _ so_far (rw (list_at now i in_list old at, list_set now i in_list new) there)

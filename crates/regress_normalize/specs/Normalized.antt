@@ -45,12 +45,14 @@ ListIsNormal (more_trees t ts) = IsNormal t × ListIsNormal ts
 
 -- ---- nodes whose children are in normal form, with their facts
 
+-- a `Cat` whose parts have these facts
 pub record IsCatOf (list : ListFacts) (t : Tree) : Type 0 where
   pub parts : Trees
   pub is : t ≡ cat parts
   pub normal : ListIsNormal parts
   pub facts : HasListFacts list parts
 
+-- an `Alt` whose sides have these facts
 pub record IsAltOf (left_facts right_facts : PartFacts) (t : Tree) : Type 0 where
   pub left : Tree
   pub right : Tree
@@ -60,6 +62,7 @@ pub record IsAltOf (left_facts right_facts : PartFacts) (t : Tree) : Type 0 wher
   pub right_normal : IsNormal right
   pub right_has : HasFacts right_facts right
 
+-- a wrapper whose body has these facts
 pub record IsWrapperOf (facts : PartFacts) (t : Tree) : Type 0 where
   pub wrapper : Wrapper
   pub body : Tree

@@ -39,6 +39,7 @@ abbrev pub loop_in_form : LoopForm → Tree → Tree
 loop_in_form form (wrapped (loop q start end) body) = in_form form q start end body
 loop_in_form form t = t
 
+-- The form is that of a loop over one character.
 abbrev pub IsOneCharacter : LoopForm → Type 0
 IsOneCharacter (OneCharacter room) = Unit {0}
 IsOneCharacter form = ⊥

@@ -47,9 +47,11 @@ pub struct ListFacts {
     pub charge: usize,
     /// The nesting depth of the deepest part, and 1 if there is none.
     pub nesting: usize,
-    /// Whether one of the parts has a capture group, a loop, a `StringSet`.
+    /// Whether one of the parts has a capture group.
     pub has_group: bool,
+    /// Whether one of the parts has a loop.
     pub has_loop: bool,
+    /// Whether one of the parts has a `StringSet`.
     pub has_string_set: bool,
     /// Whether one of the parts always fails.
     pub some_fails: bool,

@@ -11,9 +11,9 @@ use Rattle.regress_syntax.specs.Syntax.{Name, Pattern, nothing_counted, counts, 
 use Rattle.regress_syntax.specs.Productions.{Context}
 use Rattle.regress_syntax.specs.Grammar.{IsPattern}
 use Rattle.regress_syntax.specs.SameNames.{NoneConflict}
-use Rattle.regress_syntax.specs.Paths.{NoMarksConflict, are_marks_apart}
-use Rattle.regress_syntax.specs.Scan.{GivesMarks, plain, marks, named_by, deepest, MarksShow}
-use Rattle.regress_syntax.proofs.lemmas.SameNames.{apart_by_marks}
+use Rattle.regress_syntax.specs.Paths.{NoTokensConflict, are_tokens_apart}
+use Rattle.regress_syntax.specs.Scan.{GivesTokens, plain, tokens, named_by, deepest, TokensShow}
+use Rattle.regress_syntax.proofs.lemmas.SameNames.{apart_by_tokens}
 use Rattle.regress_syntax.proofs.lemmas.Scan.{named_by-pattern, deepest-whole}
 use Rattle.regress_parse.specs.Reader.{pattern_at}
 use Rattle.regress_parse.specs.Parsing.{Fits, Exceeds, pattern_part}
@@ -21,10 +21,10 @@ use Rattle.regress_parse.specs.Accepted.{own_context, IsDerived, IsWithinLimits,
 use Rattle.regress_parse.proofs.GrammarLemmas.{pattern_at-sound, pattern_at-complete}
 use Rattle.regress_parse.proofs.GroupLemmas.{length-names}
 
-module _ (setting : Setting) (t : Source) (gives : GivesMarks setting.flags.unicode_sets setting.table t) where
+module _ (setting : Setting) (t : Source) (gives : GivesTokens setting.flags.unicode_sets setting.table t) where
   -- the names of all groups, as the scan finds them
   abbrev pub found_names : List (Option Name)
-  found_names = named_by (marks setting.flags.unicode_sets setting.table plain t)
+  found_names = named_by (tokens setting.flags.unicode_sets setting.table plain t)
 
   -- the context with these names and this number of groups
   abbrev pub scanned : ℕ → Context
@@ -53,12 +53,12 @@ module _ (setting : Setting) (t : Source) (gives : GivesMarks setting.flags.unic
       (e ∙ ap (λ ns. min (length ns) max_capture_groups) same) same
 
   -- The nesting depth of a derived pattern is that of the marks.
-  marks-nesting : (p : Pattern) → IsDerived setting t p → deepest 1 (marks setting.flags.unicode_sets setting.table plain t) ≡ nesting p
-  marks-nesting p h = ap (deepest 1) (sym (gives (own_context setting p) p refl refl h)) ∙ deepest-whole p
+  tokens-nesting : (p : Pattern) → IsDerived setting t p → deepest 1 (tokens setting.flags.unicode_sets setting.table plain t) ≡ nesting p
+  tokens-nesting p h = ap (deepest 1) (sym (gives (own_context setting p) p refl refl h)) ∙ deepest-whole p
 
   deep-nesting : (p : Pattern) → IsDerived setting t p →
-      max_nesting_depth < deepest 1 (marks setting.flags.unicode_sets setting.table plain t) → max_nesting_depth < nesting p
-  deep-nesting p h deep = omega (arith, deep, marks-nesting p h)
+      max_nesting_depth < deepest 1 (tokens setting.flags.unicode_sets setting.table plain t) → max_nesting_depth < nesting p
+  deep-nesting p h deep = omega (arith, deep, tokens-nesting p h)
 
   pub reads_derived : (p : Pattern) → IsDerived setting t p → (counts p).groups ≤ max_capture_groups → pattern_at (scanned most) t ≡ Some (p, [])
   reads_derived p h few =
@@ -85,17 +85,17 @@ module _ (setting : Setting) (t : Source) (gives : GivesMarks setting.flags.unic
       ap (λ (x : Pattern × Source). x.0) (same_Some (p, []) (q, []) (sym (read p h) ∙ read q k))
 
   -- What the scan reports of the marks holds for each derived pattern.
-  pub marks-say : (kind : FaultKind) → MarksShow (marks setting.flags.unicode_sets setting.table plain t) kind → (p : Pattern) → IsDerived setting t p →
+  pub tokens-say : (kind : FaultKind) → TokensShow (tokens setting.flags.unicode_sets setting.table plain t) kind → (p : Pattern) → IsDerived setting t p →
       Says kind p
-  marks-say kind (inl (is, inl conflicts)) p h =
+  tokens-say kind (inl (is, inl conflicts)) p h =
       let same = gives (own_context setting p) p refl refl h in
-      inr (inr (inr (is, inl (λ apart. false≢true (sym conflicts ∙ ap are_marks_apart (sym same) ∙ apart_by_marks p ∙ apart)))))
-  marks-say kind (inl (is, inr deep)) p h = inr (inr (inr (is, inr (deep-nesting p h deep))))
-  marks-say kind (inr (inl (is, deep))) p h = inr (inr (inl (is, deep-nesting p h deep)))
-  marks-say kind (inr (inr (is, many))) p h = inl (is, omega (arith, many, groups_found (own_context setting p) p refl refl h))
+      inr (inr (inr (is, inl (λ apart. false≢true (sym conflicts ∙ ap are_tokens_apart (sym same) ∙ apart_by_tokens p ∙ apart)))))
+  tokens-say kind (inl (is, inr deep)) p h = inr (inr (inr (is, inr (deep-nesting p h deep))))
+  tokens-say kind (inr (inl (is, deep))) p h = inr (inr (inl (is, deep-nesting p h deep)))
+  tokens-say kind (inr (inr (is, many))) p h = inl (is, omega (arith, many, groups_found (own_context setting p) p refl refl h))
 
   -- What the parser reports holds for each derived pattern, after a scan without an error.
-  pub reading-says : deepest 1 (marks setting.flags.unicode_sets setting.table plain t) ≤ max_nesting_depth → (kind : FaultKind) →
+  pub reading-says : deepest 1 (tokens setting.flags.unicode_sets setting.table plain t) ≤ max_nesting_depth → (kind : FaultKind) →
       ((p : Pattern) → pattern_at (scanned most) t ≡ Some (p, []) →
       Exceeds kind nothing_counted 0 (pattern_part setting.table found_names p)) → IsTrueOf setting t kind
   reading-says few kind rejected p h =
@@ -106,13 +106,13 @@ module _ (setting : Setting) (t : Source) (gives : GivesMarks setting.flags.unic
       by : (p : Pattern) → IsDerived setting t p → Exceeds kind nothing_counted 0 (pattern_part setting.table found_names p) → Says kind p
       by p h (inl (is, many)) = inl (is, omega (arith, many))
       by p h (inr (inl (is, many))) = inr (inl (is, omega (arith, many)))
-      by p h (inr (inr deep)) = absurd (omega (arith, few, deep, marks-nesting p h))
+      by p h (inr (inr deep)) = absurd (omega (arith, few, deep, tokens-nesting p h))
 
   -- The names of a derived pattern do not conflict where those of the marks do not.
-  pub marks-apart : (p : Pattern) → NoMarksConflict (marks setting.flags.unicode_sets setting.table plain t) → IsDerived setting t p →
+  pub tokens-apart : (p : Pattern) → NoTokensConflict (tokens setting.flags.unicode_sets setting.table plain t) → IsDerived setting t p →
       NoneConflict p
-  marks-apart p apart h =
-      sym (apart_by_marks p) ∙ ap are_marks_apart (gives (own_context setting p) p refl refl h) ∙ apart
+  tokens-apart p apart h =
+      sym (apart_by_tokens p) ∙ ap are_tokens_apart (gives (own_context setting p) p refl refl h) ∙ apart
 
 module _ (setting : Setting) (names : List (Option Name)) where
   pub fit-limits : (p : Pattern) → Fits nothing_counted 0 (pattern_part setting.table names p) → IsWithinLimits p

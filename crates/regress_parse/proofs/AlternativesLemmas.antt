@@ -12,7 +12,7 @@ use Rattle.regress_syntax.specs.Syntax.{Name, Pattern, Terms, one, either, Count
 use Rattle.regress_syntax.specs.Productions.{Context}
 use Rattle.regress_lexer.proofs.lemmas.Sources.{found_then, chosen, to_each, from_each, on_kind_then}
 use Rattle.regress_parse.specs.Reader.{pattern_at, terms_at}
-use Rattle.regress_parse.specs.TreeOf.{joined, tree_of_pattern, trees_of_terms}
+use Rattle.regress_parse.specs.TreeOf.{concatenation, tree_of_pattern, trees_of_terms}
 use Rattle.regress_base.specs.Limits.{max_nesting_depth}
 use Rattle.regress_parse.specs.Parsing.{text, counted, alternatives, Fits, Exceeds, pattern_part, terms_part, Builds, Yields}
 use Rattle.regress_parse.specs.declared.parser.Parser.{Parser}
@@ -107,7 +107,7 @@ first_terms ctx ts mid x e =
 
 module _ (table : Table) (names : List (Option Name)) (d : Direction) (ctx : Context) (depth : ℕ) (t0 : Source) (before : Counts) where
   abbrev part : Terms → Tree
-  part ts = joined d (trees_of_terms table names d before.groups ts)
+  part ts = concatenation d (trees_of_terms table names d before.groups ts)
 
   -- From `t0`, after what was counted before, alternatives were parsed up to `t`, of which the last one is separate.
   -- The nodes are theirs.
@@ -118,7 +118,7 @@ module _ (table : Table) (names : List (Option Name)) (d : Direction) (ctx : Con
     pub nodes : (p : Pattern) →
         alternatives (map tree done_nodes) (tree_of_pattern table names d (before.groups + groups_of_all done) p)
         ≡ tree_of_pattern table names d before.groups (eithers done p)
-    pub node : tree final ≡ joined d (trees_of_terms table names d (before.groups + groups_of_all done) last)
+    pub node : tree final ≡ concatenation d (trees_of_terms table names d (before.groups + groups_of_all done) last)
     pub counts : now ≡ added before (counts (eithers done (one last)))
     pub fits : Fits before depth (pattern_part table names (eithers done (one last)))
     pub shorter : length t ≤ length t0
@@ -134,7 +134,7 @@ module _ (table : Table) (names : List (Option Name)) (d : Direction) (ctx : Con
         last = ts;
         reads = pattern_at-is ctx t0 ∙ ap (λ found. found >>= others_of ctx) found ∙ after_none (others_of ctx (ts, t));
         nodes = λ p. ap (λ k. tree_of_pattern table names d k p) (sym none);
-        node = built ∙ ap (λ k. joined d (trees_of_terms table names d k ts)) none;
+        node = built ∙ ap (λ k. concatenation d (trees_of_terms table names d k ts)) none;
         counts = count;
         fits = Fits-inside before before (depth + 1) depth (terms_part table names ts) (pattern_part table names (one ts))
             (omega arith) (omega arith) (omega arith) fits;
@@ -174,7 +174,7 @@ module _ (table : Table) (names : List (Option Name)) (d : Direction) (ctx : Con
   -- One more alternative keeps the invariant.
   pub alternatives-step : (t : Source) (now : Counts) (nodes : List Node) (final node : Node) (ts : Terms) (rest : Source) (new : Counts) →
       AlternativesSoFar t now nodes final → is_at bar t ≡ true → terms_at ctx (drop 1 t) ≡ Some (ts, rest) →
-      tree node ≡ joined d (trees_of_terms table names d now.groups ts) → new ≡ added now (counts_of_terms ts) →
+      tree node ≡ concatenation d (trees_of_terms table names d now.groups ts) → new ≡ added now (counts_of_terms ts) →
       Fits now (depth + 1) (terms_part table names ts) → AlternativesSoFar rest new (nodes ++ final ∷ []) node
   alternatives-step t now nodes final node ts rest new h more found built count fits =
       let all = h.done ++ h.last ∷ [] in
@@ -194,7 +194,7 @@ module _ (table : Table) (names : List (Option Name)) (d : Direction) (ctx : Con
             ∙ ap (λ u. alternatives (map tree nodes) (alt u (tree_of_pattern table names d k p))) h.node
             ∙ h.nodes (either h.last p)
             ∙ ap (tree_of_pattern table names d before.groups) (sym (eithers-push h.done h.last p));
-        node = built ∙ ap (λ k. joined d (trees_of_terms table names d k ts)) at.groups;
+        node = built ∙ ap (λ k. concatenation d (trees_of_terms table names d k ts)) at.groups;
         counts =
             count
             ∙ ap₂ (λ (g l : ℕ). record { groups = g; loops = l })

@@ -10,7 +10,7 @@ use Rattle.regress_unicode.proofs.lemmas.Closures.{closure_same}
 use Rattle.regress_tree.specs.Tree.{Tree, tree, trees, alt, cat, append_trees, no_trees, more_trees}
 use Rattle.regress_syntax.specs.Meaning.{is_in_class}
 use Rattle.regress_classes.specs.ClassViews.{HasMembers}
-use Rattle.regress_parse.specs.TreeOf.{turned, joined, alternation}
+use Rattle.regress_parse.specs.TreeOf.{in_direction, concatenation, alternation}
 use Rattle.regress_parse.specs.Parsing.{alternatives}
 
 pub alternatives-push : (nodes : List Node) (node : Node) (last : Tree) →
@@ -19,7 +19,7 @@ alternatives-push [] node last = refl
 alternatives-push (n ∷ nodes) node last = ap (alt (tree n)) (alternatives-push nodes node last)
 
 -- Several parts are joined to a `Cat`.
-pub joined-many : (d : Direction) (nodes : List Node) → 1 < length nodes → cat (turned d (trees nodes)) ≡ joined d (trees nodes)
+pub joined-many : (d : Direction) (nodes : List Node) → 1 < length nodes → cat (in_direction d (trees nodes)) ≡ concatenation d (trees nodes)
 joined-many d [] h = absurd (omega arith)
 joined-many d (n ∷ []) h = absurd (omega arith)
 joined-many d (n ∷ (m ∷ nodes)) h = refl

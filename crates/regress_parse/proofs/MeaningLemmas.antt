@@ -21,7 +21,7 @@ use Rattle.regress_classes.specs.ClassProductions.{members_of}
 use Rattle.regress_classes.specs.ClassSets.{Value, has_strings}
 use Rattle.regress_parse.specs.ClassParts.{strings_part, bracket_part, empty_part}
 use Rattle.regress_parse.proofs.ClassTreeLemmas.{tree_of_class-parts}
-use Rattle.regress_parse.specs.TreeOf.{turned, joined, tree_of_group, tree_of_quantified, leaf_of_members, references, alternation, tree_of_class, tree_of_atom, tree_of_pattern, trees_of_terms, tree_of_item, tree_of}
+use Rattle.regress_parse.specs.TreeOf.{in_direction, concatenation, tree_of_group, tree_of_quantified, leaf_of_members, references, alternation, tree_of_class, tree_of_atom, tree_of_pattern, trees_of_terms, tree_of_item, tree_of}
 use Rattle.regress_parse.specs.Accepted.{Means}
 use Rattle.regress_tree.proofs.lemmas.Assertions.{Simulates-anchor, Simulates-boundary}
 use Rattle.regress_tree.proofs.lemmas.Classes.{agreeing_simulates, is_accepted-scalar}
@@ -32,30 +32,30 @@ use Rattle.regress_tree.proofs.lemmas.ByteStates.{distinct-byte_state}
 use Rattle.regress_tree.proofs.lemmas.Outcomes.{flat_map-stay}
 use Rattle.regress_tree.proofs.lemmas.Simulation.{Simulates, Simulates-within, Simulates-same_right, Simulates-stay, Simulates-fail, Simulates-then, Simulates-or, Simulates-one_character, Simulates-capture, Simulates-look}
 use Rattle.regress_tree.proofs.lemmas.Strings.{Simulates-any_string}
-use Rattle.regress_tree.proofs.lemmas.Turned.{steps-reverse_trees}
+use Rattle.regress_tree.proofs.lemmas.ReversedParts.{steps-reverse_trees}
 
 module _ (setting : Setting) (bytes : List ℕ) (d : Direction) where
   -- Reversing a list of one tree changes nothing.
   steps-reversed_one : (e : Direction) (t : Tree) (s : MatchState) →
-      steps_of_parts setting bytes d (turned e (more_trees t no_trees)) s ≡ steps setting bytes d t s
+      steps_of_parts setting bytes d (in_direction e (more_trees t no_trees)) s ≡ steps setting bytes d t s
   steps-reversed_one forwards t s = flat_map-stay (steps setting bytes d t s)
   steps-reversed_one backwards t s = flat_map-stay (steps setting bytes d t s)
 
-  steps-reversed_none : (e : Direction) (s : MatchState) → steps_of_parts setting bytes d (turned e no_trees) s ≡ stay s
+  steps-reversed_none : (e : Direction) (s : MatchState) → steps_of_parts setting bytes d (in_direction e no_trees) s ≡ stay s
   steps-reversed_none forwards s = refl
   steps-reversed_none backwards s = refl
 
   -- A list joined to one tree matches what the list does, in the order of the direction.
   steps-joined : (e : Direction) (list : Trees) (s : MatchState) →
-      steps setting bytes d (joined e list) s ≡ steps_of_parts setting bytes d (turned e list) s
+      steps setting bytes d (concatenation e list) s ≡ steps_of_parts setting bytes d (in_direction e list) s
   steps-joined e no_trees s = sym (steps-reversed_none e s)
   steps-joined e (more_trees t no_trees) s = sym (steps-reversed_one e t s)
   steps-joined e (more_trees t (more_trees u us)) s = refl
 
   -- The parts of a list match in the order of the direction.
   steps-turned : (e : Direction) (t : Tree) (ts : Trees) (s : MatchState) →
-      steps_of_parts setting bytes d (turned e (more_trees t ts)) s
-      ≡ along e (steps setting bytes d t) (steps_of_parts setting bytes d (turned e ts)) s
+      steps_of_parts setting bytes d (in_direction e (more_trees t ts)) s
+      ≡ along e (steps setting bytes d t) (steps_of_parts setting bytes d (in_direction e ts)) s
   steps-turned forwards t ts s = refl
   steps-turned backwards t ts s = steps-reverse_trees setting bytes d t ts s
 
@@ -65,15 +65,15 @@ Simulates-along text forwards e f g h k first second = Simulates-then text e f g
 Simulates-along text backwards e f g h k first second = Simulates-then text e h k f g second first
 
 module _ (setting : Setting) (text : List ℕ) where
-  -- Over the bytes of the text, the tree (or the list, in the order of the direction) does what the step does over its
-  -- characters.
+  -- Over the bytes of the text, the tree (or the list, in the order of the direction) does what the matcher does over
+  -- its characters.
   abbrev pub TreeSimulates : Direction → Matcher → Tree → Type 0
   TreeSimulates d f t = Simulates text d f (steps setting (encode_utf8_all text) d t)
 
   abbrev ListSimulates : Direction → Matcher → Trees → Type 0
-  ListSimulates d f ts = Simulates text d f (steps_of_parts setting (encode_utf8_all text) d (turned d ts))
+  ListSimulates d f ts = Simulates text d f (steps_of_parts setting (encode_utf8_all text) d (in_direction d ts))
 
-  joined_simulates : (d : Direction) (f : Matcher) (list : Trees) → ListSimulates d f list → TreeSimulates d f (joined d list)
+  joined_simulates : (d : Direction) (f : Matcher) (list : Trees) → ListSimulates d f list → TreeSimulates d f (concatenation d list)
   joined_simulates d f list sim = Simulates-same_right text d _ _ _ (steps-joined setting (encode_utf8_all text) d d list) sim
 
   none_simulate : (d : Direction) → ListSimulates d stay no_trees

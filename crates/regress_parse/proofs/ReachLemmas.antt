@@ -12,7 +12,7 @@ use Rattle.regress_lexer.specs.Source.{Source, Found, closing, bar, is_at, ends_
 use Rattle.regress_lexer.proofs.lemmas.Sources.{found_then, chosen}
 use Rattle.regress_syntax.specs.Syntax.{Group, Pattern, Terms, Item, Counts, no_terms, atom, added, nothing_counted, opened_by, counts, counts_of_terms, counts_of_item, counts_of_term}
 use Rattle.regress_syntax.specs.Productions.{Context, context_inside, Head, single, opens, head_of_item, allows, head_at, optional_quantifier_at}
-use Rattle.regress_syntax.specs.Scan.{plain, marks, MarksShow}
+use Rattle.regress_syntax.specs.Scan.{plain, tokens, TokensShow}
 use Rattle.regress_syntax.proofs.lemmas.Productions.{head_at-shortens, optional_quantifier_at-shortens}
 use Rattle.regress_syntax.proofs.lemmas.Lengths.{opened_by-one, optional_quantifier_at-takes, named_by-length, deepest-length}
 use Rattle.regress_parse.specs.Accepted.{MayExceed}
@@ -74,18 +74,18 @@ whole_exceeds t kind h = record {
 }
 
 -- A source that the scan rejects for a limit is long enough to exceed it.
-pub marks_exceed : (sets : Bool) (table : _) (t : Source) (kind : FaultKind) → MarksShow (marks sets table plain t) kind → MayExceed t kind
-marks_exceed sets table t kind (inl (is, h)) = record {
+pub tokens_exceed : (sets : Bool) (table : _) (t : Source) (kind : FaultKind) → TokensShow (tokens sets table plain t) kind → MayExceed t kind
+tokens_exceed sets table t kind (inl (is, h)) = record {
   groups = λ groups. absurd (cc);
   loops = λ loops. absurd (cc);
   nesting = λ nesting. absurd (cc);
 }
-marks_exceed sets table t kind (inr (inl (is, deep))) = record {
+tokens_exceed sets table t kind (inr (inl (is, deep))) = record {
   groups = λ groups. absurd (cc);
   loops = λ loops. absurd (cc);
   nesting = λ _. omega (arith, deep, deepest-length sets table t);
 }
-marks_exceed sets table t kind (inr (inr (is, many))) = record {
+tokens_exceed sets table t kind (inr (inr (is, many))) = record {
   groups = λ _. omega (arith, many, named_by-length sets table plain t);
   loops = λ loops. absurd (cc);
   nesting = λ nesting. absurd (cc);
@@ -104,7 +104,7 @@ spends_same now t = record { groups = omega arith; loops = omega arith }
 pub spends_then : {before mid now : Counts} {t u rest : Source} → CountsAtMostConsumed before mid t u → CountsAtMostConsumed mid now u rest → CountsAtMostConsumed before now t rest
 spends_then h k = record { groups = omega (arith, h.groups, k.groups); loops = omega (arith, h.loops, k.loops) }
 
--- Parsing without counting spends nothing.
+-- Parsing without counting keeps the bound.
 pub spends_read : (now : Counts) (t rest : Source) → length rest ≤ length t → CountsAtMostConsumed now now t rest
 spends_read now t rest shorter = record { groups = omega (arith, shorter); loops = omega (arith, shorter) }
 

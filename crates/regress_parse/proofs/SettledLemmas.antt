@@ -1,4 +1,4 @@
--- A source that starts with a misplaced code point, as the scan finds it, is not accepted.
+-- A source with an error that the scan finds is not accepted.
 use Rattle.std.proofs.Common.{◌≡◌, ℕ, suc, ◌+◌, ◌-◌, false, ◌++◌, take, drop, length, Some, Err, refl, sym, ap, subst, arith}
 use Rattle.regress_base.specs.Table.{IsValidTable}
 use Rattle.regress_tree.specs.Setting.{Setting}
@@ -8,10 +8,10 @@ use Rattle.regress_lexer.specs.declared.fault.FaultKind.{FaultKind}
 use Rattle.regress_lexer.specs.declared.fault.Fault.{Fault}
 use Rattle.regress_lexer.specs.declared.fault.Fault.TheVariants.{Rejected, Memory}
 use Rattle.regress_lexer.specs.Source.{Source, is_at}
-use Rattle.regress_syntax.specs.Scan.{plain, marks}
+use Rattle.regress_syntax.specs.Scan.{plain, tokens}
 use Rattle.regress_syntax.specs.FirstErrors.{Flaw, remaining_at}
 use Rattle.regress_syntax.specs.Scanning.{IsLocated, OnRejection}
-use Rattle.regress_syntax.proofs.lemmas.Scan.{gives_marks}
+use Rattle.regress_syntax.proofs.lemmas.Scan.{gives_tokens}
 use Rattle.regress_syntax.proofs.lemmas.FirstErrors.{Shows, left_within, shows_front, shows_none}
 use Rattle.regress_parse.specs.Accepted.{own_context}
 use Rattle.regress_parse.specs.Settled.{NoneStartsWith, IsFinal, ReportsKindAt}
@@ -26,11 +26,11 @@ none_begins setting flaw t left position lawful first split is after p accepted 
     let sets = setting.flags.unicode_sets in
     let next : position + 1 ≡ suc position = omega arith in
     let front : take (position + 1) t ≡ take (suc position) t = ap (λ (n : ℕ). take n t) next in
-    let shown : Shows flaw 1 (marks sets setting.table plain (take (position + 1) t ++ after)) =
-    subst (λ (u : Source). Shows flaw 1 (marks sets setting.table plain (u ++ after))) (sym front)
+    let shown : Shows flaw 1 (tokens sets setting.table plain (take (position + 1) t ++ after)) =
+    subst (λ (u : Source). Shows flaw 1 (tokens sets setting.table plain (u ++ after))) (sym front)
     (shows_front flaw sets setting.table plain 1 t left position after (omega arith) first split is) in
     shows_none flaw p accepted.limits.nesting
-    (subst (Shows flaw 1) (sym (gives_marks sets setting.table (take (position + 1) t ++ after) lawful (own_context setting p) p refl refl accepted.derived))
+    (subst (Shows flaw 1) (sym (gives_tokens sets setting.table (take (position + 1) t ++ after) lawful (own_context setting p) p refl refl accepted.derived))
     shown)
 
 located_settles : (setting : Setting) (t : Source) (r : Rejection) → IsValidTable setting.table → IsLocated setting.flags.unicode_sets t r →

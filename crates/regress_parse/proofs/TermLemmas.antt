@@ -155,7 +155,7 @@ module _ (table : Table) (names : List (Option Name)) (ctx : Context) where
       (Exceeds-around kind before before depth depth (term_part table names (item.0.0, times.0.0)) (item_part table names item.0.0)
       (omega arith) (omega arith) (omega arith) (to_each found _ rejected item.0 item.1)))
 
-  -- what is parsed of the quantifier after an item
+  -- the quantifier that is parsed after an item
   pub times_read : (found : Found Item) (x : Item × Source) (allowed : Bool) (times : Found (Option Quantifier)) → found ≡ Some x →
       allowed ≡ allows ctx.setting.flags.unicode (head_of_item x.0) → optional_quantifier_at ctx allowed x.1 ≡ times →
       found >>= quantified ctx ≡ found_map (λ q. (x.0, q)) times

@@ -13,7 +13,7 @@ use Rattle.regress_syntax.specs.Syntax.{Name, Terms, no_terms, more_terms, Count
 use Rattle.regress_syntax.specs.Productions.{Context}
 use Rattle.regress_lexer.proofs.lemmas.Sources.{found_then, to_each, from_each, on_kind_then}
 use Rattle.regress_parse.specs.Reader.{Term, terms_at, term_at}
-use Rattle.regress_parse.specs.TreeOf.{trees_of_terms, joined}
+use Rattle.regress_parse.specs.TreeOf.{trees_of_terms, concatenation}
 use Rattle.regress_parse.specs.Parsing.{text, counted, Fits, Exceeds, terms_part, term_part, Builds, Yields}
 use Rattle.regress_parse.specs.declared.parser.Parser.{Parser}
 use Rattle.regress_lexer.specs.declared.fault.Fault.{Fault}
@@ -227,7 +227,7 @@ module _ (table : Table) (names : List (Option Name)) (d : Direction) (ctx : Con
       (sym (terms-end table names d ctx depth (text old) (counted old) x.0.1 (counted new) (node ∷ []) h
       (ap ends_alternative (sym b.rest) ∙ ends)))
       (record {
-        node = ap (joined d) h.nodes;
+        node = ap (concatenation d) h.nodes;
         fits = h.fits;
         counts = h.counts;
         rest = b.rest;

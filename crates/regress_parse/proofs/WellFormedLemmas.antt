@@ -15,7 +15,7 @@ use Rattle.regress_tree.specs.Tree.{Tree, Trees, no_trees, more_trees, char, mat
 use Rattle.regress_tree.specs.Setting.{Setting}
 use Rattle.regress_tree.specs.WellFormed.{inside, LeafIsAllowed, IsQuantifier, HasGroups, IsAllowed, PartsAllowed, IsWellFormed, captures}
 use Rattle.regress_base.proofs.lemmas.Literals.{class_of-bounded, class_of-few}
-use Rattle.regress_tree.proofs.lemmas.Turned.{PartsAllowed-reverse_trees}
+use Rattle.regress_tree.proofs.lemmas.ReversedParts.{PartsAllowed-reverse_trees}
 use Rattle.regress_classes.specs.ClassProductions.{members_of}
 use Rattle.regress_classes.specs.ClassSets.{Value}
 use Rattle.regress_lexer.specs.Source.{Source, IsCodePoint}
@@ -26,7 +26,7 @@ use Rattle.regress_syntax.specs.Grammar.{IsPattern, AreTerms, IsItem}
 use Rattle.regress_classes.proofs.lemmas.ClassStrings.{OfCodePoints}
 use Rattle.regress_syntax.proofs.lemmas.NameEnds.{IsName}
 use Rattle.regress_syntax.proofs.lemmas.Productions.{head_at-ends, optional_quantifier_at-ends, optional_quantifier_at-ordered}
-use Rattle.regress_parse.specs.TreeOf.{turned, joined, tree_of_group, tree_of_quantified, leaf_of_members, references, alternation, tree_of_class, tree_of_atom, tree_of_pattern, trees_of_terms, tree_of_item, tree_of}
+use Rattle.regress_parse.specs.TreeOf.{in_direction, concatenation, tree_of_group, tree_of_quantified, leaf_of_members, references, alternation, tree_of_class, tree_of_atom, tree_of_pattern, trees_of_terms, tree_of_item, tree_of}
 use Rattle.regress_parse.specs.Accepted.{IsDerived, own_context}
 use Rattle.regress_parse.proofs.CodePointLemmas.{AreCodePoints, rest_of, after_found, IsGoodTarget, IsGoodAtom, IsGoodGroup, head_at-good}
 use Rattle.regress_parse.specs.ClassParts.{class_parts}
@@ -125,11 +125,11 @@ module _ (m : ℕ) (table : Table) (lawful : IsValidTable table) where
 -- ---- parts of a tree of m groups
 
 module _ (m : ℕ) where
-  occurs-turned : (d : Direction) (ts : Trees) → PartsAllowed m ts inside → PartsAllowed m (turned d ts) inside
+  occurs-turned : (d : Direction) (ts : Trees) → PartsAllowed m ts inside → PartsAllowed m (in_direction d ts) inside
   occurs-turned forwards ts h = h
   occurs-turned backwards ts h = PartsAllowed-reverse_trees m ts h
 
-  occurs-joined : (d : Direction) (list : Trees) → PartsAllowed m list inside → IsAllowed m (joined d list) inside
+  occurs-joined : (d : Direction) (list : Trees) → PartsAllowed m list inside → IsAllowed m (concatenation d list) inside
   occurs-joined d no_trees h = tt
   occurs-joined d (more_trees t no_trees) h = h
   occurs-joined d (more_trees t (more_trees u us)) h = (tt, occurs-turned d (more_trees t (more_trees u us)) h)

@@ -47,6 +47,7 @@ abbrev pub name_suffix : FaultKind → List ℕ
 name_suffix (UnknownName name) = string_bytes name
 name_suffix other = []
 
+-- the whole text of a syntax error
 abbrev pub text_of : FaultKind → List ℕ
 text_of kind = words kind ++ name_suffix kind
 
@@ -67,6 +68,7 @@ abbrev pub without_position : PlacedFault → ParseFault
 without_position (PlacedSyntax e position) = Syntax e
 without_position (PlacedMemory e) = Memory e
 
+-- the result, where an error has no position
 abbrev pub unplaced : {X : Type 0} → Result X PlacedFault → Result X ParseFault
 unplaced (Ok x) = Ok x
 unplaced (Err fault) = Err (without_position fault)

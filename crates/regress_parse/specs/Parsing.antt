@@ -23,7 +23,7 @@ use Rattle.regress_lexer.specs.Views.{source}
 use Rattle.regress_parse.specs.declared.parser.Parser.{Parser}
 use Rattle.regress_parse.specs.declared.parser.PartContext.{PartContext}
 use Rattle.regress_parse.specs.Reader.{Term, pattern_at, term_at}
-use Rattle.regress_parse.specs.TreeOf.{tree_of_atom, tree_of_pattern, trees_of_terms, tree_of_item, tree_of_quantified, joined}
+use Rattle.regress_parse.specs.TreeOf.{tree_of_atom, tree_of_pattern, trees_of_terms, tree_of_item, tree_of_quantified, concatenation}
 use Rattle.regress_base.specs.Limits.{max_capture_groups, max_loops, max_nesting_depth}
 
 -- A part of the pattern: its tree in a direction after n opened groups, its counts and its nesting depth.
@@ -33,16 +33,19 @@ pub record Part : Type 0 where
   pub nesting : ℕ
 
 module _ (table : Table) (names : List (Option Name)) where
+  -- a pattern as a part
   abbrev pub pattern_part : Pattern → Part
   pattern_part p = record { node = λ d n. tree_of_pattern table names d n p; counts = counts p; nesting = nesting p }
 
+  -- a sequence of terms as a part
   abbrev pub terms_part : Terms → Part
   terms_part ts = record {
-    node = λ d n. joined d (trees_of_terms table names d n ts);
+    node = λ d n. concatenation d (trees_of_terms table names d n ts);
     counts = counts_of_terms ts;
     nesting = nesting_of_terms ts;
   }
 
+  -- an item with its quantifier as a part
   abbrev pub term_part : Term → Part
   term_part (x, q) = record {
     node = λ d n. tree_of_quantified q n (n + (counts_of_item x).groups) (tree_of_item table names d n x);
@@ -50,6 +53,7 @@ module _ (table : Table) (names : List (Option Name)) where
     nesting = nesting_of_item x;
   }
 
+  -- an item as a part
   abbrev pub item_part : Item → Part
   item_part x = record { node = λ d n. tree_of_item table names d n x; counts = counts_of_item x; nesting = nesting_of_item x }
 
@@ -94,6 +98,7 @@ direction_of around = direction_if around.backwards
 abbrev pub context_in : PartContext → Context
 context_in around = context_of around.scope
 
+-- the Unicode table there
 abbrev pub table_in : PartContext → Table
 table_in around = table_of around.scope.tables.now
 

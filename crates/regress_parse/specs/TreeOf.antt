@@ -14,15 +14,15 @@ use Rattle.regress_syntax.specs.Syntax.{Name, Atom, literal, dot, anchor, bounda
 use Rattle.regress_syntax.specs.Meaning.{is_in_class, longest_first, direction_of_group, referred}
 
 -- A list of parts is reversed where matching runs backwards.
-abbrev pub turned : Direction → Trees → Trees
-turned forwards ts = ts
-turned backwards ts = reverse_trees ts
+abbrev pub in_direction : Direction → Trees → Trees
+in_direction forwards ts = ts
+in_direction backwards ts = reverse_trees ts
 
 -- the tree of an alternative: `Empty` for no part, the part itself for one, a `Cat` for several
-abbrev pub joined : Direction → Trees → Tree
-joined d no_trees = leaf empty
-joined d (more_trees t no_trees) = t
-joined d (more_trees t (more_trees u us)) = cat (turned d (more_trees t (more_trees u us)))
+abbrev pub concatenation : Direction → Trees → Tree
+concatenation d no_trees = leaf empty
+concatenation d (more_trees t no_trees) = t
+concatenation d (more_trees t (more_trees u us)) = cat (in_direction d (more_trees t (more_trees u us)))
 
 abbrev pub is_backwards : Direction → Bool
 is_backwards forwards = false
@@ -58,6 +58,7 @@ alternation [] = leaf (char_set [])
 alternation (t ∷ []) = t
 alternation (t ∷ next ∷ ts) = alt t (alternation (next ∷ ts))
 
+-- a back reference to each of these groups
 abbrev pub references : (icase : Bool) → List ℕ → List Tree
 references icase = map (λ k. leaf (back_ref k icase))
 
@@ -73,13 +74,14 @@ strings_or_points false true has_empty strings points = or_empty has_empty (leaf
 strings_or_points true false has_empty strings points = or_empty has_empty (leaf strings)
 strings_or_points true true has_empty strings points = alt (leaf strings) (or_empty has_empty (leaf points))
 
--- The tree of a class with the flag v, given the closure of its code points. A negated class always has a bracket.
+-- The tree of a class with the flag v, given the closure of its code points. An inverted class always has a bracket.
 abbrev pub tree_of_class : (icase negated : Bool) → Value → (closed : List Bounds) → Tree
 tree_of_class icase negated value closed =
     strings_or_points (not (length value.strings == 0)) (negated || not (length closed == 0)) value.has_empty
     (string_set (longest_first value.strings) icase) (bracket negated closed)
 
 module _ (table : Table) (names : List (Option Name)) where
+  -- the tree of an atom, with the flags in force there
   abbrev pub tree_of_atom : Atom → Tree
   tree_of_atom (literal flags c) = leaf (leaf_of_literal table flags c)
   tree_of_atom (dot flags) = leaf (if flags.dot_all then match_any else match_any_except_line_terminator)
@@ -97,8 +99,8 @@ module _ (table : Table) (names : List (Option Name)) where
   -- the trees in a direction, after n opened groups
   abbrev mutual
     pub tree_of_pattern : Direction → ℕ → Pattern → Tree
-    tree_of_pattern d n (one ts) = joined d (trees_of_terms d n ts)
-    tree_of_pattern d n (either ts p) = alt (joined d (trees_of_terms d n ts)) (tree_of_pattern d (n + (counts_of_terms ts).groups) p)
+    tree_of_pattern d n (one ts) = concatenation d (trees_of_terms d n ts)
+    tree_of_pattern d n (either ts p) = alt (concatenation d (trees_of_terms d n ts)) (tree_of_pattern d (n + (counts_of_terms ts).groups) p)
 
     -- in the order in which the terms are written
     pub trees_of_terms : Direction → ℕ → Terms → Trees

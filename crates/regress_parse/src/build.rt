@@ -14,7 +14,7 @@ ghost use Rattle.regress_syntax.specs.Productions.{point_property};
 ghost use Rattle.regress_syntax.specs.Views.{context_of, names_in, group_of};
 ghost use Rattle.regress_classes.specs.ClassViews.{IsValue, HasMembers, strings_of};
 ghost use Rattle.regress_parse.specs.ClassParts.{strings_part, bracket_part, empty_part};
-ghost use Rattle.regress_parse.specs.TreeOf.{turned, joined, leaf_of_members, leaf_of_literal, references, alternation, tree_of_class, tree_of_atom, tree_of_group, tree_of_quantified};
+ghost use Rattle.regress_parse.specs.TreeOf.{in_direction, concatenation, leaf_of_members, leaf_of_literal, references, alternation, tree_of_class, tree_of_atom, tree_of_group, tree_of_quantified};
 ghost use Rattle.regress_parse.specs.Parsing.{alternatives, Pushes};
 
 use regress_base::charclasses::CharacterClassType;
@@ -353,7 +353,7 @@ fn text_of(alloc: Global, characters: &[char]) -> Result<String, AllocError>
 /// Returns the node of an alternative: `Empty` for no part, the part itself for one, a `Cat` for several. If
 /// `backwards`, the parts of the `Cat` are reversed.
 pub(crate) fn make_cat(mut parts: NodeList, backwards: bool) -> Node
-    ensures { tree result ≡ joined (direction_if backwards) (trees parts.items) }
+    ensures { tree result ≡ concatenation (direction_if backwards) (trees parts.items) }
 {
     if parts.len() > 1 {
         reverse_if_backwards(&mut parts, backwards);
@@ -364,7 +364,7 @@ pub(crate) fn make_cat(mut parts: NodeList, backwards: bool) -> Node
 
 /// Reverses the parts if `backwards`.
 fn reverse_if_backwards(parts: &mut NodeList, backwards: bool)
-    ensures { trees parts.new.items ≡ turned (direction_if backwards) (trees parts.old.items) }
+    ensures { trees parts.new.items ≡ in_direction (direction_if backwards) (trees parts.old.items) }
 {
     if backwards {
         parts.reverse();

@@ -64,6 +64,7 @@ pub enum PlacedFault {
     /// The pattern is rejected: the grammar does not derive it within the limits.
     #[error("{error}")]
     Syntax {
+        /// What is wrong, as a text.
         error: Error,
         /// The position of the error: a code-point index of the pattern, at most its length. `docs/errors.md` specifies
         /// it for each text.

@@ -25,7 +25,7 @@ use Rattle.regress_tree.specs.Steps.{MatchState, Matcher, stay, ◌then_◌, ◌
 use Rattle.regress_tree.specs.Tree.{Leaf, empty, goal, char, byte_sequence, byte_set, char_set, match_any, match_any_except_line_terminator, anchor, word_boundary, bracket, back_ref, string_set, Tree, Trees, no_trees, more_trees, append_trees, leaf, cat, alt, wrapped, capture_group, lookaround}
 use Rattle.regress_tree.proofs.lemmas.Characters.{character_at_parts}
 use Rattle.regress_tree.proofs.lemmas.Lists.{steps-append}
-use Rattle.regress_prefilter.specs.Fronts.{IsCovered, BeginsWith, Begins, IsFirstSetOf, IsFirstSet, BeginsWithByteOf}
+use Rattle.regress_prefilter.specs.FirstSets.{IsCovered, BeginsWith, Begins, IsFirstSetOf, IsFirstSet, BeginsWithByteOf}
 use Rattle.regress_prefilter.specs.declared.first_sets.FirstSet.{FirstSet}
 use Rattle.regress_tree.proofs.lemmas.Outcomes.{flat_map-stay}
 use mathlib.Core.Path.{fun_ext}
@@ -257,7 +257,7 @@ left_member set xs i c x split covered is = first (is_within x c) covered (sym (
     first true here h = inr (here refl)
     first false here h = inl h
 
--- The alternatives so far have the front, and they and the remaining ones make up the whole.
+-- The alternatives so far have this first set, and they and the remaining ones make up the whole.
 abbrev pub IsSpine : FirstSet → (whole rest : Tree) → Type 0
 IsSpine front whole rest = (setting : Setting) (bytes : List ℕ) →
     (f : Matcher) × IsFirstSetOf front bytes f × ((s : MatchState) → steps setting bytes forwards whole s ≡ f s ++ steps setting bytes forwards rest s)

@@ -7,7 +7,7 @@ use Rattle.regress_tree.specs.Reading.{forwards}
 use Rattle.regress_tree.specs.Setting.{Setting}
 use Rattle.regress_tree.specs.Steps.{MatchState}
 use Rattle.regress_tree.specs.Tree.{Tree}
-use Rattle.regress_prefilter.specs.Fronts.{BeginsWithByteOf, IsNextMember}
+use Rattle.regress_prefilter.specs.FirstSets.{BeginsWithByteOf, IsNextMember}
 use Rattle.regress_prefilter.specs.declared.candidates.Candidates.{Candidates}
 use Rattle.regress_prefilter.specs.declared.candidates.Candidates.TheVariants as candidates
 

@@ -1,3 +1,3 @@
 pub mod OneCharacter
-pub mod Fronts
+pub mod FirstSets
 pub mod Candidates

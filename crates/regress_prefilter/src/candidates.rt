@@ -10,7 +10,7 @@ use regress_tree::ir::{AnchorType, Node};
 /// The byte offsets at which matches in the forward direction can begin, as far as a tree determines them.
 #[derive(Clone, Copy)]
 pub enum Candidates {
-    /// Every byte offset.
+    /// Every byte offset: nothing is known about the start of a match.
     Anywhere,
     /// Only offset 0: each alternative of the tree begins with a `^` that is not multiline.
     Start,
@@ -20,6 +20,9 @@ pub enum Candidates {
 
 /// Returns the candidates of a tree: a match of `node` in the forward direction begins at one of them, for any flags
 /// and any text.
+///
+/// It may give up and return [`Candidates::Anywhere`]: it does so if an alternative does not begin with a `^` that is
+/// not multiline, and [`first_bytes`] returns `None`. No match has to begin at a candidate.
 ///
 /// # Complexity
 /// At most two passes over the tree, without allocations. The depth of recursion is the depth of the tree, where the
@@ -58,8 +61,9 @@ pub fn next_candidate_from(candidates: &Candidates, text: &str, from: usize) -> 
     }
 }
 
-/// Returns whether each alternative begins with a `^` that is not multiline. Iterates over the right sides of
-/// alternations, whose depth can be the number of alternatives.
+/// Returns true only if each alternative begins with a `^` that is not multiline: at the start of a sequence or of a
+/// capture group, but not of a loop. Iterates over the right sides of alternations, whose depth can be the number of
+/// alternatives.
 #[cycle(is_anchored)]
 fn is_anchored(node: &Node) -> bool
     ensures { result ≡ true → IsAnchored (tree node.now) }

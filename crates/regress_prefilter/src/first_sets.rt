@@ -8,7 +8,7 @@ ghost use Rattle.regress_tree.specs.Repetition.{repeat_matcher};
 ghost use Rattle.regress_tree.specs.Steps.{Matcher, ◌then_◌, ◌or_◌};
 ghost use Rattle.regress_tree.specs.Tree.{tree, trees, cat, leaf, byte_sequence};
 ghost use Rattle.regress_prefilter.specs.OneCharacter.{takes_one, test_of};
-ghost use Rattle.regress_prefilter.specs.Fronts.{IsCovered, IsFirstSetOf, IsFirstSet, BeginsWithByteOf, IsNextMember};
+ghost use Rattle.regress_prefilter.specs.FirstSets.{IsCovered, IsFirstSetOf, IsFirstSet, BeginsWithByteOf, IsNextMember};
 
 use regress_base::bytesearch::{ByteBitmap, ByteSearcher};
 use regress_base::codepointset::{CODE_POINT_MAX, Interval};
@@ -16,7 +16,11 @@ use regress_base::util::add_utf8_first_bytes_to_bitmap;
 use regress_tree::ir::Node;
 
 /// Returns the first set of a tree: bytes, one of which is at the start of every match in the forward direction.
-/// Returns `None` if a match can be empty, or if the tree does not determine the bytes.
+///
+/// Returns `None` if a match can be empty. It may also give up and return `None`, and does so if a part with which a
+/// match can begin is any character (`.`), an inverted bracket, a backreference, a set of strings or an empty byte
+/// sequence. So `None` does not state that there is no such set, and the set may contain bytes with which no match
+/// begins.
 ///
 /// # Complexity
 /// At most one pass over the tree, without allocations. The depth of recursion is the depth of the tree, where the
@@ -57,7 +61,7 @@ pub struct FirstSet {
 }
 
 impl FirstSet {
-    /// Returns the front of a part that matches the empty string alone.
+    /// Returns the first set of a part that matches the empty string alone.
     fn empty() -> FirstSet
         ensures bytes { (b : ℕ) → contains result.bytes b ≡ false }
         ensures through { result.through ≡ true }
@@ -68,7 +72,7 @@ impl FirstSet {
         }
     }
 
-    /// Returns the front of a part that matches nowhere.
+    /// Returns the first set of a part that matches nowhere.
     fn nowhere() -> FirstSet
         ensures bytes { (b : ℕ) → contains result.bytes b ≡ false }
         ensures through { result.through ≡ false }
@@ -79,7 +83,7 @@ impl FirstSet {
         }
     }
 
-    /// Returns the front of one part followed by another.
+    /// Returns the first set of one part followed by another.
     fn then(self, next: FirstSet) -> FirstSet
         ensures { (bytes : List ℕ) (f g : Matcher) → IsFirstSetOf self bytes f → IsFirstSetOf next bytes g → IsFirstSetOf result bytes (f then_ g) }
     {
@@ -91,7 +95,7 @@ impl FirstSet {
         }
     }
 
-    /// Returns the front of one part or another.
+    /// Returns the first set of one part or another.
     fn or(self, other: FirstSet) -> FirstSet
         ensures { (bytes : List ℕ) (f g : Matcher) → IsFirstSetOf self bytes f → IsFirstSetOf other bytes g → IsFirstSetOf result bytes (f or_ g) }
     {
@@ -103,7 +107,7 @@ impl FirstSet {
         }
     }
 
-    /// Returns the front of at least `least` iterations.
+    /// Returns the first set of at least `least` iterations.
     fn repeated(self, least: usize) -> FirstSet
         ensures { (bytes : List ℕ) (f : Matcher) (q : Quantifier) (bound start end : ℕ) → q.min ≡ least → IsFirstSetOf self bytes f →
             IsFirstSetOf result bytes (repeat_matcher bound q start end f) }
@@ -115,8 +119,8 @@ impl FirstSet {
     }
 }
 
-/// Returns the front of a node, or `None` if it is not determined. Iterates over the right sides of alternations, whose
-/// depth can be the number of alternatives.
+/// Returns the first set of a node, or `None` if it is not determined. Iterates over the right sides of alternations,
+/// whose depth can be the number of alternatives.
 #[cycle(first_set_of)]
 fn first_set_of(node: &Node) -> Option<FirstSet>
     ensures { IfSome result (λ front. IsFirstSet front (tree node.now)) }
@@ -130,7 +134,7 @@ fn first_set_of(node: &Node) -> Option<FirstSet>
     Some(all.or(first_set_of_other(node)?))
 }
 
-/// Returns the front of a sequence of parts. Stops after the first part that is never empty.
+/// Returns the first set of a sequence of parts. Stops after the first part that is never empty.
 #[cycle(first_set_of)]
 fn first_set_of_list(parts: &[Node]) -> Option<FirstSet>
     ensures { IfSome result (λ front. IsFirstSet front (cat (trees parts.now))) }
@@ -145,7 +149,7 @@ fn first_set_of_list(parts: &[Node]) -> Option<FirstSet>
     Some(all)
 }
 
-/// Returns the front of a node that is no `Alt`.
+/// Returns the first set of a node that is no `Alt`.
 #[cycle(first_set_of)]
 fn first_set_of_other(node: &Node) -> Option<FirstSet>
     ensures { IfSome result (λ front. IsFirstSet front (tree node.now)) }
@@ -160,7 +164,7 @@ fn first_set_of_other(node: &Node) -> Option<FirstSet>
     }
 }
 
-/// Returns the front of a node without children.
+/// Returns the first set of a node without children.
 fn first_set_of_leaf(node: &Node) -> Option<FirstSet>
     ensures { IfSome result (λ front. IsFirstSet front (tree node.now)) }
 {
@@ -179,7 +183,7 @@ fn first_set_of_leaf(node: &Node) -> Option<FirstSet>
     }
 }
 
-/// Returns the front of a sequence of bytes.
+/// Returns the first set of a sequence of bytes.
 fn first_set_of_bytes(written: &[u8]) -> Option<FirstSet>
     ensures { IfSome result (λ front. IsFirstSet front (leaf (byte_sequence written.now))) }
 {

@@ -63,7 +63,7 @@ pub(crate) fn tracks(tracks: Vec<Diagram>) -> Diagram {
 }
 
 /// Returns a loop around a body, with room for its lines at each side.
-pub(crate) fn turning(
+pub(crate) fn loop_around(
     alloc: Global,
     iterations: Iterations,
     body: Diagram,

@@ -80,7 +80,7 @@ pub(crate) enum BoxKind {
 pub(crate) enum FrameKind {
     Group,
     /// A lookaround: it has to match, and consumes nothing.
-    PartContext,
+    Around,
     /// A negated lookaround: it must not match.
     Without,
 }

@@ -1,6 +1,6 @@
 //! Lays out a tree as a diagram.
 
-use crate::boxes::{boxed, framed, set_box, tracks, turning};
+use crate::boxes::{boxed, framed, loop_around, set_box, tracks};
 use crate::diagram::{BoxKind, Diagram, FrameKind, Iterations};
 use crate::labels::{Label, anchor_words, group_text, iterations_text, lookaround_words};
 use crate::names::{gather, name_of};
@@ -93,7 +93,7 @@ fn piece(node: &Node, setting: &mut Setting<'_>) -> Result<Option<Piece>, AllocE
         }
         Node::Loop { loopee, quant, .. } | Node::Loop1CharBody { loopee, quant } => {
             let body = lay_out(loopee, setting)?;
-            turning(alloc, iterations(alloc, quant)?, body)?
+            loop_around(alloc, iterations(alloc, quant)?, body)?
         }
         Node::LookaroundAssertion {
             negate,
@@ -152,7 +152,7 @@ fn lookaround(
     let kind = if negate {
         FrameKind::Without
     } else {
-        FrameKind::PartContext
+        FrameKind::Around
     };
     let label = String::from_str(alloc, lookaround_words(negate, backwards))?;
     framed(alloc, kind, label, body)

@@ -117,7 +117,7 @@ pub(crate) fn draw_frame(
 {
     let (class, meaning) = match kind {
         FrameKind::Group => ("frame", "What is matched here is captured."),
-        FrameKind::PartContext => (
+        FrameKind::Around => (
             "frame around",
             "This has to match there, and consumes nothing.",
         ),

@@ -179,7 +179,7 @@ fn list_interval(
 ) -> Result<(), AllocError> {
     let (first, last) = (interval.first(), interval.last());
     let more = last - first;
-    if more < 2 || (more < 16 && is_dollar_or_underscore(first) && is_dollar_or_underscore(last)) {
+    if more < 2 || (more < 16 && is_punctuation(first) && is_punctuation(last)) {
         for c in interval.codepoints() {
             let mut item = String::new(alloc);
             push_symbol(c, alloc, &mut item)?;
@@ -195,7 +195,7 @@ fn list_interval(
 }
 
 /// Returns whether an ASCII character is the space or punctuation.
-fn is_dollar_or_underscore(c: u32) -> bool {
+fn is_punctuation(c: u32) -> bool {
     matches!(c, 0x20..=0x2F | 0x3A..=0x40 | 0x5B..=0x60 | 0x7B..=0x7E)
 }
 

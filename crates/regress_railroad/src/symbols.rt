@@ -19,8 +19,8 @@ const WIDE: [u32; 22] = [
 ];
 
 /// Returns whether a number is inside a range, given the alternating starts and ends of the ranges.
-fn is_within(iterations: &[u32], c: u32) -> bool {
-    match iterations.binary_search(&c) {
+fn is_within(ends: &[u32], c: u32) -> bool {
+    match ends.binary_search(&c) {
         Ok(point) => point % 2 == 0,
         Err(point) => point % 2 == 1,
     }

@@ -34,7 +34,7 @@ fn adjoin(corner: Point, other: Point) -> Point {
 }
 
 /// Returns the rounded corner towards another point.
-fn iteration(corner: Point, to: Point) -> Step {
+fn rounded_corner(corner: Point, to: Point) -> Step {
     let end = adjoin(corner, to);
     Step::Curve {
         control_x: corner.x,
@@ -60,7 +60,7 @@ pub(crate) fn draw_corner(from: Point, corner: Point, to: Point, sheet: &mut She
 {
     let steps = [
         line_to(adjoin(corner, from)),
-        iteration(corner, to),
+        rounded_corner(corner, to),
         line_to(to),
     ];
     draw_path("line", from, &steps, sheet)
@@ -72,13 +72,13 @@ pub(crate) fn draw_way(from: Point, corners: [Point; 4], to: Point, sheet: &mut 
 {
     let [a, b, c, d] = corners;
     let steps = [
-        iteration(a, b),
+        rounded_corner(a, b),
         line_to(adjoin(b, a)),
-        iteration(b, c),
+        rounded_corner(b, c),
         line_to(adjoin(c, b)),
-        iteration(c, d),
+        rounded_corner(c, d),
         line_to(adjoin(d, c)),
-        iteration(d, to),
+        rounded_corner(d, to),
     ];
     draw_path("line", from, &steps, sheet)
 }

@@ -66,7 +66,7 @@ nesting-positive (cat parts) = omega arith
 nesting-positive (alt left right) = omega arith
 nesting-positive (wrapped w body) = omega arith
 
--- a tree has at least one node and one level
+-- a tree has at least one node and nesting depth 1
 pub charged-none : (most budget : ℕ) (t : Tree) → (1 ≤ most → 1 ≤ budget → ⊥) → None ≡ remaining_budget most budget t
 charged-none most budget t none = none_of most budget (has_loop t) (has_string_set t) (charge t) (nesting t)
     (total-positive charges charge_of_leaf-positive (omega arith) (omega arith) (λ w. omega arith) t) (nesting-positive t) none

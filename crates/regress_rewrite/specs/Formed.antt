@@ -17,6 +17,7 @@ abbrev pub joined : Direction → (earlier later : List ℕ) → List ℕ
 joined forwards earlier later = earlier ++ later
 joined backwards earlier later = later ++ earlier
 
+-- the bytes of a leaf that is a `ByteSequence`, and no bytes for any other
 abbrev pub bytes_of_leaf : Leaf → List ℕ
 bytes_of_leaf (byte_sequence bytes) = bytes
 bytes_of_leaf l = []
@@ -28,6 +29,7 @@ bytes_of (cat parts) = []
 bytes_of (alt left right) = []
 bytes_of (wrapped w body) = []
 
+-- the part with this index
 abbrev pub part_at : ℕ → List Tree → Tree
 part_at i ts = get_or ts i (leaf empty)
 

@@ -12,6 +12,7 @@ abbrev pub made : Result PassAction AllocError → Tree → Tree
 made (Ok action) left = after action left
 made (Err e) left = left
 
+-- whether the call succeeds
 abbrev pub is_success : {A : Type 0} → Result A AllocError → Bool
 is_success (Ok x) = true
 is_success (Err e) = false

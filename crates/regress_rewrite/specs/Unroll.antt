@@ -6,16 +6,17 @@ use Rattle.regress_tree.specs.Shapes.{on_leaf, on_wrapper, some_node_in_list, is
 use Rattle.regress_tree.specs.Tree.{Tree, Trees, cat, wrapped, loop, no_trees, more_trees, append_trees, copies}
 use Rattle.regress_tree.specs.Units.{charges, charge}
 
--- The budget that remains after a charge: `None` if it is too small, if the nesting is deeper than `most` levels, or if
--- there are loops or sets of strings.
+-- The budget that remains after a charge: `None` if it is too small, if the nesting is deeper than `most`, or if there
+-- are loops or sets of strings.
 abbrev pub left_of_budget : (most budget : ℕ) (loops strings : Bool) (charge nesting : ℕ) → Option ℕ
 left_of_budget most budget loops strings charge nesting =
     if is_within most budget loops strings charge nesting then Some (budget - charge) else None
 
--- the budget that remains after a copy of the tree, and after copies of all parts of a list
+-- the budget that remains after a copy of the tree
 abbrev pub remaining_budget : (most budget : ℕ) → Tree → Option ℕ
 remaining_budget most budget t = left_of_budget most budget (has_loop t) (has_string_set t) (charge t) (nesting t)
 
+-- the same for copies of all parts of a list
 abbrev pub remaining_budget_of_parts : (most budget : ℕ) → Trees → Option ℕ
 remaining_budget_of_parts most budget ts =
     left_of_budget most budget (some_node_in_list (on_wrapper is_loop) ts) (some_node_in_list (on_leaf is_string_set) ts)

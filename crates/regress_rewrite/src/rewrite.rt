@@ -70,8 +70,8 @@ pub trait Rewrite {
         requires { IsPart (tree node.old) }
 
         // The result of the action has the same meaning as the node, may appear wherever it may, has its groups, is no
-        // larger, adds no bracket to be simplified and, unless the action is `Keep`, is less. `Keep` leaves the node
-        // unchanged, and is returned only if there is nothing to remove.
+        // larger, adds no bracket to be simplified and, unless the action is `Keep`, is less in the order `IsLess`, so
+        // that passes end. `Keep` leaves the node unchanged, and is returned only if there is nothing to remove.
         ensures lawful { IfOk result (ObeysLaw removes is_exact (direction_of walk.now) (tree node.old) (tree node.new)) }
 
         // A failed allocation leaves the node unchanged.

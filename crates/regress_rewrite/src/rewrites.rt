@@ -15,6 +15,7 @@ use std::alloc::{AllocError, Global};
 /// Simplification of brackets. A call looks only at the node.
 #[derive(Drop)]
 pub struct SimplifyBrackets {
+    /// The allocator for the lists of code points.
     pub alloc: Global,
 }
 
@@ -34,6 +35,7 @@ impl Rewrite for SimplifyBrackets {
 /// Flattening of nested `Cat`s. A call looks only at the node.
 #[derive(Drop)]
 pub struct Flatten {
+    /// The allocator for the lists of parts.
     pub alloc: Global,
 }
 
@@ -53,6 +55,7 @@ impl Rewrite for Flatten {
 /// Unrolling of loops. A call looks at no more than 257 nodes of a loop's body.
 #[derive(Drop)]
 pub struct UnrollLoops {
+    /// The allocator for the copies of loop bodies.
     pub alloc: Global,
 }
 
@@ -72,6 +75,7 @@ impl Rewrite for UnrollLoops {
 /// Promotion of loops over one character. A call looks only at the node.
 #[derive(Drop)]
 pub struct Promote1CharLoops {
+    /// The allocator for the new nodes.
     pub alloc: Global,
 }
 
@@ -91,6 +95,7 @@ impl Rewrite for Promote1CharLoops {
 /// Forming of literal bytes. A call looks only at the node and the direction.
 #[derive(Drop)]
 pub struct FormLiteralBytes {
+    /// The allocator for the bytes.
     pub alloc: Global,
 }
 
@@ -130,6 +135,7 @@ impl Rewrite for RemoveEmpties {
 /// searched with all after it, so the time for an alternation may be quadratic in its length.
 #[derive(Drop)]
 pub struct PropagateEarlyFails {
+    /// The allocator of the empty sets that replace failing nodes.
     pub alloc: Global,
 }
 

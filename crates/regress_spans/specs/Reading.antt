@@ -55,11 +55,13 @@ pub record Adds (before : List Span) (new : Source) (now : List Span) (after : S
 -- What a call does if the grammar derives a pattern at its position, within the limit of the nesting depth; then the
 -- same for the other symbols of the grammar.
 module _ (whole : ℕ) (ctx : Context) where
+  -- It appends the spans of the nodes of a pattern.
   abbrev pub ReadsPattern : Direction → Source → List Span → Source → List Span → Result (Unit {0}) Fault → Type 0
   ReadsPattern d t before new now result =
       (p : Pattern) (rest : Source) (h : IsPattern ctx p t rest) → nesting p ≤ max_nesting_depth →
       Does result (λ _. Adds before new now rest (spans_of_pattern whole ctx d p t rest h))
 
+  -- the same for the terms of an alternative and the node around them, which exists unless there is exactly one term
   abbrev pub ReadsAlternative : Direction → Source → List Span → Source → List Span → Result (Unit {0}) Fault → Type 0
   ReadsAlternative d t before new now result =
       (ts : Terms) (rest : Source) (h : AreTerms ctx ts t rest) → nesting_of_terms ts ≤ max_nesting_depth →
@@ -71,6 +73,7 @@ module _ (whole : ℕ) (ctx : Context) where
       (ts : Terms) (rest : Source) (h : AreTerms ctx ts t rest) → nesting_of_terms ts ≤ max_nesting_depth →
       Does result (λ count. (count ≡ how_many ts) × Adds before new now rest (spans_of_terms whole ctx d ts t rest h))
 
+  -- the same for an item and its quantifier
   abbrev pub ReadsTerm : Direction → Source → List Span → Source → List Span → Result (Unit {0}) Fault → Type 0
   ReadsTerm d t before new now result =
       (x : Item) (q : Option Quantifier) (mid rest : Source) (h : IsItem ctx x t mid) →

@@ -29,6 +29,7 @@ use std::alloc::{AllocError, Global};
 /// The tree of a pattern, with the position of each of its nodes in the pattern.
 #[derive(Drop)]
 pub struct SpannedRegex {
+    /// The tree of the pattern, and its flags.
     pub regex: Regex,
     /// One span for each node, in postorder. [`try_parse_with_spans`] specifies each.
     pub spans: Vec<Span>,

@@ -4,6 +4,8 @@
 /// the two are equal.
 #[derive(Clone, Copy, Debug, PartialEq, Eq)]
 pub struct Span {
+    /// The index of the first code point.
     pub start: usize,
+    /// The index after the last code point, at least `start`.
     pub end: usize,
 }

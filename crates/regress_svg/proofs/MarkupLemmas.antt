@@ -1,6 +1,6 @@
 -- An unfinished picture, with more content after it.
 use Rattle.std.proofs.Common.{◌≡◌, ◌∙◌, ℕ, zero, suc, ◌+◌, ◌-◌, ◌<◌, ◌≤◌, List, [], ◌∷◌, ◌++◌, length, ap, sym, refl, subst, append_assoc, append-nil, codes, arith, add-one, length-append}
-use Rattle.regress_svg.specs.Markup.{Content, nothing, element, group, content_bytes, element_bytes, group_tag, root_tag, IsFirstSet}
+use Rattle.regress_svg.specs.Markup.{Content, nothing, element, group, content_bytes, element_bytes, group_tag, root_tag, IsUnfinished}
 use Rattle.regress_svg.specs.declared.element.Element.{Element}
 
 -- the two contents joined
@@ -28,47 +28,47 @@ further bytes front content more is =
     ∙ ap (λ all. front ++ all) (sym (content_bytes-joined content more))
 
 -- more content in the innermost open group
-pub front_more : (depth : ℕ) (bytes : List ℕ) (more : Content) → IsFirstSet depth bytes → IsFirstSet depth (bytes ++ content_bytes more)
+pub front_more : (depth : ℕ) (bytes : List ℕ) (more : Content) → IsUnfinished depth bytes → IsUnfinished depth (bytes ++ content_bytes more)
 front_more zero bytes more (width, height, content, is) =
     (width, height, joined content more, further bytes (root_tag width height) content more is)
 front_more (suc depth) bytes more (before, class, content, front, is) =
     (before, class, joined content more, front, further bytes (before ++ group_tag class) content more is)
 
-drawn : (depth : ℕ) (bytes : List ℕ) (e : Element) → IsFirstSet depth bytes → IsFirstSet depth (bytes ++ element_bytes e)
+drawn : (depth : ℕ) (bytes : List ℕ) (e : Element) → IsUnfinished depth bytes → IsUnfinished depth (bytes ++ element_bytes e)
 drawn depth bytes e front =
-    let P : List ℕ → Type 0 = λ more. IsFirstSet depth (bytes ++ more) in
+    let P : List ℕ → Type 0 = λ more. IsUnfinished depth (bytes ++ more) in
     subst P (append-nil (element_bytes e)) (front_more depth bytes (element e nothing) front)
 
 closed_up : (before tag inside end : List ℕ) → before ++ (tag ++ inside ++ end ++ []) ≡ (before ++ tag ++ inside) ++ end
 closed_up before tag inside end = simp (append_assoc, append-nil)
 
-closed : (depth : ℕ) (bytes : List ℕ) → IsFirstSet (suc depth) bytes → IsFirstSet depth (bytes ++ codes "</g>")
+closed : (depth : ℕ) (bytes : List ℕ) → IsUnfinished (suc depth) bytes → IsUnfinished depth (bytes ++ codes "</g>")
 closed depth bytes (before, class, content, front, is) =
-    let P : List ℕ → Type 0 = λ all. IsFirstSet depth all in
+    let P : List ℕ → Type 0 = λ all. IsUnfinished depth all in
     subst P
     (closed_up before (group_tag class) (content_bytes content) (codes "</g>") ∙ ap (λ all. all ++ codes "</g>") (sym is))
     (front_more depth before (group class content nothing) front)
 
 -- an empty picture
-pub begins : (width height : ℕ) (bytes : List ℕ) → bytes ≡ root_tag width height → IsFirstSet 0 bytes
+pub begins : (width height : ℕ) (bytes : List ℕ) → bytes ≡ root_tag width height → IsUnfinished 0 bytes
 begins width height bytes is = (width, height, nothing, is ∙ sym (append-nil (root_tag width height)))
 
 -- one more element
-pub draws : (depth : ℕ) (old new : List ℕ) (e : Element) → new ≡ old ++ element_bytes e → IsFirstSet depth old → IsFirstSet depth new
+pub draws : (depth : ℕ) (old new : List ℕ) (e : Element) → new ≡ old ++ element_bytes e → IsUnfinished depth old → IsUnfinished depth new
 draws depth old new e is front =
-    let P : List ℕ → Type 0 = λ all. IsFirstSet depth all in
+    let P : List ℕ → Type 0 = λ all. IsUnfinished depth all in
     subst P (sym is) (drawn depth old e front)
 
 -- a group that is opened
-pub opens : (depth : ℕ) (old new class : List ℕ) → new ≡ old ++ group_tag class → IsFirstSet depth old → IsFirstSet (depth + 1) new
+pub opens : (depth : ℕ) (old new class : List ℕ) → new ≡ old ++ group_tag class → IsUnfinished depth old → IsUnfinished (depth + 1) new
 opens depth old new class is front =
     rw (add-one depth) (old, class, nothing, front, is ∙ sym (append-nil (old ++ group_tag class)))
 
 -- a group that is closed
-pub closes : (depth : ℕ) (old new : List ℕ) → 0 < depth → new ≡ old ++ codes "</g>" → IsFirstSet depth old → IsFirstSet (depth - 1) new
+pub closes : (depth : ℕ) (old new : List ℕ) → 0 < depth → new ≡ old ++ codes "</g>" → IsUnfinished depth old → IsUnfinished (depth - 1) new
 closes zero old new some is front = absurd (omega arith)
 closes (suc depth) old new some is front =
-    let P : List ℕ → Type 0 = λ all. IsFirstSet depth all in
+    let P : List ℕ → Type 0 = λ all. IsUnfinished depth all in
     let less : suc depth - 1 ≡ depth = omega arith in
     rw less (subst P (sym is) (closed depth old front))
 
@@ -77,7 +77,7 @@ longer depth before rest inside b below =
     omega (arith, length-append (before ++ b ∷ rest) inside, length-append before (b ∷ rest))
 
 -- Each open group takes at least one byte.
-pub depth_within : (depth : ℕ) (bytes : List ℕ) → IsFirstSet depth bytes → depth ≤ length bytes
+pub depth_within : (depth : ℕ) (bytes : List ℕ) → IsUnfinished depth bytes → depth ≤ length bytes
 depth_within zero bytes front = omega arith
 depth_within (suc depth) bytes (before, class, content, front, is) =
     let P : List ℕ → Type 0 = λ all. suc depth ≤ length all in

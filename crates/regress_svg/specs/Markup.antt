@@ -16,6 +16,7 @@ step_bytes (Vertical y) = codes "V" ++ decimal y
 step_bytes (Curve control_x control_y x y) =
     codes "Q" ++ decimal control_x ++ codes " " ++ decimal control_y ++ codes " " ++ decimal x ++ codes " " ++ decimal y
 
+-- the path commands in order
 abbrev pub steps_bytes : List Step → List ℕ
 steps_bytes steps = flat_map step_bytes steps
 
@@ -23,10 +24,12 @@ steps_bytes steps = flat_map step_bytes steps
 abbrev pub note_bytes : List ℕ → List ℕ
 note_bytes note = if length note == 0 then [] else codes "<tspan class=\"note\">" ++ escaped_text note ++ codes "</tspan>"
 
+-- a path with its class, its start and its commands
 abbrev pub path_bytes : List ℕ → ℕ → ℕ → List Step → List ℕ
 path_bytes class x y steps =
     codes "<path class=\"" ++ escaped_text class ++ codes "\" d=\"M" ++ decimal x ++ codes " " ++ decimal y ++ steps_bytes steps ++ codes "\"/>"
 
+-- a text with its class and its position, and a note after it
 abbrev pub text_bytes : List ℕ → ℕ → ℕ → List ℕ → List ℕ → List ℕ
 text_bytes class x y text note =
     codes "<text class=\"" ++ escaped_text class ++ codes "\" x=\"" ++ decimal x ++ codes "\" y=\"" ++ decimal y ++ codes "\">"
@@ -62,6 +65,7 @@ pub data Content : Type 0 where
   element : Element → Content → Content
   group : (class : List ℕ) → (inside more : Content) → Content
 
+-- the bytes of content
 abbrev pub content_bytes : Content → List ℕ
 content_bytes nothing = []
 content_bytes (element e more) = element_bytes e ++ content_bytes more
@@ -81,7 +85,7 @@ pub record Drawn : Type 0 where
 
 -- The bytes of an unfinished picture with that number of open groups: each open group contains content, and then the
 -- next open group.
-abbrev pub IsFirstSet : ℕ → List ℕ → Type 0
-IsFirstSet zero bytes = (width : ℕ) × (height : ℕ) × (content : Content) × (bytes ≡ root_tag width height ++ content_bytes content)
-IsFirstSet (suc depth) bytes =
-    (before class : List ℕ) × (content : Content) × IsFirstSet depth before × (bytes ≡ before ++ group_tag class ++ content_bytes content)
+abbrev pub IsUnfinished : ℕ → List ℕ → Type 0
+IsUnfinished zero bytes = (width : ℕ) × (height : ℕ) × (content : Content) × (bytes ≡ root_tag width height ++ content_bytes content)
+IsUnfinished (suc depth) bytes =
+    (before class : List ℕ) × (content : Content) × IsUnfinished depth before × (bytes ≡ before ++ group_tag class ++ content_bytes content)

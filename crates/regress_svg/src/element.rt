@@ -14,34 +14,53 @@ use std::fmt::{Formatter, Write};
 pub enum Element<'a> {
     /// `rect`, by its upper left corner. `radius` is the radius of its rounded corners.
     Rectangle {
+        /// The class of the element.
         class: &'a str,
+        /// The left edge.
         x: u32,
+        /// The upper edge.
         y: u32,
+        /// The width.
         width: u32,
+        /// The height.
         height: u32,
+        /// The radius of the corners, 0 for none.
         radius: u32,
     },
     /// `circle`, by its center.
     Circle {
+        /// The class of the element.
         class: &'a str,
+        /// The horizontal position of the center.
         x: u32,
+        /// The vertical position of the center.
         y: u32,
+        /// The radius.
         radius: u32,
     },
     /// `path`, from the point (`x`, `y`) along the steps in order.
     Path {
+        /// The class of the element.
         class: &'a str,
+        /// The horizontal position of the start.
         x: u32,
+        /// The vertical position of the start.
         y: u32,
+        /// The steps in order.
         steps: &'a [Step],
     },
     /// `text`, at the point (`x`, `y`); its style determines how it is aligned there. The note, if it is not empty,
     /// follows the text in a `tspan` of the class `note`.
     Text {
+        /// The class of the element.
         class: &'a str,
+        /// The horizontal position.
         x: u32,
+        /// The vertical position.
         y: u32,
+        /// The text, which is escaped when it is written.
         text: &'a str,
+        /// The note, or the empty text for none.
         note: &'a str,
     },
     /// `title`: the name of the group or picture that contains it, where it should be the first element.
@@ -57,27 +76,37 @@ pub enum Element<'a> {
 pub enum Step {
     /// A new start, without a line.
     Move {
+        /// The horizontal position of the point.
         x: u32,
+        /// The vertical position of the point.
         y: u32,
     },
     /// A straight line.
     Line {
+        /// The horizontal position of the point.
         x: u32,
+        /// The vertical position of the point.
         y: u32,
     },
     /// A horizontal line.
     Horizontal {
+        /// The horizontal position of the point.
         x: u32,
     },
     /// A vertical line.
     Vertical {
+        /// The vertical position of the point.
         y: u32,
     },
     /// A quadratic Bézier curve with one control point.
     Curve {
+        /// The horizontal position of the control point.
         control_x: u32,
+        /// The vertical position of the control point.
         control_y: u32,
+        /// The horizontal position of the point.
         x: u32,
+        /// The vertical position of the point.
         y: u32,
     },
 }

@@ -19,13 +19,13 @@ pub struct Sheet {
 
 impl Model for Sheet {
     ghost use Rattle.std.specs.Prelude.{string_bytes};
-    ghost use Rattle.regress_svg.specs.Markup.{Drawn, IsFirstSet};
+    ghost use Rattle.regress_svg.specs.Markup.{Drawn, IsUnfinished};
 
     ghost Value = { Drawn };
 
     ghost view = { λ sheet. record { depth = sheet.depth; written = string_bytes sheet.text } };
 
-    ghost invariant = { λ sheet. IsFirstSet sheet.depth (string_bytes sheet.text) };
+    ghost invariant = { λ sheet. IsUnfinished sheet.depth (string_bytes sheet.text) };
 }
 
 impl Sheet {

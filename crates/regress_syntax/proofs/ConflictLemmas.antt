@@ -44,7 +44,7 @@ names_tied a b o o' h h' =
     (subst (λ (r : Ordering). is_lt (ordering_then r o') ≡ false) (nat_list_cmp_total.antisymm a b) h') in
     (sym (is_eq-slice_cmp b a) ∙ both.0, both.1, both.2)
 
--- the order by which levels are sorted
+-- the order by which the disjunctions of paths are sorted
 abbrev by_numbers : CodeLevel → CodeLevel → Ordering
 by_numbers = then_cmp (on (λ (l : CodeLevel). l.opening) nat_cmp) (on (λ (l : CodeLevel). l.alternative) nat_cmp)
 
@@ -75,7 +75,7 @@ then_assoc Less o o' = refl
 then_assoc Equal o o' = refl
 then_assoc Greater o o' = refl
 
--- the same for levels with equal numbers, and the remaining levels
+-- the same for disjunctions with equal numbers, and the remaining ones
 nesting_between : (k m j : CodeLevel) (o o' : Ordering) → is_lt (ordering_then (by_numbers m k) o) ≡ false →
     is_lt (ordering_then (by_numbers j m) o') ≡ false → (k.opening == j.opening) ≡ true → (k.alternative == j.alternative) ≡ true →
     ((k.alternative == m.alternative) ≡ true) × (is_lt o ≡ false) × (is_lt o' ≡ false)

@@ -1,15 +1,15 @@
--- The scan's notes on misplaced code points, from one code point to the next.
+-- The first errors that the scan notes, from one code point to the next.
 use Rattle.std.proofs.Common.{◌≡◌, ℕ, ◌+◌, ◌-◌, max, Bool, true, false, cond, ◌==◌, ◌&&◌, [], ◌∷◌, drop, length, Option, Some, None, refl, sym, ap, ◌∙◌, subst, arith}
 use Rattle.std.specs.Option.{option_or}
 use Rattle.std.proofs.lemmas.Option.{none-some, same_Some}
 use Rattle.regress_base.specs.Table.{Table}
 use Rattle.regress_lexer.specs.Source.{Source, opening, closing, bar, question_mark, is_at}
-use Rattle.regress_syntax.specs.Marks.{Mark, opens, captures, closes, next, nests}
+use Rattle.regress_syntax.specs.GroupTokens.{GroupToken, opens, captures, closes, next, nests}
 use Rattle.regress_syntax.specs.Names.{group_name_at}
 use Rattle.regress_syntax.specs.Syntax.{Name}
-use Rattle.regress_syntax.specs.Scan.{Mode, plain, escape, class, class_escape, mode_after, mark_at, opened_at, is_insignificant}
+use Rattle.regress_syntax.specs.Scan.{Mode, plain, escape, class, class_escape, mode_after, token_at, opened_at, is_insignificant}
 use Rattle.regress_syntax.specs.FirstErrors.{Flaw, unopened, too_deep, is_flaw, open_groups_after, remaining_at}
-use Rattle.regress_syntax.specs.Scanning.{open_groups_after_mark}
+use Rattle.regress_syntax.specs.Scanning.{open_groups_after_token}
 use Rattle.regress_syntax.proofs.ScanLemmas.{Home, home, in_text, in_class, unquiet}
 
 -- ---- from one code point to the next
@@ -28,7 +28,7 @@ left_quiet too_deep true (in_class depth deepest) n c t e =
 left_quiet too_deep false (in_class depth deepest) n c t e =
     let no = unquiet (c == 92) (c == 91) (c == 93) (c == opening) (c == closing) (c == bar) e in rw (no.0, no.1, no.2) refl
 
--- An escape has no misplaced code point.
+-- An escape has none of these errors.
 pub left_escape : (flaw : Flaw) (sets : Bool) (w : Home) (n : ℕ) (t : Source) →
     remaining_at flaw sets (home w) n (92 ∷ t) ≡ remaining_at flaw sets (home w) n (drop 1 t)
 unfolding remaining_at
@@ -87,35 +87,35 @@ all_noted flaw sets mode n (c ∷ t) whole old e before = absurd (omega arith)
 
 -- ---- open groups
 
-after_opened : (n : ℕ) (table : Table) (t : Source) → open_groups_after_mark (opened_at table t) n ≡ n + 1
+after_opened : (n : ℕ) (table : Table) (t : Source) → open_groups_after_token (opened_at table t) n ≡ n + 1
 after_opened n table t = by (is_at question_mark t) (group_name_at table (drop 1 t))
   where
     by : (q : Bool) (found : Option (Name × Source)) →
-        open_groups_after_mark (cond q (elim found as (λ _. Mark) [ None ↦ opens | Some x ↦ captures (Some x.0) ]) (captures None)) n ≡ n + 1
+        open_groups_after_token (cond q (elim found as (λ _. GroupToken) [ None ↦ opens | Some x ↦ captures (Some x.0) ]) (captures None)) n ≡ n + 1
     by true None = refl
     by true (Some x) = refl
     by false found = refl
 
 -- A mark changes the number of open groups as its code point does.
-pub nesting_at_mark : (sets : Bool) (table : Table) (mode : Mode) (n c : ℕ) (t : Source) (mark : Mark) → mark_at sets table mode c t ≡ Some mark →
-    open_groups_after_mark mark n ≡ open_groups_after mode n c
-nesting_at_mark sets table plain n c t mark e = by (c == opening) (c == closing) (c == bar) e
+pub nesting_at_token : (sets : Bool) (table : Table) (mode : Mode) (n c : ℕ) (t : Source) (token : GroupToken) → token_at sets table mode c t ≡ Some token →
+    open_groups_after_token token n ≡ open_groups_after mode n c
+nesting_at_token sets table plain n c t token e = by (c == opening) (c == closing) (c == bar) e
   where
-    by : (p q r : Bool) → cond p (Some (opened_at table t)) (cond q (Some closes) (cond r (Some next) None)) ≡ Some mark →
-        open_groups_after_mark mark n ≡ cond p (n + 1) (cond q (max 1 (n - 1)) n)
-    by true q r e = subst (λ m. open_groups_after_mark m n ≡ n + 1) (same_Some _ _ e) (after_opened n table t)
-    by false true r e = subst (λ m. open_groups_after_mark m n ≡ max 1 (n - 1)) (same_Some _ _ e) refl
-    by false false true e = subst (λ m. open_groups_after_mark m n ≡ n) (same_Some _ _ e) refl
-    by false false false e = absurd (none-some mark e)
-nesting_at_mark sets table escape n c t mark e = absurd (none-some mark e)
-nesting_at_mark sets table (class depth deepest) n c t mark e = by (c == 93 && depth == 0 && sets) e
+    by : (p q r : Bool) → cond p (Some (opened_at table t)) (cond q (Some closes) (cond r (Some next) None)) ≡ Some token →
+        open_groups_after_token token n ≡ cond p (n + 1) (cond q (max 1 (n - 1)) n)
+    by true q r e = subst (λ m. open_groups_after_token m n ≡ n + 1) (same_Some _ _ e) (after_opened n table t)
+    by false true r e = subst (λ m. open_groups_after_token m n ≡ max 1 (n - 1)) (same_Some _ _ e) refl
+    by false false true e = subst (λ m. open_groups_after_token m n ≡ n) (same_Some _ _ e) refl
+    by false false false e = absurd (none-some token e)
+nesting_at_token sets table escape n c t token e = absurd (none-some token e)
+nesting_at_token sets table (class depth deepest) n c t token e = by (c == 93 && depth == 0 && sets) e
   where
-    by : (q : Bool) → cond q (Some (nests deepest)) None ≡ Some mark → open_groups_after_mark mark n ≡ n
-    by true e = subst (λ m. open_groups_after_mark m n ≡ n) (same_Some _ _ e) refl
-    by false e = absurd (none-some mark e)
-nesting_at_mark sets table (class_escape depth deepest) n c t mark e = absurd (none-some mark e)
+    by : (q : Bool) → cond q (Some (nests deepest)) None ≡ Some token → open_groups_after_token token n ≡ n
+    by true e = subst (λ m. open_groups_after_token m n ≡ n) (same_Some _ _ e) refl
+    by false e = absurd (none-some token e)
+nesting_at_token sets table (class_escape depth deepest) n c t token e = absurd (none-some token e)
 
-pub nesting_at_none : (sets : Bool) (table : Table) (mode : Mode) (n c : ℕ) (t : Source) → mark_at sets table mode c t ≡ None →
+pub nesting_at_none : (sets : Bool) (table : Table) (mode : Mode) (n c : ℕ) (t : Source) → token_at sets table mode c t ≡ None →
     n ≡ open_groups_after mode n c
 nesting_at_none sets table plain n c t e = by (c == opening) (c == closing) (c == bar) e
   where

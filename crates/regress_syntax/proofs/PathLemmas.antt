@@ -10,7 +10,7 @@ use Rattle.regress_syntax.specs.declared.scan.path.Path.{Path as CodePath}
 
 -- ---- the first difference
 
--- The first level at which two paths differ decides whether they are alternatives.
+-- The first disjunction at which two paths differ decides whether they are alternatives.
 abbrev pub differ : CodeLevel × CodeLevel → Bool
 differ pair = not (pair.0.opening == pair.1.opening && pair.0.alternative == pair.1.alternative)
 
@@ -44,7 +44,7 @@ reported_by_paths path other =
     rw (reverse-reverse (map enclosing_disjunction_of path.nesting.items), reverse-reverse (map enclosing_disjunction_of other.nesting.items))
     (by_first_difference path.nesting.items other.nesting.items)
 
--- ---- the innermost level
+-- ---- the innermost disjunction
 
 -- A list is its elements up to the last one and that one, which an update replaces.
 up_to_last : {X : Type 0} (n : ℕ) (xs : List X) (last new d : X) → length xs ≡ n + 1 → last ≡ get_or xs n d →

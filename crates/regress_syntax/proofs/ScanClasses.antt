@@ -10,7 +10,7 @@ use Rattle.regress_lexer.specs.Digits.{is_decimal, is_letter, control, after, fr
 use Rattle.regress_lexer.specs.Escapes.{escape_at}
 use Rattle.regress_classes.specs.Properties.{Property, points_of, is_property_character, closed_property, property_at, property_word_at}
 use Rattle.regress_classes.specs.ClassProductions.{ClassAtom, point, set, complement_if, class_letter, class_members, class_control_at, class_property_at, class_escape_productions, class_escape_by, class_escape_at, class_atom_at, atom_members, begins_range, range_of, range_at, class_part_at, class_parts_by, class_at}
-use Rattle.regress_syntax.specs.Scan.{plain, class, class_escape, marks, is_insignificant}
+use Rattle.regress_syntax.specs.Scan.{plain, class, class_escape, tokens, is_insignificant}
 use Rattle.regress_lexer.proofs.lemmas.Digits.{and_both}
 use Rattle.regress_syntax.proofs.ScanLemmas.{Passes, Leads, Home, in_class, home, passes_same, passes_then, leads_none, leads_some, leads_after, leads_then, leads_map, leads_cond, pass_quiet, pass_at, pass_backslash, pass_escaped, pass_after, lead_escape_at}
 use Rattle.regress_lexer.proofs.lemmas.Sources.{EachProduction, no_more, ◌also◌, first_production-has}
@@ -54,7 +54,7 @@ module _ {sets : Bool} {table : Table} (w : Home) where
 module _ {table : Table} where
   -- A literal backslash leaves the `c` in the source.
   lead_class_control_at : (t : Source) → Leads false table (class_escape 0 0) (99 ∷ t) (class 0 0) (class_control_at t)
-  unfolding marks
+  unfolding tokens
   lead_class_control_at [] = leads_some (point 92, 99 ∷ []) (record { same = refl })
   lead_class_control_at (d ∷ t) =
       leads_cond (is_letter d || is_decimal d || d == 95) _ _
@@ -101,11 +101,11 @@ module _ {table : Table} where
 
   -- Here a `[` opens no class.
   pass_member : (c : ℕ) (t : Source) → (c == 93) ≡ false → (c == 92) ≡ false → Passes false table (class 0 0) (c ∷ t) (class 0 0) t
-  unfolding marks
+  unfolding tokens
   pass_member c t goes_on e = record { same = rw (e, goes_on) (by (c == 91)) }
     where
       by : (bracket : Bool) →
-          marks false table (cond (bracket && false) (class 1 1) (class 0 0)) t ≡ marks false table (class 0 0) t
+          tokens false table (cond (bracket && false) (class 1 1) (class 0 0)) t ≡ tokens false table (class 0 0) t
       by true = refl
       by false = refl
 
@@ -135,7 +135,7 @@ module _ {table : Table} where
       (λ _. leads_some (atom_members x.0, x.1) passes_same))
 
   pass_bracket : (t : Source) → is_at 93 t ≡ true → Passes false table (class 0 0) t plain (drop 1 t)
-  unfolding marks
+  unfolding tokens
   pass_bracket [] e = absurd (false≢true e)
   pass_bracket (c ∷ t) e = subst (λ k. Passes false table (class 0 0) (k ∷ t) plain t) (sym (eqb-true c 93 e)) (record { same = refl })
 

@@ -10,8 +10,8 @@ use Rattle.regress_lexer.specs.Source.{Source, Found, ◌>>=◌, found_map, open
 use Rattle.regress_lexer.specs.Digits.{is_between, is_decimal, is_letter, is_octal, is_hex, control, number, front, after, hex_at}
 use Rattle.regress_lexer.specs.Escapes.{braced_hex_at, unit_at, trail_surrogate_at, paired, with_trail_surrogate, unicode_at, or_identity_escape, octal_digits, letter_escape, begins_with_digit, is_syntax_character, control_at, other_escape, escape_at}
 use Rattle.regress_lexer.specs.Quantifiers.{RepeatBounds, count_at, closed_brace, maximum_at, quantifier_prefix_by, greedy_or_lazy, quantifier_at}
-use Rattle.regress_syntax.specs.Marks.{Mark}
-use Rattle.regress_syntax.specs.Scan.{Mode, plain, escape, class, class_escape, is_insignificant, marks}
+use Rattle.regress_syntax.specs.GroupTokens.{GroupToken}
+use Rattle.regress_syntax.specs.Scan.{Mode, plain, escape, class, class_escape, is_insignificant, tokens}
 use Rattle.regress_lexer.proofs.lemmas.Digits.{and_both}
 
 -- ---- code points that the scan ignores
@@ -45,14 +45,14 @@ unquiet false false false false false true h = absurd (false≢true h)
 
 -- The scan finds the same marks from one position and mode as from another.
 pub record Passes (sets : Bool) (table : Table) (m : Mode) (t : Source) (n : Mode) (rest : Source) : Type 0 where
-  pub same : marks sets table m t ≡ marks sets table n rest
+  pub same : tokens sets table m t ≡ tokens sets table n rest
 
 -- If something is found, the scan finds the same marks from the source after it.
 pub record Leads {A : Type 0} (sets : Bool) (table : Table) (m : Mode) (t : Source) (n : Mode) (found : Found A) : Type 0 where
   pub each : (x : A × Source) → found ≡ Some x → Passes sets table m t n x.1
 
 -- If something is found, these are its marks and those of the source after it.
-pub record Gives {A : Type 0} (ms : List Mark) (of : A → Source → List Mark) (found : Found A) : Type 0 where
+pub record Gives {A : Type 0} (ms : List GroupToken) (of : A → Source → List GroupToken) (found : Found A) : Type 0 where
   pub each : (x : A × Source) → found ≡ Some x → ms ≡ of x.0 x.1
 
 -- where a production is parsed: outside of classes, or inside one
@@ -69,34 +69,34 @@ abbrev pub after_backslash : Home → Mode
 after_backslash in_text = escape
 after_backslash (in_class depth deepest) = class_escape depth deepest
 
-pub gives_none : {A : Type 0} {ms : List Mark} {of : A → Source → List Mark} → Gives ms of None
+pub gives_none : {A : Type 0} {ms : List GroupToken} {of : A → Source → List GroupToken} → Gives ms of None
 gives_none = record { each = λ x e. absurd (none-some x e) }
 
-pub gives_some : {A : Type 0} {ms : List Mark} {of : A → Source → List Mark} (x : A × Source) → ms ≡ of x.0 x.1 → Gives ms of (Some x)
+pub gives_some : {A : Type 0} {ms : List GroupToken} {of : A → Source → List GroupToken} (x : A × Source) → ms ≡ of x.0 x.1 → Gives ms of (Some x)
 gives_some {A} {ms} {of} x h = record { each = λ y e. subst (λ (z : A × Source). ms ≡ of z.0 z.1) (same_Some x y e) h }
 
 -- The same holds of equal lists of marks.
-pub gives_after : {A : Type 0} {ms ns : List Mark} {of : A → Source → List Mark} {found : Found A} → ms ≡ ns → Gives ns of found → Gives ms of found
+pub gives_after : {A : Type 0} {ms ns : List GroupToken} {of : A → Source → List GroupToken} {found : Found A} → ms ≡ ns → Gives ns of found → Gives ms of found
 gives_after e h = record { each = λ x found. e ∙ h.each x found }
 
-pub gives_then : {A B : Type 0} {ms : List Mark} (of : A → Source → List Mark) {to : B → Source → List Mark} (found : Found A)
+pub gives_then : {A B : Type 0} {ms : List GroupToken} (of : A → Source → List GroupToken) {to : B → Source → List GroupToken} (found : Found A)
     (next : A × Source → Found B) → Gives ms of found → ((x : A × Source) → Gives (of x.0 x.1) to (next x)) → Gives ms to (found >>= next)
 gives_then of None next h k = gives_none
 gives_then of (Some x) next h k = gives_after (h.each x refl) (k x)
 
-pub gives_map : {A B : Type 0} {ms : List Mark} (of : A → Source → List Mark) {to : B → Source → List Mark} (f : A → B) (found : Found A) →
+pub gives_map : {A B : Type 0} {ms : List GroupToken} (of : A → Source → List GroupToken) {to : B → Source → List GroupToken} (f : A → B) (found : Found A) →
     Gives ms of found → ((x : A) (t : Source) → of x t ≡ to (f x) t) → Gives ms to (found_map f found)
 gives_map of f None h k = gives_none
 gives_map of f (Some x) h k = gives_some (f x.0, x.1) (h.each x refl ∙ k x.0 x.1)
 
-pub gives_cond : {A : Type 0} {ms : List Mark} {of : A → Source → List Mark} (b : Bool) (x y : Found A) → (b ≡ true → Gives ms of x) →
+pub gives_cond : {A : Type 0} {ms : List GroupToken} {of : A → Source → List GroupToken} (b : Bool) (x y : Found A) → (b ≡ true → Gives ms of x) →
     (b ≡ false → Gives ms of y) → Gives ms of (cond b x y)
 gives_cond true x y h k = h refl
 gives_cond false x y h k = k refl
 
 module _ {sets : Bool} {table : Table} where
   pub gives_leads : {A : Type 0} {m n : Mode} {t : Source} {found : Found A} → Leads sets table m t n found →
-      Gives (marks sets table m t) (λ _ rest. marks sets table n rest) found
+      Gives (tokens sets table m t) (λ _ rest. tokens sets table n rest) found
   gives_leads h = record { each = λ x e. (h.each x e).same }
 
   pub passes_same : {m : Mode} {t : Source} → Passes sets table m t m t
@@ -133,7 +133,7 @@ module _ {sets : Bool} {table : Table} where
   -- ---- single code points
 
   pub pass_quiet : (w : Home) (c : ℕ) (t : Source) → is_insignificant c ≡ true → Passes sets table (home w) (c ∷ t) (home w) t
-  unfolding marks
+  unfolding tokens
   pass_quiet in_text c t e =
       let no = unquiet (c == 92) (c == 91) (c == 93) (c == opening) (c == closing) (c == bar) e in
       record { same = rw (no.0, no.1, no.3, no.4, no.5) refl }
@@ -146,12 +146,12 @@ module _ {sets : Bool} {table : Table} where
   pass_at w k (c ∷ t) quiet e = pass_quiet w c t (subst (λ d. is_insignificant d ≡ true) (sym (eqb-true c k e)) quiet)
 
   pub pass_backslash : (w : Home) (t : Source) → Passes sets table (home w) (92 ∷ t) (after_backslash w) t
-  unfolding marks
+  unfolding tokens
   pass_backslash in_text t = record { same = refl }
   pass_backslash (in_class depth deepest) t = record { same = refl }
 
   pub pass_escaped : (w : Home) (c : ℕ) (t : Source) → Passes sets table (after_backslash w) (c ∷ t) (home w) t
-  unfolding marks
+  unfolding tokens
   pass_escaped in_text c t = record { same = refl }
   pass_escaped (in_class depth deepest) c t = record { same = refl }
 

@@ -20,9 +20,9 @@ use Rattle.regress_syntax.specs.Names.{is_dollar_or_underscore, begins_name, con
 use Rattle.regress_syntax.specs.Syntax.{Name, Atom, literal, Group, modified, capture}
 use Rattle.regress_syntax.specs.Syntax as Syntax
 use Rattle.regress_syntax.specs.Productions.{Context, Head, single, opens, angle_at, modified_at, after_question_mark_at, group_at, has_name, character_at, property_atom, property_atom_at, number_reference_at, name_reference_at, escape_productions, escaped_by, escaped_at, brace_by, brackets_at, atom_productions, atom_by, head_at, no_quantifier_at, this_quantifier, optional_quantifier_at}
-use Rattle.regress_syntax.specs.Scan.{Mode, plain, escape, class, opened_at, marks, is_insignificant}
-use Rattle.regress_syntax.specs.Marks.{Mark, captures, mark_of_group, marks_of_atom}
-use Rattle.regress_syntax.specs.Marks as Marks
+use Rattle.regress_syntax.specs.Scan.{Mode, plain, escape, class, opened_at, tokens, is_insignificant}
+use Rattle.regress_syntax.specs.GroupTokens.{GroupToken, captures, token_of_group, tokens_of_atom}
+use Rattle.regress_syntax.specs.GroupTokens as GroupTokens
 use Rattle.regress_lexer.proofs.lemmas.Digits.{and_both, drop_one_more}
 use Rattle.regress_syntax.proofs.ScanLemmas.{quiet_decimal, quiet_plain, Passes, Leads, Gives, in_text, gives_none, gives_some, gives_after, gives_then, gives_map, gives_cond, gives_leads, passes_same, passes_then, leads_none, leads_some, leads_after, leads_then, leads_map, leads_cond, pass_quiet, pass_at, pass_backslash, pass_escaped, pass_after, lead_unicode_at, lead_escape_at, lead_quantifier_at}
 use Rattle.regress_syntax.proofs.ScanClasses.{lead_property_at, lead_class_at}
@@ -133,38 +133,38 @@ module _ {sets : Bool} {table : Table} where
 -- ---- items without a body
 
 -- the marks of the source from a position on
-abbrev marks_in : Context → Mode → Source → List Mark
-marks_in ctx m t = marks ctx.setting.flags.unicode_sets ctx.setting.table m t
+abbrev tokens_in : Context → Mode → Source → List GroupToken
+tokens_in ctx m t = tokens ctx.setting.flags.unicode_sets ctx.setting.table m t
 
 -- an item's marks and those of the source after it
-abbrev after_atom : Context → Atom → Source → List Mark
-after_atom ctx a t = marks_of_atom a ++ marks_in ctx plain t
+abbrev after_atom : Context → Atom → Source → List GroupToken
+after_atom ctx a t = tokens_of_atom a ++ tokens_in ctx plain t
 
 module _ (ctx : Context) (lawful : IsValidTable ctx.setting.table) where
   -- An item without marks leads to the marks after it.
-  gives_unmarked : {A : Type 0} {m : Mode} {t : Source} (f : A → Atom) (found : Found A) → ((x : A) → marks_of_atom (f x) ≡ []) →
-      Leads ctx.setting.flags.unicode_sets ctx.setting.table m t plain found → Gives (marks_in ctx m t) (after_atom ctx) (found_map f found)
+  gives_unmarked : {A : Type 0} {m : Mode} {t : Source} (f : A → Atom) (found : Found A) → ((x : A) → tokens_of_atom (f x) ≡ []) →
+      Leads ctx.setting.flags.unicode_sets ctx.setting.table m t plain found → Gives (tokens_in ctx m t) (after_atom ctx) (found_map f found)
   gives_unmarked f found unmarked h =
-      gives_map (λ _. marks_in ctx plain) f found (gives_leads h) (λ x t. ap (λ ms. ms ++ marks_in ctx plain t) (sym (unmarked x)))
+      gives_map (λ _. tokens_in ctx plain) f found (gives_leads h) (λ x t. ap (λ ms. ms ++ tokens_in ctx plain t) (sym (unmarked x)))
 
-  gives_character_at : (c : ℕ) (t : Source) → Gives (marks_in ctx escape (c ∷ t)) (after_atom ctx) (character_at ctx c t)
+  gives_character_at : (c : ℕ) (t : Source) → Gives (tokens_in ctx escape (c ∷ t)) (after_atom ctx) (character_at ctx c t)
   gives_character_at c t =
       gives_unmarked (literal ctx.setting.flags) (escape_at ctx.setting.flags.unicode (c ∷ t)) (λ x. refl)
       (lead_escape_at in_text ctx.setting.flags.unicode (c ∷ t))
 
-  gives_property_atom : (negated : Bool) (x : Property × Source) → Gives (marks_in ctx plain x.1) (after_atom ctx) (property_atom ctx negated x)
+  gives_property_atom : (negated : Bool) (x : Property × Source) → Gives (tokens_in ctx plain x.1) (after_atom ctx) (property_atom ctx negated x)
   gives_property_atom negated (of_points members, t) = gives_some (_, t) (by (negated && ctx.setting.flags.icase))
     where
-      by : (b : Bool) → marks_in ctx plain t ≡
+      by : (b : Bool) → tokens_in ctx plain t ≡
           after_atom ctx (cond b (Syntax.class ctx.setting.flags false (complement members)) (Syntax.class ctx.setting.flags negated members)) t
       by true = refl
       by false = refl
   gives_property_atom negated (of_strings written, t) = gives_cond negated _ _ (λ _. gives_none) (λ _. gives_some (_, t) refl)
 
   gives_property_atom_at : (negated : Bool) (c : ℕ) (t : Source) →
-      Gives (marks_in ctx escape (c ∷ t)) (after_atom ctx) (property_atom_at ctx negated t)
+      Gives (tokens_in ctx escape (c ∷ t)) (after_atom ctx) (property_atom_at ctx negated t)
   gives_property_atom_at negated c t =
-      gives_then (λ _. marks_in ctx plain) (property_at ctx.setting.flags.unicode_sets ctx.setting.table t) _
+      gives_then (λ _. tokens_in ctx plain) (property_at ctx.setting.flags.unicode_sets ctx.setting.table t) _
       (gives_leads (leads_after (pass_escaped in_text c t) (lead_property_at in_text ctx.setting.flags.unicode_sets ctx.setting.table t)))
       (gives_property_atom negated)
 
@@ -175,26 +175,26 @@ module _ (ctx : Context) (lawful : IsValidTable ctx.setting.table) where
       rw e (passes_then (pass_escaped in_text c t)
       (pass_after in_text is_decimal quiet_decimal t))
 
-  gives_numbered_at : (c : ℕ) (t : Source) → is_decimal c ≡ true → Gives (marks_in ctx escape (c ∷ t)) (after_atom ctx) (number_reference_at ctx c t)
+  gives_numbered_at : (c : ℕ) (t : Source) → is_decimal c ≡ true → Gives (tokens_in ctx escape (c ∷ t)) (after_atom ctx) (number_reference_at ctx c t)
   gives_numbered_at c t e =
       gives_cond (nat_le (number 10 (front is_decimal (c ∷ t))) ctx.groups) _ _
       (λ _. gives_some (_, after is_decimal (c ∷ t)) (pass_number c t e).same)
       (λ _. gives_cond ctx.setting.flags.unicode _ _ (λ _. gives_none)
       (λ _. gives_character_at c t))
 
-  gives_named_at : (t : Source) → Gives (marks_in ctx plain t) (after_atom ctx) (name_reference_at ctx t)
+  gives_named_at : (t : Source) → Gives (tokens_in ctx plain t) (after_atom ctx) (name_reference_at ctx t)
   gives_named_at t =
-      gives_then (λ _. marks_in ctx plain) (group_name_at ctx.setting.table t) _ (gives_leads (lead_group_name_at lawful t))
+      gives_then (λ _. tokens_in ctx plain) (group_name_at ctx.setting.table t) _ (gives_leads (lead_group_name_at lawful t))
       (λ x. gives_cond (has_name x.0 ctx.names) _ _
       (λ _. gives_some (_, x.1) refl)
       (λ _. gives_none))
 
   -- A literal backslash leaves the `c` in the source, which the scan ignores.
-  same_lone_backslash : (c : ℕ) (t : Source) → marks_in ctx escape (c ∷ t) ≡ marks_in ctx plain (99 ∷ t)
-  unfolding marks
+  same_lone_backslash : (c : ℕ) (t : Source) → tokens_in ctx escape (c ∷ t) ≡ tokens_in ctx plain (99 ∷ t)
+  unfolding tokens
   same_lone_backslash c t = refl
 
-  escape_productions_give : (c : ℕ) (t : Source) → EachProduction (Gives (marks_in ctx escape (c ∷ t)) (after_atom ctx)) (escape_productions ctx c t)
+  escape_productions_give : (c : ℕ) (t : Source) → EachProduction (Gives (tokens_in ctx escape (c ∷ t)) (after_atom ctx)) (escape_productions ctx c t)
   escape_productions_give c t =
       (λ _. gives_some (_, t) (pass_escaped in_text c t).same)
       also (λ _. gives_some (_, t) (pass_escaped in_text c t).same)
@@ -205,25 +205,25 @@ module _ (ctx : Context) (lawful : IsValidTable ctx.setting.table) where
       also (λ _. gives_character_at c t)
       also no_more
 
-  gives_escaped_by : (c : ℕ) (t : Source) → Gives (marks_in ctx escape (c ∷ t)) (after_atom ctx) (escaped_by ctx c t)
+  gives_escaped_by : (c : ℕ) (t : Source) → Gives (tokens_in ctx escape (c ∷ t)) (after_atom ctx) (escaped_by ctx c t)
   gives_escaped_by c t = by (class_letter c)
     where
       by : (letter : Option (CharacterClassType × Bool)) →
-          Gives (marks_in ctx escape (c ∷ t)) (after_atom ctx)
+          Gives (tokens_in ctx escape (c ∷ t)) (after_atom ctx)
           (elim letter as (λ _. Found Atom) [
             | Some named ↦ Some (Syntax.class_escape ctx.setting.flags named.0 named.1, t)
             | None ↦ first_production (escape_productions ctx c t)
           ])
       by (Some named) = gives_some (_, t) (pass_escaped in_text c t).same
-      by None = first_production-has (Gives (marks_in ctx escape (c ∷ t)) (after_atom ctx)) (escape_productions ctx c t) gives_none (escape_productions_give c t)
+      by None = first_production-has (Gives (tokens_in ctx escape (c ∷ t)) (after_atom ctx)) (escape_productions ctx c t) gives_none (escape_productions_give c t)
 
-  gives_escaped_at : (t : Source) → Gives (marks_in ctx escape t) (after_atom ctx) (escaped_at ctx t)
+  gives_escaped_at : (t : Source) → Gives (tokens_in ctx escape t) (after_atom ctx) (escaped_at ctx t)
   gives_escaped_at [] = gives_none
   gives_escaped_at (c ∷ t) = gives_escaped_by c t
 
   -- Outside of classes the scan ignores `]` too.
-  same_brace : (c : ℕ) (t : Source) → is_one_of "{]}" c ≡ true → marks_in ctx plain (c ∷ t) ≡ marks_in ctx plain t
-  unfolding marks
+  same_brace : (c : ℕ) (t : Source) → is_one_of "{]}" c ≡ true → tokens_in ctx plain (c ∷ t) ≡ tokens_in ctx plain t
+  unfolding tokens
   same_brace c t e =
       let not_backslash : (c == 92) ≡ false = grind (arith, nat_tests) in
       let not_bracket : (c == 91) ≡ false = grind (arith, nat_tests) in
@@ -233,14 +233,14 @@ module _ (ctx : Context) (lawful : IsValidTable ctx.setting.table) where
       rw (not_backslash, not_bracket, not_opening, not_closing, not_bar) refl
 
   gives_brace_by : (c : ℕ) (t : Source) → is_one_of "{]}" c ≡ true →
-      Gives (marks_in ctx plain (c ∷ t)) (after_atom ctx) (brace_by ctx c t)
+      Gives (tokens_in ctx plain (c ∷ t)) (after_atom ctx) (brace_by ctx c t)
   gives_brace_by c t e =
       gives_cond (ctx.setting.flags.unicode || is_some (quantifier_at (c ∷ t))) _ _ (λ _. gives_none)
       (λ _. gives_some (_, t) (same_brace c t e))
 
   -- With the flag v a class has a mark.
   gives_class : (sets : Bool) (t : Source) →
-      Gives (marks sets ctx.setting.table (class 0 0) t) (λ a rest. marks_of_atom a ++ marks sets ctx.setting.table plain rest)
+      Gives (tokens sets ctx.setting.table (class 0 0) t) (λ a rest. tokens_of_atom a ++ tokens sets ctx.setting.table plain rest)
       (cond sets
       (found_map (λ (x : Bool × Value). Syntax.class_set ctx.setting.flags x.0 x.1)
       (class_set_at ctx.setting.table ctx.setting.flags.unicode t))
@@ -249,25 +249,25 @@ module _ (ctx : Context) (lawful : IsValidTable ctx.setting.table) where
   gives_class true t = gives_map _ _ _ (gives_class_set_at ctx.setting.table ctx.setting.flags.unicode t) (λ x rest. refl)
   gives_class false t = gives_map _ _ _ (gives_leads (lead_class_at ctx.setting.flags.unicode t)) (λ x rest. refl)
 
-  same_open_bracket : (t : Source) → marks_in ctx plain (91 ∷ t) ≡ marks_in ctx (class 0 0) t
-  unfolding marks
+  same_open_bracket : (t : Source) → tokens_in ctx plain (91 ∷ t) ≡ tokens_in ctx (class 0 0) t
+  unfolding tokens
   same_open_bracket t = refl
 
-  atom_productions_give : (c : ℕ) (t : Source) → EachProduction (Gives (marks_in ctx plain (c ∷ t)) (after_atom ctx)) (atom_productions ctx c t)
+  atom_productions_give : (c : ℕ) (t : Source) → EachProduction (Gives (tokens_in ctx plain (c ∷ t)) (after_atom ctx)) (atom_productions ctx c t)
   atom_productions_give c t =
       (λ e. gives_some (_, t) (pass_at in_text full_stop (c ∷ t) refl e).same)
       also (λ e. gives_some (_, t) (pass_at in_text 94 (c ∷ t) refl e).same)
       also (λ e. gives_some (_, t) (pass_at in_text 36 (c ∷ t) refl e).same)
-      also (λ e. subst (λ k. Gives (marks_in ctx plain (k ∷ t)) (after_atom ctx) (escaped_at ctx t)) (sym (eqb-true c 92 e))
+      also (λ e. subst (λ k. Gives (tokens_in ctx plain (k ∷ t)) (after_atom ctx) (escaped_at ctx t)) (sym (eqb-true c 92 e))
       (gives_after (pass_backslash in_text t).same (gives_escaped_at t)))
-      also (λ e. subst (λ k. Gives (marks_in ctx plain (k ∷ t)) (after_atom ctx) (brackets_at ctx t)) (sym (eqb-true c 91 e))
+      also (λ e. subst (λ k. Gives (tokens_in ctx plain (k ∷ t)) (after_atom ctx) (brackets_at ctx t)) (sym (eqb-true c 91 e))
       (gives_after (same_open_bracket t) (gives_class ctx.setting.flags.unicode_sets t)))
       also gives_brace_by c t
       also (λ e. gives_some (_, t) (pass_quiet in_text c t (quiet_plain c e)).same)
       also no_more
 
-  gives_atom_by : (c : ℕ) (t : Source) → Gives (marks_in ctx plain (c ∷ t)) (after_atom ctx) (atom_by ctx c t)
-  gives_atom_by c t = first_production-has (Gives (marks_in ctx plain (c ∷ t)) (after_atom ctx)) (atom_productions ctx c t) gives_none (atom_productions_give c t)
+  gives_atom_by : (c : ℕ) (t : Source) → Gives (tokens_in ctx plain (c ∷ t)) (after_atom ctx) (atom_by ctx c t)
+  gives_atom_by c t = first_production-has (Gives (tokens_in ctx plain (c ∷ t)) (after_atom ctx)) (atom_productions ctx c t) gives_none (atom_productions_give c t)
 
   -- ---- quantifiers
 
@@ -286,9 +286,9 @@ module _ (ctx : Context) (lawful : IsValidTable ctx.setting.table) where
 -- ---- the opening of a group
 
 -- the marks of the start of an item
-abbrev pub marks_of_head : Head → List Mark
-marks_of_head (single a) = marks_of_atom a
-marks_of_head (opens kind) = mark_of_group kind ∷ []
+abbrev pub tokens_of_head : Head → List GroupToken
+tokens_of_head (single a) = tokens_of_atom a
+tokens_of_head (opens kind) = token_of_group kind ∷ []
 
 module _ (table : Table) where
   -- Without a `<` there is no name.
@@ -328,12 +328,12 @@ module _ {table : Table} (lawful : IsValidTable table) where
   exclamation_begins_none = begins_none 33 (omega arith) refl refl
 
 -- the marks of the start of an item and of the source after it
-abbrev pub after_head : (sets : Bool) (table : Table) → Head → Source → List Mark
-after_head sets table head t = marks_of_head head ++ marks sets table plain t
+abbrev pub after_head : (sets : Bool) (table : Table) → Head → Source → List GroupToken
+after_head sets table head t = tokens_of_head head ++ tokens sets table plain t
 
 -- the mark of a parenthesis with `?`, by the name that follows
-abbrev named_mark : Found Name → Mark
-named_mark found = elim found as (λ _. Mark) [ None ↦ Marks.opens | Some x ↦ captures (Some x.0) ]
+abbrev named_token : Found Name → GroupToken
+named_token found = elim found as (λ _. GroupToken) [ None ↦ GroupTokens.opens | Some x ↦ captures (Some x.0) ]
 
 -- Only one code point is at the start.
 other_at : (k j : ℕ) (t : Source) → (k == j) ≡ false → is_at k t ≡ true → is_at j t ≡ false
@@ -342,71 +342,71 @@ other_at k j (c ∷ t) other e = subst (λ d. (d == j) ≡ false) (sym (eqb-true
 
 module _ {sets : Bool} {table : Table} where
   -- What is found has this mark.
-  gives_marked : {A : Type 0} {t : Source} (m : Mark) (f : A → Head) (found : Found A) → Leads sets table plain t plain found →
-      ((x : A) → marks_of_head (f x) ≡ m ∷ []) → Gives (m ∷ marks sets table plain t) (after_head sets table) (found_map f found)
+  gives_marked : {A : Type 0} {t : Source} (m : GroupToken) (f : A → Head) (found : Found A) → Leads sets table plain t plain found →
+      ((x : A) → tokens_of_head (f x) ≡ m ∷ []) → Gives (m ∷ tokens sets table plain t) (after_head sets table) (found_map f found)
   gives_marked m f None h same = gives_none
   gives_marked m f (Some x) h same =
-      gives_some (f x.0, x.1) (ap (λ ms. m ∷ ms) (h.each x refl).same ∙ ap (λ ms. ms ++ marks sets table plain x.1) (sym (same x.0)))
+      gives_some (f x.0, x.1) (ap (λ ms. m ∷ ms) (h.each x refl).same ∙ ap (λ ms. ms ++ tokens sets table plain x.1) (sym (same x.0)))
 
   -- A named group has its mark.
   gives_named : {t : Source} (found : Found Name) → Leads sets table plain t plain found →
-      Gives (named_mark found ∷ marks sets table plain t) (after_head sets table) (found_map (λ name. opens (capture (Some name))) found)
+      Gives (named_token found ∷ tokens sets table plain t) (after_head sets table) (found_map (λ name. opens (capture (Some name))) found)
   gives_named None h = gives_none
   gives_named (Some x) h = gives_some (opens (capture (Some x.0)), x.1) (ap (λ ms. captures (Some x.0) ∷ ms) (h.each x refl).same)
 
   -- A group without a name has the mark of a group that captures nothing.
-  nameless : (kind : Group) (t rest : Source) → mark_of_group kind ≡ Marks.opens → group_name_at table t ≡ None →
-      Passes sets table plain t plain rest → Gives (named_mark (group_name_at table t) ∷ marks sets table plain t) (after_head sets table)
+  nameless : (kind : Group) (t rest : Source) → token_of_group kind ≡ GroupTokens.opens → group_name_at table t ≡ None →
+      Passes sets table plain t plain rest → Gives (named_token (group_name_at table t) ∷ tokens sets table plain t) (after_head sets table)
       (Some (opens kind, rest))
   nameless kind t rest opens_none none h =
-      gives_some (opens kind, rest) (ap₂ (λ a b. a ∷ b) (ap named_mark none ∙ sym opens_none) h.same)
+      gives_some (opens kind, rest) (ap₂ (λ a b. a ∷ b) (ap named_token none ∙ sym opens_none) h.same)
 
   pass_two : (k : ℕ) (t : Source) → is_insignificant k ≡ true → is_at 60 t ≡ true → is_at k (drop 1 t) ≡ true → Passes sets table plain t plain (drop 2 t)
   pass_two k t quiet e next =
       subst (λ u. Passes sets table plain t plain u) (drop_one_more t) (passes_then (pass_at in_text 60 t refl e) (pass_at in_text k (drop 1 t) quiet next))
 
 module _ (sets : Bool) {table : Table} (lawful : IsValidTable table) where
-  gives_angle_at : (t : Source) → is_at 60 t ≡ true → Gives (named_mark (group_name_at table t) ∷ marks sets table plain t) (after_head sets table)
+  gives_angle_at : (t : Source) → is_at 60 t ≡ true → Gives (named_token (group_name_at table t) ∷ tokens sets table plain t) (after_head sets table)
       (angle_at table t)
   gives_angle_at t e =
       gives_cond (is_at 61 (drop 1 t)) _ _
       (λ equals. nameless _ t (drop 2 t) refl (no_group_name_at table 61 t refl (equals_begins_none lawful) equals) (pass_two 61 t refl e equals))
       (λ _. gives_cond (is_at 33 (drop 1 t)) _ _
-      (λ mark. nameless _ t (drop 2 t) refl (no_group_name_at table 33 t refl (exclamation_begins_none lawful) mark) (pass_two 33 t refl e mark))
+      (λ token. nameless _ t (drop 2 t) refl (no_group_name_at table 33 t refl (exclamation_begins_none lawful) token) (pass_two 33 t refl e token))
       (λ _. gives_named (group_name_at table t) (lead_group_name_at lawful t)))
 
   -- A character after `(?` that begins no name leads to the mark of a group that captures nothing.
-  gives_sign : (kind : Group) (k : ℕ) (t : Source) → mark_of_group kind ≡ Marks.opens → is_insignificant k ≡ true → (k == 60) ≡ false → is_at k t ≡ true →
-      Gives (named_mark (group_name_at table t) ∷ marks sets table plain t) (after_head sets table) (Some (opens kind, drop 1 t))
+  gives_sign : (kind : Group) (k : ℕ) (t : Source) → token_of_group kind ≡ GroupTokens.opens → is_insignificant k ≡ true → (k == 60) ≡ false → is_at k t ≡ true →
+      Gives (named_token (group_name_at table t) ∷ tokens sets table plain t) (after_head sets table) (Some (opens kind, drop 1 t))
   gives_sign kind k t same quiet other e = nameless kind t (drop 1 t) same (no_angle table t (other_at k 60 t other e)) (pass_at in_text k t quiet e)
 
-  gives_after_mark_at : (t : Source) → Gives (named_mark (group_name_at table t) ∷ marks sets table plain t) (after_head sets table) (after_question_mark_at table t)
+  gives_after_mark_at : (t : Source) → Gives (named_token (group_name_at table t) ∷ tokens sets table plain t) (after_head sets table) (after_question_mark_at table t)
   gives_after_mark_at t =
       gives_cond (is_at colon t) _ _ (gives_sign _ colon t refl refl refl)
       (λ _. gives_cond (is_at 61 t) _ _ (gives_sign _ 61 t refl refl refl)
       (λ _. gives_cond (is_at 33 t) _ _ (gives_sign _ 33 t refl refl refl)
       (λ _. gives_cond (is_at 60 t) _ _ (gives_angle_at t)
-      (λ other. subst (λ found. Gives (named_mark found ∷ marks sets table plain t) (after_head sets table) (modified_at t)) (sym (no_angle table t other))
-      (gives_marked Marks.opens (λ change. opens (modified change)) (modifiers_at t) (lead_modifiers_at t) (λ change. refl))))))
+      (λ other. subst (λ found. Gives (named_token found ∷ tokens sets table plain t) (after_head sets table) (modified_at t)) (sym (no_angle table t other))
+      (gives_marked GroupTokens.opens (λ change. opens (modified change)) (modifiers_at t) (lead_modifiers_at t) (λ change. refl))))))
 
-  gives_group_at : (t : Source) → Gives (opened_at table t ∷ marks sets table plain t) (after_head sets table) (group_at table t)
+  gives_group_at : (t : Source) → Gives (opened_at table t ∷ tokens sets table plain t) (after_head sets table) (group_at table t)
   gives_group_at t = by (is_at question_mark t) refl
     where
       by : (q : Bool) → is_at question_mark t ≡ q →
-          Gives (cond q (named_mark (group_name_at table (drop 1 t))) (captures None) ∷ marks sets table plain t) (after_head sets table)
+          Gives (cond q (named_token (group_name_at table (drop 1 t))) (captures None) ∷ tokens sets table plain t) (after_head sets table)
           (cond q (after_question_mark_at table (drop 1 t)) (Some (opens (capture None), t)))
       by true e =
-          subst (λ ms. Gives (named_mark (group_name_at table (drop 1 t)) ∷ ms) (after_head sets table) (after_question_mark_at table (drop 1 t)))
+          subst (λ ms. Gives (named_token (group_name_at table (drop 1 t)) ∷ ms) (after_head sets table) (after_question_mark_at table (drop 1 t)))
           (sym (pass_at in_text question_mark t refl e).same) (gives_after_mark_at (drop 1 t))
       by false e = gives_some (opens (capture None), t) refl
 
 pub gives_head_at : (ctx : Context) → IsValidTable ctx.setting.table → (t : Source) →
-    Gives (marks_in ctx plain t) (after_head ctx.setting.flags.unicode_sets ctx.setting.table) (head_at ctx t)
-unfolding head_at marks
+    Gives (tokens_in ctx plain t) (after_head ctx.setting.flags.unicode_sets ctx.setting.table) (head_at ctx t)
+unfolding head_at tokens
 gives_head_at ctx lawful [] = gives_none
 gives_head_at ctx lawful (c ∷ t) =
     gives_cond (c == opening) _ _
-    (λ e. subst (λ k. Gives (marks_in ctx plain (k ∷ t)) (after_head ctx.setting.flags.unicode_sets ctx.setting.table) (group_at ctx.setting.table t))
+    (λ e. subst (λ k. Gives (tokens_in ctx plain (k ∷ t)) (after_head ctx.setting.flags.unicode_sets ctx.setting.table) (group_at ctx.setting.table t))
     (sym (eqb-true c opening e))
     (gives_group_at ctx.setting.flags.unicode_sets lawful t))
     (λ _. gives_map (after_atom ctx) single (atom_by ctx c t) (gives_atom_by ctx lawful c t) (λ a rest. refl))

@@ -13,8 +13,8 @@ use Rattle.regress_classes.specs.ClassSets.{Value, has_strings, only, joined, fo
 use Rattle.regress_classes.specs.ClassSets as ClassSets
 use Rattle.regress_classes.proofs.lemmas.ClassStrings.{level_of_strings}
 use Rattle.regress_classes.proofs.lemmas.ClassSets.{parts_joined, operands_joined}
-use Rattle.regress_syntax.specs.Marks.{Mark, nests}
-use Rattle.regress_syntax.specs.Scan.{plain, class, marks, is_insignificant}
+use Rattle.regress_syntax.specs.GroupTokens.{GroupToken, nests}
+use Rattle.regress_syntax.specs.Scan.{plain, class, tokens, is_insignificant}
 use Rattle.regress_lexer.proofs.lemmas.Digits.{and_both, drop_one_more}
 use Rattle.regress_syntax.proofs.ScanLemmas.{Passes, Leads, Gives, Home, in_class, home, after_backslash, leads_none, leads_some, leads_after, leads_then, leads_map, leads_cond, gives_none, gives_some, gives_after, gives_then, gives_map, gives_cond, gives_leads, pass_quiet, pass_at, pass_backslash, pass_escaped, lead_escape_at}
 use Rattle.regress_syntax.proofs.ScanClasses.{lead_property_at, pass_caret}
@@ -45,7 +45,7 @@ module _ {table : Table} (unicode : Bool) where
 
   -- Inside a class the scan ignores `|` too.
   pass_bar : (depth deepest : ℕ) (t : Source) → is_at 124 t ≡ true → Passes true table (class depth deepest) t (class depth deepest) (drop 1 t)
-  unfolding marks
+  unfolding tokens
   pass_bar depth deepest [] e = absurd (false≢true e)
   pass_bar depth deepest (c ∷ t) e =
       subst (λ k. Passes true table (class depth deepest) (k ∷ t) (class depth deepest) t) (sym (eqb-true c 124 e)) (record { same = refl })
@@ -66,31 +66,31 @@ module _ {table : Table} (unicode : Bool) where
 
 -- The marks from a position inside a class that is open at `depth`. The classes inside it are nested `nesting` deep so
 -- far, and earlier ones reached the depth `before`.
-abbrev within : (table : Table) (depth before nesting : ℕ) → Source → List Mark
-within table depth before nesting t = marks true table (class depth (max before (depth + nesting))) t
+abbrev within : (table : Table) (depth before nesting : ℕ) → Source → List GroupToken
+within table depth before nesting t = tokens true table (class depth (max before (depth + nesting))) t
 
 -- the marks after the `]` of such a class
-abbrev closed : (table : Table) (depth before nesting : ℕ) → Source → List Mark
-closed table zero before nesting t = nests (max before (zero + nesting)) ∷ marks true table plain t
-closed table (suc depth) before nesting t = marks true table (class depth (max before (suc depth + nesting))) t
+abbrev closed : (table : Table) (depth before nesting : ℕ) → Source → List GroupToken
+closed table zero before nesting t = nests (max before (zero + nesting)) ∷ tokens true table plain t
+closed table (suc depth) before nesting t = tokens true table (class depth (max before (suc depth + nesting))) t
 
 -- The contents of a class have these marks at every depth.
 pub record GivesInner (table : Table) (inner : Source → Found (Bool × Value)) : Type 0 where
   pub each : (depth before : ℕ) (t : Source) → Gives (within table depth before 0 t) (λ x. closed table depth before x.1.nesting) (inner t)
 
 -- the marks after an operand, whose classes count towards `nesting`
-abbrev after_operand : (table : Table) (depth before nesting : ℕ) → Operand → Source → List Mark
+abbrev after_operand : (table : Table) (depth before nesting : ℕ) → Operand → Source → List GroupToken
 after_operand table depth before nesting o t = within table depth before (max nesting (value_of o).nesting) t
 
-abbrev after_part : (table : Table) (depth before nesting : ℕ) → Value → Source → List Mark
+abbrev after_part : (table : Table) (depth before nesting : ℕ) → Value → Source → List GroupToken
 after_part table depth before nesting v t = within table depth before (max nesting v.nesting) t
 
-abbrev after_class : (table : Table) (depth before : ℕ) → Value → Source → List Mark
+abbrev after_class : (table : Table) (depth before : ℕ) → Value → Source → List GroupToken
 after_class table depth before v t = closed table depth before v.nesting t
 
 module _ (table : Table) where
   pass_close : (depth before nesting : ℕ) (t : Source) → is_at 93 t ≡ true → within table depth before nesting t ≡ closed table depth before nesting (drop 1 t)
-  unfolding marks
+  unfolding tokens
   pass_close depth before nesting [] e = absurd (false≢true e)
   pass_close zero before nesting (c ∷ t) e =
       subst (λ k. within table zero before nesting (k ∷ t) ≡ closed table zero before nesting t) (sym (eqb-true c 93 e)) refl
@@ -102,11 +102,11 @@ module _ (table : Table) where
 
   pass_open : (depth before nesting : ℕ) (t : Source) → is_at 91 t ≡ true →
       within table depth before nesting t ≡ within table (suc depth) (max before (depth + nesting)) 0 (drop 1 t)
-  unfolding marks
+  unfolding tokens
   pass_open depth before nesting [] e = absurd (false≢true e)
   pass_open depth before nesting (c ∷ t) e =
       subst (λ k. within table depth before nesting (k ∷ t) ≡ within table (suc depth) (max before (depth + nesting)) 0 t) (sym (eqb-true c 91 e))
-      (ap₂ (λ d k. marks true table (class d k) t) (add-one depth) same)
+      (ap₂ (λ d k. tokens true table (class d k) t) (add-one depth) same)
     where
       same : max (max before (depth + nesting)) (depth + 1) ≡ max (max before (depth + nesting)) (suc depth + 0)
       same = omega arith
@@ -116,7 +116,7 @@ module _ (table : Table) where
   same_within depth before nesting more t e = ap (λ n. within table depth before n t) e
 
   -- An operand without classes does not change the depth.
-  gives_flat : {A : Type 0} (depth before nesting : ℕ) (m : List Mark) (f : A → Operand) (found : Found A) → ((x : A) → (value_of (f x)).nesting ≡ 0) →
+  gives_flat : {A : Type 0} (depth before nesting : ℕ) (m : List GroupToken) (f : A → Operand) (found : Found A) → ((x : A) → (value_of (f x)).nesting ≡ 0) →
       Gives m (λ _. within table depth before nesting) found → Gives m (after_operand table depth before nesting) (found_map f found)
   gives_flat depth before nesting m f found flat h =
       gives_map (λ _. within table depth before nesting) f found h
@@ -146,7 +146,7 @@ module _ (table : Table) where
         (same_within depth before nesting (max nesting (value_of_strings written).nesting) t (omega (arith, level_of_strings written))))
 
     operand_productions_give : (depth before nesting : ℕ) (in_negated : Bool) (c : ℕ) (t : Source) →
-        EachProduction (Gives (marks true table (after_backslash (at_nesting depth before nesting)) (c ∷ t)) (after_operand table depth before nesting))
+        EachProduction (Gives (tokens true table (after_backslash (at_nesting depth before nesting)) (c ∷ t)) (after_operand table depth before nesting))
         (operand_productions table unicode in_negated c t)
     operand_productions_give depth before nesting in_negated c t =
         (λ _. gives_after (pass_escaped (at_nesting depth before nesting) c t).same (gives_quoted_at depth before nesting t))
@@ -159,7 +159,7 @@ module _ (table : Table) where
         also no_more
 
     gives_escaped_by : (depth before nesting : ℕ) (in_negated : Bool) (c : ℕ) (t : Source) (letter : Option (CharacterClassType × Bool)) →
-        Gives (marks true table (after_backslash (at_nesting depth before nesting)) (c ∷ t)) (after_operand table depth before nesting)
+        Gives (tokens true table (after_backslash (at_nesting depth before nesting)) (c ∷ t)) (after_operand table depth before nesting)
         (elim letter as (λ _. Found Operand) [
           | Some named ↦ Some (ClassSets.class (only (class_members named)), t)
           | None ↦ first_production (operand_productions table unicode in_negated c t)
@@ -168,12 +168,12 @@ module _ (table : Table) where
         gives_after (pass_escaped (at_nesting depth before nesting) c t).same
         (gives_some (_, t) (same_within depth before nesting (max nesting 0) t (omega arith)))
     gives_escaped_by depth before nesting in_negated c t None =
-        first_production-has (Gives (marks true table (after_backslash (at_nesting depth before nesting)) (c ∷ t)) (after_operand table depth before nesting))
+        first_production-has (Gives (tokens true table (after_backslash (at_nesting depth before nesting)) (c ∷ t)) (after_operand table depth before nesting))
         (operand_productions table unicode in_negated c t) gives_none (operand_productions_give depth before nesting in_negated c t)
 
     -- The marks of an operand, after its backslash.
     gives_escaped_operand_at : (depth before nesting : ℕ) (in_negated : Bool) (t : Source) →
-        Gives (marks true table (after_backslash (at_nesting depth before nesting)) t) (after_operand table depth before nesting)
+        Gives (tokens true table (after_backslash (at_nesting depth before nesting)) t) (after_operand table depth before nesting)
         (escaped_operand_at table unicode in_negated t)
     gives_escaped_operand_at depth before nesting in_negated [] = gives_none
     gives_escaped_operand_at depth before nesting in_negated (c ∷ t) =
@@ -194,7 +194,7 @@ module _ (table : Table) where
           (λ e. gives_after (pass_open depth before nesting t e)
           (gives_map _ (λ inside. ClassSets.class (nested inside)) (inner (drop 1 t))
           (gives_inner.each (suc depth) (max before (depth + nesting)) (drop 1 t))
-          (λ x rest. ap (λ k. marks true table (class depth k) rest) (omega arith))))
+          (λ x rest. ap (λ k. tokens true table (class depth k) rest) (omega arith))))
           (λ _. gives_cond (is_at 92 t) _ _
           (λ e. gives_after (pass_backslash_at (at_nesting depth before nesting) t e).same
           (gives_escaped_operand_at depth before nesting in_negated (drop 1 t)))
@@ -323,9 +323,9 @@ module _ (table : Table) where
 
     -- The mark of an outermost class has the nesting depth of the classes inside it.
     pub gives_class_set_at : (t : Source) →
-        Gives (marks true table (class 0 0) t) (λ x rest. nests x.1.nesting ∷ marks true table plain rest) (class_set_at table unicode t)
+        Gives (tokens true table (class 0 0) t) (λ x rest. nests x.1.nesting ∷ tokens true table plain rest) (class_set_at table unicode t)
     gives_class_set_at t = record {
       each = λ x e.
-          ap (λ k. marks true table (class 0 k) t) (omega arith) ∙ ((gives_class_set_by max_nesting_depth).each 0 0 t).each x e
-          ∙ ap (λ k. nests k ∷ marks true table plain x.1) (omega arith);
+          ap (λ k. tokens true table (class 0 k) t) (omega arith) ∙ ((gives_class_set_by max_nesting_depth).each 0 0 t).each x e
+          ∙ ap (λ k. nests k ∷ tokens true table plain x.1) (omega arith);
     }

@@ -9,10 +9,10 @@ use Rattle.regress_base.specs.Limits.{max_nesting_depth}
 use Rattle.regress_base.specs.Table.{Table}
 use Rattle.regress_lexer.specs.declared.fault.FaultKind.TheVariants.{DuplicateName, TooManyGroups}
 use Rattle.regress_lexer.specs.Source.{Source}
-use Rattle.regress_syntax.specs.Marks.{Mark, opens, captures, closes, next, nests}
+use Rattle.regress_syntax.specs.GroupTokens.{GroupToken, opens, captures, closes, next, nests}
 use Rattle.regress_syntax.specs.SameNames.{same_name}
-use Rattle.regress_syntax.specs.Paths.{Path, Position, enter, CaptureAt, groups_by, at_the_start, conflict, are_apart, are_marks_apart}
-use Rattle.regress_syntax.specs.Scan.{MarksShow, named_by, Mode, plain, escape, class, class_escape, marks, mode_after, mark_at, deepest}
+use Rattle.regress_syntax.specs.Paths.{Path, Position, enter, CaptureAt, groups_by, at_the_start, conflict, are_apart, are_tokens_apart}
+use Rattle.regress_syntax.specs.Scan.{TokensShow, named_by, Mode, plain, escape, class, class_escape, tokens, mode_after, token_at, deepest}
 use Rattle.regress_syntax.specs.Numbering.{names_of}
 use Rattle.regress_syntax.specs.Scanning.{depth_of, bears_name, capture_of, path_of, position_of, After}
 use Rattle.regress_syntax.specs.declared.scan.scanner.Scanner.{Scanner}
@@ -75,7 +75,7 @@ none_added old new path given e same = rw (e, same) (sym (append-nil (map captur
 -- ---- nesting depth
 
 -- The greatest depth is at least the current one.
-pub deepest_above : (n : ℕ) (ms : List Mark) → n ≤ deepest n ms
+pub deepest_above : (n : ℕ) (ms : List GroupToken) → n ≤ deepest n ms
 deepest_above n [] = omega arith
 deepest_above n (opens ∷ ms) = omega arith
 deepest_above n (captures name ∷ ms) = omega arith
@@ -85,7 +85,7 @@ deepest_above n (nests nesting ∷ ms) = omega (arith, deepest_above n ms)
 
 -- ---- after a mark
 
-pub after_opens : (all rest : List Mark) (old new : Scanner) →
+pub after_opens : (all rest : List GroupToken) (old new : Scanner) →
     new ≡ record old { path = new.path; opened = new.opened; deepest = new.deepest } →
     position_of new ≡ enter (position_of old) → new.deepest ≡ max old.deepest (length (path_of old.path) + 1) →
     After all (opens ∷ rest) old → After all rest new
@@ -101,7 +101,7 @@ after_opens all rest old new same position counted after =
     }
 
 -- A group's path is that of the position before its parenthesis.
-pub after_captures : (all rest : List Mark) (given : Option (Vec ℕ Global)) (old mid new : Scanner) →
+pub after_captures : (all rest : List GroupToken) (given : Option (Vec ℕ Global)) (old mid new : Scanner) →
     mid ≡ record old { names = mid.names; named = mid.named } → names_of mid.names.items ≡ names_of old.names.items ++ names_of (given ∷ []) →
     (length (path_of old.path) ≤ max_nesting_depth → map capture_of mid.named.items ≡ map capture_of old.named.items
     ++ filter bears_name (record { path = path_of old.path; name = option_map (λ name. name.items) given } ∷ [])) →
@@ -139,17 +139,17 @@ counted : (n d : ℕ) → min n (2 ^ 64 - 1) ≡ min d (2 ^ 64 - 1) → (d ≤ m
     (max_nesting_depth < d → max_nesting_depth < n)
 counted n d same = (λ few. omega (arith, same), λ many. omega (arith, same))
 
-pub open_groups_after : (all : List Mark) (scanner : Scanner) → After all [] scanner → scanner.deepest ≤ max_nesting_depth → deepest 1 all ≤ max_nesting_depth
+pub open_groups_after : (all : List GroupToken) (scanner : Scanner) → After all [] scanner → scanner.deepest ≤ max_nesting_depth → deepest 1 all ≤ max_nesting_depth
 open_groups_after all scanner after few = (counted (deepest 1 all) _ after.nesting).0 (omega (arith, after.opened))
 
-pub apart_after : (all : List Mark) (scanner : Scanner) → After all [] scanner → deepest 1 all ≤ max_nesting_depth →
-    are_marks_apart all ≡ are_apart (map capture_of scanner.named.items)
+pub apart_after : (all : List GroupToken) (scanner : Scanner) → After all [] scanner → deepest 1 all ≤ max_nesting_depth →
+    are_tokens_apart all ≡ are_apart (map capture_of scanner.named.items)
 apart_after all scanner after few =
     are_apart-named (groups_by at_the_start all) ∙ ap are_apart (after.named few ∙ append-nil (map capture_of scanner.named.items))
 
 -- A conflict that the code finds is one, or the pattern is nested too deeply.
-pub rejected_after : (all : List Mark) (scanner : Scanner) → After all [] scanner → are_apart (map capture_of scanner.named.items) ≡ false →
-    MarksShow all DuplicateName
+pub rejected_after : (all : List GroupToken) (scanner : Scanner) → After all [] scanner → are_apart (map capture_of scanner.named.items) ≡ false →
+    TokensShow all DuplicateName
 rejected_after all scanner after conflicts =
     inl (
       refl,
@@ -159,7 +159,7 @@ rejected_after all scanner after conflicts =
     )
 
 -- There are more groups than 32 bits can number.
-pub many_after : (all : List Mark) (scanner : Scanner) → After all [] scanner → 2 ^ 32 - 1 < length scanner.names.items → MarksShow all TooManyGroups
+pub many_after : (all : List GroupToken) (scanner : Scanner) → After all [] scanner → 2 ^ 32 - 1 < length scanner.names.items → TokensShow all TooManyGroups
 many_after all scanner after many =
     let same : length (named_by all) ≡ length scanner.names.items =
     ap length (after.names ∙ append-nil (names_of scanner.names.items)) ∙ length-map scanner.names.items _ in
@@ -189,30 +189,30 @@ depth-mode_after sets (class depth deepest) c = by (c == 92) (c == 91 && sets) (
 depth-mode_after sets (class_escape depth deepest) c = omega arith
 
 -- The invariant holds after a mark.
-pub at_mark : (sets : Bool) (table : Table) (mode : Mode) (c : ℕ) (rest t : Source) (all : List Mark) (mark : Mark) (scanner : Scanner) →
-    rest ≡ c ∷ t → mark_at sets table mode c t ≡ Some mark →
-    After all (marks sets table mode rest) scanner → After all (mark ∷ marks sets table (mode_after sets mode c) t) scanner
-unfolding marks
-at_mark sets table mode c rest t all mark scanner split marked after =
-    let whole : marks sets table mode rest ≡ mark ∷ marks sets table (mode_after sets mode c) t =
-    ap (marks sets table mode) split
-    ∙ ap (λ (found : Option Mark). option_to_list found ++ marks sets table (mode_after sets mode c) t) marked in
-    subst (λ (ms : List Mark). After all ms scanner) whole after
+pub at_token : (sets : Bool) (table : Table) (mode : Mode) (c : ℕ) (rest t : Source) (all : List GroupToken) (token : GroupToken) (scanner : Scanner) →
+    rest ≡ c ∷ t → token_at sets table mode c t ≡ Some token →
+    After all (tokens sets table mode rest) scanner → After all (token ∷ tokens sets table (mode_after sets mode c) t) scanner
+unfolding tokens
+at_token sets table mode c rest t all token scanner split marked after =
+    let whole : tokens sets table mode rest ≡ token ∷ tokens sets table (mode_after sets mode c) t =
+    ap (tokens sets table mode) split
+    ∙ ap (λ (found : Option GroupToken). option_to_list found ++ tokens sets table (mode_after sets mode c) t) marked in
+    subst (λ (ms : List GroupToken). After all ms scanner) whole after
 
 -- The invariant holds after a code point that is no mark.
-pub at_no_mark : (sets : Bool) (table : Table) (mode : Mode) (c : ℕ) (rest t : Source) (all : List Mark) (scanner : Scanner) →
-    rest ≡ c ∷ t → mark_at sets table mode c t ≡ None →
-    After all (marks sets table mode rest) scanner → After all (marks sets table (mode_after sets mode c) t) scanner
-unfolding marks
-at_no_mark sets table mode c rest t all scanner split marked after =
-    let whole : marks sets table mode rest ≡ marks sets table (mode_after sets mode c) t =
-    ap (marks sets table mode) split
-    ∙ ap (λ (found : Option Mark). option_to_list found ++ marks sets table (mode_after sets mode c) t) marked in
-    subst (λ (ms : List Mark). After all ms scanner) whole after
+pub at_no_token : (sets : Bool) (table : Table) (mode : Mode) (c : ℕ) (rest t : Source) (all : List GroupToken) (scanner : Scanner) →
+    rest ≡ c ∷ t → token_at sets table mode c t ≡ None →
+    After all (tokens sets table mode rest) scanner → After all (tokens sets table (mode_after sets mode c) t) scanner
+unfolding tokens
+at_no_token sets table mode c rest t all scanner split marked after =
+    let whole : tokens sets table mode rest ≡ tokens sets table (mode_after sets mode c) t =
+    ap (tokens sets table mode) split
+    ∙ ap (λ (found : Option GroupToken). option_to_list found ++ tokens sets table (mode_after sets mode c) t) marked in
+    subst (λ (ms : List GroupToken). After all ms scanner) whole after
 
 -- At the end of the source all marks are passed.
-pub all_passed : (sets : Bool) (table : Table) (mode : Mode) (rest : Source) (all : List Mark) (scanner : Scanner) → length rest ≡ 0 →
-    After all (marks sets table mode rest) scanner → After all [] scanner
-unfolding marks
+pub all_passed : (sets : Bool) (table : Table) (mode : Mode) (rest : Source) (all : List GroupToken) (scanner : Scanner) → length rest ≡ 0 →
+    After all (tokens sets table mode rest) scanner → After all [] scanner
+unfolding tokens
 all_passed sets table mode [] all scanner e after = after
 all_passed sets table mode (c ∷ t) all scanner e after = absurd (omega arith)

@@ -6,6 +6,7 @@ use Rattle.regress_lexer.specs.declared.fault.FaultKind.TheVariants.{UnbalancedP
 use Rattle.regress_lexer.specs.Source.{Source, char, opening, closing}
 use Rattle.regress_syntax.specs.Scan.{Mode, plain, escape, class, class_escape, mode_after}
 
+-- what a scan finds before the pattern is parsed
 pub data Flaw : Type 0 where
   -- a `)` that closes nothing
   unopened : Flaw

@@ -3,7 +3,7 @@ pub mod SettingOf
 pub mod Syntax
 pub mod Productions
 pub mod Grammar
-pub mod Marks
+pub mod GroupTokens
 pub mod SameNames
 pub mod Paths
 pub mod Scan

@@ -36,7 +36,8 @@ abbrev pub is_in_class : Table → Flags → (inverted : Bool) → List Bounds �
 is_in_class table flags inverted members x =
     differ inverted (if flags.icase then is_in_closure table members x else is_member members x)
 
--- a sequence of two steps, in reverse order where matching runs backwards (ECMA-262, CompileSubpattern of Alternative)
+-- a sequence of two matchers, in reverse order where matching runs backwards (ECMA-262, CompileSubpattern of
+-- Alternative)
 abbrev pub along : Direction → Matcher → Matcher → Matcher
 along forwards f g = f then_ g
 along backwards f g = g then_ f
@@ -53,7 +54,7 @@ abbrev pub group_steps : ℕ → Group → Matcher → Matcher
 group_steps n grouping body = body
 group_steps n (modified change) body = body
 group_steps n (capture name) body = Steps.capture n body
-group_steps n (look negate direction) body = Lookaround.look negate body
+group_steps n (look negate direction) body = Lookaround.lookaround_matcher negate body
 
 -- the numbers of the groups with this name, in a list whose first group has number n
 abbrev pub groups_named : Name → ℕ → List (Option Name) → List ℕ

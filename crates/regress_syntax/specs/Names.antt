@@ -7,9 +7,11 @@ use Rattle.regress_lexer.specs.Source.{Source, Found, ◌>>=◌, found_map, char
 use Rattle.regress_lexer.specs.Escapes.{unicode_at}
 use Rattle.regress_syntax.specs.Syntax.{Name}
 
+-- `$` or `_`
 abbrev pub is_dollar_or_underscore : ℕ → Bool
 is_dollar_or_underscore c = is_one_of "$_" c
 
+-- The code point may begin a name (ECMA-262, RegExpIdentifierStart).
 abbrev pub begins_name : Table → ℕ → Bool
 begins_name table c = scalar c && (is_dollar_or_underscore c || is_member table.id_start c)
 

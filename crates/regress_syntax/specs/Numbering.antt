@@ -26,6 +26,7 @@ abbrev pub order_of : Option Name → Name → Ordering
 order_of None name = Greater
 order_of (Some other) name = slice_cmp nat_cmp other name
 
+-- how the name of group k, counted from 1, compares with a name
 abbrev pub name_order : List (Option Name) → Name → ℕ → Ordering
 name_order names name k = order_of (get_or names (k - 1) None) name
 

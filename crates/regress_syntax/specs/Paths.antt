@@ -2,7 +2,7 @@
 use Rattle.std.specs.Prelude.{ℕ, ◌+◌, Bool, true, false, not, ◌&&◌, ◌||◌, List, [], ◌∷◌, reverse, Option, ◌==◌, IsTrue}
 use Rattle.std.specs.List.{list_all}
 use Rattle.regress_syntax.specs.Syntax.{Name}
-use Rattle.regress_syntax.specs.Marks.{Mark, opens, captures, closes, next, nests}
+use Rattle.regress_syntax.specs.GroupTokens.{GroupToken, opens, captures, closes, next, nests}
 use Rattle.regress_syntax.specs.SameNames.{same_name}
 
 -- ---- the paths of groups
@@ -48,7 +48,7 @@ pub record CaptureAt : Type 0 where
   pub name : Option Name
 
 -- the capture groups of the marks, in order, from a position on
-abbrev pub groups_by : Position → List Mark → List CaptureAt
+abbrev pub groups_by : Position → List GroupToken → List CaptureAt
 groups_by position [] = []
 groups_by position (opens ∷ ms) = groups_by (enter position) ms
 groups_by position (captures name ∷ ms) = record { path = position.path; name = name } ∷ groups_by (enter position) ms
@@ -78,8 +78,9 @@ are_apart [] = true
 are_apart (g ∷ gs) = list_all (λ other. not (conflict g other)) gs && are_apart gs
 
 -- no two groups of the marks conflict
-abbrev pub are_marks_apart : List Mark → Bool
-are_marks_apart ms = are_apart (groups_by at_the_start ms)
+abbrev pub are_tokens_apart : List GroupToken → Bool
+are_tokens_apart ms = are_apart (groups_by at_the_start ms)
 
-abbrev pub NoMarksConflict : List Mark → Type 0
-NoMarksConflict ms = IsTrue (are_marks_apart ms)
+-- No two groups of the marks conflict.
+abbrev pub NoTokensConflict : List GroupToken → Type 0
+NoTokensConflict ms = IsTrue (are_tokens_apart ms)

@@ -38,6 +38,7 @@ pub data Head : Type 0 where
   single : (a : Atom) → Head
   opens : (kind : Group) → Head
 
+-- the start of this item
 abbrev pub head_of_item : Item → Head
 head_of_item (atom a) = single a
 head_of_item (group kind p) = opens kind
@@ -53,6 +54,7 @@ angle_at table t =
     else if is_at (char "!") (drop 1 t) then Some (opens (look true backwards), drop 2 t)
     else named_group_at table t
 
+-- a group with modifiers, starting at the first modifier
 abbrev pub modified_at : Source → Found Head
 modified_at t = found_map (λ change. opens (modified change)) (modifiers_at t)
 
@@ -168,6 +170,7 @@ module _ (ctx : Context) where
         | None ↦ first_production (escape_productions c t)
       ]
 
+  -- an escape, after its backslash
   abbrev pub escaped_at : Source → Found Atom
   escaped_at [] = None
   escaped_at (c ∷ t) = escaped_by c t

@@ -8,8 +8,8 @@ use Rattle.regress_lexer.specs.declared.fault.FaultKind.TheVariants.{DuplicateNa
 use Rattle.regress_lexer.specs.Source.{Source, char, opening, closing, bar, question_mark, is_at}
 use Rattle.regress_syntax.specs.Names.{group_name_at}
 use Rattle.regress_syntax.specs.Syntax.{Name, Pattern}
-use Rattle.regress_syntax.specs.Marks.{Mark, opens, captures, closes, next, nests, marks_of}
-use Rattle.regress_syntax.specs.Paths.{are_marks_apart}
+use Rattle.regress_syntax.specs.GroupTokens.{GroupToken, opens, captures, closes, next, nests, tokens_of}
+use Rattle.regress_syntax.specs.Paths.{are_tokens_apart}
 use Rattle.regress_syntax.specs.Productions.{Context}
 use Rattle.regress_syntax.specs.Grammar.{IsPattern}
 
@@ -22,7 +22,7 @@ pub data Mode : Type 0 where
   class_escape : (depth deepest : ℕ) → Mode
 
 -- The mark of a parenthesis, by the source after it: it opens a capture group if no `?` follows, or `?` and a name.
-abbrev pub opened_at : Table → Source → Mark
+abbrev pub opened_at : Table → Source → GroupToken
 opened_at table t =
     if is_at question_mark t
     then elim (group_name_at table (drop 1 t)) [ None ↦ opens | Some found ↦ captures (Some found.0) ]
@@ -45,32 +45,32 @@ abbrev pub is_insignificant : ℕ → Bool
 is_insignificant c = not (c == char "\\" || c == char "[" || c == char "]" || c == opening || c == closing || c == bar)
 
 -- the mark that a code point is, if any; the source is what follows it
-abbrev pub mark_at : (sets : Bool) → Table → Mode → ℕ → Source → Option Mark
-mark_at sets table plain c t =
+abbrev pub token_at : (sets : Bool) → Table → Mode → ℕ → Source → Option GroupToken
+token_at sets table plain c t =
     if c == opening then Some (opened_at table t)
     else if c == closing then Some closes
     else if c == bar then Some next
     else None
-mark_at sets table escape c t = None
-mark_at sets table (class depth deepest) c t = if c == char "]" && depth == 0 && sets then Some (nests deepest) else None
-mark_at sets table (class_escape depth deepest) c t = None
+token_at sets table escape c t = None
+token_at sets table (class depth deepest) c t = if c == char "]" && depth == 0 && sets then Some (nests deepest) else None
+token_at sets table (class_escape depth deepest) c t = None
 
 -- the marks of a source, scanned from a mode on
-unfoldable pub marks : (sets : Bool) → Table → Mode → Source → List Mark
-marks sets table mode [] = []
-marks sets table mode (c ∷ t) = option_to_list (mark_at sets table mode c t) ++ marks sets table (mode_after sets mode c) t
+unfoldable pub tokens : (sets : Bool) → Table → Mode → Source → List GroupToken
+tokens sets table mode [] = []
+tokens sets table mode (c ∷ t) = option_to_list (token_at sets table mode c t) ++ tokens sets table (mode_after sets mode c) t
 
 -- What the scan guarantees: in whatever context of groups and names, every syntax tree that the grammar derives from
 -- the source has the marks that the scan finds.
-abbrev pub GivesMarks : (sets : Bool) → Table → Source → Type 0
-GivesMarks sets table t =
+abbrev pub GivesTokens : (sets : Bool) → Table → Source → Type 0
+GivesTokens sets table t =
     (ctx : Context) (p : Pattern) → ctx.setting.flags.unicode_sets ≡ sets → ctx.setting.table ≡ table → IsPattern ctx p t [] →
-    marks_of p ≡ marks sets table plain t
+    tokens_of p ≡ tokens sets table plain t
 
 -- ---- what the marks determine
 
 -- the name of each capture group, in order
-abbrev pub named_by : List Mark → List (Option Name)
+abbrev pub named_by : List GroupToken → List (Option Name)
 named_by [] = []
 named_by (opens ∷ ms) = named_by ms
 named_by (captures name ∷ ms) = name ∷ named_by ms
@@ -79,7 +79,7 @@ named_by (next ∷ ms) = named_by ms
 named_by (nests nesting ∷ ms) = named_by ms
 
 -- The greatest nesting depth that the marks reach, from depth n on. The whole pattern counts one and is never closed.
-abbrev pub deepest : ℕ → List Mark → ℕ
+abbrev pub deepest : ℕ → List GroupToken → ℕ
 deepest n [] = n
 deepest n (opens ∷ ms) = max n (deepest (n + 1) ms)
 deepest n (captures name ∷ ms) = max n (deepest (n + 1) ms)
@@ -89,8 +89,8 @@ deepest n (nests nesting ∷ ms) = max (n + nesting) (deepest n ms)
 
 -- What an error of this kind implies for the marks. In a pattern that is nested too deeply, groups that do not conflict
 -- may be reported.
-abbrev pub MarksShow : List Mark → FaultKind → Type 0
-MarksShow ms kind =
-    ((kind ≡ DuplicateName) × ((are_marks_apart ms ≡ false) ⊎ (max_nesting_depth < deepest 1 ms)))
+abbrev pub TokensShow : List GroupToken → FaultKind → Type 0
+TokensShow ms kind =
+    ((kind ≡ DuplicateName) × ((are_tokens_apart ms ≡ false) ⊎ (max_nesting_depth < deepest 1 ms)))
     ⊎ ((kind ≡ TooDeep) × (max_nesting_depth < deepest 1 ms))
     ⊎ ((kind ≡ TooManyGroups) × (max_capture_groups < length (named_by ms)))

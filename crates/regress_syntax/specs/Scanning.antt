@@ -5,13 +5,13 @@ use Rattle.std.specs.Ordering.{nat_cmp, is_lt}
 use Rattle.regress_base.specs.Limits.{max_nesting_depth}
 use Rattle.regress_syntax.specs.Numbering.{names_of, numbered}
 use Rattle.regress_syntax.specs.Syntax.{Name}
-use Rattle.regress_syntax.specs.Marks.{Mark, opens, captures, closes, next, nests}
+use Rattle.regress_syntax.specs.GroupTokens.{GroupToken, opens, captures, closes, next, nests}
 use Rattle.regress_syntax.specs.Paths.{Level, Path, Position, CaptureAt, groups_by, at_the_start}
 use Rattle.regress_syntax.specs.Scan.{Mode, plain, escape, class, class_escape, named_by, deepest}
-use Rattle.regress_syntax.specs.declared.scan.mark.Mode.{Mode as CodeMode}
-use Rattle.regress_syntax.specs.declared.scan.mark.Mode.TheVariants as modes
-use Rattle.regress_syntax.specs.declared.scan.mark.Mark.{Mark as CodeMark}
-use Rattle.regress_syntax.specs.declared.scan.mark.Mark.TheVariants as code_marks
+use Rattle.regress_syntax.specs.declared.scan.token.Mode.{Mode as CodeMode}
+use Rattle.regress_syntax.specs.declared.scan.token.Mode.TheVariants as modes
+use Rattle.regress_syntax.specs.declared.scan.token.GroupToken.{GroupToken as CodeToken}
+use Rattle.regress_syntax.specs.declared.scan.token.GroupToken.TheVariants as code_tokens
 use Rattle.regress_syntax.specs.declared.scan.path.Level.{Level as CodeLevel}
 use Rattle.regress_syntax.specs.declared.scan.path.Path.{Path as CodePath}
 use Rattle.regress_syntax.specs.declared.scan.scanner.Scanner.{Scanner}
@@ -27,16 +27,18 @@ use Rattle.regress_syntax.specs.declared.scan.first_errors.FirstErrors.{FirstErr
 
 -- ---- marks
 
+-- a mode of the code; it has no mode for after a backslash, since it skips an escape at once
 abbrev pub mode_of : CodeMode → Mode
 mode_of modes.Plain = plain
 mode_of (modes.Class depth deepest) = class depth deepest
 
-abbrev pub mark_of : CodeMark → Mark
-mark_of code_marks.Opens = opens
-mark_of (code_marks.Captures name) = captures (option_map (λ name. name.items) name)
-mark_of code_marks.Closes = closes
-mark_of code_marks.Next = next
-mark_of (code_marks.Nests nesting) = nests nesting
+-- a mark of the code
+abbrev pub token_of : CodeToken → GroupToken
+token_of code_tokens.Opens = opens
+token_of (code_tokens.Captures name) = captures (option_map (λ name. name.items) name)
+token_of code_tokens.Closes = closes
+token_of code_tokens.Next = next
+token_of (code_tokens.Nests nesting) = nests nesting
 
 -- the number of classes that are open inside the outermost one
 abbrev pub depth_of : Mode → ℕ
@@ -47,6 +49,7 @@ depth_of (class_escape depth deepest) = depth
 
 -- ---- paths and positions
 
+-- an entry of a path of the code
 abbrev pub enclosing_disjunction_of : CodeLevel → Level
 enclosing_disjunction_of level = record { opening = level.opening; alternative = level.alternative }
 
@@ -54,6 +57,7 @@ enclosing_disjunction_of level = record { opening = level.opening; alternative =
 abbrev pub path_of : CodePath → Path
 path_of path = reverse (map enclosing_disjunction_of path.nesting.items)
 
+-- the position that the scanner has reached
 abbrev pub position_of : Scanner → Position
 position_of scanner = record { path = path_of scanner.path; opened = scanner.opened }
 
@@ -67,12 +71,12 @@ abbrev pub highest_at : Position → ℕ
 highest_at position = max position.opened (highest position.path)
 
 -- the number of open groups after a mark, the whole pattern included
-abbrev pub open_groups_after_mark : Mark → ℕ → ℕ
-open_groups_after_mark opens n = n + 1
-open_groups_after_mark (captures name) n = n + 1
-open_groups_after_mark closes n = max 1 (n - 1)
-open_groups_after_mark next n = n
-open_groups_after_mark (nests nesting) n = n
+abbrev pub open_groups_after_token : GroupToken → ℕ → ℕ
+open_groups_after_token opens n = n + 1
+open_groups_after_token (captures name) n = n + 1
+open_groups_after_token closes n = max 1 (n - 1)
+open_groups_after_token next n = n
+open_groups_after_token (nests nesting) n = n
 
 -- ---- groups
 
@@ -84,6 +88,7 @@ capture_of group = record { path = path_of group.path; name = Some group.name.it
 abbrev pub name_and_number : NamedGroup → Name × ℕ
 name_and_number group = (group.name.items, group.number)
 
+-- The name of the one group is less than that of the other.
 abbrev pub is_before : NamedGroup → NamedGroup → Bool
 is_before group other = is_lt (slice_cmp nat_cmp group.name.items other.name.items)
 
@@ -92,11 +97,12 @@ abbrev pub HasNumbers : Scanner → Type 0
 HasNumbers scanner =
     length scanner.names.items < 2 ^ 32 → map name_and_number scanner.named.items ≡ numbered 1 (names_of scanner.names.items)
 
+-- The group has a name.
 abbrev pub bears_name : CaptureAt → Bool
 bears_name group = is_some group.name
 
 -- The scanner's invariant: what it has found, with what the remaining marks add, is what all marks determine.
-pub record After (all rest : List Mark) (scanner : Scanner) : Type 0 where
+pub record After (all rest : List GroupToken) (scanner : Scanner) : Type 0 where
   pub names : named_by all ≡ names_of scanner.names.items ++ named_by rest
   -- Past the limit of the nesting depth, paths are cut short.
   pub named : deepest 1 all ≤ max_nesting_depth → filter bears_name (groups_by at_the_start all)
@@ -106,7 +112,7 @@ pub record After (all rest : List Mark) (scanner : Scanner) : Type 0 where
   -- The depth saturates at `usize::MAX`.
   pub nesting : min (deepest 1 all) (2 ^ 64 - 1) ≡ min (max scanner.deepest (deepest (length (path_of scanner.path)) rest)) (2 ^ 64 - 1)
 
--- ---- misplaced positions
+-- ---- first errors
 
 -- the position that was noted for a flaw, as the number of code points that remain from it on
 abbrev pub noted : Flaw → FirstErrors → Option ℕ
@@ -126,6 +132,7 @@ abbrev pub OnRejection : Fault → (Rejection → Type 0) → Type 0
 OnRejection (Rejected r) P = P r
 OnRejection (Memory e) P = Unit {0}
 
+-- If the call fails with a syntax error, the property holds of it.
 abbrev pub FailsAt : {X : Type 0} → Result X Fault → (Rejection → Type 0) → Type 0
 FailsAt (Ok x) P = Unit {0}
 FailsAt (Err fault) P = OnRejection fault P

@@ -59,6 +59,7 @@ mutual
     no_terms : Terms
     more_terms : (first : Item) (times : Option Quantifier) (rest : Terms) → Terms
 
+  -- an atom, or a group with its body
   pub data Item : Type 0 where
     atom : (a : Atom) → Item
     group : (kind : Group) (body : Pattern) → Item
@@ -68,9 +69,11 @@ pub record Counts : Type 0 where
   pub groups : ℕ
   pub loops : ℕ
 
+-- no group and no loop
 abbrev pub nothing_counted : Counts
 nothing_counted = record { groups = 0; loops = 0 }
 
+-- the sum of both
 abbrev pub added : Counts → Counts → Counts
 added a b = record { groups = a.groups + b.groups; loops = a.loops + b.loops }
 
@@ -81,17 +84,21 @@ opened_by (modified change) = 0
 opened_by (capture name) = 1
 opened_by (look negate direction) = 0
 
+-- the count of a parenthesis, without what is inside
 abbrev pub counts_of_group : Group → Counts
 counts_of_group kind = record { groups = opened_by kind; loops = 0 }
 
+-- the count of one quantifier
 abbrev pub one_loop : Counts
 one_loop = record { groups = 0; loops = 1 }
 
+-- the count of an optional quantifier
 abbrev pub counts_of_quantifier : Option Quantifier → Counts
 counts_of_quantifier None = nothing_counted
 counts_of_quantifier (Some q) = one_loop
 
 abbrev mutual
+  -- the capture groups and loops of a pattern, of terms and of an item
   pub counts : Pattern → Counts
   counts (one ts) = counts_of_terms ts
   counts (either ts p) = added (counts_of_terms ts) (counts p)
@@ -104,6 +111,7 @@ abbrev mutual
   counts_of_item (atom a) = nothing_counted
   counts_of_item (group kind p) = added (counts_of_group kind) (counts p)
 
+-- the count of an item with its quantifier
 abbrev pub counts_of_term : Item → Option Quantifier → Counts
 counts_of_term x q = added (counts_of_item x) (counts_of_quantifier q)
 

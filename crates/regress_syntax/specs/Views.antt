@@ -15,6 +15,7 @@ use Rattle.regress_syntax.specs.Productions.{Context}
 abbrev pub names_in : Groups → List (Option Name)
 names_in groups = map (option_map (λ name. name.items)) groups.names.items
 
+-- the context that a scope represents
 abbrev pub context_of : Scope → Context
 context_of scope = record {
   setting = setting_of scope.flags scope.tables.now;
@@ -27,6 +28,7 @@ abbrev pub AreReferences : Context → List ℕ → Atom → Type 0
 AreReferences ctx numbers a =
     (to : Target) × (a ≡ back_reference ctx.setting.flags to) × (numbers ≡ referred ctx.names to)
 
+-- a group of the code
 abbrev pub group_of : CodeGroup → Group
 group_of groups.Grouping = grouping
 group_of (groups.Modified change) = modified (change_of change)

@@ -3,23 +3,23 @@ ghost use Rattle.std.specs.Prelude.{◌≡◌, ◌≤◌, min, length, IfOk};
 ghost use Rattle.regress_base.specs.Limits.{max_capture_groups, max_nesting_depth};
 ghost use Rattle.regress_unicode.specs.TableOf.{table_of};
 ghost use Rattle.regress_lexer.specs.Fault.{FailsBy};
-ghost use Rattle.regress_syntax.specs.Paths.{NoMarksConflict};
-ghost use Rattle.regress_syntax.specs.Scan.{GivesMarks, plain, marks, named_by, deepest, MarksShow};
+ghost use Rattle.regress_syntax.specs.Paths.{NoTokensConflict};
+ghost use Rattle.regress_syntax.specs.Scan.{GivesTokens, plain, tokens, named_by, deepest, TokensShow};
 ghost use Rattle.regress_syntax.specs.Scanning.{NotesFirst, IsLocated, FailsAt};
 ghost use Rattle.regress_syntax.specs.Views.{names_in};
 
 mod first_errors;
-mod mark;
 mod path;
 mod scanner;
+mod token;
 
 use crate::groups::Groups;
 pub use first_errors::FirstErrors;
-use mark::{Mode, find_mark, skip_insignificant};
 use regress_lexer::fault::Fault;
 use regress_unicode::Tables;
 use scanner::Scanner;
 use std::alloc::Global;
+use token::{Mode, find_token, skip_insignificant};
 
 /// What the scan of a pattern finds.
 #[derive(Drop)]
@@ -49,14 +49,14 @@ pub struct Findings {
 /// Linear in the length of the pattern, apart from sorting the named groups by name and by path. The path of a named
 /// group has at most `MAX_NESTING_DEPTH` levels.
 pub fn scan(alloc: Global, pattern: &[u32], sets: bool, tables: &Tables) -> Result<Findings, Fault>
-    ensures names { IfOk result (λ found. names_in found.groups ≡ named_by (marks sets (table_of tables.now) plain pattern.now)) }
+    ensures names { IfOk result (λ found. names_in found.groups ≡ named_by (tokens sets (table_of tables.now) plain pattern.now)) }
     ensures count { IfOk result (λ found. found.groups.count ≡ min (length (names_in found.groups)) max_capture_groups) }
-    ensures apart { IfOk result (λ found. NoMarksConflict (marks sets (table_of tables.now) plain pattern.now)) }
-    ensures nesting { IfOk result (λ _. deepest 1 (marks sets (table_of tables.now) plain pattern.now) ≤ max_nesting_depth) }
+    ensures apart { IfOk result (λ found. NoTokensConflict (tokens sets (table_of tables.now) plain pattern.now)) }
+    ensures nesting { IfOk result (λ _. deepest 1 (tokens sets (table_of tables.now) plain pattern.now) ≤ max_nesting_depth) }
     ensures first_errors { IfOk result (λ found. NotesFirst sets pattern.now found.first_errors) }
-    ensures rejected { FailsBy result (MarksShow (marks sets (table_of tables.now) plain pattern.now)) }
+    ensures rejected { FailsBy result (TokensShow (tokens sets (table_of tables.now) plain pattern.now)) }
     ensures located { FailsAt result (IsLocated sets pattern.now) }
-    ensures whole { GivesMarks sets (table_of tables.now) pattern.now }
+    ensures whole { GivesTokens sets (table_of tables.now) pattern.now }
 {
     let (groups, first_errors) = find_groups(alloc, pattern, sets, tables)?;
     Ok(Findings {
@@ -65,19 +65,19 @@ pub fn scan(alloc: Global, pattern: &[u32], sets: bool, tables: &Tables) -> Resu
     })
 }
 
-/// Returns the capture groups and the misplaced positions, with the errors of `scan`.
+/// Returns the capture groups and the first errors, with the errors of `scan`.
 fn find_groups(
     alloc: Global,
     pattern: &[u32],
     sets: bool,
     tables: &Tables,
 ) -> Result<(Groups, FirstErrors), Fault>
-    ensures names { IfOk result (λ found. names_in found.0 ≡ named_by (marks sets (table_of tables.now) plain pattern.now)) }
+    ensures names { IfOk result (λ found. names_in found.0 ≡ named_by (tokens sets (table_of tables.now) plain pattern.now)) }
     ensures count { IfOk result (λ found. found.0.count ≡ min (length (names_in found.0)) max_capture_groups) }
-    ensures apart { IfOk result (λ _. NoMarksConflict (marks sets (table_of tables.now) plain pattern.now)) }
-    ensures nesting { IfOk result (λ _. deepest 1 (marks sets (table_of tables.now) plain pattern.now) ≤ max_nesting_depth) }
+    ensures apart { IfOk result (λ _. NoTokensConflict (tokens sets (table_of tables.now) plain pattern.now)) }
+    ensures nesting { IfOk result (λ _. deepest 1 (tokens sets (table_of tables.now) plain pattern.now) ≤ max_nesting_depth) }
     ensures first_errors { IfOk result (λ found. NotesFirst sets pattern.now found.1) }
-    ensures rejected { FailsBy result (MarksShow (marks sets (table_of tables.now) plain pattern.now)) }
+    ensures rejected { FailsBy result (TokensShow (tokens sets (table_of tables.now) plain pattern.now)) }
     ensures located { FailsAt result (IsLocated sets pattern.now) }
 {
     let mut scanner = Scanner::new(alloc)?;
@@ -87,8 +87,8 @@ fn find_groups(
     while let Some((c, after)) = skip_insignificant(rest).split_first() {
         let left = after.len() + 1;
         first_errors.note(mode, scanner.nesting(), *c, sets, left);
-        if let Some(mark) = find_mark(alloc, mode, *c, after, sets, tables)? {
-            scanner.pass(mark, left)?;
+        if let Some(token) = find_token(alloc, mode, *c, after, sets, tables)? {
+            scanner.pass(token, left)?;
         }
         mode = mode.after(*c, sets);
         rest = after;

@@ -50,14 +50,14 @@ module _ {A B : Type 0} {cs ds : List Capture} {r q : ℕ} {before mid after : G
     reported = IsTally-joined g h cs ds r q a.reported b.reported;
   }
 
--- The second part fails,
+-- Two parts fail if the second one does.
 pub IsRejected-second : {A B : Type 0} {cs ds : List Capture} {r : ℕ} {before mid : GroupIds} {g : Tally} → IsSurveyed A cs r before mid g →
     IsRejected B ds mid → IsRejected (A × B) (cs ++ ds) before
 IsRejected-second {cs = cs} {ds = ds} a b = record {
   refuted = λ occurs differ. b.refuted occurs.1 (λ k. omega (arith, a.ids k, differ k, times-append k cs ds));
 }
 
--- or the first.
+-- Two parts fail if the first one does.
 pub IsRejected-first : {A : Type 0} {cs : List Capture} {before : GroupIds} (B : Type 0) (ds : List Capture) → IsRejected A cs before →
     IsRejected (A × B) (cs ++ ds) before
 IsRejected-first {cs = cs} B ds a = record {

@@ -14,6 +14,7 @@ pub mod Gathered
 pub mod Goal
 pub mod Groups
 pub mod Inherited
+pub mod Inside
 pub mod Nesting
 pub mod Literals
 pub mod Measures
@@ -30,7 +31,7 @@ pub mod Reversed
 pub mod Lists
 pub mod Simulation
 pub mod Strings
-pub mod Turned
+pub mod ReversedParts
 pub mod Iterations
 pub mod Visits
 pub mod WalkCongruence

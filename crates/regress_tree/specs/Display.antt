@@ -34,6 +34,7 @@ maximum (Some n) = codes "Some(" ++ decimal n ++ codes ")"
 abbrev pub quantifier : Quantifier → List ℕ
 quantifier q = codes "Quantifier { min: " ++ decimal q.min ++ codes ", max: " ++ maximum q.max ++ codes ", greedy: " ++ truth q.greedy ++ codes " }"
 
+-- the name of a kind of anchor
 abbrev pub anchored : AnchorType → List ℕ
 anchored StartOfLine = codes "StartOfLine"
 anchored EndOfLine = codes "EndOfLine"

@@ -12,10 +12,12 @@ use Rattle.regress_tree.specs.declared.ir.node.Node.{Node}
 use Rattle.regress_tree.specs.Tree.{Wrapper, Tree, wrapped, tree}
 use Rattle.regress_tree.specs.Visits.{is_backwards_in}
 
+-- The node has a body: it is a group, a loop or a lookaround.
 abbrev pub is_wrapper : Tree → Bool
 is_wrapper (wrapped w body) = true
 is_wrapper t = false
 
+-- The tree is a wrapper with this body.
 pub record HasBody (t body : Tree) : Type 0 where
   pub wrapper : Wrapper
   pub is : t ≡ wrapped wrapper body

@@ -6,6 +6,7 @@ use Rattle.std.specs.declared.boxed.Box.{Box}
 use Rattle.regress_tree.specs.declared.ir.node.Node.{Node}
 use Rattle.regress_tree.specs.Tree.{Tree, alt, tree}
 
+-- The tree is an `Alt` with this left side.
 pub record HasLeft (t left : Tree) : Type 0 where
   pub right : Tree
   pub is : t ≡ alt left right

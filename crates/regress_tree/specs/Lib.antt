@@ -9,6 +9,7 @@ pub mod References
 pub mod Strings
 pub mod Matching
 pub mod Onward
+pub mod Inside
 pub mod Walk
 pub mod Visits
 pub mod Gathered

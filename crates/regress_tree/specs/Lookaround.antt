@@ -10,6 +10,6 @@ looked false s (t ∷ later) = record t { position = s.position } ∷ []
 looked true s [] = s ∷ []
 looked true s (t ∷ later) = []
 
--- a lookaround, by the step of its body
+-- a lookaround, by the matcher of its body
 unfoldable pub lookaround_matcher : (negate : Bool) → Matcher → Matcher
 lookaround_matcher negate f s = looked negate s (f s)

@@ -38,7 +38,7 @@ module _ (setting : Setting) (bytes : List ℕ) where
   leaf_steps d (string_set strings icase) =
       any_string d (of_bytes bytes) (denotes setting.table icase setting.flags.unicode) strings
 
-  -- the outcomes of a wrapper, by the step of its body
+  -- the outcomes of a wrapper, by the matcher of its body
   abbrev pub wrapper_steps : Wrapper → Matcher → Matcher
   wrapper_steps (capture_group id name) body = capture id body
   wrapper_steps (loop quantifier start end) body = repeat_matcher (length bytes + 1) quantifier start end body

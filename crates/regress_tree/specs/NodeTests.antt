@@ -24,6 +24,7 @@ abbrev pub is_empty_leaf : Leaf → Bool
 is_empty_leaf empty = true
 is_empty_leaf l = false
 
+-- The node is `Empty`.
 abbrev pub is_empty : Tree → Bool
 is_empty (leaf l) = is_empty_leaf l
 is_empty t = false
@@ -32,6 +33,7 @@ abbrev pub is_goal_leaf : Leaf → Bool
 is_goal_leaf goal = true
 is_goal_leaf l = false
 
+-- The node is `Goal`.
 abbrev pub is_goal : Tree → Bool
 is_goal (leaf l) = is_goal_leaf l
 is_goal t = false
@@ -60,6 +62,7 @@ abbrev pub match_always_fails : Tree → Bool
 match_always_fails (leaf l) = leaf_always_fails l
 match_always_fails t = false
 
+-- The node is a `ByteSequence`, which may be empty.
 abbrev pub is_byte_sequence : Tree → Bool
 is_byte_sequence (leaf l) = is_byte_sequence_leaf l
   where

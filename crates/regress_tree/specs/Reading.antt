@@ -10,6 +10,7 @@ pub data Direction : Type 0 where
   forwards : Direction
   backwards : Direction
 
+-- the direction for a flag
 abbrev pub direction_if : (backwards : Bool) → Direction
 direction_if backwards' = if backwards' then backwards else forwards
 

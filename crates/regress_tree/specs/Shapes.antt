@@ -35,6 +35,7 @@ module _ (shape : Tree → Bool) where
   abbrev pub LacksShape : Tree → Type 0
   LacksShape t = some_node shape t ≡ false
 
+  -- No node of the trees of the list has the shape.
   abbrev pub ListLacksShape : Trees → Type 0
   ListLacksShape ts = some_node_in_list shape ts ≡ false
 
@@ -48,6 +49,7 @@ abbrev pub on_leaf : (Leaf → Bool) → Tree → Bool
 on_leaf test (leaf l) = test l
 on_leaf test t = false
 
+-- a node with a body, which passes the test without its body
 abbrev pub on_wrapper : (Wrapper → Bool) → Tree → Bool
 on_wrapper test (wrapped w body) = test w
 on_wrapper test t = false
@@ -62,10 +64,12 @@ abbrev pub some_part : (Tree → Bool) → Trees → Bool
 some_part test no_trees = false
 some_part test (more_trees t ts) = test t || some_part test ts
 
+-- The first tree of the list passes the test.
 abbrev pub first_in_list : (Tree → Bool) → Trees → Bool
 first_in_list test no_trees = false
 first_in_list test (more_trees t ts) = test t
 
+-- The last tree of the list passes the test.
 abbrev pub last_in_list : (Tree → Bool) → Trees → Bool
 last_in_list test no_trees = false
 last_in_list test (more_trees t no_trees) = test t
@@ -81,6 +85,7 @@ abbrev pub has_neighbours : (Tree → Bool) → Trees → Bool
 has_neighbours test no_trees = false
 has_neighbours test (more_trees t ts) = (test t && first_in_list test ts) || has_neighbours test ts
 
+-- a capture group
 abbrev pub is_group : Wrapper → Bool
 is_group (capture_group id name) = true
 is_group w = false
@@ -91,16 +96,20 @@ is_loop (loop quantifier start end) = true
 is_loop (loop_one quantifier) = true
 is_loop w = false
 
+-- a `StringSet`
 abbrev pub is_string_set : Leaf → Bool
 is_string_set (string_set strings icase) = true
 is_string_set l = false
 
+-- Some node of the tree is a capture group.
 abbrev pub has_group : Tree → Bool
 has_group = some_node (on_wrapper is_group)
 
+-- Some node of the tree is a loop of either kind.
 abbrev pub has_loop : Tree → Bool
 has_loop = some_node (on_wrapper is_loop)
 
+-- Some node of the tree is a `StringSet`.
 abbrev pub has_string_set : Tree → Bool
 has_string_set = some_node (on_leaf is_string_set)
 
@@ -134,6 +143,7 @@ is_long_bracket = is_bracket_with (λ invert intervals. nat_lt (gap_count 0 inte
 abbrev pub is_simplified_away : Tree → Bool
 is_simplified_away = on_leaf (λ l. is_small_bracket l || is_long_bracket l)
 
+-- The node is a `Cat`.
 abbrev pub is_cat : Tree → Bool
 is_cat (cat parts) = true
 is_cat t = false
@@ -174,6 +184,7 @@ abbrev pub may_unroll_by : Quantifier → (start end : ℕ) (loops strings : Boo
 may_unroll_by quantifier start end loops strings charge nesting =
     has_few_iterations quantifier start end && is_within max_body_nesting max_body_charge loops strings charge nesting
 
+-- The same for a loop around this body.
 abbrev pub may_unroll : Quantifier → (start end : ℕ) → Tree → Bool
 may_unroll quantifier start end body =
     may_unroll_by quantifier start end (has_loop body) (has_string_set body) (charge body) (nesting body)
@@ -208,6 +219,7 @@ is_formed_away (leaf l) = is_bytes_leaf l
 is_formed_away (cat parts) = has_neighbours has_bytes parts
 is_formed_away t = false
 
+-- The maximum is zero.
 abbrev pub is_zero : Option ℕ → Bool
 is_zero None = false
 is_zero (Some n) = n == 0

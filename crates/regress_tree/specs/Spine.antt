@@ -4,6 +4,7 @@ use Rattle.std.specs.Prelude.{◌≡◌, ℕ, ◌+◌, Bool, true, false}
 use Rattle.regress_tree.specs.Tree.{Tree, alt}
 use Rattle.regress_tree.specs.Shapes.{LacksShape}
 
+-- The node is an `Alt`.
 abbrev pub is_alt : Tree → Bool
 is_alt (alt left right) = true
 is_alt t = false

@@ -1,5 +1,5 @@
--- States, steps and outcomes (ECMA-262, MatchState and Matcher), and the operations of which the steps of all nodes are
--- composed.
+-- States, matchers and outcomes (ECMA-262, MatchState and Matcher), and the operations of which the matchers of all
+-- nodes are composed.
 use Rattle.std.specs.Prelude.{◌≡◌, ℕ, Bool, true, false, not, ◌&&◌, List, [], ◌∷◌, ◌++◌, filter, flat_map, map, Option, Some, None, if◌then◌else◌, ◌==◌, min, max, slice_set, ◌+◌, ◌-◌, ◌≤◌, length, drop, nat_eq, nat_le, All}
 use Rattle.std.specs.List.{starts_with}
 use Rattle.regress_tree.specs.Reading.{Direction, forwards, backwards, Reading, Read, next_character, byte_position}
@@ -38,7 +38,7 @@ abbrev pub dedup : List MatchState → List MatchState
 dedup [] = []
 dedup (s ∷ rest) = s ∷ filter (λ t. not (same_state s t)) (dedup rest)
 
--- The two steps have the same distinct outcomes from every state, so they are interchangeable whatever follows them.
+-- The two matchers have the same distinct outcomes from every state, so they are interchangeable whatever follows them.
 pub record Alike (f g : Matcher) : Type 0 where
   pub same : (s : MatchState) → dedup (f s) ≡ dedup (g s)
 

@@ -10,6 +10,7 @@ use Rattle.regress_tree.specs.WellFormed.{Capture, captures, Position, IsAllowed
 
 -- ---- sets of ids
 
+-- The page has bit k set; a page that is missing has none.
 abbrev pub page_holds : Option ByteBitmap → ℕ → Bool
 page_holds None k = false
 page_holds (Some page) k = contains page k
@@ -33,10 +34,12 @@ abbrev pub least_id : List Capture → ℕ
 least_id [] = 65536
 least_id (c ∷ cs) = min c.id (least_id cs)
 
+-- one more than the greatest id
 abbrev pub past_ids : List Capture → ℕ
 past_ids [] = 0
 past_ids (c ∷ cs) = max (c.id + 1) (past_ids cs)
 
+-- the group number of a back reference, 1-based, or 0 for any other leaf
 abbrev pub reference_of : Leaf → ℕ
 reference_of (back_ref group icase) = group
 reference_of l = 0
@@ -93,9 +96,11 @@ pub record IsRejected (Occurs : Type 0) (cs : List Capture) (before : GroupIds) 
 abbrev pub IsAllowedInside : Position → Tree → Type 0
 IsAllowedInside p t = (n : ℕ) × IsAllowed n t p
 
+-- The tree in that position is surveyed, with its groups and its back references.
 abbrev pub SurveyedAt : Position → Tree → GroupIds → GroupIds → Tally → Type 0
 SurveyedAt p t = IsSurveyed (IsAllowedInside p t) (captures t) (reference t)
 
+-- The tree in that position is not allowed, or some id occurs twice.
 abbrev pub RejectedAt : Position → Tree → GroupIds → Type 0
 RejectedAt p t = IsRejected (IsAllowedInside p t) (captures t)
 

@@ -35,6 +35,7 @@ pub data Wrapper : Type 0 where
   lookaround : (negate backwards : Bool) (start end : ℕ) → Wrapper
 
 mutual
+  -- a leaf, a `Cat`, an `Alt`, or a node with a body
   pub data Tree : Type 0 where
     leaf : (l : Leaf) → Tree
     cat : (parts : Trees) → Tree

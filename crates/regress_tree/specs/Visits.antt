@@ -21,10 +21,10 @@ module _ {State : Type 0} (Call : State → Tree → ℕ → Bool → State → 
     -- A walk over the tree t, whose root is at that depth and (with `lookbehind`) in a lookbehind, may take the closure
     -- from state a to b, and leave the tree u.
     pub data Visited : (postorder : Bool) (depth : ℕ) (lookbehind : Bool) (t u : Tree) (a b : State) → Type 0 where
-      -- in preorder: a call, and then the children that it left,
+      -- in preorder: a call, and then the children that it left
       before_children : {d : ℕ} {lookbehind : Bool} {t left u : Tree} {a b c : State} →
           Call a t d lookbehind b left false → Inside false d lookbehind left u b c → Visited false d lookbehind t u a c
-      -- or none, if it asked to skip them
+      -- in preorder: a call that asks to skip the children
       without_children : {d : ℕ} {lookbehind : Bool} {t u : Tree} {a b : State} →
           Call a t d lookbehind b u true → Visited false d lookbehind t u a b
       -- in postorder: the children, and then a call

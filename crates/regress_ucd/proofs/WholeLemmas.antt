@@ -64,6 +64,6 @@ strings_in listed points same points_same positions h =
     subst (λ (xs : List (ℕ × ℕ)). AreStrings xs points positions) (sym same)
     (subst (λ (xs : List ℕ). AreStrings STRINGS.now xs positions) (sym points_same) h)
 
--- an error that `?` returns is not a table
+-- An error that `?` returns has no table, so `IfOk` holds of it.
 pub no_table : (Q : AllocError → Type 0) (r : Result Tables AllocError) → IsErrAnd r Q → IfOk r (λ tables. table_of tables ≡ unicode_table)
 no_table Q r h = let is = err_from_is_err_and r h in subst (λ (x : Result Tables AllocError). IfOk x (λ tables. table_of tables ≡ unicode_table)) (sym is.1) tt

@@ -7,8 +7,7 @@ mod lists;
 mod names;
 mod strings;
 mod tables;
-mod version;
 mod whole;
 
-pub use version::UNICODE_VERSION;
+pub use names::UNICODE_VERSION;
 pub use whole::unicode_tables;

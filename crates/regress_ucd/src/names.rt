@@ -1,6 +1,9 @@
-//! The names of sets, with the ranges of their intervals.
+//! The version of Unicode, and the names of sets with the ranges of their intervals.
 //!
 //! Made by tools/make_unicode_tables from the data of Unicode 15.0.0.
+
+/// The version of Unicode of the table.
+pub const UNICODE_VERSION: &str = "15.0.0";
 
 /// The range of ID_Start in INTERVALS, half-open.
 pub(super) const ID_START: (usize, usize) = (36298, 37616);

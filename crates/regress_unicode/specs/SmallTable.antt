@@ -34,9 +34,11 @@ small_uppers =
 abbrev interval : ℕ → ℕ → Bounds
 interval first last = record { first = first; last = last }
 
+-- a property with its name and its code points
 abbrev pub set : List ℕ → List Bounds → Named (List Bounds)
 set name intervals = record { name = name; value = intervals }
 
+-- the parts of the small table
 abbrev pub small_parts : Parts
 small_parts = record {
   folds = small_folds;
@@ -60,5 +62,6 @@ small_parts = record {
       } ∷ [];
 }
 
+-- the table of the selected properties and letters
 unfoldable pub small_table : Table
 small_table = table_from small_parts

@@ -8,7 +8,7 @@ use Rattle.regress_base.specs.declared.types.AnchorType.TheVariants.{StartOfLine
 use Rattle.regress_base.specs.declared.types.Quantifier.{Quantifier}
 use Rattle.regress_tree.specs.Tree.{Leaf, empty, goal, char, byte_sequence, byte_set, char_set, match_any, match_any_except_line_terminator, anchor, word_boundary, bracket, back_ref, string_set, Wrapper, capture_group, loop, loop_one, lookaround, Tree, Trees, leaf, cat, alt, wrapped, no_trees, more_trees}
 use Rattle.regress_words.specs.Words.{truth_word, wide, listed, interval_words, most_words, name_words, quantifier_words, leaf_words, wrapper_words, trees_count, encode, encode_list}
-use Rattle.regress_words.specs.Decoded.{Reads, read_word, read_wide, parse_optional_quantifier, read_list, read_listed, read_interval, read_option, parse_quantifier, read_body, decode_siblings, read_alt, read_level, decode_tree, decode}
+use Rattle.regress_words.specs.Decoded.{Reads, read_word, read_wide, read_repeated, read_list, read_listed, read_interval, read_option, read_quantifier, read_body, decode_siblings, read_alt, read_level, decode_tree, decode}
 
 truth-read : (b : Bool) → (truth_word b == 1) ≡ b
 truth-read false = refl
@@ -19,24 +19,24 @@ wide-read : (n : ℕ) (rest : List ℕ) → read_wide (wide n ++ rest) ≡ (n, r
 wide-read n rest = ap (λ m. (m, rest)) (div-add-mod n (2 ^ 32))
 
 times-read : {A : Type 0} (read : Reads A) (words : A → List ℕ) → ((x : A) (rest : List ℕ) → read (words x ++ rest) ≡ (x, rest)) →
-    (xs : List A) (rest : List ℕ) → parse_optional_quantifier read (length xs) (flat_map words xs ++ rest) ≡ (xs, rest)
+    (xs : List A) (rest : List ℕ) → read_repeated read (length xs) (flat_map words xs ++ rest) ≡ (xs, rest)
 times-read read words each [] rest = refl
 times-read read words each (x ∷ xs) rest =
-    ap (parse_optional_quantifier read (suc (length xs))) (append_assoc (words x) (flat_map words xs) rest)
-    ∙ ap (λ r. let others = parse_optional_quantifier read (length xs) r.1 in (r.0 ∷ others.0, others.1)) (each x (flat_map words xs ++ rest))
+    ap (read_repeated read (suc (length xs))) (append_assoc (words x) (flat_map words xs) rest)
+    ∙ ap (λ r. let others = read_repeated read (length xs) r.1 in (r.0 ∷ others.0, others.1)) (each x (flat_map words xs ++ rest))
     ∙ ap (λ others. (x ∷ others.0, others.1)) (times-read read words each xs rest)
 
 list-read : {A : Type 0} (read : Reads A) (words : A → List ℕ) → ((x : A) (rest : List ℕ) → read (words x ++ rest) ≡ (x, rest)) →
     (xs : List A) (rest : List ℕ) → read_list read ((wide (length xs) ++ flat_map words xs) ++ rest) ≡ (xs, rest)
 list-read read words each xs rest =
-    ap (λ n. parse_optional_quantifier read n (flat_map words xs ++ rest)) (div-add-mod (length xs) (2 ^ 32)) ∙ times-read read words each xs rest
+    ap (λ n. read_repeated read n (flat_map words xs ++ rest)) (div-add-mod (length xs) (2 ^ 32)) ∙ times-read read words each xs rest
 
-words-read : (xs rest : List ℕ) → parse_optional_quantifier read_word (length xs) (xs ++ rest) ≡ (xs, rest)
+words-read : (xs rest : List ℕ) → read_repeated read_word (length xs) (xs ++ rest) ≡ (xs, rest)
 words-read [] rest = refl
 words-read (x ∷ xs) rest = ap (λ others. (x ∷ others.0, others.1)) (words-read xs rest)
 
 listed-read : (xs rest : List ℕ) → read_listed (listed xs ++ rest) ≡ (xs, rest)
-listed-read xs rest = ap (λ n. parse_optional_quantifier read_word n (xs ++ rest)) (div-add-mod (length xs) (2 ^ 32)) ∙ words-read xs rest
+listed-read xs rest = ap (λ n. read_repeated read_word n (xs ++ rest)) (div-add-mod (length xs) (2 ^ 32)) ∙ words-read xs rest
 
 interval-read : (iv : Bounds) (rest : List ℕ) → read_interval (interval_words iv ++ rest) ≡ (iv, rest)
 interval-read iv rest = refl
@@ -49,7 +49,7 @@ name-read : (name : Option (List ℕ)) (rest : List ℕ) → read_option read_li
 name-read None rest = refl
 name-read (Some name) rest = ap (λ r. (Some r.0, r.1)) (listed-read name rest)
 
-quantifier-read : (q : Quantifier) (rest : List ℕ) → parse_quantifier (quantifier_words q ++ rest) ≡ (q, rest)
+quantifier-read : (q : Quantifier) (rest : List ℕ) → read_quantifier (quantifier_words q ++ rest) ≡ (q, rest)
 quantifier-read q rest =
     let most = read_option read_wide (most_words q.max ++ rest) in
     ap (λ greedy. (record { min = (read_wide (wide q.min)).0; max = most.0; greedy = greedy }, most.1)) (truth-read q.greedy)

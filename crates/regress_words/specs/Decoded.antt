@@ -10,31 +10,37 @@ use Rattle.regress_tree.specs.Tree.{Leaf, empty, goal, char, byte_sequence, byte
 abbrev pub Reads : Type 0 → Type 0
 Reads A = List ℕ → A × List ℕ
 
+-- one word, or 0 where none remains
 abbrev pub read_word : Reads ℕ
 read_word [] = (0, [])
 read_word (w ∷ ws) = (w, ws)
 
+-- a flag
 abbrev pub read_truth : Reads Bool
 read_truth ws = let w = read_word ws in (w.0 == 1, w.1)
 
+-- a 64-bit number from two words, the low half first
 abbrev pub read_wide : Reads ℕ
 read_wide ws = let low = read_word ws in let high = read_word low.1 in (2 ^ 32 * high.0 + low.0, high.1)
 
 -- n values in sequence
-abbrev pub parse_optional_quantifier : {A : Type 0} → Reads A → ℕ → Reads (List A)
-parse_optional_quantifier read zero ws = ([], ws)
-parse_optional_quantifier read (suc n) ws = let first = read ws in let others = parse_optional_quantifier read n first.1 in (first.0 ∷ others.0, others.1)
+abbrev pub read_repeated : {A : Type 0} → Reads A → ℕ → Reads (List A)
+read_repeated read zero ws = ([], ws)
+read_repeated read (suc n) ws = let first = read ws in let others = read_repeated read n first.1 in (first.0 ∷ others.0, others.1)
 
 -- the number of values, and then the values
 abbrev pub read_list : {A : Type 0} → Reads A → Reads (List A)
-read_list read ws = let count = read_wide ws in parse_optional_quantifier read count.0 count.1
+read_list read ws = let count = read_wide ws in read_repeated read count.0 count.1
 
+-- a list of numbers
 abbrev pub read_listed : Reads (List ℕ)
 read_listed = read_list read_word
 
+-- an interval
 abbrev pub read_interval : Reads Bounds
 read_interval ws = let first = read_word ws in let last = read_word first.1 in (record { first = first.0; last = last.0 }, last.1)
 
+-- the kind of an anchor
 abbrev pub read_anchor : Reads AnchorType
 read_anchor ws = let w = read_word ws in (if w.0 == 0 then StartOfLine else EndOfLine, w.1)
 
@@ -45,8 +51,9 @@ read_option read ws =
     let value = read there.1 in
     if there.0 == 1 then (Some value.0, value.1) else (None, there.1)
 
-abbrev pub parse_quantifier : Reads Quantifier
-parse_quantifier ws =
+-- a quantifier
+abbrev pub read_quantifier : Reads Quantifier
+read_quantifier ws =
     let greedy = read_truth ws in
     let min = read_wide greedy.1 in
     let most = read_option read_wide min.1 in
@@ -87,11 +94,11 @@ abbrev pub read_loop : Reads Wrapper
 read_loop ws =
     let start = read_word ws in
     let end = read_word start.1 in
-    let q = parse_quantifier end.1 in
+    let q = read_quantifier end.1 in
     (loop q.0 start.0 end.0, q.1)
 
 abbrev pub read_loop_one : Reads Wrapper
-read_loop_one ws = let q = parse_quantifier ws in (loop_one q.0, q.1)
+read_loop_one ws = let q = read_quantifier ws in (loop_one q.0, q.1)
 
 abbrev pub read_lookaround : Reads Wrapper
 read_lookaround ws =

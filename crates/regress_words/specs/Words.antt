@@ -7,6 +7,7 @@ use Rattle.regress_base.specs.declared.types.AnchorType.TheVariants.{StartOfLine
 use Rattle.regress_base.specs.declared.types.Quantifier.{Quantifier}
 use Rattle.regress_tree.specs.Tree.{Leaf, empty, goal, char, byte_sequence, byte_set, char_set, match_any, match_any_except_line_terminator, anchor, word_boundary, bracket, back_ref, string_set, Wrapper, capture_group, loop, loop_one, lookaround, Tree, Trees, leaf, cat, alt, wrapped, no_trees, more_trees}
 
+-- a flag as one word
 abbrev pub truth_word : Bool → ℕ
 truth_word false = 0
 truth_word true = 1
@@ -19,9 +20,11 @@ wide n = n % 2 ^ 32 ∷ n / 2 ^ 32 ∷ []
 abbrev pub listed : List ℕ → List ℕ
 listed xs = wide (length xs) ++ xs
 
+-- the first and the last code point of an interval
 abbrev pub interval_words : Bounds → List ℕ
 interval_words iv = iv.first ∷ iv.last ∷ []
 
+-- the kind of an anchor as one word
 abbrev pub anchor_word : AnchorType → ℕ
 anchor_word StartOfLine = 0
 anchor_word EndOfLine = 1
@@ -31,13 +34,16 @@ abbrev pub most_words : Option ℕ → List ℕ
 most_words None = 0 ∷ []
 most_words (Some n) = 1 ∷ wide n
 
+-- whether there is a name, and then its bytes
 abbrev pub name_words : Option (List ℕ) → List ℕ
 name_words None = 0 ∷ []
 name_words (Some name) = 1 ∷ listed name
 
+-- greedy or not, the minimum and the maximum
 abbrev pub quantifier_words : Quantifier → List ℕ
 quantifier_words q = truth_word q.greedy ∷ wide q.min ++ most_words q.max
 
+-- the words of a leaf: its kind and then its fields
 abbrev pub leaf_words : Leaf → List ℕ
 leaf_words empty = 0 ∷ []
 leaf_words goal = 1 ∷ []
@@ -73,12 +79,14 @@ node_words (alt left right) = 7 ∷ []
 node_words (wrapped w body) = wrapper_words w
 
 abbrev mutual
+  -- the encoding of a tree
   pub encode : Tree → List ℕ
   encode (leaf l) = leaf_words l
   encode (cat parts) = (6 ∷ wide (trees_count parts)) ++ encode_list parts
   encode (alt left right) = (7 ∷ []) ++ (encode left ++ encode right)
   encode (wrapped w body) = wrapper_words w ++ encode body
 
+  -- the encodings of the trees of a list in order
   pub encode_list : Trees → List ℕ
   encode_list no_trees = []
   encode_list (more_trees t ts) = encode t ++ encode_list ts

@@ -1,4 +1,4 @@
-//! Runs the test cases of a program's input.
+//! Runs the test cases of files.
 
 use crate::fault::{Fault, Promise};
 use std::alloc::Global;
@@ -13,83 +13,92 @@ pub trait Lines {
     fn difference(&mut self, alloc: Global, line: &str) -> Result<Option<String>, Fault>;
 }
 
-/// Why a run ends early, or has no test case.
+/// Why a run ends early, or has no test case. Files are named as the caller names them.
 #[derive(Clone, Copy, Debug)]
-pub enum Failure {
-    /// The line with this number, from 1, is not a test case.
-    Line(usize),
+pub enum Failure<'a> {
+    /// The line of a file with this number, from 1, is not a test case.
+    Line(&'a str, usize),
     /// An allocation failed.
     Memory,
-    /// The input cannot be read, or is not UTF-8.
-    Input,
+    /// A file cannot be read, or is not UTF-8.
+    Input(&'a str),
     /// The output cannot be written.
     Output,
-    /// The input has no test case.
+    /// There is no test case.
     NoLine,
 }
 
-impl Failure {
+impl<'a> Failure<'a> {
+    /// Returns the failure for an error of opening or reading a file.
+    pub fn of_input(file: &'a str, error: &io::Error) -> Failure<'a> {
+        match error.kind() {
+            ErrorKind::OutOfMemory => Failure::Memory,
+            _ => Failure::Input(file),
+        }
+    }
+
     /// Returns the exit status of the program.
     pub fn status(&self) -> u8 {
         match self {
-            Failure::Line(_) => 2,
+            Failure::Line(_, _) => 2,
             Failure::Memory => 3,
-            Failure::Input => 4,
+            Failure::Input(_) => 4,
             Failure::Output => 5,
             Failure::NoLine => 6,
         }
     }
 }
 
-/// The numbers of lines read, and of test cases that pass and fail. All three saturate.
+/// The number of lines read of the current file, and of test cases of all files that pass and fail. All three saturate.
 #[derive(Clone, Copy)]
-struct Tally {
+pub struct Tally {
     read: usize,
     hold: usize,
     differ: usize,
 }
 
-/// Runs the test cases in `input`, writes those that fail to `out`, and finally the number that pass. Returns 0 if all
-/// pass, else 1. Empty lines and lines that begin with `#` are skipped.
+impl Tally {
+    /// Returns the tally before the first file.
+    pub fn new() -> Tally {
+        Tally {
+            read: 0,
+            hold: 0,
+            differ: 0,
+        }
+    }
+}
+
+/// Runs the test cases in `input`, the content of a file of this name, writes those that fail to `out`, and counts them
+/// in `tally`. Empty lines and lines that begin with `#` are skipped.
 ///
 /// # Errors
-/// Returns a [`Failure`] at the first malformed test case, failed allocation, or error of the input or output, or if
-/// there is no test case.
-pub fn run_lines<R: BufRead + Drop, W: Write, L: Lines>(
+/// Returns a [`Failure`] at the first malformed test case, failed allocation, or error of the input or output.
+pub fn run_lines<'a, R: BufRead + Drop, W: Write, L: Lines>(
     alloc: Global,
+    file: &'a str,
     input: R,
     out: &mut W,
     lines: &mut L,
-) -> Result<u8, Failure> {
-    let mut tally = Tally {
-        read: 0,
-        hold: 0,
-        differ: 0,
-    };
+    tally: &mut Tally,
+) -> Result<(), Failure<'a>> {
+    tally.read = 0;
     for line in input.lines(alloc) {
         match line {
-            Ok(line) => take_line(alloc, &line, out, lines, &mut tally)?,
-            Err(error) => return Err(unread(&error)),
+            Ok(line) => take_line(alloc, file, &line, out, lines, tally)?,
+            Err(error) => return Err(Failure::of_input(file, &error)),
         }
     }
-    end(tally, out)
+    Ok(())
 }
 
-/// Converts an error of the input.
-fn unread(error: &io::Error) -> Failure {
-    match error.kind() {
-        ErrorKind::OutOfMemory => Failure::Memory,
-        _ => Failure::Input,
-    }
-}
-
-fn take_line<W: Write, L: Lines>(
+fn take_line<'a, W: Write, L: Lines>(
     alloc: Global,
+    file: &'a str,
     line: &str,
     out: &mut W,
     lines: &mut L,
     tally: &mut Tally,
-) -> Result<(), Failure> {
+) -> Result<(), Failure<'a>> {
     tally.read = tally.read.saturating_add(1);
     if line.is_empty() || line.starts_with('#') {
         return Ok(());
@@ -99,36 +108,38 @@ fn take_line<W: Write, L: Lines>(
             tally.hold = tally.hold.saturating_add(1);
             Ok(())
         }
-        Ok(Some(found)) => report_found(line, &found, out, tally),
-        Err(Fault::Broken(promise)) => report_broken(line, promise, out, tally),
-        Err(Fault::Line) => Err(Failure::Line(tally.read)),
+        Ok(Some(found)) => report_found(file, line, &found, out, tally),
+        Err(Fault::Broken(promise)) => report_broken(file, line, promise, out, tally),
+        Err(Fault::Line) => Err(Failure::Line(file, tally.read)),
         Err(Fault::Memory) => Err(Failure::Memory),
     }
 }
 
-fn report_found<W: Write>(
+fn report_found<'a, W: Write>(
+    file: &'a str,
     line: &str,
     found: &str,
     out: &mut W,
     tally: &mut Tally,
-) -> Result<(), Failure> {
+) -> Result<(), Failure<'a>> {
     let number = tally.read;
     tally.differ = tally.differ.saturating_add(1);
-    written(writeln!(out, "line {number}: {line}\nfound: {found}"))
+    written(writeln!(out, "{file}:{number}: {line}\nfound: {found}"))
 }
 
-fn report_broken<W: Write>(
+fn report_broken<'a, W: Write>(
+    file: &'a str,
     line: &str,
     promise: Promise,
     out: &mut W,
     tally: &mut Tally,
-) -> Result<(), Failure> {
+) -> Result<(), Failure<'a>> {
     let number = tally.read;
     tally.differ = tally.differ.saturating_add(1);
-    written(writeln!(out, "line {number}: {line}\nbroken: {promise:?}"))
+    written(writeln!(out, "{file}:{number}: {line}\nbroken: {promise:?}"))
 }
 
-fn written(done: io::Result<()>) -> Result<(), Failure> {
+fn written<'a>(done: io::Result<()>) -> Result<(), Failure<'a>> {
     if done.is_ok() {
         Ok(())
     } else {
@@ -136,8 +147,11 @@ fn written(done: io::Result<()>) -> Result<(), Failure> {
     }
 }
 
-/// Writes the number of test cases that fail, and of those that pass, if any.
-fn end<W: Write>(tally: Tally, out: &mut W) -> Result<u8, Failure> {
+/// Writes the number of test cases that fail, and of those that pass, if any. Returns 0 if all pass, else 1.
+///
+/// # Errors
+/// Returns a [`Failure`] if the output cannot be written, or if there is no test case.
+pub fn report_tally<'a, W: Write>(tally: Tally, out: &mut W) -> Result<u8, Failure<'a>> {
     let Tally { hold, differ, .. } = tally;
     if differ > 0 {
         written(writeln!(out, "{differ} test cases fail"))?;

@@ -25,7 +25,7 @@ fn main() -> ExitCode {
 }
 
 fn list_names<'a>(node: &'a Node, names: &mut Vec<&'a str>) {
-    // The right sides of alternatives in a loop, since there may be many thousands of them.
+    // A loop over the right sides of alternatives, because there may be many thousands of them.
     let mut node = node;
     while let Node::Alt(left, right) = node {
         list_names(left, names);

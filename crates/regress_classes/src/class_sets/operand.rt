@@ -25,7 +25,9 @@ use std::alloc::{AllocError, Global};
 /// A character, which may be an end of a range, or a set of code points and strings.
 #[derive(Drop)]
 pub enum Operand {
+    /// One code point.
     Character(u32),
+    /// A set: a nested class, a class escape, a property, or the strings of `\q{..}`.
     Class(Value),
 }
 

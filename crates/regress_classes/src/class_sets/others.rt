@@ -18,6 +18,7 @@ pub struct Others {
     pub strings: Vec<Vec<u32>>,
     /// Whether the class has the empty string.
     pub has_empty: bool,
+    /// How deep classes nest inside the class: 0 if there is none.
     pub nesting: u32,
 }
 

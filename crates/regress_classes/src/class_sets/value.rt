@@ -14,7 +14,9 @@ use std::alloc::{AllocError, Global};
 /// The contents of a class with the flag v: code points and strings.
 #[derive(Drop)]
 pub struct Value {
+    /// The code points.
     pub set: CodePointSet,
+    /// The strings, and how deep the classes in it nest.
     pub others: Others,
 }
 

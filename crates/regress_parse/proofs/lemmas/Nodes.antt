@@ -3,7 +3,7 @@ use Rattle.std.proofs.Common.{◌≡◌, ◌+◌, refl, arith}
 use Rattle.regress_tree.specs.Reading.{Direction, forwards, backwards}
 use Rattle.regress_tree.specs.Tree.{Trees, no_trees, more_trees, append_trees, reverse_trees}
 use Rattle.regress_tree.specs.Visits.{nodes_in_list}
-use Rattle.regress_parse.specs.TreeOf.{turned}
+use Rattle.regress_parse.specs.TreeOf.{in_direction}
 
 nodes-append : (ts us : Trees) → nodes_in_list (append_trees ts us) ≡ nodes_in_list ts + nodes_in_list us
 nodes-append no_trees us = omega arith
@@ -14,6 +14,6 @@ nodes-reverse no_trees = refl
 nodes-reverse (more_trees t ts) = omega (arith, nodes-append (reverse_trees ts) (more_trees t no_trees), nodes-reverse ts)
 
 -- Reversing the list does not change the number.
-pub nodes-turned : (d : Direction) (ts : Trees) → nodes_in_list (turned d ts) ≡ nodes_in_list ts
+pub nodes-turned : (d : Direction) (ts : Trees) → nodes_in_list (in_direction d ts) ≡ nodes_in_list ts
 nodes-turned forwards ts = refl
 nodes-turned backwards ts = nodes-reverse ts

@@ -5,24 +5,24 @@ use Rattle.regress_tree.specs.Setting.{Setting}
 use Rattle.regress_lexer.specs.declared.fault.FaultKind.{FaultKind}
 use Rattle.regress_lexer.specs.Source.{Source}
 use Rattle.regress_syntax.specs.Syntax.{Name, Pattern, counts}
-use Rattle.regress_syntax.specs.Scan.{GivesMarks, plain, marks, named_by, MarksShow}
+use Rattle.regress_syntax.specs.Scan.{GivesTokens, plain, tokens, named_by, TokensShow}
 use Rattle.regress_parse.specs.Accepted.{own_context, IsAccepted}
-use Rattle.regress_parse.proofs.AcceptedLemmas.{most, groups_found, own_is, scanned-is, marks-say, true-rejects}
+use Rattle.regress_parse.proofs.AcceptedLemmas.{most, groups_found, own_is, scanned-is, tokens-say, true-rejects}
 
-module _ (setting : Setting) (t : Source) (gives : GivesMarks setting.flags.unicode_sets setting.table t)
+module _ (setting : Setting) (t : Source) (gives : GivesTokens setting.flags.unicode_sets setting.table t)
     (p : Pattern) (h : IsAccepted setting t p) where
   own_groups : (counts p).groups ≡ most setting t gives
   own_groups = omega (arith, groups_found setting t gives (own_context setting p) p refl refl h.derived, h.limits.groups)
 
   -- The parser's context, made of the groups and names found, is the pattern's own.
   pub scanned_context : (groups : ℕ) (ns : List (Option Name)) →
-      ns ≡ named_by (marks setting.flags.unicode_sets setting.table plain t) → groups ≡ min (length ns) max_capture_groups →
+      ns ≡ named_by (tokens setting.flags.unicode_sets setting.table plain t) → groups ≡ min (length ns) max_capture_groups →
       record { setting = setting; groups = groups; names = ns } ≡ own_context setting p
   scanned_context groups ns same e =
       scanned-is setting t gives groups ns same e
       ∙ sym (own_is setting t gives (own_context setting p) p refl refl h.derived (most setting t gives) own_groups)
 
   -- The scan rejects no accepted source.
-  pub scan_content : (kind : FaultKind) → MarksShow (marks setting.flags.unicode_sets setting.table plain t) kind → ⊥
+  pub scan_content : (kind : FaultKind) → TokensShow (tokens setting.flags.unicode_sets setting.table plain t) kind → ⊥
   scan_content kind shown =
-      true-rejects setting t kind (λ q derived. inl (marks-say setting t gives kind shown q derived)) p h
+      true-rejects setting t kind (λ q derived. inl (tokens-say setting t gives kind shown q derived)) p h

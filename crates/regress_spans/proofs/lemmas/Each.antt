@@ -14,7 +14,7 @@ use Rattle.regress_syntax.specs.Meaning.{direction_of_group}
 use Rattle.regress_syntax.specs.Productions.{Context, context_inside}
 use Rattle.regress_syntax.specs.Grammar.{IsPattern, AreTerms, IsItem}
 use Rattle.regress_parse.specs.Accepted.{own_context, IsDerived}
-use Rattle.regress_parse.specs.TreeOf.{joined, tree_of_group, tree_of_quantified, tree_of_atom, tree_of_pattern, trees_of_terms, tree_of_item, tree_of}
+use Rattle.regress_parse.specs.TreeOf.{concatenation, tree_of_group, tree_of_quantified, tree_of_atom, tree_of_pattern, trees_of_terms, tree_of_item, tree_of}
 use Rattle.regress_parse.proofs.lemmas.Nodes.{nodes-turned}
 use Rattle.regress_spans.specs.declared.span.Span.{Span}
 use Rattle.regress_spans.specs.Spans.{span_of_times, span_of_group, how_many, span_of_alternative, in_order, between, spans_of_pattern, spans_of_terms, spans_of_item, spans_of}
@@ -42,7 +42,7 @@ several n s =
 
 module _ (table : Table) (names : List (Option Name)) (d : Direction) where
   nodes-list : (n : ℕ) (ts : Terms) (s : Span) →
-      nodes (joined d (trees_of_terms table names d n ts)) ≡ nodes_in_list (trees_of_terms table names d n ts) + length (span_of_alternative (how_many ts) s)
+      nodes (concatenation d (trees_of_terms table names d n ts)) ≡ nodes_in_list (trees_of_terms table names d n ts) + length (span_of_alternative (how_many ts) s)
   nodes-list n no_terms s = refl
   nodes-list n (more_terms x q no_terms) s = omega arith
   nodes-list n (more_terms x q (more_terms y r xs)) s =

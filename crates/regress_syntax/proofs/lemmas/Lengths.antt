@@ -13,8 +13,8 @@ use Rattle.regress_classes.specs.ClassSets.{Value, class_set_at}
 use Rattle.regress_syntax.specs.Syntax.{Name, Group, grouping, modified, capture, look, opened_by}
 use Rattle.regress_syntax.specs.Names.{group_name_at}
 use Rattle.regress_syntax.specs.Productions.{Context, no_quantifier_at, this_quantifier, optional_quantifier_at}
-use Rattle.regress_syntax.specs.Marks.{Mark, opens, captures, closes, next, nests}
-use Rattle.regress_syntax.specs.Scan.{Mode, plain, escape, class, class_escape, opened_at, mode_after, mark_at, marks, named_by, deepest}
+use Rattle.regress_syntax.specs.GroupTokens.{GroupToken, opens, captures, closes, next, nests}
+use Rattle.regress_syntax.specs.Scan.{Mode, plain, escape, class, class_escape, opened_at, mode_after, token_at, tokens, named_by, deepest}
 use Rattle.regress_syntax.proofs.ScanSets.{gives_class_set_at}
 
 -- ---- productions
@@ -52,7 +52,7 @@ optional_quantifier_at-takes ctx allowed t q rest e = by (quantifier_at t) refl 
 
 -- ---- marks
 
-one_named : (found : Option Mark) (ms : List Mark) → length (named_by (option_to_list found ++ ms)) ≤ length (named_by ms) + 1
+one_named : (found : Option GroupToken) (ms : List GroupToken) → length (named_by (option_to_list found ++ ms)) ≤ length (named_by ms) + 1
 one_named None ms = omega arith
 one_named (Some opens) ms = omega arith
 one_named (Some (captures name)) ms = omega arith
@@ -61,13 +61,13 @@ one_named (Some next) ms = omega arith
 one_named (Some (nests nesting)) ms = omega arith
 
 -- There are at most as many groups as code points.
-pub named_by-length : (sets : Bool) (table : Table) (m : Mode) (t : Source) → length (named_by (marks sets table m t)) ≤ length t
-unfolding marks
+pub named_by-length : (sets : Bool) (table : Table) (m : Mode) (t : Source) → length (named_by (tokens sets table m t)) ≤ length t
+unfolding tokens
 named_by-length sets table m [] = omega arith
 named_by-length sets table m (c ∷ t) =
     omega (
       arith,
-      one_named (mark_at sets table m c t) (marks sets table (mode_after sets m c) t),
+      one_named (token_at sets table m c t) (tokens sets table (mode_after sets m c) t),
       named_by-length sets table (mode_after sets m c) t,
     )
 
@@ -86,40 +86,40 @@ IsInside (class depth deepest) = depth ≤ deepest
 IsInside (class_escape depth deepest) = depth ≤ deepest
 
 -- From every depth on, the marks nest at most k deeper.
-abbrev NoDeeper : ℕ → List Mark → Type 0
+abbrev NoDeeper : ℕ → List GroupToken → Type 0
 NoDeeper k ms = (n : ℕ) → 1 ≤ n → deepest n ms ≤ n + k
 
-opened_deeper : (k : ℕ) (found : Option (Name × Source)) (question : Bool) (ms : List Mark) → NoDeeper k ms → (n : ℕ) → 1 ≤ n →
-    deepest n (cond question (elim found as (λ _. Mark) [ None ↦ opens | Some x ↦ captures (Some x.0) ]) (captures None) ∷ ms) ≤ n + (k + 1)
+opened_deeper : (k : ℕ) (found : Option (Name × Source)) (question : Bool) (ms : List GroupToken) → NoDeeper k ms → (n : ℕ) → 1 ≤ n →
+    deepest n (cond question (elim found as (λ _. GroupToken) [ None ↦ opens | Some x ↦ captures (Some x.0) ]) (captures None) ∷ ms) ≤ n + (k + 1)
 opened_deeper k None true ms h n some = omega (arith, h (n + 1) (omega arith))
 opened_deeper k (Some x) true ms h n some = omega (arith, h (n + 1) (omega arith))
 opened_deeper k found false ms h n some = omega (arith, h (n + 1) (omega arith))
 
-plain_deeper : (table : Table) (t : Source) (k : ℕ) (opened closed barred : Bool) (ms : List Mark) → NoDeeper k ms → NoDeeper (k + 1)
+plain_deeper : (table : Table) (t : Source) (k : ℕ) (opened closed barred : Bool) (ms : List GroupToken) → NoDeeper k ms → NoDeeper (k + 1)
     (option_to_list (cond opened (Some (opened_at table t)) (cond closed (Some closes) (cond barred (Some next) None))) ++ ms)
 plain_deeper table t k true closed barred ms h n some = opened_deeper k (group_name_at table (drop 1 t)) (is_at question_mark t) ms h n some
 plain_deeper table t k false true barred ms h n some = omega (arith, some, h (max 1 (n - 1)) (omega arith))
 plain_deeper table t k false false true ms h n some = omega (arith, h n some)
 plain_deeper table t k false false false ms h n some = omega (arith, h n some)
 
-class_deeper : (nesting k : ℕ) (closed : Bool) (ms : List Mark) → nesting ≤ k → NoDeeper k ms →
+class_deeper : (nesting k : ℕ) (closed : Bool) (ms : List GroupToken) → nesting ≤ k → NoDeeper k ms →
     NoDeeper k (option_to_list (cond closed (Some (nests nesting)) None) ++ ms)
 class_deeper nesting k true ms few h n some = omega (arith, few, h n some)
 class_deeper nesting k false ms few h n some = omega (arith, h n some)
 
 -- The same for a source of which the scan is in any mode: k is its length.
 abbrev AllNoDeeper : (sets : Bool) → Table → Source → Type 0
-AllNoDeeper sets table t = (m : Mode) → IsInside m → NoDeeper (passed m + length t) (marks sets table m t)
+AllNoDeeper sets table t = (m : Mode) → IsInside m → NoDeeper (passed m + length t) (tokens sets table m t)
 
 after_plain : (sets : Bool) (table : Table) (t : Source) → AllNoDeeper sets table t → (backslash bracket : Bool) →
-    NoDeeper (length t) (marks sets table (cond backslash escape (cond bracket (class 0 0) plain)) t)
+    NoDeeper (length t) (tokens sets table (cond backslash escape (cond bracket (class 0 0) plain)) t)
 after_plain sets table t all true bracket k some = omega (arith, all escape tt k some)
 after_plain sets table t all false true k some = omega (arith, all (class 0 0) (omega arith) k some)
 after_plain sets table t all false false k some = omega (arith, all plain tt k some)
 
 after_in_class : (sets : Bool) (table : Table) (t : Source) → AllNoDeeper sets table t → (depth most : ℕ) → depth ≤ most →
     (backslash opened outermost bracket : Bool) → NoDeeper (most + 1 + length t)
-    (marks sets table (cond backslash (class_escape depth most) (cond opened (class (depth + 1) (max most (depth + 1)))
+    (tokens sets table (cond backslash (class_escape depth most) (cond opened (class (depth + 1) (max most (depth + 1)))
     (cond outermost plain (cond bracket (class (depth - 1) most) (class depth most))))) t)
 after_in_class sets table t all depth most inside true opened outermost bracket k some =
     omega (arith, all (class_escape depth most) inside k some)
@@ -131,19 +131,19 @@ after_in_class sets table t all depth most inside false false false true k some 
 after_in_class sets table t all depth most inside false false false false k some = omega (arith, all (class depth most) inside k some)
 
 no_deeper : (sets : Bool) (table : Table) (t : Source) → AllNoDeeper sets table t
-unfolding marks
+unfolding tokens
 no_deeper sets table [] m inside n some = omega arith
 no_deeper sets table (c ∷ t) plain inside n some =
     omega (
       arith,
-      plain_deeper table t (length t) (c == opening) (c == closing) (c == bar) (marks sets table (mode_after sets plain c) t)
+      plain_deeper table t (length t) (c == opening) (c == closing) (c == bar) (tokens sets table (mode_after sets plain c) t)
           (after_plain sets table t (no_deeper sets table t) (c == 92) (c == 91)) n some,
     )
 no_deeper sets table (c ∷ t) escape inside n some = omega (arith, no_deeper sets table t plain tt n some)
 no_deeper sets table (c ∷ t) (class depth most) inside n some =
     omega (
       arith,
-      class_deeper most (most + 1 + length t) (c == 93 && depth == 0 && sets) (marks sets table (mode_after sets (class depth most) c) t)
+      class_deeper most (most + 1 + length t) (c == 93 && depth == 0 && sets) (tokens sets table (mode_after sets (class depth most) c) t)
           (omega arith)
           (after_in_class sets table t (no_deeper sets table t) depth most inside (c == 92) (c == 91 && sets) (c == 93 && depth == 0) (c == 93))
           n some,
@@ -151,7 +151,7 @@ no_deeper sets table (c ∷ t) (class depth most) inside n some =
 no_deeper sets table (c ∷ t) (class_escape depth most) inside n some = omega (arith, no_deeper sets table t (class depth most) inside n some)
 
 -- The nesting depth is at most one more than the number of code points.
-pub deepest-length : (sets : Bool) (table : Table) (t : Source) → deepest 1 (marks sets table plain t) ≤ 1 + length t
+pub deepest-length : (sets : Bool) (table : Table) (t : Source) → deepest 1 (tokens sets table plain t) ≤ 1 + length t
 deepest-length sets table t = omega (arith, no_deeper sets table t plain tt 1 (omega arith))
 
 -- The nesting depth of a class is at most the number of its code points.

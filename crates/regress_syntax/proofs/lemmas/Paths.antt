@@ -1,13 +1,13 @@
 -- It suffices to compare two paths from the outermost disjunction on: that decides whether any disjunction has two
 -- groups in different alternatives. This rule rejects at least the patterns that the Rust crate rejects, which compares
--- only the numbers of the alternatives, level by level.
+-- only the numbers of the alternatives, from the outermost disjunction on.
 use Rattle.std.proofs.Common.{◌≡◌, ℕ, ◌+◌, ◌<◌, ◌≤◌, Bool, true, false, not, ◌==◌, ◌&&◌, ◌||◌, List, [], ◌∷◌, ◌++◌, reverse, refl, sym, ap, ap₂, ◌∙◌, subst, arith, append_assoc}
 use Rattle.std.proofs.lemmas.Bool.{true≢false, and_parts, and_from, and_left, and_right, or_from, or_left, or_right, not_from_true, not_from_false, false_from_ne_true}
 use Rattle.std.proofs.lemmas.Bool.Decides.{nat_tests}
 use Rattle.std.proofs.lemmas.List.{reverse-append}
 use Rattle.std.proofs.lemmas.List.Folds.{list_any-append}
 use Rattle.std.specs.List.{list_all, list_any}
-use Rattle.regress_syntax.specs.Marks.{Mark, opens, captures, closes, next, nests}
+use Rattle.regress_syntax.specs.GroupTokens.{GroupToken, opens, captures, closes, next, nests}
 use Rattle.regress_syntax.specs.SameNames.{same_name}
 use Rattle.regress_syntax.specs.Paths.{Level, Path, Position, at_the_start, enter, outside, next_alternative, CaptureAt, groups_by, are_alternatives, conflict, are_apart}
 
@@ -21,7 +21,7 @@ is_beside level other = level.opening == other.opening && not (level.alternative
 abbrev pub some_holds_both : Path → Path → Bool
 some_holds_both path other = list_any (λ level. list_any (is_beside level) other) path
 
--- The reverse of a path, split at one of its levels.
+-- The reverse of a path, split at one of its disjunctions.
 pub turned : (front outer : Path) (level : Level) → reverse (front ++ level ∷ outer) ≡ reverse outer ++ level ∷ reverse front
 turned front outer level =
     reverse-append front (level ∷ outer) ∙ ap (λ p. p ++ reverse front) (reverse-append (level ∷ []) outer)
@@ -61,7 +61,7 @@ higher_differs k m l = grind (arith, nat_tests, l)
 pub same_number : (k m : ℕ) → k ≡ m → (k == m) ≡ true
 same_number k m e = grind (arith, nat_tests, e)
 
--- A level with a greater number is in a different disjunction than every level of the path.
+-- A disjunction with a greater number is different from every one of the path.
 none_beside : (level : Level) (path : Path) (n : ℕ) → n ≤ level.opening → Below n path → list_any (is_beside level) path ≡ false
 none_beside level [] n l h = refl
 none_beside level (other ∷ path) n l h =
@@ -72,7 +72,7 @@ beside_none level [] n l h = refl
 beside_none level (other ∷ path) n l h =
     or_from _ _ (and_left _ _ (lower_differs level.opening other.opening (omega (arith, l, h.0)))) (beside_none level path n l h.1)
 
--- Levels of parentheses that are opened later can be dropped: no earlier level is in the same disjunction.
+-- Disjunctions in parentheses that are opened later can be dropped: none of the earlier ones is the same.
 drop_later : (path more outer : Path) (n : ℕ) → Below n path → From n more →
     some_holds_both path (more ++ outer) ≡ some_holds_both path outer
 drop_later [] more outer n h k = refl
@@ -139,7 +139,8 @@ no_alternatives (level ∷ path) (beside ∷ other) n h k = and_left _ _ (lower_
 -- ---- from one position to the next
 
 -- How a path relates to that of an earlier position, before which fewer than n parentheses were opened. Either they
--- have an outer part in common, and the other levels of this one were opened later, or they separate at an alternative.
+-- have an outer part in common, and the other disjunctions of this one were opened later, or they separate at an
+-- alternative.
 data Occurs (old : Path) (n : ℕ) (now : Path) : Type 0 where
   shared : (inner outer more : Path) → old ≡ inner ++ outer → now ≡ more ++ outer → From n more → Occurs old n now
   parted : (inner outer more : Path) (before here : Level) → old ≡ inner ++ before ∷ outer → now ≡ more ++ here ∷ outer →
@@ -243,7 +244,7 @@ abbrev pub are_apart_anywhere : List CaptureAt → Bool
 are_apart_anywhere [] = true
 are_apart_anywhere (g ∷ gs) = list_all (λ other. not (conflict_anywhere g other)) gs && are_apart_anywhere gs
 
-later_alike : (g : CaptureAt) (n k : ℕ) → Falls k g.path → Below n g.path → (position : Position) (ms : List Mark) →
+later_alike : (g : CaptureAt) (n k : ℕ) → Falls k g.path → Below n g.path → (position : Position) (ms : List GroupToken) →
     n ≤ position.opened + 1 → Occurs g.path n position.path →
     list_all (λ other. not (conflict g other)) (groups_by position ms) ≡ list_all (λ other. not (conflict_anywhere g other)) (groups_by position ms)
 later_alike g n k falls below position [] l occurs = refl
@@ -267,7 +268,7 @@ falls_next : (n : ℕ) (path : Path) → Falls n path → Falls n (next_alternat
 falls_next n [] h = tt
 falls_next n (level ∷ path) h = h
 
-apart_alike : (position : Position) (ms : List Mark) → Falls (position.opened + 1) position.path →
+apart_alike : (position : Position) (ms : List GroupToken) → Falls (position.opened + 1) position.path →
     are_apart (groups_by position ms) ≡ are_apart_anywhere (groups_by position ms)
 apart_alike position [] h = refl
 apart_alike position (opens ∷ ms) h = apart_alike (enter position) ms (omega arith, h)
@@ -282,12 +283,12 @@ apart_alike position (next ∷ ms) h = apart_alike (record position { path = nex
 apart_alike position (nests nesting ∷ ms) h = apart_alike position ms h
 
 -- Comparing paths from the outermost disjunction on finds all conflicts.
-pub apart_anywhere : (ms : List Mark) → are_apart (groups_by at_the_start ms) ≡ are_apart_anywhere (groups_by at_the_start ms)
+pub apart_anywhere : (ms : List GroupToken) → are_apart (groups_by at_the_start ms) ≡ are_apart_anywhere (groups_by at_the_start ms)
 apart_anywhere ms = apart_alike at_the_start ms (omega arith, tt)
 
 -- ---- by the numbers of alternatives alone
 
--- The numbers of the alternatives agree at each level that both paths have, outermost first.
+-- The numbers of the alternatives agree at each depth that both paths have, outermost first.
 abbrev pub numbers_agree : Path → Path → Bool
 numbers_agree [] other = true
 numbers_agree (level ∷ path) [] = true

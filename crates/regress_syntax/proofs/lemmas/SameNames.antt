@@ -5,9 +5,9 @@ use Rattle.std.proofs.lemmas.Bool.{and_right, and_from, or_left, not_from_false}
 use Rattle.std.proofs.lemmas.List.{map-append, reverse-append}
 use Rattle.std.specs.List.{list_all, list_any}
 use Rattle.regress_syntax.specs.Syntax.{Name, Atom, literal, dot, anchor, boundary, class_escape, class, class_set, string_property, back_reference, Group, grouping, modified, capture, look, Pattern, Terms, Item, one, either, no_terms, more_terms, atom, group, names, names_of_group, names_of_terms, names_of_item}
-use Rattle.regress_syntax.specs.Marks.{Mark, closes, next, mark_of_group, marks_of_atom, marks_of, marks_of_terms, marks_of_item}
+use Rattle.regress_syntax.specs.GroupTokens.{GroupToken, closes, next, token_of_group, tokens_of_atom, tokens_of, tokens_of_terms, tokens_of_item}
 use Rattle.regress_syntax.specs.SameNames.{same_name, share_name, are_names_apart, are_names_apart_in_terms, are_names_apart_in_item, NoneConflict}
-use Rattle.regress_syntax.specs.Paths.{Level, Path, Position, at_the_start, enter, CaptureAt, groups_by, are_alternatives, conflict, are_apart, are_marks_apart}
+use Rattle.regress_syntax.specs.Paths.{Level, Path, Position, at_the_start, enter, CaptureAt, groups_by, are_alternatives, conflict, are_apart, are_tokens_apart}
 use Rattle.regress_syntax.proofs.lemmas.Paths.{Below, From, turned, below_more, below_append, from_append, below_reverse, from_reverse, same_front, no_alternatives, lower_differs, same_number, are_apart_anywhere, apart_anywhere, are_apart_by_numbers, apart_by_numbers}
 
 -- ---- two lists of groups
@@ -125,21 +125,21 @@ at path n = record { path = path; opened = n }
 
 -- What the marks of a list of terms determine, after n parentheses: the paths of its groups, their names, and whether
 -- any conflict.
-record Production (path : Path) (n : ℕ) (ms : List Mark) (ns : List (Option Name)) (b : Bool) : Type 0 where
+record Production (path : Path) (n : ℕ) (ms : List GroupToken) (ns : List (Option Name)) (b : Bool) : Type 0 where
   found : List CaptureAt
   opened : ℕ
-  split : (rest : List Mark) → groups_by (at path n) (ms ++ rest) ≡ found ++ groups_by (at path opened) rest
+  split : (rest : List GroupToken) → groups_by (at path n) (ms ++ rest) ≡ found ++ groups_by (at path opened) rest
   more : n ≤ opened
   inside : Each (IsIn n opened path) found
   named : names_at found ≡ ns
   apart : are_apart found ≡ b
 
 -- The same for a list of alternatives.
-record Choice (outer : Path) (opening first n : ℕ) (ms : List Mark) (ns : List (Option Name)) (b : Bool) : Type 0 where
+record Choice (outer : Path) (opening first n : ℕ) (ms : List GroupToken) (ns : List (Option Name)) (b : Bool) : Type 0 where
   found : List CaptureAt
   opened : ℕ
   last : ℕ
-  split : (rest : List Mark) → groups_by (at (record { opening = opening; alternative = first } ∷ outer) n) (ms ++ rest)
+  split : (rest : List GroupToken) → groups_by (at (record { opening = opening; alternative = first } ∷ outer) n) (ms ++ rest)
       ≡ found ++ groups_by (at (record { opening = opening; alternative = last } ∷ outer) opened) rest
   more : n ≤ opened
   inside : Each (IsFrom n opened outer opening first) found
@@ -150,16 +150,16 @@ within : (n m n' m' : ℕ) (path : Path) → n' ≤ n → m ≤ m' → (g : Capt
 within n m n' m' path l l' g (inner, e, from, below) =
     (inner, e, from_less (n + 1) (n' + 1) inner (omega (arith, l)) from, below_more (m + 1) (m' + 1) inner (omega (arith, l')) below)
 
-parts_in_sequence : (xs ys zs rest : List Mark) (found others : List CaptureAt) (a b c : Position) →
-    ((rest : List Mark) → groups_by a (xs ++ rest) ≡ found ++ groups_by b rest) →
-    ((rest : List Mark) → groups_by b (ys ++ rest) ≡ others ++ groups_by c rest) →
+parts_in_sequence : (xs ys zs rest : List GroupToken) (found others : List CaptureAt) (a b c : Position) →
+    ((rest : List GroupToken) → groups_by a (xs ++ rest) ≡ found ++ groups_by b rest) →
+    ((rest : List GroupToken) → groups_by b (ys ++ rest) ≡ others ++ groups_by c rest) →
     groups_by a ((xs ++ ys) ++ rest) ≡ (found ++ others) ++ groups_by c rest
 parts_in_sequence xs ys zs rest found others a b c h k =
     ap (groups_by a) (append_assoc xs ys rest) ∙ h (ys ++ rest) ∙ ap (λ gs. found ++ gs) (k rest)
     ∙ sym (append_assoc found others (groups_by c rest))
 
 -- a term, and the terms after it
-in_sequence : (path : Path) (n : ℕ) (xs ys : List Mark) (ns ms : List (Option Name)) (a b : Bool) → (first : Production path n xs ns a) →
+in_sequence : (path : Path) (n : ℕ) (xs ys : List GroupToken) (ns ms : List (Option Name)) (a b : Bool) → (first : Production path n xs ns a) →
     Production path first.opened ys ms b → Production path n (xs ++ ys) (ns ++ ms) (a && (not (share_name ns ms) && b))
 in_sequence path n xs ys ns ms a b first rest =
     record {
@@ -183,7 +183,7 @@ in_sequence path n xs ys ns ms a b first rest =
     }
 
 -- the last alternative
-only : (outer : Path) (opening first n : ℕ) (xs : List Mark) (ns : List (Option Name)) (a : Bool) →
+only : (outer : Path) (opening first n : ℕ) (xs : List GroupToken) (ns : List (Option Name)) (a : Bool) →
     Production (record { opening = opening; alternative = first } ∷ outer) n xs ns a → Choice outer opening first n xs ns a
 only outer opening first n xs ns a r =
     record {
@@ -198,7 +198,7 @@ only outer opening first n xs ns a r =
     }
 
 -- an alternative, and others after a `|`
-or_else : (outer : Path) (opening first n : ℕ) (xs ys : List Mark) (ns ms : List (Option Name)) (a b : Bool) →
+or_else : (outer : Path) (opening first n : ℕ) (xs ys : List GroupToken) (ns ms : List (Option Name)) (a b : Bool) →
     (r : Production (record { opening = opening; alternative = first } ∷ outer) n xs ns a) → Choice outer opening (first + 1) r.opened ys ms b →
     Choice outer opening first n (xs ++ next ∷ ys) (ns ++ ms) (a && b)
 or_else outer opening first n xs ys ns ms a b r others =
@@ -228,8 +228,8 @@ or_else outer opening first n xs ys ns ms a b r others =
 abbrev own : Path → Group → List CaptureAt
 own path kind = map (λ name. record { path = path; name = name }) (names_of_group kind)
 
-own_found : (path : Path) (n : ℕ) (kind : Group) (ms : List Mark) →
-    groups_by (at path n) (mark_of_group kind ∷ ms) ≡ own path kind ++ groups_by (enter (at path n)) ms
+own_found : (path : Path) (n : ℕ) (kind : Group) (ms : List GroupToken) →
+    groups_by (at path n) (token_of_group kind ∷ ms) ≡ own path kind ++ groups_by (enter (at path n)) ms
 own_found path n grouping ms = refl
 own_found path n (modified change) ms = refl
 own_found path n (capture name) ms = refl
@@ -264,9 +264,9 @@ below_path path n m l g (number, later, (inner, e, from, below)) =
     )
 
 -- parentheses with their contents
-in_parentheses : (level : Level) (around : Path) (n : ℕ) (kind : Group) (ms : List Mark) (ns : List (Option Name)) (b : Bool) →
+in_parentheses : (level : Level) (around : Path) (n : ℕ) (kind : Group) (ms : List GroupToken) (ns : List (Option Name)) (b : Bool) →
     Choice (level ∷ around) (n + 1) 0 (n + 1) ms ns b →
-    Production (level ∷ around) n (mark_of_group kind ∷ ms ++ closes ∷ []) (names_of_group kind ++ ns) (not (share_name (names_of_group kind) ns) && b)
+    Production (level ∷ around) n (token_of_group kind ∷ ms ++ closes ∷ []) (names_of_group kind ++ ns) (not (share_name (names_of_group kind) ns) && b)
 in_parentheses level around n kind ms ns b body =
     let path = level ∷ around in
     let inside : Each (IsIn n body.opened path) body.found = each_map _ _ (below_path path n body.opened body.more) body.found body.inside in
@@ -292,11 +292,11 @@ in_parentheses level around n kind ms ns b body =
           body.apart);
     }
 
-no_groups : (path : Path) (n : ℕ) (ms : List Mark) → ((rest : List Mark) → groups_by (at path n) (ms ++ rest) ≡ groups_by (at path n) rest) →
+no_groups : (path : Path) (n : ℕ) (ms : List GroupToken) → ((rest : List GroupToken) → groups_by (at path n) (ms ++ rest) ≡ groups_by (at path n) rest) →
     Production path n ms [] true
 no_groups path n ms e = record { found = []; opened = n; split = e; more = omega arith; inside = tt; named = refl; apart = refl }
 
-atom_found : (path : Path) (n : ℕ) (a : Atom) (rest : List Mark) → groups_by (at path n) (marks_of_atom a ++ rest) ≡ groups_by (at path n) rest
+atom_found : (path : Path) (n : ℕ) (a : Atom) (rest : List GroupToken) → groups_by (at path n) (tokens_of_atom a ++ rest) ≡ groups_by (at path n) rest
 atom_found path n (literal flags c) rest = refl
 atom_found path n (dot flags) rest = refl
 atom_found path n (anchor flags kind) rest = refl
@@ -310,37 +310,37 @@ atom_found path n (back_reference flags to) rest = refl
 -- ---- the syntax tree
 
 mutual
-  of_pattern : (outer : Path) (opening first n : ℕ) (p : Pattern) → Choice outer opening first n (marks_of p) (names p) (are_names_apart p)
+  of_pattern : (outer : Path) (opening first n : ℕ) (p : Pattern) → Choice outer opening first n (tokens_of p) (names p) (are_names_apart p)
   of_pattern outer opening first n (one ts) = only outer opening first n _ _ _ (of_terms _ outer n ts)
   of_pattern outer opening first n (either ts p) =
       let r = of_terms (record { opening = opening; alternative = first }) outer n ts in
       or_else outer opening first n _ _ _ _ _ _ r (of_pattern outer opening (first + 1) r.opened p)
 
   of_terms : (level : Level) (around : Path) (n : ℕ) (ts : Terms) →
-      Production (level ∷ around) n (marks_of_terms ts) (names_of_terms ts) (are_names_apart_in_terms ts)
+      Production (level ∷ around) n (tokens_of_terms ts) (names_of_terms ts) (are_names_apart_in_terms ts)
   of_terms level around n no_terms = no_groups (level ∷ around) n [] (λ rest. refl)
   of_terms level around n (more_terms x q xs) =
       let r = of_item level around n x in
       in_sequence (level ∷ around) n _ _ _ _ _ _ r (of_terms level around r.opened xs)
 
   of_item : (level : Level) (around : Path) (n : ℕ) (x : Item) →
-      Production (level ∷ around) n (marks_of_item x) (names_of_item x) (are_names_apart_in_item x)
+      Production (level ∷ around) n (tokens_of_item x) (names_of_item x) (are_names_apart_in_item x)
   of_item level around n (atom a) = no_groups (level ∷ around) n _ (atom_found (level ∷ around) n a)
   of_item level around n (group kind p) =
       in_parentheses level around n kind _ _ _ (of_pattern (level ∷ around) (n + 1) 0 (n + 1) p)
 
 -- The marks of a pattern decide whether its names conflict.
-pub apart_by_marks : (p : Pattern) → are_marks_apart (marks_of p) ≡ are_names_apart p
-apart_by_marks p =
+pub apart_by_tokens : (p : Pattern) → are_tokens_apart (tokens_of p) ≡ are_names_apart p
+apart_by_tokens p =
     let all = of_pattern [] 0 0 0 p in
-    ap are_apart (ap (groups_by at_the_start) (sym (append-nil (marks_of p))) ∙ all.split [] ∙ append-nil all.found) ∙ all.apart
+    ap are_apart (ap (groups_by at_the_start) (sym (append-nil (tokens_of p))) ∙ all.split [] ∙ append-nil all.found) ∙ all.apart
 
 -- A pattern's names do not conflict exactly if some disjunction has each two groups of one name in different
 -- alternatives.
-pub apart_as_written : (p : Pattern) → are_names_apart p ≡ are_apart_anywhere (groups_by at_the_start (marks_of p))
-apart_as_written p = sym (apart_by_marks p) ∙ apart_anywhere (marks_of p)
+pub apart_as_written : (p : Pattern) → are_names_apart p ≡ are_apart_anywhere (groups_by at_the_start (tokens_of p))
+apart_as_written p = sym (apart_by_tokens p) ∙ apart_anywhere (tokens_of p)
 
 -- Names that do not conflict do not conflict by the numbers of alternatives alone: that rule accepts each pattern that
 -- this one accepts.
-pub apart_by_numbers_too : (p : Pattern) → NoneConflict p → are_apart_by_numbers (groups_by at_the_start (marks_of p)) ≡ true
-apart_by_numbers_too p h = apart_by_numbers (groups_by at_the_start (marks_of p)) (apart_by_marks p ∙ h)
+pub apart_by_numbers_too : (p : Pattern) → NoneConflict p → are_apart_by_numbers (groups_by at_the_start (tokens_of p)) ≡ true
+apart_by_numbers_too p h = apart_by_numbers (groups_by at_the_start (tokens_of p)) (apart_by_tokens p ∙ h)

@@ -4,7 +4,7 @@ ghost use Rattle.std.specs.Option.{option_or};
 ghost use Rattle.regress_syntax.specs.FirstErrors.{Flaw, unopened, too_deep, is_flaw};
 ghost use Rattle.regress_syntax.specs.Scanning.{mode_of, noted, noted_for, located};
 
-use super::mark::Mode;
+use super::token::Mode;
 use regress_base::types::MAX_NESTING_DEPTH;
 use regress_lexer::fault::{Fault, FaultKind, rejected};
 

@@ -5,7 +5,7 @@ ghost use Rattle.regress_syntax.specs.Scanning.{path_of, highest};
 
 use std::alloc::{AllocError, Global};
 
-/// The initial capacity of a path, in levels: most paths need one allocation.
+/// The initial capacity of a path, in disjunctions: most paths need one allocation.
 const USUAL_DEPTH: usize = 8;
 
 /// A disjunction that contains a position: that of the whole pattern, or that inside a pair of parentheses.
@@ -75,7 +75,7 @@ impl Path {
         self.nesting.len()
     }
 
-    /// Returns a copy of the outermost levels, at most `limit` of them.
+    /// Returns a copy of the outermost disjunctions, at most `limit` of them.
     pub(super) fn outermost(&self, alloc: Global, limit: usize) -> Result<Path, AllocError>
         ensures { length (path_of self.now) ≤ limit → IfOk result (λ copy. path_of copy ≡ path_of self.now) }
     {
@@ -85,8 +85,8 @@ impl Path {
         })
     }
 
-    /// Returns whether some disjunction has the two positions in different alternatives. The first level at which the
-    /// paths differ decides: inside different parentheses, or different alternatives, no disjunction contains both
+    /// Returns whether some disjunction has the two positions in different alternatives. The first disjunction at which
+    /// the paths differ decides: inside different parentheses, or different alternatives, no disjunction contains both
     /// positions.
     pub(super) fn is_alternative_to(&self, other: &Path) -> bool
         ensures { result ≡ are_alternatives (reverse (path_of self.now)) (reverse (path_of other.now)) }

@@ -6,13 +6,13 @@ ghost use Rattle.regress_base.specs.Limits.{max_capture_groups, max_nesting_dept
 ghost use Rattle.regress_lexer.specs.Fault.{FailsBy};
 ghost use Rattle.regress_syntax.specs.Numbering.{names_of};
 ghost use Rattle.regress_syntax.specs.Views.{names_in};
-ghost use Rattle.regress_syntax.specs.Marks.{Mark as Written};
-ghost use Rattle.regress_syntax.specs.Paths.{CaptureAt, NoMarksConflict, conflict, enter};
-ghost use Rattle.regress_syntax.specs.Scan.{named_by, deepest, MarksShow};
-ghost use Rattle.regress_syntax.specs.Scanning.{mark_of, capture_of, bears_name, path_of, position_of, highest_at, open_groups_after_mark, is_before, After, HasNumbers};
+ghost use Rattle.regress_syntax.specs.GroupTokens.{GroupToken as Written};
+ghost use Rattle.regress_syntax.specs.Paths.{CaptureAt, NoTokensConflict, conflict, enter};
+ghost use Rattle.regress_syntax.specs.Scan.{named_by, deepest, TokensShow};
+ghost use Rattle.regress_syntax.specs.Scanning.{token_of, capture_of, bears_name, path_of, position_of, highest_at, open_groups_after_token, is_before, After, HasNumbers};
 
-use super::mark::Mark;
 use super::path::Path;
+use super::token::GroupToken;
 use crate::groups::Groups;
 use crate::names::Name;
 use regress_base::types::MAX_NESTING_DEPTH;
@@ -35,8 +35,8 @@ pub(super) struct Scanner {
     named: Vec<NamedGroup>,
 }
 
-/// A capture group with a name, and the path of its position. The path has at most `MAX_NESTING_DEPTH` levels, so that
-/// the paths of a deeply nested pattern do not take quadratic memory.
+/// A capture group with a name, and the path of its position. The path has at most `MAX_NESTING_DEPTH` disjunctions, so
+/// that the paths of a deeply nested pattern do not take quadratic memory.
 #[derive(PartialEq, Eq, PartialOrd, Ord, Drop)]
 struct NamedGroup {
     name: Name,
@@ -67,24 +67,24 @@ impl Scanner {
     }
 
     /// Moves past a mark. `left` is the number of code points that remain from its first one on.
-    pub(super) fn pass(&mut self, mark: Mark, left: usize) -> Result<(), AllocError>
+    pub(super) fn pass(&mut self, token: GroupToken, left: usize) -> Result<(), AllocError>
         requires { highest_at (position_of self.old) + 1 < 2 ^ 64 }
-        ensures found { (all rest : List Written) → After all (mark_of mark ∷ rest) self.old → OnOk result (After all rest self.new) }
+        ensures found { (all rest : List Written) → After all (token_of token ∷ rest) self.old → OnOk result (After all rest self.new) }
         ensures numbers { OnOk result (highest_at (position_of self.new) ≤ highest_at (position_of self.old) + 1) }
         ensures numbered { HasNumbers self.old → OnOk result (HasNumbers self.new) }
         ensures nesting { 1 ≤ length (path_of self.old.path) →
-            OnOk result (length (path_of self.new.path) ≡ open_groups_after_mark (mark_of mark) (length (path_of self.old.path))) }
+            OnOk result (length (path_of self.new.path) ≡ open_groups_after_token (token_of token) (length (path_of self.old.path))) }
     {
-        match mark {
-            Mark::Opens => self.open()?,
-            Mark::Captures(name) => {
+        match token {
+            GroupToken::Opens => self.open()?,
+            GroupToken::Captures(name) => {
                 // The name follows `(?<`.
                 self.add(name, left.saturating_sub(3))?;
                 self.open()?;
             }
-            Mark::Closes => self.path.leave(),
-            Mark::Next => self.path.next_alternative(),
-            Mark::Nests(nesting) => self.hold(nesting),
+            GroupToken::Closes => self.path.leave(),
+            GroupToken::Next => self.path.next_alternative(),
+            GroupToken::Nests(nesting) => self.hold(nesting),
         }
         Ok(())
     }
@@ -149,9 +149,9 @@ impl Scanner {
         requires { HasNumbers self }
         ensures names { (all : List Written) → After all [] self → IfOk result (λ groups. names_in groups ≡ named_by all) }
         ensures count { IfOk result (λ groups. groups.count ≡ min (length (names_in groups)) max_capture_groups) }
-        ensures apart { (all : List Written) → After all [] self → IfOk result (λ _. NoMarksConflict all) }
+        ensures apart { (all : List Written) → After all [] self → IfOk result (λ _. NoTokensConflict all) }
         ensures nesting { (all : List Written) → After all [] self → IfOk result (λ _. deepest 1 all ≤ max_nesting_depth) }
-        ensures rejected { (all : List Written) → After all [] self → FailsBy result (MarksShow all) }
+        ensures rejected { (all : List Written) → After all [] self → FailsBy result (TokensShow all) }
     {
         let mut named = self.named;
         // The sort is stable: groups of one name stay in the order of their numbers.

@@ -55,7 +55,7 @@ gap_from (iv ∷ ivs) can some =
         let q = canonical_parts (iv.last + 2) next after rest in
         omega (arith, q.above, q.interval.ordered, q.interval.in_range)
 
--- A bracket that is not empty accepts some code point,
+-- A bracket that is not empty accepts some code point.
 pub accepts_some : (invert : Bool) (ivs : List Bounds) → IsCanonical ivs → accepts_none invert ivs ≡ false →
     (c : ℕ) × (c ≤ code_point_max) × (is_accepted invert ivs c ≡ true)
 accepts_some false ivs can some = member_from ivs can some
@@ -63,7 +63,7 @@ accepts_some true ivs can some =
     let gap = gap_from ivs can some in
     (gap.0, gap.1, ap not gap.2)
 
--- and one that is empty accepts none.
+-- An empty bracket accepts no code point.
 pub accepts_nothing : (invert : Bool) (ivs : List Bounds) → IsCanonical ivs → accepts_none invert ivs ≡ true →
     (c : ℕ) → c ≤ code_point_max → is_accepted invert ivs c ≡ false
 accepts_nothing false [] can none c h = is_member-nil c

@@ -1,4 +1,4 @@
--- `Alike` is an equivalence, and a congruence for each operation on steps.
+-- `Alike` is an equivalence, and a congruence for each operation on matchers.
 use Rattle.std.proofs.Common.{◌≡◌, ◌==◌, ℕ, zero, suc, Bool, true, false, not, List, [], ◌∷◌, filter, refl, sym, ap, ◌∙◌}
 use Rattle.regress_tree.specs.Steps.{MatchState, Matcher, Alike, dedup, stay, ◌then_◌, ◌or_◌, capture, captured}
 use Rattle.regress_tree.specs.Lookaround.{looked, lookaround_matcher}
@@ -12,7 +12,7 @@ Alike-refl f = record { same = λ s. refl }
 pub Alike-trans : {f g h : Matcher} → Alike f g → Alike g h → Alike f h
 Alike-trans a b = record { same = λ s. a.same s ∙ b.same s }
 
--- Steps with the same outcomes are alike.
+-- Matchers with the same outcomes are alike.
 pub Alike-from_same : {f g : Matcher} → ((s : MatchState) → f s ≡ g s) → Alike f g
 Alike-from_same same = record { same = λ s. ap dedup (same s) }
 

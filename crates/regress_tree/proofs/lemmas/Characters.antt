@@ -96,7 +96,7 @@ character_at_parts bytes k c e =
     let both = and_parts _ _ (subst (λ x. (scalar x && has_bytes_at bytes k x) ≡ true) found.1 found.0) in
     (both.0, (_, (starts_is Decides-eqb (drop k bytes) (encode_utf8 c) _ refl).0 both.1))
 
--- At the byte offset of a position `character_at` finds the character of the text,
+-- At the byte offset of a position `character_at` finds the character of the text.
 pub character_at-byte_position : (text : List ℕ) → IsText text → (k : ℕ) → k < length text →
     character_at (encode_utf8_all text) (byte_position text k) ≡ Some (slice_index text k)
 character_at-byte_position text is_text k h =
@@ -176,7 +176,7 @@ continuation c n low high =
     (cases_lt c 0x800))
     (cases_lt c 0x80)
 
--- No character begins with a continuation byte,
+-- No character begins with a continuation byte.
 no_continuation : (c : ℕ) → IsScalar c → IsContinuation (slice_index (encode_utf8 c) 0) → ⊥
 no_continuation c s h =
     let start = IsCharBoundary-start (encode_utf8 c) (IsUtf8-encode c s) in
@@ -187,7 +187,7 @@ byte_of : (bytes front rest : List ℕ) (k n : ℕ) → drop k bytes ≡ front +
 byte_of bytes front rest k n e h =
     sym (get_or-drop k bytes n 0) ∙ ap (λ bs. slice_index bs n) e ∙ get_or_append_left front rest 0 n h
 
--- so none begins inside another.
+-- No character begins inside another.
 pub character_at-inside : (bytes : List ℕ) (k c n : ℕ) (rest : List ℕ) → drop k bytes ≡ encode_utf8 c ++ rest → 0 < n → n < len_utf8 c →
     character_at bytes (k + n) ≡ None
 character_at-inside bytes k c n rest here low high =

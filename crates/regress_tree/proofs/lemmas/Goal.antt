@@ -51,14 +51,14 @@ last-inside n (cat parts) e m = m
 last-inside n (alt left right) e m = m
 last-inside n (wrapped w body) e m = m
 
--- The goal is not inside,
+-- The goal is not inside a tree.
 inside-no_goal : (n : ℕ) (t : Tree) → IsAllowed n t inside → is_goal t ≡ false
 inside-no_goal n t m = elim (cases_Bool (is_goal t)) [
   | inl is ↦ absurd (subst (λ (u : Tree). IsAllowed n u inside) (goal-is t is) m)
   | inr is_not ↦ is_not
 ]
 
--- so in a list it is the last part,
+-- In a list the goal is the last part.
 pub goal-last : (n : ℕ) (p : Position) (ts : Trees) → PartsAllowed n ts p → some_part is_goal ts ≡ last_in_list is_goal ts
 goal-last n p no_trees m = refl
 goal-last n p (more_trees t no_trees) m = or-false (is_goal t)
@@ -75,7 +75,7 @@ inside-no_end n (cat parts) m = list-no_goal n parts m.1
 inside-no_end n (alt left right) m = refl
 inside-no_end n (wrapped w body) m = refl
 
--- and a root that does not end in it is allowed inside.
+-- A root that does not end in the goal is allowed inside.
 list-inside : (n : ℕ) (ts : Trees) → last_in_list is_goal ts ≡ false → PartsAllowed n ts last → PartsAllowed n ts inside
 list-inside n no_trees e m = tt
 list-inside n (more_trees t no_trees) e m = last-inside n t e m

@@ -22,14 +22,14 @@ up_to-stay true (suc n) s = ap (λ states. flat_map (up_to true n stay) states +
 up_to-stay false (suc n) s = ap (λ states. s ∷ flat_map (up_to false n stay) states) (moving-stay s)
 
 module _ (bound : ℕ) (q : Quantifier) (start end : ℕ) where
-  -- Iterations without a group inside reset nothing,
+  -- Iterations without a group inside reset nothing.
   pub repeat-groupless : (f : Matcher) → end ≤ start → repeat_matcher bound q start end f ≡ repeat_matcher bound q 0 0 f
   unfolding repeat_matcher
   repeat-groupless f ends =
       ap (λ (g : Matcher). iterations q.min g then_ up_to q.greedy (extra_iterations bound q) g)
       (iteration-none start end ends f ∙ sym (iteration-none 0 0 (le_refl 0) f))
 
-  -- and iterations over the empty text alone change nothing.
+  -- Iterations over the empty text alone change nothing.
   pub repeat-stay : end ≤ start → (s : MatchState) → repeat_matcher bound q start end stay s ≡ stay s
   unfolding repeat_matcher
   repeat-stay ends s =

@@ -24,14 +24,14 @@ module _ (setting : Setting) (bytes : List ℕ) (d : Direction) where
       one_character-agree d bytes _ _ (lists-class_of-scalar table icase unicode c) s
 
 module _ (setting : Setting) (text : List ℕ) (is_text : IsText text) (d : Direction) (table : Table) (icase unicode : Bool) (c : ℕ) where
-  -- Over bytes the class of a literal matches what the literal matches over characters,
+  -- Over bytes the class of a literal matches what the literal matches over characters.
   pub class_simulates : Simulates text d (one_character d (of_characters text) (denotes table icase unicode c))
       (steps setting (encode_utf8_all text) d (leaf (char_set (class_of table icase unicode c))))
   class_simulates =
       Simulates-same_right text d _ _ _ (class_of-steps setting (encode_utf8_all text) d table icase unicode c)
       (Simulates-one_character text is_text d (denotes table icase unicode c))
 
-  -- and so does its single code point, if it has only one.
+  -- The same holds of the code point of a class that has only one.
   pub char_simulates : (x : ℕ) → class_of table icase unicode c ≡ x ∷ [] →
       Simulates text d (one_character d (of_characters text) (denotes table icase unicode c))
       (steps setting (encode_utf8_all text) d (leaf (char x)))

@@ -1,4 +1,4 @@
--- A lower bound for how far matching forwards advances, for each operation on steps.
+-- A lower bound for how far matching forwards advances, for each operation on matchers.
 use Rattle.std.proofs.Common.{ℕ, zero, suc, ◌+◌, ◌*◌, ◌-◌, ◌≤◌, get_or, Bool, true, false, cond, List, [], ◌∷◌, length, flat_map, Option, Some, None, option_map, All, min, arith}
 use Rattle.std.proofs.lemmas.List.Elements.{All-nil, All-cons, All-head, All-tail, All-append, All-filter, All-map, All-weaker}
 use Rattle.std.proofs.lemmas.Str.{len_utf8_bounds}

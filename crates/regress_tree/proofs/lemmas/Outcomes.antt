@@ -1,4 +1,4 @@
--- Outcomes of steps in sequence.
+-- Outcomes of matchers in sequence.
 use Rattle.std.proofs.Common.{◌≡◌, List, [], ◌∷◌, ◌++◌, flat_map, refl, sym, ap, ◌∙◌}
 use Rattle.std.proofs.lemmas.List.Concat.{flat_map-append}
 use Rattle.regress_tree.specs.Steps.{MatchState, Matcher, stay, ◌then_◌}

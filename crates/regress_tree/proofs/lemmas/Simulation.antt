@@ -14,8 +14,8 @@ pub record IsReached (text : List ℕ) (d : Direction) (from to : MatchState) : 
   pub state : IsStateOf text to
   pub onward : IsOnward d from.position to.position
 
--- The step g over the bytes of a text does what f does over its characters, and f stays inside the text and advances in
--- the direction.
+-- The matcher g over the bytes of a text does what f does over its characters, and f stays inside the text and advances
+-- in the direction.
 pub record Simulates (text : List ℕ) (d : Direction) (f g : Matcher) : Type 0 where
   pub same : (s : MatchState) → IsStateOf text s → g (byte_state text s) ≡ map (byte_state text) (f s)
   pub reached : (s : MatchState) → IsStateOf text s → All (IsReached text d s) (f s)
@@ -32,7 +32,7 @@ module _ (text : List ℕ) (d : Direction) where
   pub Simulates-within : (f g : Matcher) → Simulates text d f g → (s : MatchState) → IsStateOf text s → All (IsStateOf text) (f s)
   Simulates-within f g sim s in' = All-weaker (IsReached text d s) (IsStateOf text) (λ t r. r.state) (f s) (sim.reached s in')
 
-  -- A step that is equal at each state simulates too.
+  -- A matcher that is equal at each state simulates too.
   pub Simulates-same_right : (f g h : Matcher) → ((s : MatchState) → h s ≡ g s) → Simulates text d f g → Simulates text d f h
   Simulates-same_right f g h e sim = record {
     same = λ s in'. e (byte_state text s) ∙ sim.same s in';
@@ -58,7 +58,7 @@ module _ (text : List ℕ) (d : Direction) where
       (flat_map-byte_state f g sim states (All-tail (IsStateOf text) s states all))
       ∙ sym (map-append (byte_state text) (f s) (flat_map f states))
 
-  -- The outcomes of a step from reached states are reached.
+  -- The outcomes of a matcher from reached states are reached.
   flat_map-reached : (f g : Matcher) → Simulates text d f g → (from : MatchState) (states : List MatchState) → All (IsReached text d from) states →
       All (IsReached text d from) (flat_map f states)
   flat_map-reached f g sim from [] all = All-nil (IsReached text d from)

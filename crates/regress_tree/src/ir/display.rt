@@ -17,6 +17,7 @@ use std::fmt::{Formatter, Write};
 /// The greatest depth that is printed as dots. For a deeper node the excess is printed as a number.
 const MAX_DEPTH_DOTS: usize = 120;
 
+/// Writes the lines of the tree, as `Display` of its root does. The flags are not written.
 impl fmt::Display for Regex {
     ghost use Rattle.std.specs.Prelude.{Some};
     ghost use Rattle.regress_tree.specs.Tree.{tree};

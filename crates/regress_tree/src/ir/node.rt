@@ -30,6 +30,7 @@ pub enum Node {
     /// Matches the character `c` itself, without folding. If `c` is a surrogate or greater than U+10FFFF, it never
     /// matches.
     Char {
+        /// The code point.
         c: u32,
     },
     /// Matches exactly these bytes, which are the UTF-8 of whole characters, in the order of the text also inside a
@@ -52,22 +53,29 @@ pub enum Node {
     /// Matches the empty text at the start or at the end of the text; with `multiline` also after (`StartOfLine`) or
     /// before (`EndOfLine`) a line terminator. ECMA-262, CompileAssertion, `^` and `$`.
     Anchor {
+        /// Whether it is `^` or `$`.
         anchor_type: AnchorType,
+        /// Whether it also matches at line terminators: the flag m.
         multiline: bool,
     },
     /// Matches the empty text at a position with a word character on exactly one side; with `invert`, on both sides or
     /// on neither. With `unicode_icase` a character whose canonical form is that of a word character is a word
     /// character too. ECMA-262, CompileAssertion, `\b` and `\B`, and WordCharacters.
     WordBoundary {
+        /// Whether it is `\B`.
         invert: bool,
+        /// Whether the flags i and u are set.
         unicode_icase: bool,
     },
     /// A capture group: matches its contents and sets the capture `id`, 0-based, to the span that they matched, with
     /// the smaller byte offset first in both directions. A name is not empty, and several groups in different
     /// alternatives may have the same name.
     CaptureGroup {
+        /// The id of the group, from 0: one less than its number.
         id: CaptureGroupID,
+        /// What the group contains.
         contents: Box<Node>,
+        /// The name of the group, if it has one.
         name: Option<CaptureGroupName>,
     },
     /// Matches one character that the bracket accepts: one in its intervals, or with `invert` one outside of them.
@@ -81,14 +89,19 @@ pub enum Node {
     ///   iteration, with the captures from before it.
     Loop {
         // The first field, since it fits beside the discriminant.
+        /// The half-open range of the ids of the groups inside the body.
         enclosed_groups: Range<u16>,
+        /// The body.
         loopee: Box<Node>,
+        /// The number of iterations that are allowed, and their order of preference.
         quant: Quantifier,
     },
     /// A loop whose body contains no group, and takes exactly one character or fails. The body may be a `Char` of a
     /// surrogate, which never matches.
     Loop1CharBody {
+        /// The body, which takes one character.
         loopee: Box<Node>,
+        /// The number of iterations that are allowed, and their order of preference.
         quant: Quantifier,
     },
     /// A lookaround: matches the empty text at a position from which its contents match; with `negate`, from which they
@@ -97,24 +110,33 @@ pub enum Node {
     /// groups inside, and there is no backtracking into a lookaround. A negated one sets none. The ids of the groups
     /// inside are exactly those of the half-open range from `start_group` to `end_group`. ECMA-262, CompileAssertion.
     LookaroundAssertion {
+        /// Whether it is negated: `(?!..)` or `(?<!..)`.
         negate: bool,
+        /// Whether it is a lookbehind: `(?<=..)` or `(?<!..)`.
         backwards: bool,
+        /// The least id of the groups inside.
         start_group: CaptureGroupID,
+        /// One more than the greatest of these ids; `start_group` if there is none.
         end_group: CaptureGroupID,
+        /// What is looked for.
         contents: Box<Node>,
     },
     /// A back reference: matches the text of a capture once more, character by character. A back reference to an unset
     /// group matches the empty text. `group` is 1-based: group 1 is the one with id 0. With `icase` two characters are
     /// equal if they have the same canonical form. ECMA-262, BackreferenceMatcher.
     BackRef {
+        /// The number of the group, from 1.
         group: u32,
+        /// Whether case is ignored: the flag i.
         icase: bool,
     },
     /// Matches one of these strings of code points, tried in the order of the list; each is stored in the order of the
     /// text, also inside a lookbehind. With `icase` two characters are equal if they have the same canonical form. An
     /// empty string matches the empty text, and an empty set never matches.
     StringSet {
+        /// The strings, in the order in which they are tried.
         alternatives: Vec<BoxedSlice<u32>>,
+        /// Whether case is ignored: the flag i.
         icase: bool,
     },
 }
@@ -179,6 +201,8 @@ pub type NodeList = Vec<Node>;
 /// A parsed pattern: its tree and its flags.
 #[derive(Debug, Drop)]
 pub struct Regex {
+    /// The root of the tree.
     pub node: Node,
+    /// The flags of the pattern.
     pub flags: Flags,
 }

@@ -14,7 +14,7 @@ use regress_front::unicode::{
     FoldRange, Tables, add_icase_code_points, expand_code_point, fold, unfold_char, uppercase,
 };
 use regress_front::util::code_points;
-use regress_match::{Matches, Outcome, find, match_at};
+use regress_match::{Match, Matches, Outcome, find, find_all, for_each_match, match_at};
 use regress_ucd::unicode_tables;
 use std::alloc::AllocError;
 use std::test::Fail;
@@ -424,7 +424,7 @@ fn the_leftmost_match_is_found(rt: HostRuntime) -> Result<(), Fail> {
 }
 
 #[test]
-fn all_matches_are_found(rt: HostRuntime) -> Result<(), Fail> {
+fn one_match_after_another_is_found(rt: HostRuntime) -> Result<(), Fail> {
     let alloc = rt.alloc();
     let tables = Tables::small(alloc)?;
     let points = code_points(alloc, "a+")?;
@@ -437,5 +437,44 @@ fn all_matches_are_found(rt: HostRuntime) -> Result<(), Fail> {
         }
     }
     assert_eq!(rt; ends.as_slice(), [2, 5].as_slice());
+    Ok(())
+}
+
+#[test]
+fn all_matches_are_listed(rt: HostRuntime) -> Result<(), Fail> {
+    let alloc = rt.alloc();
+    let tables = Tables::small(alloc)?;
+    let points = code_points(alloc, "a+")?;
+    let regex = try_parse(alloc, &points, Flags::default(), &tables)?;
+    let mut ends = Vec::new(alloc);
+    match find_all(alloc, &regex, &tables, "aabxa", 1000)? {
+        Some(all) => {
+            for found in &all {
+                ends.push(found.end())?;
+            }
+        }
+        None => assert!(rt; false, "it takes few steps"),
+    }
+    assert_eq!(rt; ends.as_slice(), [2, 5].as_slice());
+    Ok(())
+}
+
+#[test]
+fn a_closure_is_called_on_each_match(rt: HostRuntime) -> Result<(), Fail> {
+    let alloc = rt.alloc();
+    let tables = Tables::small(alloc)?;
+    let points = code_points(alloc, "a+")?;
+    let regex = try_parse(alloc, &points, Flags::default(), &tables)?;
+    let mut count = 0_usize;
+    let all = for_each_match(
+        alloc,
+        &regex,
+        &tables,
+        "aabxa",
+        1000,
+        &mut |_found: &Match| count = count.wrapping_add(1),
+    )?;
+    assert!(rt; all);
+    assert_eq!(rt; count, 2);
     Ok(())
 }

@@ -5,17 +5,17 @@ use Rattle.regress_literal.specs.Literal.{piece, piece_of, bytes_piece, is_chara
 use Rattle.regress_base.specs.Table.{Table}
 use Rattle.regress_unicode.specs.TableOf.{table_of}
 use Rattle.regress_tree.specs.Tree.{Leaf}
-use Rattle.regress_literal.proofs.LoweringLemmas.{AreMatches, step_character, step_piece, class-some, lowered-mean, lowered-apart}
+use Rattle.regress_literal.proofs.LoweringLemmas.{ArePieces, step_character, step_piece, class-some, lowered-mean, lowered-apart}
 use Rattle.regress_literal.proofs.literal.lower_code_point_sequence.Goals as goal
 use Rattle.regress_literal.proofs.literal.lower_code_point_sequence.Goals.{in-Some+in_ok-push-in-Some, in-None+in_ok-push_text-in-None+in_ok-piece_of-in-None+in_ok-push-in-None}
 
 -- the pieces found, by equal values
 found_as : (table : Table) (icase unicode : Bool) (cps : List ℕ) (i : ℕ) (found found' : List Leaf) (written written' : List ℕ) →
-    found ≡ found' → written ≡ written' → AreMatches table icase unicode found' written' cps i →
-    AreMatches table icase unicode found written cps i
+    found ≡ found' → written ≡ written' → ArePieces table icase unicode found' written' cps i →
+    ArePieces table icase unicode found written cps i
 found_as table icase unicode cps i found found' written written' e f are =
-    subst (λ leaves. AreMatches table icase unicode leaves written cps i) (sym e)
-    (subst (λ bytes. AreMatches table icase unicode found' bytes cps i) (sym f) are)
+    subst (λ leaves. ArePieces table icase unicode leaves written cps i) (sym e)
+    (subst (λ bytes. ArePieces table icase unicode found' bytes cps i) (sym f) are)
 
 pub loop-c-init : goal.loop-c-init
 loop-c-init c =

@@ -11,19 +11,19 @@ use Rattle.regress_match.proofs.CaptureLemmas.{Later-refl, undone-nil, undone-al
 use Rattle.regress_match.proofs.RunLemmas.{begins, goes_on_with, ends_at, look_holds, look_fails, looks_first, looks_none, rewound, rewound_trail}
 use Rattle.regress_match.proofs.run.+run.Goals as goal
 
-pub look-returns-then-cannot_match_at-clause-looks : goal.look-returns-then-cannot_match_at-clause-looks
-look-returns-then-cannot_match_at-clause-looks t c =
+pub lookaround_matcher-returns-then-cannot_match_at-clause-looks : goal.lookaround_matcher-returns-then-cannot_match_at-clause-looks
+lookaround_matcher-returns-then-cannot_match_at-clause-looks t c =
     let l = c.args.looking in
     let body = steps (record { flags = c.args.rules.flags; table = table_of c.args.rules.known.tables.now }) c.args.text.now (direction_if l.backwards)
     (tree l.body.now) in
     looks_none l.negate body c.args.captures.now c.args.captures.now l.position c.holds_if.result
     (c.cannot_match_at.ensures c.if-cannot_match_at.true (state c.args.captures.now l.position) refl) refl c.holds_if.ensures
 
-pub look-returns-then-cannot_match_at-clause-later : goal.look-returns-then-cannot_match_at-clause-later
-look-returns-then-cannot_match_at-clause-later t c = Later-refl c.args.captures.now
+pub lookaround_matcher-returns-then-cannot_match_at-clause-later : goal.lookaround_matcher-returns-then-cannot_match_at-clause-later
+lookaround_matcher-returns-then-cannot_match_at-clause-later t c = Later-refl c.args.captures.now
 
-pub look-returns-in-At-clause-looks : goal.look-returns-in-At-clause-looks
-look-returns-in-At-clause-looks t c =
+pub lookaround_matcher-returns-in-At-clause-looks : goal.lookaround_matcher-returns-in-At-clause-looks
+lookaround_matcher-returns-in-At-clause-looks t c =
     let l = c.args.looking in
     let body = steps (record { flags = c.args.rules.flags; table = table_of c.args.rules.known.tables.now }) c.args.text.now (direction_if l.backwards)
     (tree l.body.now) in
@@ -31,8 +31,8 @@ look-returns-in-At-clause-looks t c =
     let found : (rest : List MatchState) × (body s ≡ state c.run.new.captures c.in-At.field-0 ∷ rest) = rw c.in-At.is at c.in_ok-response.ensures.yields in
     looks_first l.negate body c.args.captures.now c.run.new.captures l.position c.in-At.field-0 c.holds_if-in-At.result found.0 found.1 c.holds_if-in-At.ensures
 
-pub look-returns-clause-looks : goal.look-returns-clause-looks
-look-returns-clause-looks t c =
+pub lookaround_matcher-returns-clause-looks : goal.lookaround_matcher-returns-clause-looks
+lookaround_matcher-returns-clause-looks t c =
     let l = c.args.looking in
     let body = steps (record { flags = c.args.rules.flags; table = table_of c.args.rules.known.tables.now }) c.args.text.now (direction_if l.backwards)
     (tree l.body.now) in
@@ -47,8 +47,8 @@ look-returns-clause-looks t c =
     let none : body s ≡ [] = rw c.in-Nowhere.is at c.in_ok-response.ensures.yields in
     looks_none l.negate body c.args.captures.now c.rewind.new.self l.position c.holds_if-in-Nowhere.result none spans c.holds_if-in-Nowhere.ensures
 
-pub look-returns-clause-later : goal.look-returns-clause-later
-look-returns-clause-later t c =
+pub lookaround_matcher-returns-clause-later : goal.lookaround_matcher-returns-clause-later
+lookaround_matcher-returns-clause-later t c =
     let before = c.args.captures.now.trail.items in
     let since = c.run.new.captures.trail.items in
     let split : c.append.new.self.items ≡ before ++ since = search rules in
@@ -160,10 +160,10 @@ settle-returns-in-Back-clause-later t c = Later-refl c.args.captures.now
 
 pub settle-returns-in-Holds-clause-settles : goal.settle-returns-in-Holds-clause-settles
 settle-returns-in-Holds-clause-settles t c = λ outcomes m goes.
-    look_holds (subject c.args.rules c.args.text.now) outcomes m c.args.captures.now c.look.new.captures c.in-Look.looking (rw c.in-Look.is at goes)
-    c.in_ok-look-in-Look.ensures.later (rw c.in-Holds.is at c.in_ok-look-in-Look.ensures.looks)
+    look_holds (subject c.args.rules c.args.text.now) outcomes m c.args.captures.now c.lookaround_matcher.new.captures c.in-Look.looking (rw c.in-Look.is at goes)
+    c.in_ok-lookaround_matcher-in-Look.ensures.later (rw c.in-Holds.is at c.in_ok-lookaround_matcher-in-Look.ensures.looks)
 
 pub settle-returns-in-Fails-clause-settles : goal.settle-returns-in-Fails-clause-settles
 settle-returns-in-Fails-clause-settles t c = λ outcomes m goes.
-    look_fails (subject c.args.rules c.args.text.now) outcomes m c.args.captures.now c.look.new.captures c.in-Look.looking (rw c.in-Look.is at goes)
-    c.in_ok-look-in-Look.ensures.later (rw c.in-Fails.is at c.in_ok-look-in-Look.ensures.looks)
+    look_fails (subject c.args.rules c.args.text.now) outcomes m c.args.captures.now c.lookaround_matcher.new.captures c.in-Look.looking (rw c.in-Look.is at goes)
+    c.in_ok-lookaround_matcher-in-Look.ensures.later (rw c.in-Fails.is at c.in_ok-lookaround_matcher-in-Look.ensures.looks)

@@ -13,8 +13,8 @@ decreases-run l = 3 * l.budget.now
 abbrev pub decreases-settle : goal.decreases-settle
 decreases-settle l = 3 * l.budget.now + 2
 
-abbrev pub decreases-look : goal.decreases-look
-decreases-look l = 3 * l.budget.now + 1
+abbrev pub decreases-lookaround_matcher : goal.decreases-lookaround_matcher
+decreases-lookaround_matcher l = 3 * l.budget.now + 1
 
 abbrev pub invariant-run-loop-budget : goal.invariant-run-loop-budget
 invariant-run-loop-budget l =

@@ -5,7 +5,7 @@ use Rattle.regress_tree.specs.Reading.{Direction, forwards, backwards}
 use Rattle.regress_tree.specs.Tree.{Trees, reverse_trees, trees}
 use Rattle.regress_tree.proofs.lemmas.Reversed.{trees-reversed}
 use Rattle.regress_normalize.specs.Packed.{Packs, IsPacked}
-use Rattle.regress_tree.proofs.lemmas.Turned.{reverse_trees-twice}
+use Rattle.regress_tree.proofs.lemmas.ReversedParts.{reverse_trees-twice}
 use Rattle.regress_normalize.proofs.PackedLemmas.{IsPacked-turned}
 use Rattle.regress_normalize.proofs.CatLemmas.{on_ok_map}
 use Rattle.regress_normalize.proofs.cat.pack_in_order.Goals as goal

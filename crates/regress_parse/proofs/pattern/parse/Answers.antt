@@ -13,8 +13,8 @@ use Rattle.regress_lexer.proofs.lemmas.Sources.{on_kind_then}
 use Rattle.regress_parse.specs.Parsing.{YieldsWhole}
 use Rattle.regress_parse.specs.TreeOf.{tree_of, tree_of_pattern}
 use Rattle.regress_parse.specs.Accepted.{Means}
-use Rattle.regress_parse.proofs.AcceptedLemmas.{found_names, scanned, most, scanned-is, names_found, derived_reads, same_derived, marks-say, reading-says, marks-apart, fit-limits}
-use Rattle.regress_parse.proofs.ReachLemmas.{whole_exceeds, marks_exceed}
+use Rattle.regress_parse.proofs.AcceptedLemmas.{found_names, scanned, most, scanned-is, names_found, derived_reads, same_derived, tokens-say, reading-says, tokens-apart, fit-limits}
+use Rattle.regress_parse.proofs.ReachLemmas.{whole_exceeds, tokens_exceed}
 use Rattle.regress_parse.proofs.GrammarLemmas.{pattern_at-sound}
 use Rattle.regress_parse.proofs.MeaningLemmas.{tree_of-means}
 use Rattle.regress_parse.proofs.SettledLemmas.{settled}
@@ -25,7 +25,7 @@ pub returns-in_err-found-clause-reported : goal.returns-in_err-found-clause-repo
 returns-in_err-found-clause-reported c =
     let p = err_from_is_err_and c.from_residual.result c.from_residual.ensures.1 in
     rw (p.1, p.2) (on_kind_then c.in_err-found.field-0.0
-    (λ kind shown p h. inl (marks-say (setting_of c.args.flags c.args.tables.now) c.args.pattern.now c.in_err-found.ensures.whole kind shown p h))
+    (λ kind shown p h. inl (tokens-say (setting_of c.args.flags c.args.tables.now) c.args.pattern.now c.in_err-found.ensures.whole kind shown p h))
     c.in_err-found.ensures.rejected)
 
 pub returns-in_err-found-clause-settled : goal.returns-in_err-found-clause-settled
@@ -59,7 +59,7 @@ pub returns-in_err-found-clause-limits : goal.returns-in_err-found-clause-limits
 returns-in_err-found-clause-limits c =
     let p = err_from_is_err_and c.from_residual.result c.from_residual.ensures.1 in
     rw (p.1, p.2) (on_kind_then c.in_err-found.field-0.0
-    (marks_exceed c.args.flags.unicode_sets (table_of c.args.tables.now) c.args.pattern.now) c.in_err-found.ensures.rejected)
+    (tokens_exceed c.args.flags.unicode_sets (table_of c.args.tables.now) c.args.pattern.now) c.in_err-found.ensures.rejected)
 
 pub returns-in_err-body-clause-limits : goal.returns-in_err-body-clause-limits
 returns-in_err-body-clause-limits c =
@@ -91,7 +91,7 @@ returns-clause-accepted c =
       record {
         derived = derived;
         limits = fit-limits setting (found_names setting t found.whole) p read.2;
-        names = marks-apart setting t found.whole p found.apart derived;
+        names = tokens-apart setting t found.whole p found.apart derived;
       },
       tree-Cat c.in_ok-parts.parts
           ∙ ap (λ nodes. cat (trees nodes)) c.in_ok-parts.ensures.items

@@ -6,7 +6,7 @@ use Rattle.regress_tree.specs.declared.ir.node.Node.{the_lemmas}
 use Rattle.regress_tree.proofs.lemmas.Nesting.{alt_of}
 use Rattle.regress_tree.proofs.lemmas.Nodes.{tree-Cat, tree-CaptureGroup, tree-LookaroundAssertion}
 use Rattle.regress_tree.proofs.lemmas.Lists.{trees-append}
-use Rattle.regress_prefilter.specs.Fronts.{IsFirstSet}
+use Rattle.regress_prefilter.specs.FirstSets.{IsFirstSet}
 use Rattle.regress_prefilter.proofs.FirstSetLemmas.{IsSpine, spine-start, spine-next, spine-last, list-next, list-rest, if-some, front-capture, front-look}
 use Rattle.regress_prefilter.proofs.first_sets.+first_set_of.Goals as goal
 

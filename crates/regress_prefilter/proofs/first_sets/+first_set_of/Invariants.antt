@@ -1,8 +1,8 @@
--- The alternatives or parts so far have the front, and the remaining ones follow.
+-- The alternatives or parts so far have this first set, and the remaining ones follow.
 use Rattle.std.proofs.Common.{◌≤◌, take}
 use Rattle.regress_tree.specs.Tree.{tree, trees, cat}
 use Rattle.regress_tree.specs.declared.ir.node.Node.{size-Node}
-use Rattle.regress_prefilter.specs.Fronts.{IsFirstSet}
+use Rattle.regress_prefilter.specs.FirstSets.{IsFirstSet}
 use Rattle.regress_prefilter.proofs.FirstSetLemmas.{IsSpine}
 use Rattle.regress_prefilter.proofs.first_sets.+first_set_of.Given as goal
 

@@ -1,6 +1,6 @@
 use Rattle.std.proofs.Common.{rules, ◌<◌, ⊎_elim, inr, length, subst}
 use Rattle.regress_base.specs.ByteBitmap.{contains}
-use Rattle.regress_prefilter.specs.Fronts.{IsCovered}
+use Rattle.regress_prefilter.specs.FirstSets.{IsCovered}
 use Rattle.regress_prefilter.proofs.FirstSetLemmas.{remaining_list, covered_kept}
 use Rattle.regress_prefilter.proofs.first_sets.add_bytes.Goals as goal
 

@@ -2,7 +2,7 @@
 use Rattle.std.proofs.Common.{◌≡◌, ◌⊎◌, ℕ, true, drop}
 use Rattle.regress_base.specs.ByteBitmap.{contains}
 use Rattle.regress_base.specs.Listing.{lists}
-use Rattle.regress_prefilter.specs.Fronts.{IsCovered}
+use Rattle.regress_prefilter.specs.FirstSets.{IsCovered}
 use Rattle.regress_prefilter.proofs.first_sets.add_bytes.Given as goal
 
 abbrev pub invariant-loop-b : goal.invariant-loop-b

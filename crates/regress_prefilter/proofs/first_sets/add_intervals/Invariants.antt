@@ -2,7 +2,7 @@
 use Rattle.std.proofs.Common.{◌≡◌, ◌⊎◌, ℕ, true, drop}
 use Rattle.regress_base.specs.ByteBitmap.{contains}
 use Rattle.regress_base.specs.Intervals.{is_member}
-use Rattle.regress_prefilter.specs.Fronts.{IsCovered}
+use Rattle.regress_prefilter.specs.FirstSets.{IsCovered}
 use Rattle.regress_prefilter.proofs.first_sets.add_intervals.Given as goal
 
 abbrev pub invariant-loop-interval : goal.invariant-loop-interval

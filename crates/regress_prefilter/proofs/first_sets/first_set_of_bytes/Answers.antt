@@ -4,7 +4,7 @@ use Rattle.std.proofs.lemmas.Bool.{eq-eqb}
 use Rattle.regress_base.specs.ByteBitmap.{contains}
 use Rattle.regress_tree.specs.Reading.{forwards}
 use Rattle.regress_tree.specs.Steps.{these_bytes}
-use Rattle.regress_prefilter.specs.Fronts.{Begins}
+use Rattle.regress_prefilter.specs.FirstSets.{Begins}
 use Rattle.regress_prefilter.proofs.FirstSetLemmas.{begins-bytes, or-one}
 use Rattle.regress_prefilter.proofs.first_sets.first_set_of_bytes.Goals as goal
 

@@ -4,7 +4,7 @@ use Rattle.regress_base.specs.ByteBitmap.{contains}
 use Rattle.regress_tree.specs.Tree.{Tree, tree, leaf, byte_sequence}
 use Rattle.regress_tree.specs.declared.ir.node.Node.{the_lemmas}
 use Rattle.regress_tree.proofs.lemmas.Nodes.{tree-ByteSequence}
-use Rattle.regress_prefilter.specs.Fronts.{IsFirstSet}
+use Rattle.regress_prefilter.specs.FirstSets.{IsFirstSet}
 use Rattle.regress_prefilter.proofs.FirstSetLemmas.{front-one, front-still, is_still}
 use Rattle.regress_prefilter.proofs.first_sets.first_set_of_leaf.Goals as goal
 

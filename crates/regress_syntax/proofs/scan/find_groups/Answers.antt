@@ -3,14 +3,14 @@ use Rattle.std.specs.Option.{option_map, option_or}
 use Rattle.regress_unicode.specs.TableOf.{table_of}
 use Rattle.regress_base.specs.Table.{Table}
 use Rattle.regress_lexer.specs.Source.{Source}
-use Rattle.regress_syntax.specs.Scan.{Mode, plain, marks, MarksShow}
+use Rattle.regress_syntax.specs.Scan.{Mode, plain, tokens, TokensShow}
 use Rattle.regress_syntax.specs.FirstErrors.{Flaw, remaining_at, open_groups_after}
 use Rattle.regress_syntax.specs.declared.scan.first_errors.FirstErrors.{FirstErrors}
 use Rattle.regress_syntax.specs.declared.scan.scanner.Scanner.{Scanner}
-use Rattle.regress_syntax.specs.Scanning.{mode_of, mark_of, position_of, path_of, highest_at, noted, NotesFirst, After}
-use Rattle.regress_syntax.proofs.FirstErrorsLemmas.{noted_after, all_noted, nesting_at_mark, nesting_at_none}
+use Rattle.regress_syntax.specs.Scanning.{mode_of, token_of, position_of, path_of, highest_at, noted, NotesFirst, After}
+use Rattle.regress_syntax.proofs.FirstErrorsLemmas.{noted_after, all_noted, nesting_at_token, nesting_at_none}
 use Rattle.regress_syntax.proofs.lemmas.FirstErrors.{located-kind, located-is}
-use Rattle.regress_syntax.proofs.ScannerLemmas.{depth-mode_after, at_mark, at_no_mark, all_passed}
+use Rattle.regress_syntax.proofs.ScannerLemmas.{depth-mode_after, at_token, at_no_token, all_passed}
 use Rattle.regress_syntax.proofs.scan.find_groups.Goals as goal
 use Rattle.regress_syntax.proofs.scan.find_groups.Goals.{in-Some-2+in_ok-pass, in_default-2}
 
@@ -26,8 +26,8 @@ loop-c-init c = record {
 pub loop-c-preserved : goal.loop-c-preserved
 loop-c-preserved c =
     let table = table_of c.args.tables.now in
-    let all = marks c.args.sets table plain c.args.pattern.now in
-    let found : After all (marks c.args.sets table (mode_of c.loop-c.mode) c.skip_insignificant.result.now) c.loop-c.scanner =
+    let all = tokens c.args.sets table plain c.args.pattern.now in
+    let found : After all (tokens c.args.sets table (mode_of c.loop-c.mode) c.skip_insignificant.result.now) c.loop-c.scanner =
     subst (λ ms. After all ms c.loop-c.scanner) (c.skip_insignificant.ensures.same c.args.sets table c.loop-c.mode) c.loop-c.invariant.found in
     let number : highest_at (position_of c.match-branch-3.scanner) ≤ highest_at (position_of c.loop-c.scanner) + 1 = elim c.match-branch-3.branch [
       | in-Some-2+in_ok-pass w ↦ rw w.scanner-is w.in_ok-pass.ensures.numbers
@@ -38,23 +38,23 @@ loop-c-preserved c =
       | in-Some-2+in_ok-pass w ↦
           rw w.scanner-is
           (w.in_ok-pass.ensures.nesting c.loop-c.invariant.found.some
-          ∙ nesting_at_mark c.args.sets table (mode_of c.loop-c.mode) _ _ _ (mark_of w.in-Some-2.mark)
-          (sym c.in_ok-mark.ensures ∙ ap (option_map mark_of) w.in-Some-2.is))
+          ∙ nesting_at_token c.args.sets table (mode_of c.loop-c.mode) _ _ _ (token_of w.in-Some-2.token)
+          (sym c.in_ok-token.ensures ∙ ap (option_map token_of) w.in-Some-2.is))
       | in_default-2 w ↦
           rw w.scanner-is
           (nesting_at_none c.args.sets table (mode_of c.loop-c.mode) _ _ _
-          (sym c.in_ok-mark.ensures ∙ ap (option_map mark_of) w.in_default-2.is))
+          (sym c.in_ok-token.ensures ∙ ap (option_map token_of) w.in_default-2.is))
     ] in
     rw c.after-mode.ensures (record {
       found = elim c.match-branch-3.branch [
         | in-Some-2+in_ok-pass w ↦
             rw w.scanner-is (w.in_ok-pass.ensures.found _ _
-            (at_mark c.args.sets table (mode_of c.loop-c.mode) _ _ _ all (mark_of w.in-Some-2.mark) c.loop-c.scanner c.in-Some.ensures.cases.0
-            (sym c.in_ok-mark.ensures ∙ ap (option_map mark_of) w.in-Some-2.is) found))
+            (at_token c.args.sets table (mode_of c.loop-c.mode) _ _ _ all (token_of w.in-Some-2.token) c.loop-c.scanner c.in-Some.ensures.cases.0
+            (sym c.in_ok-token.ensures ∙ ap (option_map token_of) w.in-Some-2.is) found))
         | in_default-2 w ↦
             rw w.scanner-is
-            (at_no_mark c.args.sets table (mode_of c.loop-c.mode) _ _ _ all c.loop-c.scanner c.in-Some.ensures.cases.0
-            (sym c.in_ok-mark.ensures ∙ ap (option_map mark_of) w.in_default-2.is) found)
+            (at_no_token c.args.sets table (mode_of c.loop-c.mode) _ _ _ all c.loop-c.scanner c.in-Some.ensures.cases.0
+            (sym c.in_ok-token.ensures ∙ ap (option_map token_of) w.in_default-2.is) found)
       ];
       flaws = λ flaw.
           noted_after flaw c.args.sets (mode_of c.loop-c.mode) (length (path_of c.loop-c.scanner.path)) _ c.in-Some.c.now _ _ _ _
@@ -69,12 +69,12 @@ loop-c-preserved c =
       depth = omega (arith, depth-mode_after c.args.sets (mode_of c.loop-c.mode) c.in-Some.c.now, ap length c.in-Some.ensures.cases.0);
     })
 
--- At the end of the source all marks are passed, and the first misplaced code point of each kind is noted.
+-- At the end of the source all marks are passed, and the first error of each kind is noted.
 module _ (sets : Bool) (table : Table) (mode : Mode) (t rest here : Source) (empty : length here ≡ 0) where
-  passed : (scanner : Scanner) → marks sets table mode rest ≡ marks sets table mode here →
-      After (marks sets table plain t) (marks sets table mode rest) scanner → After (marks sets table plain t) [] scanner
+  passed : (scanner : Scanner) → tokens sets table mode rest ≡ tokens sets table mode here →
+      After (tokens sets table plain t) (tokens sets table mode rest) scanner → After (tokens sets table plain t) [] scanner
   passed scanner same after =
-      let all = marks sets table plain t in
+      let all = tokens sets table plain t in
       all_passed sets table mode here all scanner empty (subst (λ ms. After all ms scanner) same after)
 
   found : (n : ℕ) (first_errors : FirstErrors) → ((flaw : Flaw) → remaining_at flaw sets mode n rest ≡ remaining_at flaw sets mode n here) →
@@ -110,7 +110,7 @@ returns-in-Ok-clause-first_errors c =
 pub returns-in-Err-clause-rejected : goal.returns-in-Err-clause-rejected
 returns-in-Err-clause-rejected c =
     rw c.locate.ensures
-    (located-kind c.loop-c.first_errors c.in-Err.fault (MarksShow (marks c.args.sets (table_of c.args.tables.now) plain c.args.pattern.now))
+    (located-kind c.loop-c.first_errors c.in-Err.fault (TokensShow (tokens c.args.sets (table_of c.args.tables.now) plain c.args.pattern.now))
     (c.in-Err.ensures.rejected _
     (passed c.args.sets (table_of c.args.tables.now) (mode_of c.loop-c.mode) c.args.pattern.now c.loop-c.rest.now c.skip_insignificant.result.now
     c.in_default.ensures.cases c.loop-c.scanner (c.skip_insignificant.ensures.same _ _ c.loop-c.mode) c.loop-c.invariant.found)))

@@ -14,7 +14,7 @@ use Rattle.regress_lexer.proofs.lemmas.Faults.{fails_then, by_nesting_then}
 use Rattle.regress_syntax.proofs.lemmas.Productions.{head_at-shortens}
 use Rattle.regress_syntax.proofs.lemmas.Lengths.{opened_by-one}
 use Rattle.regress_parse.proofs.ReachLemmas.{no_limit, nesting_reach, groups_reach, reaches_before, spends_same, spends_then, spends_read, costs_spends, terms_at-costs, item_at-costs, term_at-costs}
-use Rattle.regress_parse.specs.TreeOf.{joined}
+use Rattle.regress_parse.specs.TreeOf.{concatenation}
 use Rattle.regress_parse.specs.Reader.{Term, item_after_head, pattern_at, terms_at, term_at, item_at, with_quantifier}
 use Rattle.regress_parse.specs.Parsing.{text, counted, context_in, table_in, names_in_context, direction_of, terms_part, term_part, item_part, atom_at, ReadsAtom, Yields, Reaches, CountsAtMostConsumed}
 use Rattle.regress_parse.proofs.CountLemmas.{added-nothing}
@@ -187,7 +187,7 @@ consume_terms-returns-clause-value t c =
     let end = terms-end _ _ _ _ _ _ _ (text l.self) (counted l.self) l.parts.items h
     (sym c.ends_alternative.ensures ∙ c.loop-self-test.false) in
     rw end (record {
-      node = c.make_cat.ensures ∙ ap (joined (direction_of c.args.around.now)) h.nodes;
+      node = c.make_cat.ensures ∙ ap (concatenation (direction_of c.args.around.now)) h.nodes;
       fits = h.fits;
       counts = h.counts;
       rest = refl;
