@@ -1,3 +1,4 @@
 pub mod LineLemmas
 pub mod SearchingLemmas
 pub mod FoundLemmas
+pub mod EndingLemmas

@@ -11,7 +11,7 @@ use Rattle.regress_match.specs.Matched.{Finds, outcomes_at}
 use Rattle.regress_match.specs.Searched.{AreMatches, next_from, searched_outcomes, searched_text}
 use Rattle.regress_match.specs.declared.matching.Match.{Match}
 use Rattle.regress_match.specs.declared.matching.Outcome.TheVariants as outcomes
-use Rattle.regress_match.specs.declared.search.Matches.{Matches}
+use Rattle.regress_match.specs.declared.search.Matches as search
 use Rattle.regex_match.specs.Accepted.{setting_of_request}
 use Rattle.regex_match.specs.Found.{IsTreeOf}
 use Rattle.regex_match.specs.Lines.{line}
@@ -44,6 +44,10 @@ abbrev pub has_some : List Match → Bool
 has_some [] = false
 has_some (m ∷ ms) = true
 
+-- The pattern matches in the input, or it does not.
+abbrev pub Matches : (input : Option (List ℕ)) → (any : Bool) → Request → Type 0
+Matches input any request = (found : List Match) × (has_some found ≡ any) × (lines : List ℕ) × IsPrinted request input true found lines
+
 -- All matches were printed, and `any` states whether there were some.
 abbrev pub PrintsAll : (input old new : Option (List ℕ)) → (any : Bool) → Request → Type 0
 PrintsAll input old new any request =
@@ -63,11 +67,11 @@ abbrev pub WritesFirst : Setting → Tree → (input old new : Option (List ℕ)
 WritesFirst setting t input old new = (found : List Match) × Took old new (AreLinesOf setting t input false found)
 
 -- the lines of all remaining matches of a search were written
-abbrev pub WritesRest : Matches → List Capture → (old new : Option (List ℕ)) → (any : Bool) → Type 0
+abbrev pub WritesRest : search.Matches → List Capture → (old new : Option (List ℕ)) → (any : Bool) → Type 0
 WritesRest m groups old new any = (found : List Match) × (has_some found ≡ any)
     × Took old new (AreLines (searched_text m) (searched_outcomes m) (next_from m) groups true found)
 
 -- the lines of the first remaining matches were written
-abbrev pub WritesSome : Matches → List Capture → (old new : Option (List ℕ)) → Type 0
+abbrev pub WritesSome : search.Matches → List Capture → (old new : Option (List ℕ)) → Type 0
 WritesSome m groups old new = (found : List Match)
     × Took old new (AreLines (searched_text m) (searched_outcomes m) (next_from m) groups false found)

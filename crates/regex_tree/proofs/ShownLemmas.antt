@@ -1,14 +1,16 @@
 -- The results of the writes of a run.
-use Rattle.std.proofs.Common.{◌≡◌, ℕ, Bool, List, [], ◌++◌, Option, refl, subst, codes}
+use Rattle.std.proofs.Common.{◌≡◌, ℕ, Bool, true, List, [], ◌++◌, Option, inl, inr, refl, subst, sym, codes}
 use Rattle.std.specs.Io.KnownBytes.{Appends}
-use Rattle.std.specs.Prelude.{Result, Ok, Err, OnOk, IfOk}
+use Rattle.std.specs.Prelude.{Result, Ok, Err, OnOk, IfOk, IfErr, length}
 use Rattle.regress_arguments.specs.Output.{Took}
 use Rattle.regress_arguments.proofs.lemmas.Output.{appends_both}
 use Rattle.regress_base.specs.declared.types.Flags.{Flags}
 use Rattle.regress_base.specs.Table.{Table}
+use Rattle.regress_lexer.specs.Source.{Source}
 use Rattle.regress_parse.specs.Accepted as parse
-use Rattle.regress_parse.specs.Fault.{RejectedOnlyIf, unplaced}
+use Rattle.regress_parse.specs.Fault.{HasPositionWithin, RejectedOnlyIf, ReportsKind, unplaced}
 use Rattle.regress_parse.specs.declared.fault.PlacedFault.{PlacedFault}
+use Rattle.regress_parse.specs.declared.fault.PlacedFault.TheVariants as fault
 use Rattle.regress_parse.specs.TreeOf.{tree_of}
 use Rattle.regress_spans.specs.Spans.{spans_of}
 use Rattle.regress_spans.specs.declared.span.Span.{Span}
@@ -16,11 +18,16 @@ use Rattle.regress_spans.specs.declared.pattern.SpannedRegex.{SpannedRegex}
 use Rattle.regress_syntax.specs.Syntax.{Pattern}
 use Rattle.regress_tree.specs.Setting.{Setting}
 use Rattle.regress_tree.specs.Tree.{Tree, tree}
+use Rattle.regex_tree.specs.Accepted.{IsFaultOf, setting_of_request}
+use Rattle.regex_tree.specs.Asked.{Request, table_asked}
+use Rattle.regex_tree.specs.Ending.{Leaves}
+use Rattle.regex_tree.specs.Shown.{IsParsed, IsOptimized, IsOptimizedShown, IsFirstOutput, IsFirstShown, IsOutput, IsShown, IsShownAs, IsShownWith, shows_spans}
 use Rattle.regex_tree.specs.declared.failure.Failure.{Failure}
+use Rattle.regex_tree.specs.declared.failure.Failure.TheVariants.{Syntax, Usage, Memory, Output}
 use Rattle.regex_tree.specs.declared.request.Format.{Format}
+use Rattle.regex_tree.specs.declared.request.Format.TheVariants.{Text, Json, Svg}
 use Rattle.regex_tree.specs.declared.request.Stage.{Stage}
-use Rattle.regex_tree.specs.declared.request.Stage.TheVariants.{Both}
-use Rattle.regex_tree.specs.Shown.{Asked, IsParsed, setting_asked, table_asked, IsOptimized, IsOptimizedShown, IsOutput, IsShown, IsShownAs, IsShownWith}
+use Rattle.regex_tree.specs.declared.request.Stage.TheVariants.{Parsed, Optimized, Both}
 
 -- one tree
 pub shows_one : (format : Format) (flags : Flags) (t : Tree) (spans : List Span) (shown after : List ℕ) (r : Result (Unit {0}) Failure)
@@ -43,44 +50,107 @@ shows_both format flags t spans (Ok done) old between new (first, one, before) (
     (first ++ second, (first, second, one, two, refl), appends_both old between new first second before after)
 shows_both format flags t spans (Err failure) old between new before after = tt
 
--- the spans of the tree's own nodes are shown as themselves
-pub spanned_parsed : (stage : Stage) (format : Format) (setting : Setting) (text : List ℕ) (r : Result SpannedRegex PlacedFault) →
-    IfOk r (λ s. (p : Pattern) × (accepted : parse.IsAccepted setting text p) × (tree s.regex.node ≡ tree_of setting.table p)
-    × (s.spans.items ≡ spans_of setting text p accepted.derived)) → IfOk r (IsParsed stage format setting text)
-spanned_parsed stage format setting text (Ok s) (p, accepted, same, spans) =
-    (p, accepted, same, λ bytes. subst (λ (ss : List Span). IsShown stage format setting.flags (tree s.regex.node) ss bytes) spans)
-spanned_parsed stage format setting text (Err fault) spanned = tt
+-- the spans of the tree's own nodes
+pub spanned_parsed : (shown : Bool) (setting : Setting) (source : Source) (r : Result SpannedRegex PlacedFault) →
+    IfOk r (λ s. (p : Pattern) × (accepted : parse.IsAccepted setting source p) × (tree s.regex.node ≡ tree_of setting.table p)
+    × (s.spans.items ≡ spans_of setting source p accepted.derived)) → IfOk r (IsParsed shown setting source)
+spanned_parsed shown setting source (Ok s) (p, accepted, same, spans) = record {
+  pattern = p;
+  accepted = accepted;
+  parsed = same;
+  spans = λ _. spans;
+}
+spanned_parsed shown setting source (Err fault) spanned = tt
+
+-- the clauses of the parser on an error
+pub fault_of : {X : Type 0} (setting : Setting) (source : Source) (r : Result X PlacedFault) →
+    RejectedOnlyIf (unplaced r) (parse.NoneIsAccepted setting source) → ReportsKind (unplaced r) (parse.IsTrueOf setting source) →
+    HasPositionWithin (length source) r → IfErr r (IsFaultOf setting source)
+fault_of setting source (Ok x) none reported within = tt
+fault_of setting source (Err (fault.Syntax e position)) none (kind, words, is_true) within = record {
+  none = none;
+  kind = kind;
+  words = words;
+  is_true = is_true;
+  within = within;
+}
+fault_of setting source (Err (fault.Memory e)) none reported within = tt
 
 -- the result of parsing with the requested table
-module _ (stage : Stage) (format : Format) (flags : Flags) (text : List ℕ) (r : Result SpannedRegex PlacedFault) where
+module _ (shown : Bool) (flags : Flags) (source : Source) (r : Result SpannedRegex PlacedFault) where
   abbrev setting : Table → Setting
   setting table = record { flags = flags; table = table }
 
-  abbrev ParsedBy : Table → Type 0
-  ParsedBy table = IfOk r (IsParsed stage format (setting table) text)
+  pub parsed_asked : (small : Bool) (table : Table) → table ≡ table_asked small → IfOk r (IsParsed shown (setting table) source) →
+      IfOk r (IsParsed shown (setting (table_asked small)) source)
+  parsed_asked small table same parsed = subst (λ (x : Table). IfOk r (IsParsed shown (setting x) source)) same parsed
 
-  pub parsed_asked : (small : Bool) (table : Table) → table ≡ table_asked small → ParsedBy table → ParsedBy (table_asked small)
-  parsed_asked small table same parsed = subst (λ (x : Table). ParsedBy x) same parsed
+  pub rejected_asked : (small : Bool) (table : Table) → table ≡ table_asked small → IfErr r (IsFaultOf (setting table) source) →
+      IfErr r (IsFaultOf (setting (table_asked small)) source)
+  rejected_asked small table same rejected = subst (λ (x : Table). IfErr r (IsFaultOf (setting x) source)) same rejected
 
-  abbrev RejectedBy : Table → Type 0
-  RejectedBy table = RejectedOnlyIf (unplaced r) (parse.NoneIsAccepted (setting table) text)
+-- Other spans are shown alike, unless spans are part of the output.
+module _ (flags : Flags) (t : Tree) (spans others : List Span) (bytes : List ℕ) where
+  same_shown : (stage : Stage) (format : Format) → (shows_spans format stage ≡ true → spans ≡ others) →
+      IsShown stage format flags t spans bytes → IsShown stage format flags t others bytes
+  same_shown Parsed Text same shown = shown
+  same_shown Parsed Json same shown = subst (λ (ss : List Span). IsShown Parsed Json flags t ss bytes) (same refl) shown
+  same_shown Parsed Svg same shown = shown
+  same_shown Optimized Text same shown = shown
+  same_shown Optimized Json same shown = shown
+  same_shown Optimized Svg same shown = shown
+  same_shown Both Text same shown = shown
+  same_shown Both Json same shown = subst (λ (ss : List Span). IsShown Both Json flags t ss bytes) (same refl) shown
+  same_shown Both Svg same shown = shown
 
-  pub rejected_asked : (small : Bool) (table : Table) → table ≡ table_asked small → RejectedBy table → RejectedBy (table_asked small)
-  rejected_asked small table same rejected = subst (λ (x : Table). RejectedBy x) same rejected
+  same_first : (stage : Stage) (format : Format) → (shows_spans format stage ≡ true → spans ≡ others) →
+      IsFirstShown stage format flags t spans bytes → IsFirstShown stage format flags t others bytes
+  same_first Parsed format same shown = shown
+  same_first Optimized format same shown = shown
+  same_first Both Text same shown = shown
+  same_first Both Json same shown = subst (λ (ss : List Span). IsFirstShown Both Json flags t ss bytes) (same refl) shown
+  same_first Both Svg same shown = shown
 
 -- an accepted pattern
-pub shows_output : (stage : Stage) (format : Format) (asked : Asked) (parsed : SpannedRegex) (r : Result (Unit {0}) Failure)
-    (old new : Option (List ℕ)) → IsParsed stage format (setting_asked asked) asked.text parsed →
-    OnOk r (Took old new (IsShown stage format asked.flags (tree parsed.regex.node) parsed.spans.items)) →
-    OnOk r (Took old new (IsOutput stage format asked))
-shows_output stage format asked parsed (Ok done) old new (p, accepted, same, shows) (bytes, shown, appends) = (
-  bytes,
-  (
-    p,
-    accepted,
-    subst (λ (t : Tree). IsShown stage format asked.flags t (spans_of (setting_asked asked) asked.text p accepted.derived) bytes) same
-        (shows bytes shown),
-  ),
-  appends,
-)
-shows_output stage format asked parsed (Err failure) old new is_parsed took = tt
+module _ (request : Request) (parsed : SpannedRegex) (old new : Option (List ℕ))
+    (is_parsed : IsParsed (shows_spans request.format request.stage) (setting_of_request request) request.pattern parsed) where
+  abbrev own : List Span
+  own = spans_of (setting_of_request request) request.pattern is_parsed.pattern is_parsed.accepted.derived
+
+  pub shows_output : (r : Result (Unit {0}) Failure) →
+      OnOk r (Took old new (IsShown request.stage request.format request.flags (tree parsed.regex.node) parsed.spans.items)) →
+      OnOk r (Took old new (IsOutput request))
+  shows_output (Ok done) (bytes, shown, appends) = (
+    bytes,
+    record {
+      pattern = is_parsed.pattern;
+      accepted = is_parsed.accepted;
+      shown = subst (λ (t : Tree). IsShown request.stage request.format request.flags t own bytes) is_parsed.parsed
+          (same_shown request.flags (tree parsed.regex.node) parsed.spans.items own bytes request.stage request.format is_parsed.spans shown);
+    },
+    appends,
+  )
+  shows_output (Err failure) took = tt
+
+  first_output : Took old new (IsFirstShown request.stage request.format request.flags (tree parsed.regex.node) parsed.spans.items) →
+      Took old new (IsFirstOutput request)
+  first_output (bytes, shown, appends) = (
+    bytes,
+    record {
+      pattern = is_parsed.pattern;
+      accepted = is_parsed.accepted;
+      shown = subst (λ (t : Tree). IsFirstShown request.stage request.format request.flags t own bytes) is_parsed.parsed
+          (same_first request.flags (tree parsed.regex.node) parsed.spans.items own bytes request.stage request.format is_parsed.spans shown);
+    },
+    appends,
+  )
+
+  pub leaves_output : (nothing : Type 0) (r : Result (Unit {0}) Failure) →
+      IfErr r (Leaves nothing (Took old new (IsFirstShown request.stage request.format request.flags (tree parsed.regex.node) parsed.spans.items))) →
+      IfErr r (Leaves nothing (Took old new (IsFirstOutput request)))
+  leaves_output nothing (Ok done) h = tt
+  leaves_output nothing (Err (Syntax e position)) h = h
+  leaves_output nothing (Err Usage) h = h
+  leaves_output nothing (Err Memory) (inl h) = inl h
+  leaves_output nothing (Err Memory) (inr h) = inr (first_output h)
+  leaves_output nothing (Err Output) h = tt

@@ -1,3 +1,5 @@
-pub mod Taken
-pub mod Ending
+pub mod Asked
+pub mod Accepted
+pub mod Fault
 pub mod Shown
+pub mod Ending

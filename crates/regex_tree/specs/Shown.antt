@@ -1,10 +1,8 @@
 -- The program's output for a pattern.
-use Rattle.std.specs.Prelude.{◌≡◌, ℕ, Bool, List, [], ◌++◌, codes, if◌then◌else◌}
-use Rattle.regress_base.specs.Table.{Table}
+use Rattle.std.specs.Prelude.{◌≡◌, ℕ, Bool, true, false, List, [], ◌++◌, codes}
 use Rattle.regress_base.specs.declared.types.Flags.{Flags}
-use Rattle.regress_unicode.specs.SmallTable.{small_table}
+use Rattle.regress_lexer.specs.Source.{Source}
 use Rattle.regress_rewrite.specs.Law.{MeansTheSame}
-use Rattle.regress_ucd.specs.UnicodeTable.{unicode_table}
 use Rattle.regress_tree.specs.Display.{printed}
 use Rattle.regress_tree.specs.NormalForm.{IsNormal}
 use Rattle.regress_tree.specs.Reading.{forwards}
@@ -19,40 +17,12 @@ use Rattle.regress_json.specs.Json.{spanned_json_of}
 use Rattle.regress_spans.specs.Spans.{spans_of}
 use Rattle.regress_spans.specs.declared.pattern.SpannedRegex.{SpannedRegex}
 use Rattle.regress_spans.specs.declared.span.Span.{Span}
+use Rattle.regex_tree.specs.Accepted.{IsAccepted, setting_of_request}
+use Rattle.regex_tree.specs.Asked.{Request, Task, help, show}
 use Rattle.regex_tree.specs.declared.request.Format.{Format}
 use Rattle.regex_tree.specs.declared.request.Format.TheVariants.{Text, Json, Svg}
 use Rattle.regex_tree.specs.declared.request.Stage.{Stage}
 use Rattle.regex_tree.specs.declared.request.Stage.TheVariants.{Parsed, Optimized, Both}
-
--- a pattern as a list of code points, its flags, and whether the small table is used
-pub record Asked : Type 0 where
-  pub text : List ℕ
-  pub flags : Flags
-  pub small : Bool
-
--- the request for this pattern with these flags
-abbrev pub asked : List ℕ → Flags → Bool → Asked
-asked text flags small = record { text = text; flags = flags; small = small }
-
--- the small table, or the table of all of Unicode
-abbrev pub table_asked : Bool → Table
-table_asked small = if small then small_table else unicode_table
-
--- the flags and the table of a request
-abbrev pub setting_asked : Asked → Setting
-setting_asked asked = record { flags = asked.flags; table = table_asked asked.small }
-
--- The requested text denotes this pattern under its flags.
-abbrev pub IsAccepted : Asked → Pattern → Type 0
-IsAccepted asked p = parse.IsAccepted (setting_asked asked) asked.text p
-
--- The requested text denotes some pattern.
-abbrev pub IsAcceptedPattern : Asked → Type 0
-IsAcceptedPattern asked = (p : Pattern) × IsAccepted asked p
-
--- The requested text denotes no pattern.
-abbrev pub NoneIsAcceptedOf : Asked → Type 0
-NoneIsAcceptedOf asked = parse.NoneIsAccepted (setting_asked asked) asked.text
 
 -- The output for one tree: its text, its JSON with the spans of its nodes, or a well-formed picture.
 abbrev pub IsShownAs : Format → Flags → Tree → List Span → List ℕ → Type 0
@@ -81,14 +51,44 @@ IsShown Optimized format flags t spans bytes = IsOptimizedShown format flags t b
 IsShown Both format flags t spans bytes = (first second : List ℕ) × IsShownWith format flags t spans (codes "--\n") first
     × IsOptimizedShown format flags t second × (bytes ≡ first ++ second)
 
--- The tree of a pattern, with spans that are shown like those of its nodes. Any spans will do if none are shown.
-abbrev pub IsParsed : Stage → Format → Setting → List ℕ → SpannedRegex → Type 0
-IsParsed stage format setting text r = (p : Pattern) × (accepted : parse.IsAccepted setting text p)
-    × (tree r.regex.node ≡ tree_of setting.table p)
-    × ((bytes : List ℕ) → IsShown stage format setting.flags (tree r.regex.node) r.spans.items bytes
-    → IsShown stage format setting.flags (tree r.regex.node) (spans_of setting text p accepted.derived) bytes)
+-- The first part of the output of both trees: the parsed tree, and the line `--`. If one tree is shown, it has one part.
+abbrev pub IsFirstShown : Stage → Format → Flags → Tree → List Span → List ℕ → Type 0
+IsFirstShown Parsed format flags t spans bytes = ⊥
+IsFirstShown Optimized format flags t spans bytes = ⊥
+IsFirstShown Both format flags t spans bytes = IsShownWith format flags t spans (codes "--\n") bytes
+
+-- Spans are part of the output of a parsed tree, except as text.
+abbrev pub shows_spans : Format → Stage → Bool
+shows_spans Text stage = false
+shows_spans Json Optimized = false
+shows_spans Json Parsed = true
+shows_spans Json Both = true
+shows_spans Svg Optimized = false
+shows_spans Svg Parsed = true
+shows_spans Svg Both = true
+
+-- the tree of an accepted pattern, and the spans of its nodes if they are shown
+pub record IsParsed (shown : Bool) (setting : Setting) (source : Source) (r : SpannedRegex) : Type 0 where
+  pub pattern : Pattern
+  pub accepted : parse.IsAccepted setting source pattern
+  pub parsed : tree r.regex.node ≡ tree_of setting.table pattern
+  pub spans : shown ≡ true → r.spans.items ≡ spans_of setting source pattern accepted.derived
 
 -- the output for an accepted pattern
-abbrev pub IsOutput : Stage → Format → Asked → List ℕ → Type 0
-IsOutput stage format asked bytes = (p : Pattern) × (accepted : IsAccepted asked p)
-    × IsShown stage format asked.flags (tree_of (table_asked asked.small) p) (spans_of (setting_asked asked) asked.text p accepted.derived) bytes
+pub record IsOutput (request : Request) (bytes : List ℕ) : Type 0 where
+  pub pattern : Pattern
+  pub accepted : IsAccepted request pattern
+  pub shown : IsShown request.stage request.format request.flags (tree_of request.table pattern)
+      (spans_of (setting_of_request request) request.pattern pattern accepted.derived) bytes
+
+-- the first part of it
+pub record IsFirstOutput (request : Request) (bytes : List ℕ) : Type 0 where
+  pub pattern : Pattern
+  pub accepted : IsAccepted request pattern
+  pub shown : IsFirstShown request.stage request.format request.flags (tree_of request.table pattern)
+      (spans_of (setting_of_request request) request.pattern pattern accepted.derived) bytes
+
+-- the output of a run that succeeds: the help, or what the request asks for
+abbrev pub IsOutputOf : (usage : List ℕ) → Task → List ℕ → Type 0
+IsOutputOf usage help bytes = bytes ≡ usage
+IsOutputOf usage (show request) bytes = IsOutput request bytes

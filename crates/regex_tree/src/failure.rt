@@ -1,11 +1,12 @@
 //! Failures of a run, with their exit statuses.
-ghost use Rattle.std.specs.Prelude.{◌≡◌};
+ghost use Rattle.std.specs.Prelude.{◌≡◌, OnOk};
+ghost use Rattle.std.specs.Io.KnownBytes.{Appends};
 ghost use Rattle.regex_tree.specs.declared.failure.Failure.TheVariants.{Output};
 ghost use Rattle.regex_tree.specs.Ending.{status_of};
 
 use regress_parse::{Error, ParseFault, PlacedFault};
 use std::alloc::AllocError;
-use std::io::Write;
+use std::io::{self, Write};
 
 /// The text that `--help` writes, and that a run with invalid arguments writes.
 pub(crate) const USAGE: &str = "\
@@ -87,7 +88,7 @@ pub(crate) fn report<E: Write>(failure: Failure, err: &mut E) -> u8
             1
         }
         Failure::Usage => {
-            let _ = err.write_all(USAGE.as_bytes());
+            let _ = write_usage(err);
             2
         }
         Failure::Memory => {
@@ -96,4 +97,11 @@ pub(crate) fn report<E: Write>(failure: Failure, err: &mut E) -> u8
         }
         Failure::Output => 4,
     }
+}
+
+/// Writes the usage.
+pub(crate) fn write_usage<W: Write>(to: &mut W) -> io::Result<()>
+    ensures { OnOk result (Appends (W.contents to.old) (W.contents to.new) USAGE.now) }
+{
+    to.write_all(USAGE.as_bytes())
 }

@@ -1,6 +1,11 @@
 //! Syntax errors, for people and for tools.
+ghost use Rattle.std.specs.Prelude.{◌≡◌};
+ghost use Rattle.std.specs.Fmt.{WritesOnOk};
+ghost use Rattle.regex_tree.specs.Fault.{json_character, json_text};
 
 use regress_parse::Error;
+use std::fmt;
+use std::fmt::Formatter;
 use std::io::{self, Write};
 
 /// Writes a syntax error, the pattern on a line of its own, and a caret below the error's position.
@@ -33,34 +38,47 @@ fn write_spaces<E: Write>(count: usize, err: &mut E) -> io::Result<()> {
     Ok(())
 }
 
-/// Writes `{"fault":"..","position":0}` and a line feed.
-pub(crate) fn write_json_fault<W: Write>(
-    error: &Error,
-    position: usize,
-    out: &mut W,
-) -> io::Result<()> {
-    out.write_all(b"{\"fault\":\"")?;
-    write_json_text(&error.text, out)?;
-    writeln!(out, "\",\"place\":{position}}}")?;
-    out.flush()
+/// A syntax error that displays as an object of JSON: `{"fault":"..","place":0}`.
+#[derive(Clone, Copy)]
+pub(crate) struct JsonFault<'a> {
+    pub(crate) error: &'a Error,
+    pub(crate) position: usize,
 }
 
-fn write_json_text<W: Write>(text: &str, out: &mut W) -> io::Result<()> {
+impl fmt::Display for JsonFault<'_> {
+    ghost use Rattle.std.specs.Prelude.{Some, string_bytes};
+    ghost use Rattle.regex_tree.specs.Fault.{fault_json};
+
+    ghost output = { λ fault. Some (fault_json (string_bytes fault.error.now.text) fault.position) };
+
+    fn fmt<W: fmt::Write>(&self, f: &mut Formatter<W>) -> fmt::Result {
+        f.write_str("{\"fault\":\"")?;
+        write_json_text(&self.error.text, f)?;
+        write!(f, "\",\"place\":{}}}", self.position)
+    }
+}
+
+/// Writes the characters of a JSON string.
+fn write_json_text<W: fmt::Write>(text: &str, f: &mut Formatter<W>) -> fmt::Result
+    ensures { WritesOnOk W.write_str_gives f.old result (json_text text.now) f.new }
+{
     for c in text.chars() {
-        write_json_character(c, out)?;
+        write_json_character(c, f)?;
     }
     Ok(())
 }
 
-/// Writes a character of a JSON string.
-fn write_json_character<W: Write>(c: char, out: &mut W) -> io::Result<()> {
+fn write_json_character<W: fmt::Write>(c: char, f: &mut Formatter<W>) -> fmt::Result
+    ensures { WritesOnOk W.write_str_gives f.old result (json_character c) f.new }
+{
     match c {
-        '"' => out.write_all(b"\\\""),
-        '\\' => out.write_all(b"\\\\"),
+        '"' => f.write_str("\\\""),
+        '\\' => f.write_str("\\\\"),
         c if c < ' ' => {
             let number = u32::from(c);
-            write!(out, "\\u{number:04x}")
+            let (high, low) = (number / 16, number % 16);
+            write!(f, "\\u00{high:x}{low:x}")
         }
-        c => write!(out, "{c}"),
+        c => f.write_char(c),
     }
 }

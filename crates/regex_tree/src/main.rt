@@ -3,9 +3,16 @@
 //! exits with 2; if an allocation for the arguments or the output buffer fails, with 3.
 #![tactic(auto)]
 
-ghost use Rattle.std.specs.Prelude.{◌≡◌, ◌≢◌, ◌≤◌, ◌↔◌, ◌⊎◌, None};
-ghost use Rattle.regex_tree.specs.Taken.{taken_of};
+ghost use Rattle.std.specs.Prelude.{◌≡◌, ◌≢◌, ◌≤◌, ◌↔◌, ◌⊎◌, ◌++◌, None, IfSome, IfErr, OnOk, codes, string_bytes};
+ghost use Rattle.std.specs.Io.KnownBytes.{Appends};
+ghost use Rattle.regress_arguments.specs.Output.{Took};
+ghost use Rattle.regex_tree.specs.Accepted.{IsAcceptedPattern, IsFault, NoneIsAccepted, setting_of_request};
+ghost use Rattle.regex_tree.specs.Asked.{OfTree, OrHelp, requested, task_of};
+ghost use Rattle.regex_tree.specs.Ending.{HasOutput, WritesFault};
+ghost use Rattle.regex_tree.specs.Fault.{IsFaultOutput, fault_json};
+ghost use Rattle.regex_tree.specs.Shown.{IsFirstOutput, IsOutput, IsOutputOf};
 ghost use Rattle.regex_tree.specs.declared.failure.Failure.TheVariants.{Output};
+ghost use Rattle.regex_tree.specs.declared.request.Format.TheVariants.{Json};
 
 mod failure;
 mod fault;
@@ -13,9 +20,8 @@ mod output;
 mod request;
 mod trees;
 
-use failure::{Failure, USAGE, report};
-use fault::{write_fault, write_json_fault};
-use output::write_out;
+use failure::{Failure, USAGE, report, write_usage};
+use fault::{JsonFault, write_fault};
 use regress_arguments::{ArgumentsError, arguments};
 use regress_parse::Error;
 use request::{Asked, Format, Request, read_request};
@@ -48,6 +54,12 @@ fn run_buffered<W: Write + Drop, E: Write>(
     err: &mut E,
 ) -> u8
     ensures known { result ≤ 4 }
+    ensures usage { result ≡ 2 → task_of args.now ≡ None }
+    ensures reported { task_of args.now ≡ None → (result ≡ 2) ⊎ (result ≡ 3) }
+    ensures rejected { result ≡ 1 → IfSome (task_of args.now) (OfTree NoneIsAccepted) }
+    ensures accepted { result ≡ 0 → IfSome (task_of args.now) (OrHelp IsAcceptedPattern) }
+    ensures failed { result ≡ 4 → IfSome (task_of args.now) (OrHelp HasOutput) }
+    ensures quiet { (result ≡ 0) ⊎ (result ≡ 4) → err.new ≡ err.old }
 {
     match BufWriter::new(alloc, out) {
         Ok(mut out) => run_tree(alloc, args, &mut out, err),
@@ -66,11 +78,27 @@ fn run_buffered<W: Write + Drop, E: Write>(
 /// An error of a write to `err` is ignored.
 pub fn run_tree<W: Write, E: Write>(alloc: Global, args: &[String], out: &mut W, err: &mut E) -> u8
     ensures known { result ≤ 4 }
-    ensures usage { (result ≡ 2) ↔ (taken_of args.now ≡ None) }
+    ensures usage { (result ≡ 2) ↔ (task_of args.now ≡ None) }
+
+    // The bytes written with status 0: the help, or what the options ask for, with a picture as a well-formed document.
+    ensures shown { result ≡ 0 → IfSome (task_of args.now)
+        (λ task. Took (W.contents out.old) (W.contents out.new) (IsOutputOf USAGE.now task)) }
+    // A syntax error, as JSON if that is the format; nothing, or the first of two trees.
+    ensures fault { result ≡ 1 → IfSome (task_of args.now) (OfTree (λ request. WritesFault (out.new ≡ out.old)
+        (Took (W.contents out.old) (W.contents out.new) (IsFaultOutput request)) request.format)) }
+    ensures untouched { result ≡ 2 → out.new ≡ out.old }
+    ensures out_of_memory { result ≡ 3 → (out.new ≡ out.old) ⊎ IfSome (task_of args.now)
+        (OfTree (λ request. Took (W.contents out.old) (W.contents out.new) (IsFirstOutput request))) }
+    ensures quiet { (result ≡ 0) ⊎ (result ≡ 4) → err.new ≡ err.old }
+
+    // The pattern is accepted, or rejected.
+    ensures accepted { result ≡ 0 → IfSome (task_of args.now) (OrHelp IsAcceptedPattern) }
+    ensures rejected { result ≡ 1 → IfSome (task_of args.now) (OfTree NoneIsAccepted) }
+    ensures failed { result ≡ 4 → IfSome (task_of args.now) (OrHelp HasOutput) }
 {
     match read_request(args) {
         Some(Asked::Tree(request)) => run_request(alloc, &request, out, err),
-        Some(Asked::Usage) => match write_out(&USAGE, "", "", out) {
+        Some(Asked::Usage) => match print_help(out) {
             Ok(()) => 0,
             Err(failure) => report(failure, err),
         },
@@ -78,6 +106,16 @@ pub fn run_tree<W: Write, E: Write>(alloc: Global, args: &[String], out: &mut W,
     }
 }
 
+/// Prints the help, which is the usage.
+fn print_help<W: Write>(out: &mut W) -> Result<(), Failure>
+    ensures help { OnOk result (Appends (W.contents out.old) (W.contents out.new) USAGE.now) }
+    ensures failed { IfErr result (λ failure. failure ≡ Output) }
+{
+    write_usage(out).map_err(|_| Failure::Output)?;
+    out.flush().map_err(|_| Failure::Output)
+}
+
+/// Shows what the request asks for, or reports why not, and returns the exit status.
 fn run_request<W: Write, E: Write>(
     alloc: Global,
     request: &Request<'_>,
@@ -86,6 +124,15 @@ fn run_request<W: Write, E: Write>(
 ) -> u8
     ensures known { result ≤ 4 }
     ensures asked { result ≢ 2 }
+    ensures shown { result ≡ 0 → Took (W.contents out.old) (W.contents out.new) (IsOutput (requested request.now)) }
+    ensures fault { result ≡ 1 → WritesFault (out.new ≡ out.old)
+        (Took (W.contents out.old) (W.contents out.new) (IsFaultOutput (requested request.now))) request.now.format }
+    ensures out_of_memory { result ≡ 3 → (out.new ≡ out.old)
+        ⊎ Took (W.contents out.old) (W.contents out.new) (IsFirstOutput (requested request.now)) }
+    ensures quiet { (result ≡ 0) ⊎ (result ≡ 4) → err.new ≡ err.old }
+    ensures accepted { result ≡ 0 → IsAcceptedPattern (requested request.now) }
+    ensures rejected { result ≡ 1 → NoneIsAccepted (requested request.now) }
+    ensures failed { result ≡ 4 → HasOutput (requested request.now) }
 {
     match show(alloc, request, out) {
         Ok(()) => 0,
@@ -104,7 +151,13 @@ fn report_fault<W: Write, E: Write>(
     out: &mut W,
     err: &mut E,
 ) -> u8
-    ensures { (result ≡ 1) ⊎ (result ≡ 4) }
+    requires { IsFault (setting_of_request (requested request.now)) (requested request.now).pattern
+        (string_bytes error.now.text) position }
+    ensures known { (result ≡ 1) ⊎ (result ≡ 4) }
+    ensures fault { result ≡ 1 → WritesFault (out.new ≡ out.old)
+        (Took (W.contents out.old) (W.contents out.new) (IsFaultOutput (requested request.now))) request.now.format }
+    ensures failed { result ≡ 4 → HasOutput (requested request.now) }
+    ensures quiet { result ≡ 4 → err.new ≡ err.old }
 {
     match request.format {
         Format::Text | Format::Svg => {
@@ -113,7 +166,18 @@ fn report_fault<W: Write, E: Write>(
         }
         Format::Json => match write_json_fault(error, position, out) {
             Ok(()) => 1,
-            Err(_) => report(Failure::Output, err),
+            Err(failure) => report(failure, err),
         },
     }
+}
+
+/// Writes a syntax error as an object of JSON and a line feed.
+fn write_json_fault<W: Write>(error: &Error, position: usize, out: &mut W) -> Result<(), Failure>
+    ensures written { OnOk result (Appends (W.contents out.old) (W.contents out.new)
+        (fault_json (string_bytes error.now.text) position ++ codes "\n")) }
+    ensures failed { IfErr result (λ failure. failure ≡ Output) }
+{
+    let fault = JsonFault { error, position };
+    writeln!(out, "{fault}").map_err(|_| Failure::Output)?;
+    out.flush().map_err(|_| Failure::Output)
 }

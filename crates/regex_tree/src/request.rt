@@ -1,10 +1,7 @@
 //! The request that the arguments make.
-ghost use Rattle.std.specs.Prelude.{◌≡◌, ℕ, List, false, option_map};
-ghost use Rattle.regress_base.specs.declared.types.Flags.{Flags};
-ghost use Rattle.regress_spans.specs.declared.span.Span.{Span};
-ghost use Rattle.regress_tree.specs.Tree.{Tree};
-ghost use Rattle.regex_tree.specs.Shown.{IsShown};
-ghost use Rattle.regex_tree.specs.Taken.{no_options, options_of, taken, taken_of, with_option};
+ghost use Rattle.std.specs.Prelude.{◌≡◌, option_map};
+ghost use Rattle.regex_tree.specs.Asked.{no_options, options_of, stage_asked, task, task_of, with_option};
+ghost use Rattle.regex_tree.specs.Shown.{shows_spans};
 
 use regress_arguments::parse_pattern;
 use regress_base::types::Flags;
@@ -30,8 +27,7 @@ impl Request<'_> {
     /// Returns whether the output contains the spans of nodes. The text format has none, and those of an optimized tree
     /// are not known.
     pub(crate) fn reports_spans(&self) -> bool
-        ensures { result ≡ false → (flags : Flags) (t : Tree) (ss others : List Span) (bytes : List ℕ) →
-            IsShown self.now.stage self.now.format flags t ss bytes → IsShown self.now.stage self.now.format flags t others bytes }
+        ensures { result ≡ shows_spans self.now.format self.now.stage }
     {
         match (self.format, self.stage) {
             (Format::Text, _) | (_, Stage::Optimized) => false,
@@ -76,7 +72,9 @@ const NO_OPTIONS: Options = Options {
 
 impl Options {
     /// Returns the requested tree. JSON and a picture show one tree only.
-    fn stage(&self) -> Stage {
+    fn stage(&self) -> Stage
+        ensures { result ≡ stage_asked self.now.stage self.now.format }
+    {
         match (self.stage, self.format) {
             (Some(stage), _) => stage,
             (None, Format::Text) => Stage::Both,
@@ -90,7 +88,7 @@ impl Options {
 /// The result is `None` if there are fewer or more arguments, an option is unknown, or a letter is not in `imsuv` or
 /// occurs twice.
 pub(crate) fn read_request(args: &[String]) -> Option<Asked<'_>>
-    ensures { option_map taken result ≡ taken_of args.now }
+    ensures { option_map task result ≡ task_of args.now }
 {
     let (options, rest) = read_options(args)?;
     if options.help {

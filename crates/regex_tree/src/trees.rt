@@ -1,16 +1,16 @@
 //! Shows the trees of a pattern.
 ghost use Rattle.std.specs.Prelude.{◌≡◌, ◌⊎◌, IfOk, IfErr, OnOk, All, chars};
 ghost use Rattle.regress_arguments.specs.Output.{Took};
-ghost use Rattle.regress_unicode.specs.TableOf.{table_of};
-ghost use Rattle.regress_tree.specs.Tree.{tree};
-ghost use Rattle.regress_tree.specs.WellFormed.{IsWellFormed};
-ghost use Rattle.regex_tree.specs.declared.failure.Failure.TheVariants.{Memory, Output};
-ghost use Rattle.regex_tree.specs.Ending.{IsDue};
-ghost use Rattle.regress_parse.specs.Accepted.{NoneIsAccepted};
-ghost use Rattle.regress_parse.specs.Fault.{RejectedOnlyIf, unplaced};
 ghost use Rattle.regress_parse.specs.Source.{IsCodePoint};
 ghost use Rattle.regress_syntax.specs.SettingOf.{setting_of};
-ghost use Rattle.regex_tree.specs.Shown.{IsParsed, NoneIsAcceptedOf, IsOptimizedShown, IsOutput, IsShown, IsShownWith, asked, setting_asked, table_asked};
+ghost use Rattle.regress_tree.specs.Tree.{tree};
+ghost use Rattle.regress_tree.specs.WellFormed.{IsWellFormed};
+ghost use Rattle.regress_unicode.specs.TableOf.{table_of};
+ghost use Rattle.regex_tree.specs.Accepted.{IsFaultOf, setting_of_request};
+ghost use Rattle.regex_tree.specs.Asked.{requested, table_asked};
+ghost use Rattle.regex_tree.specs.Ending.{IsDue, Leaves};
+ghost use Rattle.regex_tree.specs.Shown.{IsFirstOutput, IsFirstShown, IsOptimizedShown, IsOutput, IsParsed, IsShown, IsShownWith, shows_spans};
+ghost use Rattle.regex_tree.specs.declared.failure.Failure.TheVariants.{Memory, Output};
 
 use crate::failure::Failure;
 use crate::output::write_out;
@@ -40,9 +40,10 @@ pub(crate) fn show<W: Write>(
     request: &Request<'_>,
     out: &mut W,
 ) -> Result<(), Failure>
-    ensures due { IfErr result (IsDue (asked (chars request.now.pattern.now) request.now.flags request.now.small)) }
-    ensures shown { OnOk result (Took (W.contents out.old) (W.contents out.new)
-        (IsOutput request.now.stage request.now.format (asked (chars request.now.pattern.now) request.now.flags request.now.small))) }
+    ensures due { IfErr result (IsDue (requested request.now)) }
+    ensures shown { OnOk result (Took (W.contents out.old) (W.contents out.new) (IsOutput (requested request.now))) }
+    ensures leaves { IfErr result (Leaves (out.new ≡ out.old)
+        (Took (W.contents out.old) (W.contents out.new) (IsFirstOutput (requested request.now)))) }
 {
     let points = code_points(alloc, request.pattern)?;
     let mut parsed = parse(alloc, &points, request)?;
@@ -63,9 +64,9 @@ pub(crate) fn show<W: Write>(
 /// Parses a pattern, given as code points, as the request specifies.
 fn parse(alloc: Global, points: &[u32], request: &Request<'_>) -> Result<SpannedRegex, PlacedFault>
     requires { All IsCodePoint points.now }
-    ensures rejected { RejectedOnlyIf (unplaced result) (NoneIsAcceptedOf (asked points.now request.now.flags request.now.small)) }
-    ensures parsed { IfOk result (IsParsed request.now.stage request.now.format
-        (setting_asked (asked points.now request.now.flags request.now.small)) points.now) }
+    ensures rejected { IfErr result (IsFaultOf (setting_of_request (requested request.now)) points.now) }
+    ensures parsed { IfOk result (IsParsed (shows_spans request.now.format request.now.stage)
+        (setting_of_request (requested request.now)) points.now) }
     ensures flags { IfOk result (λ r. r.regex.flags ≡ request.now.flags) }
     ensures well_formed { IfOk result (λ r. IsWellFormed (tree r.regex.node)) }
 {
@@ -81,8 +82,9 @@ fn parse_with(
     tables: &Tables,
 ) -> Result<SpannedRegex, PlacedFault>
     requires { All IsCodePoint points.now }
-    ensures rejected { RejectedOnlyIf (unplaced result) (NoneIsAccepted (setting_of request.now.flags tables.now) points.now) }
-    ensures parsed { IfOk result (IsParsed request.now.stage request.now.format (setting_of request.now.flags tables.now) points.now) }
+    ensures rejected { IfErr result (IsFaultOf (setting_of request.now.flags tables.now) points.now) }
+    ensures parsed { IfOk result (IsParsed (shows_spans request.now.format request.now.stage)
+        (setting_of request.now.flags tables.now) points.now) }
     ensures flags { IfOk result (λ r. r.regex.flags ≡ request.now.flags) }
     ensures well_formed { IfOk result (λ r. IsWellFormed (tree r.regex.node)) }
 {
@@ -117,6 +119,8 @@ fn show_trees<W: Write>(
     ensures shown { OnOk result (Took (W.contents out.old) (W.contents out.new)
         (IsShown stage format regex.old.flags (tree regex.old.node) written.now.spans.now)) }
     ensures failed { IfErr result (λ failure. (failure ≡ Memory) ⊎ (failure ≡ Output)) }
+    ensures leaves { IfErr result (Leaves (out.new ≡ out.old) (Took (W.contents out.old) (W.contents out.new)
+        (IsFirstShown stage format regex.old.flags (tree regex.old.node) written.now.spans.now))) }
 {
     match stage {
         Stage::Parsed => write_tree(alloc, regex, written, format, "", out),
@@ -139,7 +143,7 @@ fn show_optimized<W: Write>(
     requires { IsWellFormed (tree regex.old.node) }
     ensures shown { OnOk result (Took (W.contents out.old) (W.contents out.new)
         (IsOptimizedShown format regex.old.flags (tree regex.old.node))) }
-    ensures failed { IfErr result (λ failure. (failure ≡ Memory) ⊎ (failure ≡ Output)) }
+    ensures failed { IfErr result (λ failure. ((failure ≡ Memory) × (out.new ≡ out.old)) ⊎ (failure ≡ Output)) }
 {
     optimize(alloc, regex)?;
     let written = Written {
@@ -160,7 +164,7 @@ fn write_tree<W: Write>(
 ) -> Result<(), Failure>
     ensures written { OnOk result (Took (W.contents out.old) (W.contents out.new)
         (IsShownWith format regex.now.flags (tree regex.now.node) written.now.spans.now after.now)) }
-    ensures failed { IfErr result (λ failure. (failure ≡ Memory) ⊎ (failure ≡ Output)) }
+    ensures failed { IfErr result (λ failure. ((failure ≡ Memory) × (out.new ≡ out.old)) ⊎ (failure ≡ Output)) }
 {
     match format {
         Format::Text => write_out(regex, "", after, out),

@@ -1,5 +1,5 @@
 use Rattle.std.proofs.Common.{◌≡◌, length}
-use Rattle.regex_tree.specs.Taken.{no_options, options_of}
+use Rattle.regex_tree.specs.Asked.{no_options, options_of}
 use Rattle.regex_tree.proofs.request.read_options.Given as goal
 
 -- The remaining arguments, with the options so far, yield what all arguments yield with no options.

@@ -1,0 +1,40 @@
+-- Accepted and rejected patterns.
+use Rattle.std.specs.Prelude.{◌≡◌, ℕ, ◌≤◌, List, length, string_bytes}
+use Rattle.regress_lexer.specs.Source.{Source}
+use Rattle.regress_lexer.specs.declared.fault.FaultKind.{FaultKind}
+use Rattle.regress_parse.specs.Accepted as parse
+use Rattle.regress_parse.specs.Fault.{text_of}
+use Rattle.regress_parse.specs.declared.fault.PlacedFault.{PlacedFault}
+use Rattle.regress_parse.specs.declared.fault.PlacedFault.TheVariants.{Syntax, Memory}
+use Rattle.regress_syntax.specs.Syntax.{Pattern}
+use Rattle.regress_tree.specs.Setting.{Setting}
+use Rattle.regex_tree.specs.Asked.{Request}
+
+-- the request's flags and table
+abbrev pub setting_of_request : Request → Setting
+setting_of_request request = record { flags = request.flags; table = request.table }
+
+-- The requested text denotes this pattern under its flags and table.
+abbrev pub IsAccepted : Request → Pattern → Type 0
+IsAccepted request p = parse.IsAccepted (setting_of_request request) request.pattern p
+
+-- The requested text denotes some pattern.
+abbrev pub IsAcceptedPattern : Request → Type 0
+IsAcceptedPattern request = (p : Pattern) × IsAccepted request p
+
+-- The requested text denotes no pattern.
+abbrev pub NoneIsAccepted : Request → Type 0
+NoneIsAccepted request = parse.NoneIsAccepted (setting_of_request request) request.pattern
+
+-- a syntax error of a rejected pattern: the text of a kind that is true of the pattern, and a position within it
+pub record IsFault (setting : Setting) (source : Source) (text : List ℕ) (position : ℕ) : Type 0 where
+  pub none : parse.NoneIsAccepted setting source
+  pub kind : FaultKind
+  pub words : text ≡ text_of kind
+  pub is_true : parse.IsTrueOf setting source kind
+  pub within : position ≤ length source
+
+-- an error of the parser is a syntax error of the pattern, or out of memory
+abbrev pub IsFaultOf : Setting → Source → PlacedFault → Type 0
+IsFaultOf setting source (Syntax e position) = IsFault setting source (string_bytes e.text) position
+IsFaultOf setting source (Memory e) = Unit {0}

@@ -1,0 +1,28 @@
+-- A syntax error in the output of `--json`.
+use Rattle.std.specs.Prelude.{◌≡◌, ℕ, ◌/◌, ◌%◌, List, ◌++◌, codes, chars, encode_utf8, flat_map, if◌then◌else◌, nat_lt, ◌==◌, false}
+use Rattle.std.specs.Fmt.{decimal, digits}
+use Rattle.regex_tree.specs.Accepted.{IsFault, setting_of_request}
+use Rattle.regex_tree.specs.Asked.{Request}
+
+-- the bytes of a character of a JSON string (RFC 8259, section 7); a control character as `\u001f`
+abbrev pub json_character : ℕ → List ℕ
+json_character c =
+    if c == 34 then codes "\\\""
+    else if c == 92 then codes "\\\\"
+    else if nat_lt c 32 then codes "\\u00" ++ digits 16 false (c / 16) ++ digits 16 false (c % 16)
+    else encode_utf8 c
+
+-- the characters of a JSON string
+abbrev pub json_text : List ℕ → List ℕ
+json_text text = flat_map json_character (chars text)
+
+-- `{"fault":"Unbalanced parenthesis","place":1}`
+abbrev pub fault_json : (text : List ℕ) → (position : ℕ) → List ℕ
+fault_json text position = codes "{\"fault\":\"" ++ json_text text ++ codes "\",\"place\":" ++ decimal position ++ codes "}"
+
+-- the output of `--json` for a rejected pattern: an object and a line feed
+pub record IsFaultOutput (request : Request) (bytes : List ℕ) : Type 0 where
+  pub text : List ℕ
+  pub position : ℕ
+  pub fault : IsFault (setting_of_request request) request.pattern text position
+  pub written : bytes ≡ fault_json text position ++ codes "\n"
