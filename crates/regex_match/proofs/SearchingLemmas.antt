@@ -52,7 +52,7 @@ pub begins : (m : Matches) (groups : List Capture) (before : Option (List ℕ)) 
 begins m groups before = record {
   found = [];
   some = refl;
-  same = record { text = refl; outcomes = refl };
+  same = record { text = refl; outcomes = refl; tree = refl };
   chain = refl;
   written = appends_nothing before;
 }
@@ -82,7 +82,7 @@ module _ (old now : Matches) (groups : List Capture) (before between : Option (L
       record {
         found = sofar.found ++ m ∷ [];
         some = has_some-more sofar.found m;
-        same = record { text = same.text ∙ sofar.same.text; outcomes = same.outcomes ∙ sofar.same.outcomes };
+        same = record { text = same.text ∙ sofar.same.text; outcomes = same.outcomes ∙ sofar.same.outcomes; tree = same.tree ∙ sofar.same.tree };
         chain = subst (λ k. AreMatches text at (next_from old) k (sofar.found ++ m ∷ [])) (sym next)
             (AreMatches-more text at (next_from old) (next_from now) sofar.found m sofar.chain here);
         written = subst (λ bytes. Appends before after bytes) (lines-more groups sofar.found m)

@@ -91,9 +91,13 @@ fn parse_with(
     if request.reports_spans() {
         return try_parse_with_spans(alloc, points, request.flags, tables);
     }
-    let regex = try_parse_with_position(alloc, points, request.flags, tables)?;
-    let spans = Vec::new(alloc);
-    Ok(SpannedRegex { regex, spans })
+    match try_parse_with_position(alloc, points, request.flags, tables) {
+        Ok(regex) => Ok(SpannedRegex {
+            regex,
+            spans: Vec::new(alloc),
+        }),
+        Err(fault) => Err(fault),
+    }
 }
 
 fn tables(alloc: Global, small: bool) -> Result<Tables, AllocError>

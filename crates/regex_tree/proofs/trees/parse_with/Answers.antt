@@ -15,12 +15,19 @@ returns-then-reports_spans-clause-rejected c =
     fault_of (setting_of c.args.request.now.flags c.args.tables.now) c.args.points.now found.result found.ensures.rejected
     found.ensures.reported found.ensures.position
 
-pub returns-clause-parsed : goal.returns-clause-parsed
-returns-clause-parsed c =
-    let found = c.in_ok-regex.ensures.accepted in
+pub returns-in-Ok-clause-parsed : goal.returns-in-Ok-clause-parsed
+returns-in-Ok-clause-parsed c =
+    let found = rw c.in-Ok.is at c.try_parse_with_position.ensures.accepted in
     record {
       pattern = found.0;
       accepted = found.1;
       parsed = found.2;
       spans = λ shown. cc;
     }
+
+pub returns-in-Err-clause-rejected : goal.returns-in-Err-clause-rejected
+returns-in-Err-clause-rejected c =
+    let found = c.try_parse_with_position in
+    rw c.in-Err.is at
+    (fault_of (setting_of c.args.request.now.flags c.args.tables.now) c.args.points.now found.result found.ensures.rejected
+    found.ensures.reported found.ensures.position)
