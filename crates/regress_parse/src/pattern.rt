@@ -102,19 +102,6 @@ pub fn try_parse(
 ///
 /// # Complexity
 /// As for [`try_parse`].
-///
-/// # Examples
-/// ```
-/// let tables = Tables::small(alloc)?;
-/// let points = code_points(alloc, "ab[c")?;
-/// match try_parse_with_position(alloc, &points, Flags::default(), &tables) {
-///     Err(PlacedFault::Syntax { error, position }) => {
-///         assert_eq!(rt; error.text.as_str(), "Unbalanced bracket");
-///         assert_eq!(rt; position, 2);
-///     }
-///     _ => assert!(rt; false, "it is accepted"),
-/// }
-/// ```
 pub fn try_parse_with_position(
     alloc: Global,
     pattern: &[u32],

@@ -6,9 +6,7 @@ use regress_front::codepointset::{CodePointSet, Interval};
 use regress_front::ir::{Node, Regex, Walk, walk, walk_mut};
 use regress_front::literal::lower_code_point_sequence;
 use regress_front::optimizer::{PassAction, Rewrite, optimize, parse_and_optimize, run_pass};
-use regress_front::parse::{
-    PlacedFault, Span, node_bound, try_parse, try_parse_with_position, try_parse_with_spans,
-};
+use regress_front::parse::{Span, node_bound, try_parse, try_parse_with_spans};
 use regress_front::types::Flags;
 use regress_front::unicode::{
     FoldRange, Tables, add_icase_code_points, expand_code_point, fold, unfold_char, uppercase,
@@ -292,21 +290,6 @@ fn a_pattern_is_parsed(rt: HostRuntime) -> Result<(), Fail> {
         printed.as_str(),
         "Cat\n..Alt\n....'97'\n....'98'\n..Goal\n"
     );
-    Ok(())
-}
-
-#[test]
-fn a_syntax_error_has_a_position(rt: HostRuntime) -> Result<(), Fail> {
-    let alloc = rt.alloc();
-    let tables = Tables::small(alloc)?;
-    let points = code_points(alloc, "ab[c")?;
-    match try_parse_with_position(alloc, &points, Flags::default(), &tables) {
-        Err(PlacedFault::Syntax { error, position }) => {
-            assert_eq!(rt; error.text.as_str(), "Unbalanced bracket");
-            assert_eq!(rt; position, 2);
-        }
-        _ => assert!(rt; false, "it is accepted"),
-    }
     Ok(())
 }
 
