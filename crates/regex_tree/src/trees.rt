@@ -17,7 +17,7 @@ use crate::output::write_out;
 use crate::request::{Format, Request, Stage};
 use regress_base::util::code_points;
 use regress_json::SpannedJson;
-use regress_opt::optimize;
+use regress_normalize::optimize;
 use regress_parse::{PlacedFault, try_parse_with_position};
 use regress_railroad::svg_with_titles;
 use regress_spans::{Span, SpannedRegex, try_parse_with_spans};

@@ -1,3 +1,5 @@
+pub mod Optimized
+
 -- The definitions that the public contracts cite, exported again, so that a caller names one library.
 
 -- Sets, bytes and limits.

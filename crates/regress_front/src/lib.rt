@@ -2,6 +2,8 @@
 //! tree. The modules have the names of the Rust crate `regress`.
 #![tactic(auto)]
 
+mod pipeline;
+
 pub use regress_base::{bytesearch, charclasses, codepointset, types, util};
 pub use regress_unicode as unicode;
 
@@ -26,5 +28,7 @@ pub mod parse {
 
 /// Optimization and rewriting of trees.
 pub mod optimizer {
-    pub use regress_opt::{PassAction, Rewrite, optimize, parse_and_optimize, run_pass};
+    pub use crate::pipeline::parse_and_optimize;
+    pub use regress_normalize::optimize;
+    pub use regress_rewrite::{PassAction, Rewrite, run_pass};
 }

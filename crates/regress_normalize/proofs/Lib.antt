@@ -8,3 +8,4 @@ pub mod NormalLemmas
 pub mod GoalLemmas
 pub mod AltLemmas
 pub mod TraversalLemmas
+pub mod OptimizedGoal

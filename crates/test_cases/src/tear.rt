@@ -3,7 +3,7 @@ ghost use Rattle.std.specs.Prelude.{◌≤◌, All};
 
 use regress_base::codepointset::CODE_POINT_MAX;
 use regress_base::types::Flags;
-use regress_opt::parse_and_optimize;
+use regress_front::optimizer::parse_and_optimize;
 use regress_parse::ParseFault;
 use regress_unicode::Tables;
 use std::alloc::{AllocError, Global};

@@ -4,7 +4,7 @@ ghost use Rattle.regress_tree.specs.WellFormed.{IsWellFormed};
 
 use crate::parsing::{parse_tree, report_fault};
 use regress_base::types::Flags;
-use regress_opt::{optimize, parse_and_optimize};
+use regress_front::optimizer::{optimize, parse_and_optimize};
 use regress_tree::ir::Regex;
 use regress_unicode::Tables;
 use test_notation::{Call, Fault, Promise};

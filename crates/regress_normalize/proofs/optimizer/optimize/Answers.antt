@@ -1,5 +1,5 @@
-use Rattle.regress_opt.proofs.GoalLemmas.{goal_kept}
-use Rattle.regress_opt.proofs.optimizer.optimize.Goals as goal
+use Rattle.regress_normalize.proofs.OptimizedGoal.{goal_kept}
+use Rattle.regress_normalize.proofs.optimizer.optimize.Goals as goal
 
 pub returns-in_err-normalize-clause-goal : goal.returns-in_err-normalize-clause-goal
 returns-in_err-normalize-clause-goal c = goal_kept _ _ _ _ c.requires c.normalize.ensures

@@ -1,4 +1,4 @@
-use Rattle.regress_opt.proofs.pipeline.optimize_parsed.Goals as goal
+use Rattle.regress_front.proofs.pipeline.optimize_parsed.Goals as goal
 
 pub returns-in-Ok : goal.returns-in-Ok
 returns-in-Ok c = rw c.in-Ok.is (record {

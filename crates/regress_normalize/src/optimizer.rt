@@ -9,7 +9,7 @@ ghost use Rattle.regress_tree.specs.Units.{units, unrolling, loops, account};
 ghost use Rattle.regress_tree.specs.NormalForm.{IsNormal};
 ghost use Rattle.regress_rewrite.specs.Law.{MeansTheSame};
 
-use regress_normalize::normalize;
+use crate::traversal::normalize;
 use regress_tree::ir::{Regex, Walk};
 use std::alloc::{AllocError, Global};
 

@@ -13,9 +13,9 @@ ghost use Rattle.regress_parse.specs.Fault.{RejectedOnlyIf, ReportsKind};
 ghost use Rattle.regress_syntax.specs.Syntax.{Pattern};
 ghost use Rattle.regress_parse.specs.TreeOf.{tree_of};
 ghost use Rattle.regress_parse.specs.Accepted.{IsAccepted, NoneIsAccepted, IsTrueOf, MayExceed, OneIsDerived, OfAccepted, Means};
-ghost use Rattle.regress_opt.specs.Optimized.{IsOptimized};
+ghost use Rattle.regress_front.specs.Optimized.{IsOptimized};
 
-use crate::optimizer::optimize;
+use regress_normalize::optimize;
 use regress_base::types::Flags;
 use regress_parse::{ParseFault, try_parse};
 use regress_tree::ir::Regex;

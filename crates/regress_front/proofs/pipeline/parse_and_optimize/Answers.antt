@@ -13,8 +13,8 @@ use Rattle.regress_parse.specs.declared.fault.ParseFault.{ParseFault}
 use Rattle.regress_syntax.specs.Syntax.{Pattern}
 use Rattle.regress_parse.specs.TreeOf.{tree_of}
 use Rattle.regress_parse.specs.Accepted.{IsAccepted, OneIsDerived}
-use Rattle.regress_opt.specs.Optimized.{IsOptimized}
-use Rattle.regress_opt.proofs.pipeline.parse_and_optimize.Goals as goal
+use Rattle.regress_front.specs.Optimized.{IsOptimized}
+use Rattle.regress_front.proofs.pipeline.parse_and_optimize.Goals as goal
 
 -- What holds for each tree that is parsed and then optimized holds for the result.
 of_optimized : {A : Regex → Type 0} {P : Regex × Result (Unit {0}) AllocError → Type 0}
