@@ -1,4 +1,5 @@
-//! The contract of a rewrite (its law), the pass that applies one to a tree, and the rewrites.
+//! The contract of a rewrite (its law), the pass that applies one to a tree, and the rewrites. `optimize` uses their steps,
+//! and neither the pass nor the trait.
 #![tactic(auto)]
 
 pub mod flatten;

@@ -20,7 +20,7 @@ use regress_tree::ir::{Node, NodeList, Regex, Walk};
 use std::alloc::AllocError;
 
 /// Applies a rewrite to every node, children before parents, in repeated traversals until one changes nothing. Returns
-/// whether the tree changed.
+/// whether the tree changed. It is for rewrites of a caller's own: `optimize` does not call it.
 ///
 /// The new tree has the same meaning and the same capture groups, and is no larger with loops counted as if they were
 /// unrolled. It has none of the shapes that the rewrite removes.

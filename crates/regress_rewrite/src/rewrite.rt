@@ -44,7 +44,8 @@ impl PassAction {
     }
 }
 
-/// A rewrite of single nodes, which `run_pass` applies to every node of a tree.
+/// A rewrite of single nodes, which `run_pass` applies to every node of a tree. It is the extension point for rewrites
+/// of a caller's own: `optimize` does not call it.
 ///
 /// Its contract, the law, states how it may change a node, anywhere in a tree and in either direction of matching.
 pub trait Rewrite {

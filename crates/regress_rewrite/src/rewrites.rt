@@ -1,4 +1,5 @@
-//! The rewrites, as implementations of [`Rewrite`].
+//! The rewrites of the Rust crate, as implementations of [`Rewrite`] for callers of `run_pass`. `optimize` does not call
+//! them.
 
 use crate::flatten::flatten;
 use crate::form_literal_bytes::form_literal_bytes;

@@ -1,7 +1,7 @@
 //! `test_cases [FILE]..` runs the test cases of files, in order: the result of a pattern, of a call, or of a match in a
 //! text is compared with that of the library over the small table, or over that of all of Unicode. Test cases are data
 //! since code that is compiled would have to be proved. The files are in `data`, and the file `args` lists them;
-//! docs/testing.md specifies their notation.
+//! `README.md` specifies their notation.
 //!
 //! If an allocation fails in any of them, the program checks whether the call keeps what it promises for that case;
 //! `tools/refuse_growth` makes each allocation of each call fail in order, and those of some searches.
