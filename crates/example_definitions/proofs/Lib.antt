@@ -2,6 +2,7 @@ mod AssertionMeanings
 mod CharacterMeanings
 mod CharacterSets
 mod ClassSetExamples
+mod DuplicateExamples
 mod GroupExamples
 mod LiteralExamples
 mod LookaroundMeanings

@@ -48,7 +48,7 @@ alternatives_of_a_lookahead_and_a_group : apart (codes "(?=(?<a>x)|y)(?:z|(?<a>w
 unfolding apart
 alternatives_of_a_lookahead_and_a_group = refl
 
--- The first and the third group conflict. Neither conflicts with the second.
+-- The third group conflicts with the two others, which are in different alternatives.
 three_of_which_the_outer_conflict : apart (codes "(?:(?<a>x)|(?<a>w))(?:z|(?<a>y))") ≡ false
 unfolding apart
 three_of_which_the_outer_conflict = refl

@@ -5,6 +5,7 @@ pub mod ReaderLemmas
 pub mod GrammarLemmas
 pub mod CountLemmas
 mod SettledLemmas
+mod DuplicateLemmas
 pub mod StringLemmas
 pub mod ClassTreeLemmas
 pub mod BuildLemmas

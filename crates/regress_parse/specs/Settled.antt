@@ -1,10 +1,13 @@
--- Syntax errors that no change after their position can mend.
-use Rattle.std.specs.Prelude.{◌≡◌, ℕ, ◌+◌, false, ◌++◌, take, drop, length, Some, string_bytes, Result, Ok, Err}
+-- Syntax errors that no change after their position can mend, and where names in conflict are reported.
+use Rattle.std.specs.Prelude.{◌≡◌, ℕ, ◌+◌, ◌≤◌, false, ◌++◌, take, drop, length, Some, string_bytes, Result, Ok, Err}
+use Rattle.regress_base.specs.Limits.{max_nesting_depth}
 use Rattle.regress_tree.specs.Setting.{Setting}
 use Rattle.regress_lexer.specs.declared.fault.FaultKind.{FaultKind}
+use Rattle.regress_lexer.specs.declared.fault.FaultKind.TheVariants.{DuplicateName}
 use Rattle.regress_lexer.specs.Source.{Source, char, is_at}
-use Rattle.regress_syntax.specs.Scan.{plain}
-use Rattle.regress_syntax.specs.FirstErrors.{Flaw, kind_of, remaining_at}
+use Rattle.regress_syntax.specs.Paths.{are_tokens_apart}
+use Rattle.regress_syntax.specs.Scan.{plain, tokens, deepest}
+use Rattle.regress_syntax.specs.FirstErrors.{Flaw, kind_of, remaining_at, IsFirstDuplicate}
 use Rattle.regress_parse.specs.declared.fault.PlacedFault.{PlacedFault}
 use Rattle.regress_parse.specs.declared.fault.PlacedFault.TheVariants.{Syntax, Memory}
 use Rattle.regress_parse.specs.Fault.{text_of}
@@ -21,6 +24,14 @@ abbrev pub IsFinal : Setting → Source → FaultKind → (position : ℕ) → T
 IsFinal setting t kind position =
     (flaw : Flaw) (left : ℕ) → kind ≡ kind_of flaw → remaining_at flaw setting.flags.unicode_sets plain 1 t ≡ Some left →
     (position + left ≡ length t) × (is_at (char "[") (drop position t) ≡ false → NoneStartsWith setting (take (position + 1) t))
+
+-- If two groups of the source conflict, and it is not nested too deeply, then the syntax error is of that kind, and its
+-- position is that of the first name that conflicts with one before it.
+abbrev pub IsAtFirstDuplicate : Setting → Source → FaultKind → (position : ℕ) → Type 0
+IsAtFirstDuplicate setting t kind position =
+    let marks = tokens setting.flags.unicode_sets setting.table plain t in
+    are_tokens_apart marks ≡ false → deepest 1 marks ≤ max_nesting_depth →
+    (kind ≡ DuplicateName) × IsFirstDuplicate setting.flags.unicode_sets setting.table t position
 
 -- A syntax error has the text of a kind and a position for which P holds.
 abbrev pub ReportsKindAt : {X : Type 0} → Result X PlacedFault → (FaultKind → ℕ → Type 0) → Type 0

@@ -12,7 +12,7 @@ ghost use Rattle.regress_syntax.specs.Views.{context_of};
 ghost use Rattle.regress_parse.specs.TreeOf.{tree_of};
 ghost use Rattle.regress_parse.specs.Accepted.{IsAccepted, NoneIsAccepted, IsTrueOf, MayExceed, OneIsDerived, OfAccepted, Means};
 ghost use Rattle.regress_parse.specs.Fault.{RejectedOnlyIf, ReportsKind, unplaced, HasPositionWithin};
-ghost use Rattle.regress_parse.specs.Settled.{ReportsKindAt, IsFinal};
+ghost use Rattle.regress_parse.specs.Settled.{ReportsKindAt, IsFinal, IsAtFirstDuplicate};
 ghost use Rattle.regress_parse.specs.Parsing.{YieldsWhole, Reaches};
 
 use crate::fault::{ParseFault, PlacedFault, position};
@@ -119,6 +119,7 @@ pub fn try_parse_with_position(
     ensures limits { ReportsKind (unplaced result) (MayExceed pattern.now) }
     ensures position { HasPositionWithin (length pattern.now) result }
     ensures settled { ReportsKindAt result (IsFinal (setting_of flags tables.now) pattern.now) }
+    ensures duplicate { ReportsKindAt result (IsAtFirstDuplicate (setting_of flags tables.now) pattern.now) }
     ensures only { OneIsDerived (setting_of flags tables.now) pattern.now }
 
     // Properties of the tree.
@@ -141,6 +142,7 @@ fn parse(alloc: Global, pattern: &[u32], flags: Flags, tables: &Tables) -> Resul
     ensures reported { FailsBy result (IsTrueOf (setting_of flags tables.now) pattern.now) }
     ensures limits { FailsBy result (MayExceed pattern.now) }
     ensures settled { FailsAt result (λ r. IsFinal (setting_of flags tables.now) pattern.now r.kind (length pattern.now - r.left)) }
+    ensures duplicate { FailsAt result (λ r. IsAtFirstDuplicate (setting_of flags tables.now) pattern.now r.kind (length pattern.now - r.left)) }
     ensures only { OneIsDerived (setting_of flags tables.now) pattern.now }
     ensures meaning { let setting = setting_of flags tables.now in
         IfOk result (λ r. OfAccepted setting pattern.now (Means setting (tree r.node))) }

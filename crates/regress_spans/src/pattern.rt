@@ -10,7 +10,7 @@ ghost use Rattle.regress_syntax.specs.Syntax.{Pattern};
 ghost use Rattle.regress_syntax.specs.SettingOf.{setting_of};
 ghost use Rattle.regress_parse.specs.Accepted.{IsAccepted, NoneIsAccepted, IsTrueOf, MayExceed, OneIsDerived, OfAccepted, Means};
 ghost use Rattle.regress_parse.specs.Fault.{RejectedOnlyIf, ReportsKind, unplaced, HasPositionWithin};
-ghost use Rattle.regress_parse.specs.Settled.{IsFinal, ReportsKindAt};
+ghost use Rattle.regress_parse.specs.Settled.{IsFinal, IsAtFirstDuplicate, ReportsKindAt};
 ghost use Rattle.regress_parse.specs.TreeOf.{tree_of};
 ghost use Rattle.regress_spans.specs.Spans.{IsWithin, IsInsideOrApart, spans_of};
 ghost use Rattle.regress_spans.specs.Reading.{ReadsPattern};
@@ -98,6 +98,7 @@ pub fn try_parse_with_spans(
     ensures limits { ReportsKind (unplaced result) (MayExceed pattern.now) }
     ensures position { HasPositionWithin (length pattern.now) result }
     ensures settled { ReportsKindAt result (IsFinal (setting_of flags tables.now) pattern.now) }
+    ensures duplicate { ReportsKindAt result (IsAtFirstDuplicate (setting_of flags tables.now) pattern.now) }
     ensures only { OneIsDerived (setting_of flags tables.now) pattern.now }
     ensures meaning { let setting = setting_of flags tables.now in
         IfOk result (λ r. OfAccepted setting pattern.now (Means setting (tree r.regex.node))) }

@@ -3,6 +3,8 @@ mod ConflictLemmas
 mod FirstErrorsLemmas
 mod NameLemmas
 mod NumberingLemmas
+mod OrderLemmas
+mod PlaceLemmas
 mod PathLemmas
 mod ReferenceLemmas
 mod ScanClasses

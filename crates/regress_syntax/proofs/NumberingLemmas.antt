@@ -124,7 +124,7 @@ neither_less Equal = refl
 neither_less Greater = refl
 
 -- Two groups tie exactly if they have the same name.
-ties_by_name : (x y : NamedGroup) → ties is_before x y ≡ bytes_eq y.name.items x.name.items
+pub ties_by_name : (x y : NamedGroup) → ties is_before x y ≡ bytes_eq y.name.items x.name.items
 ties_by_name x y =
     let a = x.name.items in
     let b = y.name.items in

@@ -142,6 +142,9 @@ counted n d same = (λ few. omega (arith, same), λ many. omega (arith, same))
 pub open_groups_after : (all : List GroupToken) (scanner : Scanner) → After all [] scanner → scanner.deepest ≤ max_nesting_depth → deepest 1 all ≤ max_nesting_depth
 open_groups_after all scanner after few = (counted (deepest 1 all) _ after.nesting).0 (omega (arith, after.opened))
 
+pub deep_after : (all : List GroupToken) (scanner : Scanner) → After all [] scanner → max_nesting_depth < scanner.deepest → max_nesting_depth < deepest 1 all
+deep_after all scanner after many = (counted (deepest 1 all) _ after.nesting).1 (omega (arith, many))
+
 pub apart_after : (all : List GroupToken) (scanner : Scanner) → After all [] scanner → deepest 1 all ≤ max_nesting_depth →
     are_tokens_apart all ≡ are_apart (map capture_of scanner.named.items)
 apart_after all scanner after few =

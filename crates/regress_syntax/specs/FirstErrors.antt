@@ -1,10 +1,15 @@
--- The first unmatched `)` of a pattern, and the first position at which it is nested too deeply, as a scan finds them.
-use Rattle.std.specs.Prelude.{ℕ, ◌+◌, ◌-◌, max, nat_le, Bool, false, ◌&&◌, [], ◌∷◌, length, Option, Some, None, if◌then◌else◌, ◌==◌}
+-- The first unmatched `)` of a pattern, the first position at which it is nested too deeply, and the first name that
+-- conflicts with one before it, as a scan finds them.
+use Rattle.std.specs.Prelude.{◌≡◌, ℕ, zero, suc, ◌+◌, ◌-◌, max, nat_le, Bool, false, ◌&&◌, List, [], ◌∷◌, ◌++◌, length, Option, Some, None, if◌then◌else◌, ◌==◌}
+use Rattle.std.specs.Option.{option_to_list}
 use Rattle.regress_base.specs.Limits.{max_nesting_depth}
+use Rattle.regress_base.specs.Table.{Table}
 use Rattle.regress_lexer.specs.declared.fault.FaultKind.{FaultKind}
 use Rattle.regress_lexer.specs.declared.fault.FaultKind.TheVariants.{UnbalancedParenthesis, TooDeep}
 use Rattle.regress_lexer.specs.Source.{Source, char, opening, closing}
-use Rattle.regress_syntax.specs.Scan.{Mode, plain, escape, class, class_escape, mode_after}
+use Rattle.regress_syntax.specs.GroupTokens.{GroupToken}
+use Rattle.regress_syntax.specs.Paths.{are_tokens_apart, NoTokensConflict}
+use Rattle.regress_syntax.specs.Scan.{Mode, plain, escape, class, class_escape, mode_after, token_at}
 
 -- what a scan finds before the pattern is parsed
 pub data Flaw : Type 0 where
@@ -42,3 +47,20 @@ remaining_at flaw sets mode n [] = None
 remaining_at flaw sets mode n (c ∷ t) =
     if is_flaw flaw sets mode n c then Some (length t + 1)
     else remaining_at flaw sets (mode_after sets mode c) (open_groups_after mode n c) t
+
+-- ---- names
+
+-- the marks that begin within the first n code points of a source
+unfoldable pub tokens_within : ℕ → (sets : Bool) → Table → Mode → Source → List GroupToken
+tokens_within zero sets table mode t = []
+tokens_within (suc n) sets table mode [] = []
+tokens_within (suc n) sets table mode (c ∷ t) =
+    option_to_list (token_at sets table mode c t) ++ tokens_within n sets table (mode_after sets mode c) t
+
+-- The first name that conflicts with one before it is at this position: no two of the groups before its group conflict,
+-- and with its group two do. The group starts three code points before the name, with `(?<`.
+abbrev pub IsFirstDuplicate : (sets : Bool) → Table → Source → (position : ℕ) → Type 0
+IsFirstDuplicate sets table t position =
+    (start : ℕ) × (position ≡ start + 3)
+    × NoTokensConflict (tokens_within start sets table plain t)
+    × (are_tokens_apart (tokens_within (start + 1) sets table plain t) ≡ false)

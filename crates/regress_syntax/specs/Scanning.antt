@@ -1,13 +1,15 @@
 -- What the values of the scanning code represent.
-use Rattle.std.specs.Prelude.{◌≡◌, ℕ, ◌+◌, ◌-◌, ◌^◌, min, max, ◌≤◌, ◌<◌, Bool, List, [], ◌∷◌, ◌++◌, map, length, reverse, Option, Some, None, option_map, is_some, filter, unwrap_or, Result, Ok, Err}
+use Rattle.std.specs.Prelude.{◌≡◌, ℕ, ◌+◌, ◌-◌, ◌^◌, min, max, nat_le, ◌≤◌, ◌<◌, Bool, true, false, All, AllPairs, List, [], ◌∷◌, ◌++◌, map, length, reverse, Option, Some, None, option_map, is_some, filter, unwrap_or, if◌then◌else◌, Result, Ok, Err}
+use Rattle.std.specs.Option.{option_to_list}
 use Rattle.std.specs.Cmp.Lexicographic.{slice_cmp}
 use Rattle.std.specs.Ordering.{nat_cmp, is_lt}
 use Rattle.regress_base.specs.Limits.{max_nesting_depth}
+use Rattle.regress_base.specs.Table.{Table}
 use Rattle.regress_syntax.specs.Numbering.{names_of, numbered}
 use Rattle.regress_syntax.specs.Syntax.{Name}
 use Rattle.regress_syntax.specs.GroupTokens.{GroupToken, opens, captures, closes, next, nests}
-use Rattle.regress_syntax.specs.Paths.{Level, Path, Position, CaptureAt, groups_by, at_the_start}
-use Rattle.regress_syntax.specs.Scan.{Mode, plain, escape, class, class_escape, named_by, deepest}
+use Rattle.regress_syntax.specs.Paths.{Level, Path, Position, CaptureAt, groups_by, at_the_start, enter, outside, next_alternative, conflict, are_apart, are_tokens_apart}
+use Rattle.regress_syntax.specs.Scan.{Mode, plain, escape, class, class_escape, named_by, deepest, tokens, token_at, mode_after}
 use Rattle.regress_syntax.specs.declared.scan.token.Mode.{Mode as CodeMode}
 use Rattle.regress_syntax.specs.declared.scan.token.Mode.TheVariants as modes
 use Rattle.regress_syntax.specs.declared.scan.token.GroupToken.{GroupToken as CodeToken}
@@ -17,12 +19,12 @@ use Rattle.regress_syntax.specs.declared.scan.path.Path.{Path as CodePath}
 use Rattle.regress_syntax.specs.declared.scan.scanner.Scanner.{Scanner}
 use Rattle.regress_syntax.specs.declared.scan.scanner.NamedGroup.{NamedGroup}
 use Rattle.regress_lexer.specs.declared.fault.FaultKind.{FaultKind}
-use Rattle.regress_lexer.specs.declared.fault.FaultKind.TheVariants.{UnbalancedParenthesis, TooDeep}
+use Rattle.regress_lexer.specs.declared.fault.FaultKind.TheVariants.{UnbalancedParenthesis, TooDeep, DuplicateName}
 use Rattle.regress_lexer.specs.declared.fault.Fault.{Fault}
 use Rattle.regress_lexer.specs.declared.fault.Fault.TheVariants.{Rejected, Memory}
 use Rattle.regress_lexer.specs.declared.fault.Rejection.{Rejection}
 use Rattle.regress_lexer.specs.Source.{Source}
-use Rattle.regress_syntax.specs.FirstErrors.{Flaw, unopened, too_deep, kind_of, remaining_at}
+use Rattle.regress_syntax.specs.FirstErrors.{Flaw, unopened, too_deep, kind_of, remaining_at, IsFirstDuplicate}
 use Rattle.regress_syntax.specs.declared.scan.first_errors.FirstErrors.{FirstErrors}
 
 -- ---- marks
@@ -70,6 +72,14 @@ highest (level ∷ path) = max level.alternative (highest path)
 abbrev pub highest_at : Position → ℕ
 highest_at position = max position.opened (highest position.path)
 
+-- the position after a mark
+abbrev pub position_after : GroupToken → Position → Position
+position_after opens position = enter position
+position_after (captures name) position = enter position
+position_after closes position = record position { path = outside position.path }
+position_after next position = record position { path = next_alternative position.path }
+position_after (nests nesting) position = position
+
 -- the number of open groups after a mark, the whole pattern included
 abbrev pub open_groups_after_token : GroupToken → ℕ → ℕ
 open_groups_after_token opens n = n + 1
@@ -112,6 +122,65 @@ pub record After (all rest : List GroupToken) (scanner : Scanner) : Type 0 where
   -- The depth saturates at `usize::MAX`.
   pub nesting : min (deepest 1 all) (2 ^ 64 - 1) ≡ min (max scanner.deepest (deepest (length (path_of scanner.path)) rest)) (2 ^ 64 - 1)
 
+-- ---- where groups begin
+
+-- the marks of a source from each of which on at least `left` code points remain
+unfoldable pub tokens_down_to : (left : ℕ) → (sets : Bool) → Table → Mode → Source → List GroupToken
+tokens_down_to left sets table mode [] = []
+tokens_down_to left sets table mode (c ∷ t) =
+    if nat_le left (length t + 1)
+    then option_to_list (token_at sets table mode c t) ++ tokens_down_to left sets table (mode_after sets mode c) t
+    else []
+
+-- At least `left` code points remain from the group on.
+abbrev pub is_from : (left : ℕ) → NamedGroup → Bool
+is_from left group = nat_le left group.left
+
+-- Such a mark adds a group if it has a name. Past the limit of the nesting depth, its path is cut short.
+abbrev pub AddsGroup : GroupToken → (left : ℕ) → Path → (old new : List NamedGroup) → Type 0
+AddsGroup (captures (Some name)) left path old new =
+    (group : NamedGroup) × (new ≡ old ++ group ∷ []) × (group.left ≡ left)
+    × (length path ≤ max_nesting_depth → capture_of group ≡ record { path = path; name = Some name })
+AddsGroup token left path old new = new ≡ old
+
+-- The named groups are in the order of the source, and from each of them on at least `left` code points remain. At least
+-- three do, since a group with a name starts with `(?<`.
+pub record AreInOrder (left : ℕ) (groups : List NamedGroup) : Type 0 where
+  pub falling : AllPairs (λ group later. later.left ≤ group.left) groups
+  pub above : All (λ group. left ≤ group.left) groups
+  pub three : All (λ group. 3 ≤ group.left) groups
+
+-- The named groups up to each position are those of the marks up to there, with what the remaining source adds.
+abbrev pub HasPlaces : (sets : Bool) → Table → (t : Source) → Mode → (rest : Source) → Scanner → Type 0
+HasPlaces sets table t mode rest scanner =
+    deepest 1 (tokens sets table plain t) ≤ max_nesting_depth → (left : ℕ) →
+    filter bears_name (groups_by at_the_start (tokens_down_to left sets table plain t))
+    ≡ map capture_of (filter (is_from left) scanner.named.items)
+    ++ filter bears_name (groups_by (position_of scanner) (tokens_down_to left sets table mode rest))
+
+-- the greater one of two numbers, where there are two
+abbrev pub greatest : Option ℕ → Option ℕ → Option ℕ
+greatest None b = b
+greatest (Some a) None = Some a
+greatest (Some a) (Some b) = Some (max a b)
+
+-- where the second of two groups begins, if they conflict
+abbrev pub conflict_with_next : NamedGroup → List NamedGroup → Option ℕ
+conflict_with_next group [] = None
+conflict_with_next group (other ∷ groups) = if conflict (capture_of group) (capture_of other) then Some other.left else None
+
+-- where the first group in the source begins that conflicts with the group before it in the list
+unfoldable pub first_conflict : List NamedGroup → Option ℕ
+first_conflict [] = None
+first_conflict (group ∷ groups) = greatest (conflict_with_next group groups) (first_conflict groups)
+
+-- If some of these groups conflict, the error is about that, and at the first one that conflicts with one before it.
+abbrev pub IsAtConflict : List NamedGroup → Rejection → Type 0
+IsAtConflict groups r =
+    are_apart (map capture_of groups) ≡ false → (r.kind ≡ DuplicateName) × (left : ℕ) × (r.left ≡ left - 3) × (3 ≤ left)
+    × (are_apart (map capture_of (filter (is_from (left + 1)) groups)) ≡ true)
+    × (are_apart (map capture_of (filter (is_from left) groups)) ≡ false)
+
 -- ---- first errors
 
 -- the position that was noted for a flaw, as the number of code points that remain from it on
@@ -126,6 +195,13 @@ NotesFirst sets t first_errors = (flaw : Flaw) → remaining_at flaw sets plain 
 -- An error for one of the flaws is at the first such flaw of the source, if there is one.
 abbrev pub IsLocated : (sets : Bool) → Source → Rejection → Type 0
 IsLocated sets t r = (flaw : Flaw) (left : ℕ) → r.kind ≡ kind_of flaw → remaining_at flaw sets plain 1 t ≡ Some left → r.left ≡ left
+
+-- If two groups of the source conflict, and it is not nested too deeply, the error is about that, and at the first name
+-- that conflicts with one before it.
+abbrev pub IsAtDuplicate : (sets : Bool) → Table → Source → Rejection → Type 0
+IsAtDuplicate sets table t r =
+    are_tokens_apart (tokens sets table plain t) ≡ false → deepest 1 (tokens sets table plain t) ≤ max_nesting_depth →
+    (r.kind ≡ DuplicateName) × IsFirstDuplicate sets table t (length t - r.left)
 
 -- the property holds of a syntax error; running out of memory is no syntax error
 abbrev pub OnRejection : Fault → (Rejection → Type 0) → Type 0

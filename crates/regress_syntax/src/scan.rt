@@ -5,7 +5,7 @@ ghost use Rattle.regress_unicode.specs.TableOf.{table_of};
 ghost use Rattle.regress_lexer.specs.Fault.{FailsBy};
 ghost use Rattle.regress_syntax.specs.Paths.{NoTokensConflict};
 ghost use Rattle.regress_syntax.specs.Scan.{GivesTokens, plain, tokens, named_by, deepest, TokensShow};
-ghost use Rattle.regress_syntax.specs.Scanning.{NotesFirst, IsLocated, FailsAt};
+ghost use Rattle.regress_syntax.specs.Scanning.{NotesFirst, IsLocated, IsAtDuplicate, FailsAt};
 ghost use Rattle.regress_syntax.specs.Views.{names_in};
 
 mod first_errors;
@@ -38,16 +38,16 @@ pub struct Findings {
 /// # Errors
 /// The first of these that applies:
 /// - [`FaultKind::DuplicateName`] if two groups of the same name conflict: no disjunction has them in different
-///   alternatives (ECMA-262, MightBothParticipate). Its position is that of the later name. In a pattern that is nested
-///   too deeply, groups that do not conflict may be reported.
+///   alternatives (ECMA-262, MightBothParticipate). Its position is that of the first name in the pattern that conflicts
+///   with one before it. In a pattern that is nested too deeply, groups that do not conflict may be reported.
 /// - [`FaultKind::TooDeep`] if the pattern is nested deeper than `MAX_NESTING_DEPTH`.
 /// - [`FaultKind::TooManyGroups`] if the pattern has more than `u32::MAX` capture groups.
 ///
 /// Returns [`Fault::Memory`] if an allocation fails.
 ///
 /// # Complexity
-/// Linear in the length of the pattern, apart from sorting the named groups by name and by path. The path of a named
-/// group has at most `MAX_NESTING_DEPTH` levels.
+/// Linear in the length of the pattern, apart from sorting the named groups by name. The path of a named group has at
+/// most `MAX_NESTING_DEPTH` levels.
 pub fn scan(alloc: Global, pattern: &[u32], sets: bool, tables: &Tables) -> Result<Findings, Fault>
     ensures names { IfOk result (λ found. names_in found.groups ≡ named_by (tokens sets (table_of tables.now) plain pattern.now)) }
     ensures count { IfOk result (λ found. found.groups.count ≡ min (length (names_in found.groups)) max_capture_groups) }
@@ -56,6 +56,7 @@ pub fn scan(alloc: Global, pattern: &[u32], sets: bool, tables: &Tables) -> Resu
     ensures first_errors { IfOk result (λ found. NotesFirst sets pattern.now found.first_errors) }
     ensures rejected { FailsBy result (TokensShow (tokens sets (table_of tables.now) plain pattern.now)) }
     ensures located { FailsAt result (IsLocated sets pattern.now) }
+    ensures duplicate { FailsAt result (IsAtDuplicate sets (table_of tables.now) pattern.now) }
     ensures whole { GivesTokens sets (table_of tables.now) pattern.now }
 {
     let (groups, first_errors) = find_groups(alloc, pattern, sets, tables)?;
@@ -79,6 +80,7 @@ fn find_groups(
     ensures first_errors { IfOk result (λ found. NotesFirst sets pattern.now found.1) }
     ensures rejected { FailsBy result (TokensShow (tokens sets (table_of tables.now) plain pattern.now)) }
     ensures located { FailsAt result (IsLocated sets pattern.now) }
+    ensures duplicate { FailsAt result (IsAtDuplicate sets (table_of tables.now) pattern.now) }
 {
     let mut scanner = Scanner::new(alloc)?;
     let mut first_errors = FirstErrors::none();

@@ -9,7 +9,7 @@ use std::alloc::{AllocError, Global};
 const USUAL_DEPTH: usize = 8;
 
 /// A disjunction that contains a position: that of the whole pattern, or that inside a pair of parentheses.
-#[derive(Clone, Copy, PartialEq, Eq, PartialOrd, Ord)]
+#[derive(Clone, Copy, PartialEq, Eq)]
 pub(super) struct Level {
     /// The number of its opening parenthesis, from 1; 0 for the whole pattern.
     opening: u64,
@@ -17,8 +17,8 @@ pub(super) struct Level {
     alternative: u64,
 }
 
-/// The disjunctions that contain a position. In sorted order, paths with a common prefix are adjacent.
-#[derive(PartialEq, Eq, PartialOrd, Ord, Drop)]
+/// The disjunctions that contain a position.
+#[derive(Drop)]
 pub(super) struct Path {
     /// The disjunctions, outermost first.
     nesting: Vec<Level>,

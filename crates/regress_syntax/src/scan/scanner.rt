@@ -1,15 +1,14 @@
 //! The state of a scan.
-ghost use Rattle.std.specs.Prelude.{◌≡◌, ◌<◌, ◌≤◌, ◌+◌, ◌-◌, ◌^◌, min, max, List, ◌∷◌, [], ◌++◌, filter, length, map, not, option_map, IfOk, OnOk};
-ghost use Rattle.std.specs.List.{IsAllAdjacentAnswer};
+ghost use Rattle.std.specs.Prelude.{◌≡◌, ℕ, ◌<◌, ◌≤◌, ◌+◌, ◌-◌, ◌^◌, min, max, List, ◌∷◌, [], ◌++◌, filter, length, map, Some, option_map, IfOk, OnOk};
 ghost use Rattle.std.specs.List.Sorted.{IsPermutation, IsSortedBy, IsStableBy};
 ghost use Rattle.regress_base.specs.Limits.{max_capture_groups, max_nesting_depth};
 ghost use Rattle.regress_lexer.specs.Fault.{FailsBy};
 ghost use Rattle.regress_syntax.specs.Numbering.{names_of};
 ghost use Rattle.regress_syntax.specs.Views.{names_in};
-ghost use Rattle.regress_syntax.specs.GroupTokens.{GroupToken as Written};
-ghost use Rattle.regress_syntax.specs.Paths.{CaptureAt, NoTokensConflict, conflict, enter};
+ghost use Rattle.regress_syntax.specs.GroupTokens.{GroupToken as Written, captures};
+ghost use Rattle.regress_syntax.specs.Paths.{CaptureAt, NoTokensConflict, at_the_start, conflict, enter};
 ghost use Rattle.regress_syntax.specs.Scan.{named_by, deepest, TokensShow};
-ghost use Rattle.regress_syntax.specs.Scanning.{token_of, capture_of, bears_name, path_of, position_of, highest_at, open_groups_after_token, is_before, After, HasNumbers};
+ghost use Rattle.regress_syntax.specs.Scanning.{token_of, capture_of, bears_name, path_of, position_of, position_after, highest_at, open_groups_after_token, is_before, After, HasNumbers, AddsGroup, AreInOrder, IsAtConflict, FailsAt, first_conflict, greatest};
 
 use super::path::Path;
 use super::token::GroupToken;
@@ -37,11 +36,11 @@ pub(super) struct Scanner {
 
 /// A capture group with a name, and the path of its position. The path has at most `MAX_NESTING_DEPTH` disjunctions, so
 /// that the paths of a deeply nested pattern do not take quadratic memory.
-#[derive(PartialEq, Eq, PartialOrd, Ord, Drop)]
+#[derive(Drop)]
 struct NamedGroup {
     name: Name,
     path: Path,
-    /// The number of code points that remain from the name on.
+    /// The number of code points that remain from its parenthesis on.
     left: usize,
     /// The group's number, from 1; `u32::MAX` if it is greater.
     number: u32,
@@ -52,6 +51,8 @@ impl Scanner {
     #[tactic(auto, using(crate::proofs::ScannerLemmas::deepest_above))]
     pub(super) fn new(alloc: Global) -> Result<Scanner, AllocError>
         ensures found { (all : List Written) → IfOk result (After all all) }
+        ensures start { IfOk result (λ scanner. position_of scanner ≡ at_the_start) }
+        ensures none { IfOk result (λ scanner. scanner.named.items ≡ []) }
         ensures numbers { IfOk result (λ scanner. highest_at (position_of scanner) ≡ 0) }
         ensures numbered { IfOk result HasNumbers }
         ensures nesting { IfOk result (λ scanner. length (path_of scanner.path) ≡ 1) }
@@ -74,12 +75,13 @@ impl Scanner {
         ensures numbered { HasNumbers self.old → OnOk result (HasNumbers self.new) }
         ensures nesting { 1 ≤ length (path_of self.old.path) →
             OnOk result (length (path_of self.new.path) ≡ open_groups_after_token (token_of token) (length (path_of self.old.path))) }
+        ensures position { OnOk result (position_of self.new ≡ position_after (token_of token) (position_of self.old)) }
+        ensures added { OnOk result (AddsGroup (token_of token) left (path_of self.old.path) self.old.named.items self.new.named.items) }
     {
         match token {
             GroupToken::Opens => self.open()?,
             GroupToken::Captures(name) => {
-                // The name follows `(?<`.
-                self.add(name, left.saturating_sub(3))?;
+                self.add(name, left)?;
                 self.open()?;
             }
             GroupToken::Closes => self.path.leave(),
@@ -117,14 +119,15 @@ impl Scanner {
         self.path.depth()
     }
 
-    /// Adds a capture group at the position. `left` is the number of code points that remain from its name on, if it
-    /// has one.
+    /// Adds a capture group at the position. `left` is the number of code points that remain from its parenthesis on.
     fn add(&mut self, name: Option<Name>, left: usize) -> Result<(), AllocError>
         ensures same { OnOk result (self.new ≡ record self.old { names = self.new.names; named = self.new.named }) }
         ensures names { OnOk result (names_of self.new.names.items ≡ names_of self.old.names.items ++ names_of (name ∷ [])) }
         ensures named { length (path_of self.old.path) ≤ max_nesting_depth →
             OnOk result (map capture_of self.new.named.items ≡ map capture_of self.old.named.items
             ++ filter bears_name (record { path = path_of self.old.path; name = option_map (λ name. name.items) name } ∷ [])) }
+        ensures added { OnOk result (AddsGroup (captures (option_map (λ name. name.items) name)) left (path_of self.old.path)
+            self.old.named.items self.new.named.items) }
         ensures numbered { HasNumbers self.old → OnOk result (HasNumbers self.new) }
     {
         if let Some(name) = &name {
@@ -142,26 +145,28 @@ impl Scanner {
     /// Returns the capture groups, at the end of the pattern.
     ///
     /// # Errors
-    /// The first of these that applies: [`FaultKind::DuplicateName`] if two groups conflict, [`FaultKind::TooDeep`] if
-    /// the pattern is nested too deeply, [`FaultKind::TooManyGroups`] if there are more than `u32::MAX` groups. Returns
-    /// [`Fault::Memory`] if an allocation fails.
+    /// The first of these that applies: [`FaultKind::DuplicateName`] if two groups conflict, at the first name that
+    /// conflicts with one before it, [`FaultKind::TooDeep`] if the pattern is nested too deeply,
+    /// [`FaultKind::TooManyGroups`] if there are more than `u32::MAX` groups. Returns [`Fault::Memory`] if an allocation
+    /// fails.
     pub(super) fn finish(self) -> Result<Groups, Fault>
-        requires { HasNumbers self }
+        requires numbered { HasNumbers self }
+        requires order { AreInOrder 0 self.named.items }
         ensures names { (all : List Written) → After all [] self → IfOk result (λ groups. names_in groups ≡ named_by all) }
         ensures count { IfOk result (λ groups. groups.count ≡ min (length (names_in groups)) max_capture_groups) }
         ensures apart { (all : List Written) → After all [] self → IfOk result (λ _. NoTokensConflict all) }
         ensures nesting { (all : List Written) → After all [] self → IfOk result (λ _. deepest 1 all ≤ max_nesting_depth) }
         ensures rejected { (all : List Written) → After all [] self → FailsBy result (TokensShow all) }
+        ensures conflict { (all : List Written) → After all [] self → deepest 1 all ≤ max_nesting_depth → FailsAt result (IsAtConflict self.named.items) }
     {
         let mut named = self.named;
-        // The sort is stable: groups of one name stay in the order of their numbers.
+        // The sort is stable: groups of one name stay in the order of the pattern.
         sort_by_name(&mut named)?;
-        let sorted = numbers(self.alloc, &named)?;
-        // Where no groups conflict this is also the order of their paths, so little remains to be sorted.
-        named.sort()?;
-        // Paths that differ only past the limit compare as equal: such a pattern is rejected in any case.
-        if !are_neighbours_apart(&named) {
-            return Err(rejected(second_name(&named), FaultKind::DuplicateName));
+        // Paths that differ only past the limit count as equal: such a pattern is rejected in any case.
+        if let Some(left) = find_conflict(&named) {
+            // The name follows `(?<`.
+            let name = left.saturating_sub(3);
+            return Err(rejected(name, FaultKind::DuplicateName));
         }
         if self.deepest > MAX_NESTING_DEPTH as usize {
             return Err(rejected(0, FaultKind::TooDeep));
@@ -169,7 +174,8 @@ impl Scanner {
         if self.names.len() > u32::MAX as usize {
             return Err(rejected(0, FaultKind::TooManyGroups));
         }
-        Ok(Groups::new(self.names, sorted))
+        let numbers = numbers(self.alloc, &named)?;
+        Ok(Groups::new(self.names, numbers))
     }
 }
 
@@ -205,23 +211,34 @@ impl NamedGroup {
     }
 }
 
-/// Whether no group conflicts with the next one. In a sorted list no two groups conflict then.
-fn are_neighbours_apart(groups: &[NamedGroup]) -> bool
-    ensures { IsAllAdjacentAnswer (λ x y apart. apart ≡ not (conflict (capture_of x) (capture_of y))) groups.now result }
+/// Returns `left` of the group that is the first in the pattern of those that conflict with the group before them in the
+/// list, if there is one.
+///
+/// If the list is sorted by name, with the groups of one name in the order of the pattern, that is the first group in the
+/// pattern that conflicts with any group before it: if each group is an alternative to the next one, all are
+/// alternatives to each other.
+fn find_conflict(groups: &[NamedGroup]) -> Option<usize>
+    ensures { result ≡ first_conflict groups.now }
 {
-    groups.is_sorted_by(|group, next| !group.conflicts_with(next))
-}
-
-/// Returns the number of code points that remain from the second name of two adjacent groups that conflict, for the
-/// earliest such name if there are several.
-fn second_name(groups: &[NamedGroup]) -> usize {
-    let mut left = 0;
-    for pair in groups.windows(2) {
-        if let [group, next] = pair {
+    let mut first = None;
+    let mut rest = groups;
+    while let Some((group, after)) = rest.split_first() {
+        if let Some(next) = after.first() {
             if group.conflicts_with(next) {
-                left = left.max(group.left.min(next.left));
+                first = Some(greater(first, next.left));
             }
         }
+        rest = after;
     }
-    left
+    first
+}
+
+/// Returns the greater of the numbers.
+fn greater(first: Option<usize>, second: usize) -> usize
+    ensures { Some result ≡ greatest first (Some second) }
+{
+    match first {
+        Some(first) => first.max(second),
+        None => second,
+    }
 }

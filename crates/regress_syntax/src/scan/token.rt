@@ -5,7 +5,7 @@ ghost use Rattle.regress_unicode.specs.TableOf.{table_of};
 ghost use Rattle.regress_lexer.specs.Source.{char, is_at};
 ghost use Rattle.regress_syntax.specs.Scan.{opened_at, mode_after, is_insignificant, token_at, tokens};
 ghost use Rattle.regress_syntax.specs.FirstErrors.{Flaw, remaining_at};
-ghost use Rattle.regress_syntax.specs.Scanning.{mode_of, token_of, depth_of};
+ghost use Rattle.regress_syntax.specs.Scanning.{mode_of, token_of, depth_of, tokens_down_to};
 ghost use Rattle.regress_syntax.specs.declared.scan.token.Mode.{Mode as CodeMode};
 
 use crate::names::{Name, parse_group_name};
@@ -92,6 +92,8 @@ fn skip_escaped(source: &[u32]) -> &[u32]
 pub(super) fn skip_insignificant(source: &[u32]) -> &[u32]
     ensures same { (sets : Bool) (table : Table) (mode : CodeMode) →
         tokens sets table (mode_of mode) source.now ≡ tokens sets table (mode_of mode) result.now }
+    ensures places { (left : ℕ) (sets : Bool) (table : Table) (mode : CodeMode) →
+        tokens_down_to left sets table (mode_of mode) source.now ≡ tokens_down_to left sets table (mode_of mode) result.now }
     ensures flaws { (flaw : Flaw) (sets : Bool) (mode : CodeMode) (n : ℕ) →
         remaining_at flaw sets (mode_of mode) n source.now ≡ remaining_at flaw sets (mode_of mode) n result.now }
     ensures unescaped { is_at (char "\\") result.now ≡ false }

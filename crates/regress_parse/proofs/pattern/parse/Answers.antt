@@ -17,6 +17,7 @@ use Rattle.regress_parse.proofs.AcceptedLemmas.{found_names, scanned, most, scan
 use Rattle.regress_parse.proofs.ReachLemmas.{whole_exceeds, tokens_exceed}
 use Rattle.regress_parse.proofs.GrammarLemmas.{pattern_at-sound}
 use Rattle.regress_parse.proofs.MeaningLemmas.{tree_of-means}
+use Rattle.regress_parse.proofs.DuplicateLemmas.{reported_by_scan, reported_by_parser}
 use Rattle.regress_parse.proofs.SettledLemmas.{settled}
 use Rattle.regress_parse.proofs.WellFormedLemmas.{tree_of-well_formed}
 use Rattle.regress_parse.proofs.pattern.parse.Goals as goal
@@ -39,6 +40,16 @@ returns-in_err-body-clause-settled c =
     let p = err_from_is_err_and c.from_residual-in_err-body.result c.from_residual-in_err-body.ensures.1 in
     rw (p.1, p.2) (settled (setting_of c.args.flags c.args.tables.now) c.args.pattern.now c.in_err-body.field-0.0
     c.args.tables.now.sound.lawful (c.in_err-body.ensures.located c.args.flags.unicode_sets c.in_ok-found.ensures.first_errors))
+
+pub returns-in_err-found-clause-duplicate : goal.returns-in_err-found-clause-duplicate
+returns-in_err-found-clause-duplicate c =
+    let p = err_from_is_err_and c.from_residual.result c.from_residual.ensures.1 in
+    rw (p.1, p.2) (reported_by_scan (setting_of c.args.flags c.args.tables.now) c.args.pattern.now c.in_err-found.field-0.0 c.in_err-found.ensures.duplicate)
+
+pub returns-in_err-body-clause-duplicate : goal.returns-in_err-body-clause-duplicate
+returns-in_err-body-clause-duplicate c =
+    let p = err_from_is_err_and c.from_residual-in_err-body.result c.from_residual-in_err-body.ensures.1 in
+    rw (p.1, p.2) (reported_by_parser (setting_of c.args.flags c.args.tables.now) c.args.pattern.now c.in_err-body.field-0.0 c.in_ok-found.ensures.apart)
 
 pub returns-in_err-found-clause-only : goal.returns-in_err-found-clause-only
 returns-in_err-found-clause-only c =

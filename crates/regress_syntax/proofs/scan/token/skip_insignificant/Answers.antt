@@ -4,11 +4,12 @@ use Rattle.regress_base.specs.Table.{Table}
 use Rattle.regress_lexer.specs.Source.{Source}
 use Rattle.regress_syntax.specs.Scan.{is_insignificant, tokens}
 use Rattle.regress_syntax.specs.FirstErrors.{Flaw, remaining_at}
-use Rattle.regress_syntax.specs.Scanning.{mode_of}
+use Rattle.regress_syntax.specs.Scanning.{mode_of, tokens_down_to}
 use Rattle.regress_syntax.specs.declared.scan.token.Mode.{Mode}
 use Rattle.regress_syntax.specs.declared.scan.token.Mode.TheVariants.{Plain, Class}
 use Rattle.regress_syntax.proofs.ScanLemmas.{Home, home, in_text, in_class, passes_then, pass_quiet, pass_backslash, pass_escaped}
 use Rattle.regress_syntax.proofs.FirstErrorsLemmas.{left_quiet, left_escape}
+use Rattle.regress_syntax.proofs.PlaceLemmas.{down_quiet, down_escape}
 use Rattle.regress_syntax.proofs.scan.token.skip_insignificant.Goals as goal
 
 home_of : (mode : Mode) → (w : Home) × (mode_of mode ≡ home w)
@@ -42,11 +43,24 @@ escape_left : (flaw : Flaw) (sets : Bool) (mode : Mode) (n c : ℕ) (rest after 
 escape_left flaw sets mode n c rest after split backslash =
     let (w, is) = home_of mode in rw (split, backslash, is) (left_escape flaw sets w n after)
 
+quiet_places : (left : ℕ) (sets : Bool) (table : Table) (mode : Mode) (c : ℕ) (rest after : Source) → rest ≡ c ∷ after → is_insignificant c ≡ true →
+    tokens_down_to left sets table (mode_of mode) rest ≡ tokens_down_to left sets table (mode_of mode) after
+quiet_places left sets table mode c rest after split quiet =
+    let (w, is) = home_of mode in rw (split, is) (down_quiet left sets table w c after quiet)
+
+escape_places : (left : ℕ) (sets : Bool) (table : Table) (mode : Mode) (c : ℕ) (rest after : Source) → rest ≡ c ∷ after → c ≡ 92 →
+    tokens_down_to left sets table (mode_of mode) rest ≡ tokens_down_to left sets table (mode_of mode) (drop 1 after)
+escape_places left sets table mode c rest after split backslash =
+    let (w, is) = home_of mode in rw (split, backslash, is) (down_escape left sets table w after)
+
 pub loop-c-preserved-then-is_insignificant : goal.loop-c-preserved-then-is_insignificant
 loop-c-preserved-then-is_insignificant c = record {
   same = λ sets table mode.
       c.loop-c.invariant.same sets table mode
       ∙ quiet_skipped sets table mode c.in-Some.c.now _ _ c.in-Some.ensures.cases.0 (sym c.is_insignificant.ensures ∙ c.if-is_insignificant.true);
+  places = λ left sets table mode.
+      c.loop-c.invariant.places left sets table mode
+      ∙ quiet_places left sets table mode c.in-Some.c.now _ _ c.in-Some.ensures.cases.0 (sym c.is_insignificant.ensures ∙ c.if-is_insignificant.true);
   flaws = λ flaw sets mode n.
       c.loop-c.invariant.flaws flaw sets mode n
       ∙ quiet_left flaw sets mode n c.in-Some.c.now _ _ c.in-Some.ensures.cases.0 (sym c.is_insignificant.ensures ∙ c.if-is_insignificant.true);
@@ -59,6 +73,10 @@ loop-c-preserved c = record {
       c.loop-c.invariant.same sets table mode
       ∙ escape_skipped sets table mode c.in-Some.c.now _ _ c.in-Some.ensures.cases.0 (c.if-c-from.true ∙ c.from.ensures)
       ∙ ap (tokens sets table (mode_of mode)) (sym c.skip_escaped-rest.ensures);
+  places = λ left sets table mode.
+      c.loop-c.invariant.places left sets table mode
+      ∙ escape_places left sets table mode c.in-Some.c.now _ _ c.in-Some.ensures.cases.0 (c.if-c-from.true ∙ c.from.ensures)
+      ∙ ap (tokens_down_to left sets table (mode_of mode)) (sym c.skip_escaped-rest.ensures);
   flaws = λ flaw sets mode n.
       c.loop-c.invariant.flaws flaw sets mode n
       ∙ escape_left flaw sets mode n c.in-Some.c.now _ _ c.in-Some.ensures.cases.0 (c.if-c-from.true ∙ c.from.ensures)

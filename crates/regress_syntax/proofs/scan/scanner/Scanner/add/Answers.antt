@@ -1,7 +1,8 @@
-use Rattle.std.proofs.Common.{◌≡◌, ◌<◌, ◌+◌, ◌^◌, ◌++◌, [], ◌∷◌, length, ap, ◌∙◌, arith}
+use Rattle.std.proofs.Common.{◌≡◌, ◌<◌, ◌+◌, ◌^◌, ◌++◌, [], ◌∷◌, length, refl, ap, ◌∙◌, arith}
 use Rattle.std.proofs.lemmas.List.{length-append}
 use Rattle.std.proofs.lemmas.List.Elements.{same_from_all_zip}
 use Rattle.regress_syntax.proofs.NumberingLemmas.{number_added, none_numbered}
+use Rattle.regress_syntax.proofs.PlaceLemmas.{one_added, no_one_added}
 use Rattle.regress_syntax.proofs.ScannerLemmas.{named_added, none_added}
 use Rattle.regress_syntax.specs.declared.scan.scanner.Scanner.{Scanner}
 use Rattle.regress_syntax.proofs.scan.scanner.Scanner.add.Goals as goal
@@ -14,6 +15,15 @@ returns-clause-named c = λ short. elim c.match-name.branch [
       named_added c.args.self.now.named.items _ _ w.in-Some.name _ c.args.name w.in-Some.is names (w.in_ok-outermost.ensures short)
       (ap (λ scanner. scanner.named.items) w.self-is ∙ w.in_ok-push.ensures.items)
   | in_default w ↦ none_added c.args.self.now.named.items _ _ c.args.name w.in_default.is (ap (λ scanner. scanner.named.items) w.self-is)
+]
+
+pub returns-clause-added : goal.returns-clause-added
+returns-clause-added c = elim c.match-name.branch [
+  | in-Some+in_ok-clone+in_ok-outermost+in_ok-push w ↦
+      let names : w.in_ok-clone.field-0.items ≡ w.in-Some.name.items = same_from_all_zip _ _ _ w.in_ok-clone.ensures.cases.0 (λ x y h. h) in
+      one_added c.args.self.now.named.items _ _ w.in-Some.name _ c.args.left c.args.name w.in-Some.is names refl w.in_ok-outermost.ensures
+      (ap (λ scanner. scanner.named.items) w.self-is ∙ w.in_ok-push.ensures.items)
+  | in_default w ↦ no_one_added c.args.self.now.named.items _ _ c.args.left c.args.name w.in_default.is (ap (λ scanner. scanner.named.items) w.self-is)
 ]
 
 pub returns-clause-numbered : goal.returns-clause-numbered
