@@ -1,14 +1,11 @@
 -- Syntax errors that no change after their position can mend.
-use Rattle.std.specs.Prelude.{◌≡◌, ℕ, ◌+◌, false, ◌++◌, take, drop, length, Some, string_bytes, Result, Ok, Err}
+use Rattle.std.specs.Prelude.{◌≡◌, ℕ, ◌+◌, false, ◌++◌, ◌≤◌, take, drop, length, Some}
 use Rattle.regress_tree.specs.Setting.{Setting}
 use Rattle.regress_lexer.specs.declared.fault.FaultKind.{FaultKind}
 use Rattle.regress_lexer.specs.Source.{Source, char, is_at}
 use Rattle.regress_syntax.specs.Scan.{plain}
 use Rattle.regress_syntax.specs.FirstErrors.{Flaw, kind_of, remaining_at}
-use Rattle.regress_parse.specs.declared.fault.PlacedFault.{PlacedFault}
-use Rattle.regress_parse.specs.declared.fault.PlacedFault.TheVariants.{Syntax, Memory}
-use Rattle.regress_parse.specs.Fault.{text_of}
-use Rattle.regress_parse.specs.Accepted.{NoneIsAccepted}
+use Rattle.regress_parse.specs.Accepted.{NoneIsAccepted, IsTrueOf, MayExceed}
 
 -- No source with this prefix is accepted.
 abbrev pub NoneStartsWith : Setting → Source → Type 0
@@ -22,8 +19,9 @@ IsFinal setting t kind position =
     (flaw : Flaw) (left : ℕ) → kind ≡ kind_of flaw → remaining_at flaw setting.flags.unicode_sets plain 1 t ≡ Some left →
     (position + left ≡ length t) × (is_at (char "[") (drop position t) ≡ false → NoneStartsWith setting (take (position + 1) t))
 
--- A syntax error has the text of a kind and a position for which P holds.
-abbrev pub ReportsKindAt : {X : Type 0} → Result X PlacedFault → (FaultKind → ℕ → Type 0) → Type 0
-ReportsKindAt (Ok x) P = Unit {0}
-ReportsKindAt (Err (Syntax e position)) P = (kind : FaultKind) × (string_bytes e.text ≡ text_of kind) × P kind position
-ReportsKindAt (Err (Memory e)) P = Unit {0}
+-- What is known of a syntax error that is reported of the source, by its kind and its position.
+pub record IsReported (setting : Setting) (source : Source) (kind : FaultKind) (position : ℕ) : Type 0 where
+  pub reported : IsTrueOf setting source kind
+  pub limits : MayExceed source kind
+  pub within : position ≤ length source
+  pub settled : IsFinal setting source kind position
