@@ -12,14 +12,16 @@ int main(int count, char **arguments) {
     }
     const char *pattern = arguments[1];
     size_t length = strlen(pattern), needed, place;
+    uint32_t kind;
     /* With a buffer of capacity 0 the call only reports the size of the tree. */
-    switch (regress_front_parse_utf8(pattern, length, 0, REGRESS_FRONT_PARSED, NULL, 0, &needed, &place)) {
+    switch (regress_front_parse_utf8(pattern, length, 0, REGRESS_FRONT_PARSED, NULL, 0, &needed, &kind, &place)) {
     case REGRESS_FRONT_ROOM:
         printf("accepted: the tree takes %zu words\n", needed);
         return 0;
     case REGRESS_FRONT_FAULT: {
         char text[512];
-        if (regress_front_fault_utf8(pattern, length, 0, text, sizeof text, &needed) != REGRESS_FRONT_FAULT) {
+        if (regress_front_fault_utf8(pattern, length, 0, text, sizeof text, &needed, &kind, &place)
+            != REGRESS_FRONT_FAULT) {
             needed = 0;
         }
         printf("rejected at code point %zu: %.*s\n", place, (int)needed, text);

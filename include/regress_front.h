@@ -5,8 +5,8 @@
    stack, at most 800 KiB in measurements of patterns with the greatest nesting depth: 255 parentheses or 256 class
    brackets. Alternatives take no stack.
 
-   A pointer may be NULL if its length is 0. A pointer to a size, `needed` or `place`, must not be NULL. Buffers must
-   not overlap each other or the pattern. */
+   A pointer may be NULL if its length is 0. A pointer to a number, `needed`, `kind` or `place`, must not be NULL.
+   Buffers must not overlap each other or the pattern. */
 
 #ifndef REGRESS_FRONT_H
 #define REGRESS_FRONT_H
@@ -35,6 +35,41 @@ extern "C" {
    patterns in ASCII, and for tests. It has few properties; letters in names are those of ASCII and from U+00C0 to
    U+00F6. */
 #define REGRESS_FRONT_SMALL_TABLE 32u
+
+/* The kinds of syntax errors. docs/errors.md has the text and the cause of each. Their numbers never change; a later
+   version may have more kinds. */
+#define REGRESS_FRONT_KIND_UNBALANCED_PARENTHESIS 1u
+#define REGRESS_FRONT_KIND_TOO_DEEP 2u
+#define REGRESS_FRONT_KIND_TOO_MANY_GROUPS 3u
+#define REGRESS_FRONT_KIND_TOO_MANY_LOOPS 4u
+#define REGRESS_FRONT_KIND_INCOMPLETE_ESCAPE 5u
+#define REGRESS_FRONT_KIND_UNTERMINATED_ESCAPE 6u
+#define REGRESS_FRONT_KIND_INVALID_ESCAPE 7u
+#define REGRESS_FRONT_KIND_INVALID_UNICODE_ESCAPE 8u
+#define REGRESS_FRONT_KIND_INVALID_BRACED_QUANTIFIER 9u
+#define REGRESS_FRONT_KIND_INVALID_ATOM 10u
+#define REGRESS_FRONT_KIND_QUANTIFIER_NOT_ALLOWED 11u
+#define REGRESS_FRONT_KIND_INVALID_QUANTIFIER 12u
+#define REGRESS_FRONT_KIND_UNBALANCED_BRACKET 13u
+#define REGRESS_FRONT_KIND_REVERSED_RANGE 14u
+#define REGRESS_FRONT_KIND_INVALID_RANGE 15u
+#define REGRESS_FRONT_KIND_UNBALANCED_SET 16u
+#define REGRESS_FRONT_KIND_INVALID_SET_RANGE 17u
+#define REGRESS_FRONT_KIND_UNEXPECTED_IN_INTERSECTION 18u
+#define REGRESS_FRONT_KIND_UNEXPECTED_IN_SUBTRACTION 19u
+#define REGRESS_FRONT_KIND_EMPTY_OPERAND 20u
+#define REGRESS_FRONT_KIND_INCOMPLETE_SET_ESCAPE 21u
+#define REGRESS_FRONT_KIND_STRINGS_WITHOUT_BRACE 22u
+#define REGRESS_FRONT_KIND_UNBALANCED_STRINGS 23u
+#define REGRESS_FRONT_KIND_INVALID_SET_CHARACTER 24u
+#define REGRESS_FRONT_KIND_INVALID_NEGATED_CLASS 25u
+#define REGRESS_FRONT_KIND_PROPERTY_WITHOUT_BRACE 26u
+#define REGRESS_FRONT_KIND_INVALID_PROPERTY 27u
+#define REGRESS_FRONT_KIND_INVALID_GROUP_NAME 28u
+#define REGRESS_FRONT_KIND_INVALID_MODIFIER 29u
+#define REGRESS_FRONT_KIND_INVALID_REFERENCE 30u
+#define REGRESS_FRONT_KIND_UNKNOWN_NAME 31u
+#define REGRESS_FRONT_KIND_DUPLICATE_NAME 32u
 
 /* Which tree: as parsed, or optimized to normal form. */
 #define REGRESS_FRONT_PARSED 0u
@@ -83,72 +118,73 @@ extern "C" {
 /* The functions of the library. They are as those below, but no pointer may be NULL. */
 uint32_t regress_front_parse_code_points(const uint32_t *pattern, size_t pattern_length, uint32_t flags,
                                         uint32_t optimize, uint32_t *words, size_t room, size_t *needed,
-                                        size_t *place);
+                                        uint32_t *kind, size_t *place);
 uint32_t regress_front_parse_text(const uint8_t *pattern, size_t pattern_length, uint32_t flags, uint32_t optimize,
-                                 uint32_t *words, size_t room, size_t *needed, size_t *place);
+                                 uint32_t *words, size_t room, size_t *needed, uint32_t *kind, size_t *place);
 uint32_t regress_front_tell_fault(const uint32_t *pattern, size_t pattern_length, uint32_t flags, uint8_t *text,
-                                 size_t room, size_t *needed);
+                                 size_t room, size_t *needed, uint32_t *kind, size_t *place);
 uint32_t regress_front_tell_fault_of_text(const uint8_t *pattern, size_t pattern_length, uint32_t flags, uint8_t *text,
-                                         size_t room, size_t *needed);
+                                         size_t room, size_t *needed, uint32_t *kind, size_t *place);
 
 /* Parses a pattern of code points, each at most 10FFFF, surrogates included.
 
    Writes the encoding of its tree to `words`, a buffer of `room` words; words after the encoding are unchanged. For OK
    and ROOM `needed` is the length of the encoding in words, else 0: call with `room` 0 first, and then with a buffer of
-   that size. For FAULT `place` is the position of the syntax error, a code-point index from 0 to the pattern's length,
-   else 0. With a NULL pointer that is not allowed, nothing is written. */
+   that size. For FAULT `kind` is the kind of the syntax error, one of REGRESS_FRONT_KIND_.., and `place` its position, a
+   code-point index from 0 to the pattern's length, else both are 0. With a NULL pointer that is not allowed, nothing is
+   written. */
 static inline uint32_t regress_front_parse(const uint32_t *pattern, size_t pattern_length, uint32_t flags,
                                           uint32_t optimize, uint32_t *words, size_t room, size_t *needed,
-                                          size_t *place) {
+                                          uint32_t *kind, size_t *place) {
     uint32_t none = 0;
-    if ((!pattern && pattern_length) || (!words && room) || !needed || !place) {
+    if ((!pattern && pattern_length) || (!words && room) || !needed || !kind || !place) {
         return REGRESS_FRONT_BAD_INPUT;
     }
     return regress_front_parse_code_points(pattern ? pattern : &none, pattern_length, flags, optimize,
-                                           words ? words : &none, room, needed, place);
+                                           words ? words : &none, room, needed, kind, place);
 }
 
 /* Parses a pattern in UTF-8, as regress_front_parse. `pattern_length` is in bytes; `place` counts code points here
    too. */
 static inline uint32_t regress_front_parse_utf8(const char *pattern, size_t pattern_length, uint32_t flags,
                                                uint32_t optimize, uint32_t *words, size_t room, size_t *needed,
-                                               size_t *place) {
+                                               uint32_t *kind, size_t *place) {
     uint8_t no_byte = 0;
     uint32_t none = 0;
-    if ((!pattern && pattern_length) || (!words && room) || !needed || !place) {
+    if ((!pattern && pattern_length) || (!words && room) || !needed || !kind || !place) {
         return REGRESS_FRONT_BAD_INPUT;
     }
     return regress_front_parse_text(pattern ? (const uint8_t *)pattern : &no_byte, pattern_length, flags, optimize,
-                                    words ? words : &none, room, needed, place);
+                                    words ? words : &none, room, needed, kind, place);
 }
 
 /* Parses a pattern of code points, and writes the text of its syntax error to `text`, a buffer of `room` bytes: in
    UTF-8, not terminated by a zero.
 
    Returns FAULT if the pattern is rejected and the text is written, ROOM if the buffer is too small for it, and OK if
-   the pattern is accepted, with nothing written. For FAULT and ROOM `needed` is the length of the text in bytes, else
-   0. */
+   the pattern is accepted, with nothing written. For FAULT and ROOM `needed` is the length of the text in bytes, and
+   `kind` and `place` are the kind and the position of the same error, else they are 0. */
 static inline uint32_t regress_front_fault(const uint32_t *pattern, size_t pattern_length, uint32_t flags, char *text,
-                                          size_t room, size_t *needed) {
+                                          size_t room, size_t *needed, uint32_t *kind, size_t *place) {
     uint32_t none = 0;
     uint8_t no_byte = 0;
-    if ((!pattern && pattern_length) || (!text && room) || !needed) {
+    if ((!pattern && pattern_length) || (!text && room) || !needed || !kind || !place) {
         return REGRESS_FRONT_BAD_INPUT;
     }
     return regress_front_tell_fault(pattern ? pattern : &none, pattern_length, flags, text ? (uint8_t *)text : &no_byte,
-                                    room, needed);
+                                    room, needed, kind, place);
 }
 
-/* As regress_front_fault, for a pattern in UTF-8. */
+/* As regress_front_fault, for a pattern in UTF-8. `place` counts code points here too. */
 static inline uint32_t regress_front_fault_utf8(const char *pattern, size_t pattern_length, uint32_t flags, char *text,
-                                               size_t room, size_t *needed) {
+                                               size_t room, size_t *needed, uint32_t *kind, size_t *place) {
     uint8_t no_byte = 0;
     uint8_t no_text = 0;
-    if ((!pattern && pattern_length) || (!text && room) || !needed) {
+    if ((!pattern && pattern_length) || (!text && room) || !needed || !kind || !place) {
         return REGRESS_FRONT_BAD_INPUT;
     }
     return regress_front_tell_fault_of_text(pattern ? (const uint8_t *)pattern : &no_byte, pattern_length, flags,
-                                            text ? (uint8_t *)text : &no_text, room, needed);
+                                            text ? (uint8_t *)text : &no_text, room, needed, kind, place);
 }
 
 #ifdef __cplusplus

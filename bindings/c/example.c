@@ -154,14 +154,22 @@ static bool read_flags(const char *letters, uint32_t *flags) {
     return true;
 }
 
-static int tell_fault(const char *pattern, size_t length, uint32_t flags, size_t place) {
+/* The text, and the position of the same error. */
+static int tell_fault(const char *pattern, size_t length, uint32_t flags) {
     char text[512];
-    size_t needed;
-    if (regress_front_fault_utf8(pattern, length, flags, text, sizeof text, &needed) != REGRESS_FRONT_FAULT) {
-        needed = 0;
+    size_t needed, place;
+    uint32_t kind;
+    switch (regress_front_fault_utf8(pattern, length, flags, text, sizeof text, &needed, &kind, &place)) {
+    case REGRESS_FRONT_FAULT:
+        fprintf(stderr, "error at %zu: %.*s\n", place, (int)needed, text);
+        return 1;
+    case REGRESS_FRONT_ROOM:
+        fprintf(stderr, "error at %zu: kind %" PRIu32 "\n", place, kind);
+        return 1;
+    default:
+        fprintf(stderr, "out of memory\n");
+        return 3;
     }
-    fprintf(stderr, "error at %zu: %.*s\n", place, (int)needed, text);
-    return 1;
 }
 
 int main(int count, char **arguments) {
@@ -176,7 +184,9 @@ int main(int count, char **arguments) {
     size_t room = 0;
     for (;;) {
         size_t needed, place;
-        switch (regress_front_parse_utf8(pattern, length, flags, REGRESS_FRONT_OPTIMIZED, words, room, &needed, &place)) {
+        uint32_t kind;
+        switch (regress_front_parse_utf8(pattern, length, flags, REGRESS_FRONT_OPTIMIZED, words, room, &needed, &kind,
+                                         &place)) {
         case REGRESS_FRONT_OK:
             at = words;
             print_node(0);
@@ -184,7 +194,7 @@ int main(int count, char **arguments) {
             return 0;
         case REGRESS_FRONT_FAULT:
             free(words);
-            return tell_fault(pattern, length, flags, place);
+            return tell_fault(pattern, length, flags);
         case REGRESS_FRONT_ROOM:
             free(words);
             room = needed;

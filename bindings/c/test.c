@@ -39,12 +39,13 @@ static void check(int holds, const char *what, int line) {
 #define MARK 0xA5A5A5A5u
 static uint32_t words[ROOM + 1];
 static size_t needed, place;
+static uint32_t kind;
 
 static uint32_t parsed(const char *pattern, uint32_t flags, uint32_t optimize, size_t room) {
     for (size_t i = 0; i <= ROOM; i++) {
         words[i] = MARK;
     }
-    return regress_front_parse_utf8(pattern, strlen(pattern), flags, optimize, words, room, &needed, &place);
+    return regress_front_parse_utf8(pattern, strlen(pattern), flags, optimize, words, room, &needed, &kind, &place);
 }
 
 static int are(const uint32_t *expected, size_t count) {
@@ -97,16 +98,17 @@ static void rooms(void) {
 
 static void bad_input(void) {
     const uint32_t past = 0x110000, greatest = 0x10FFFF, surrogate = 0xD800;
-    CHECK(regress_front_parse(&past, 1, SMALL, 0, words, ROOM, &needed, &place) == REGRESS_FRONT_BAD_INPUT);
-    CHECK(needed == 0 && place == 0);
-    CHECK(regress_front_parse(&greatest, 1, SMALL, 0, words, ROOM, &needed, &place) == REGRESS_FRONT_OK);
-    CHECK(regress_front_parse(&surrogate, 1, SMALL, 0, words, ROOM, &needed, &place) == REGRESS_FRONT_OK);
-    CHECK(regress_front_parse(NULL, 0, SMALL, 0, words, ROOM, &needed, &place) == REGRESS_FRONT_OK);
-    CHECK(regress_front_parse(NULL, 0, SMALL, 0, NULL, 0, &needed, &place) == REGRESS_FRONT_ROOM && needed == 5);
-    CHECK(regress_front_parse(NULL, 1, SMALL, 0, words, ROOM, &needed, &place) == REGRESS_FRONT_BAD_INPUT);
-    CHECK(regress_front_parse(NULL, 0, SMALL, 0, NULL, 1, &needed, &place) == REGRESS_FRONT_BAD_INPUT);
-    CHECK(regress_front_parse(NULL, 0, SMALL, 0, words, ROOM, NULL, &place) == REGRESS_FRONT_BAD_INPUT);
-    CHECK(regress_front_parse(NULL, 0, SMALL, 0, words, ROOM, &needed, NULL) == REGRESS_FRONT_BAD_INPUT);
+    CHECK(regress_front_parse(&past, 1, SMALL, 0, words, ROOM, &needed, &kind, &place) == REGRESS_FRONT_BAD_INPUT);
+    CHECK(needed == 0 && kind == 0 && place == 0);
+    CHECK(regress_front_parse(&greatest, 1, SMALL, 0, words, ROOM, &needed, &kind, &place) == REGRESS_FRONT_OK);
+    CHECK(regress_front_parse(&surrogate, 1, SMALL, 0, words, ROOM, &needed, &kind, &place) == REGRESS_FRONT_OK);
+    CHECK(regress_front_parse(NULL, 0, SMALL, 0, words, ROOM, &needed, &kind, &place) == REGRESS_FRONT_OK);
+    CHECK(regress_front_parse(NULL, 0, SMALL, 0, NULL, 0, &needed, &kind, &place) == REGRESS_FRONT_ROOM && needed == 5);
+    CHECK(regress_front_parse(NULL, 1, SMALL, 0, words, ROOM, &needed, &kind, &place) == REGRESS_FRONT_BAD_INPUT);
+    CHECK(regress_front_parse(NULL, 0, SMALL, 0, NULL, 1, &needed, &kind, &place) == REGRESS_FRONT_BAD_INPUT);
+    CHECK(regress_front_parse(NULL, 0, SMALL, 0, words, ROOM, NULL, &kind, &place) == REGRESS_FRONT_BAD_INPUT);
+    CHECK(regress_front_parse(NULL, 0, SMALL, 0, words, ROOM, &needed, NULL, &place) == REGRESS_FRONT_BAD_INPUT);
+    CHECK(regress_front_parse(NULL, 0, SMALL, 0, words, ROOM, &needed, &kind, NULL) == REGRESS_FRONT_BAD_INPUT);
     CHECK(parsed("a", 64, 0, ROOM) == REGRESS_FRONT_BAD_INPUT);
     CHECK(parsed("a", 0x80000000u, 0, ROOM) == REGRESS_FRONT_BAD_INPUT);
     CHECK(parsed("a", SMALL, 2, ROOM) == REGRESS_FRONT_BAD_INPUT);
@@ -115,19 +117,76 @@ static void bad_input(void) {
     CHECK(words[0] == MARK);
 }
 
+static uint32_t told(const char *pattern, uint32_t flags, char *text, size_t room) {
+    return regress_front_fault_utf8(pattern, strlen(pattern), flags, text, room, &needed, &kind, &place);
+}
+
 static void faults(void) {
     static const char expected[] = "Unbalanced parenthesis";
     char text[64];
     memset(text, '#', sizeof text);
     CHECK(parsed("\xC3\xA9)", SMALL, 0, ROOM) == REGRESS_FRONT_FAULT && place == 1 && needed == 0);
+    CHECK(kind == REGRESS_FRONT_KIND_UNBALANCED_PARENTHESIS);
     CHECK(words[0] == MARK);
-    CHECK(regress_front_fault_utf8("a)", 2, SMALL, text, 5, &needed) == REGRESS_FRONT_ROOM);
+    CHECK(told("a)", SMALL, text, 5) == REGRESS_FRONT_ROOM);
     CHECK(needed == strlen(expected) && text[0] == '#');
-    CHECK(regress_front_fault_utf8("a)", 2, SMALL, text, sizeof text, &needed) == REGRESS_FRONT_FAULT);
+    CHECK(kind == REGRESS_FRONT_KIND_UNBALANCED_PARENTHESIS && place == 1);
+    CHECK(told("\xC3\xA9)", SMALL, text, sizeof text) == REGRESS_FRONT_FAULT);
     CHECK(needed == strlen(expected) && memcmp(text, expected, needed) == 0 && text[needed] == '#');
-    CHECK(regress_front_fault_utf8("a", 1, SMALL, NULL, 0, &needed) == REGRESS_FRONT_OK && needed == 0);
-    CHECK(regress_front_fault(NULL, 0, 64, NULL, 0, &needed) == REGRESS_FRONT_BAD_INPUT);
-    CHECK(regress_front_fault_utf8("\xFF", 1, SMALL, NULL, 0, &needed) == REGRESS_FRONT_BAD_INPUT);
+    CHECK(kind == REGRESS_FRONT_KIND_UNBALANCED_PARENTHESIS && place == 1);
+    CHECK(told("a", SMALL, NULL, 0) == REGRESS_FRONT_OK && needed == 0 && kind == 0 && place == 0);
+    CHECK(regress_front_fault(NULL, 0, 64, NULL, 0, &needed, &kind, &place) == REGRESS_FRONT_BAD_INPUT);
+    CHECK(regress_front_fault(NULL, 0, SMALL, NULL, 0, &needed, NULL, &place) == REGRESS_FRONT_BAD_INPUT);
+    CHECK(regress_front_fault(NULL, 0, SMALL, NULL, 0, &needed, &kind, NULL) == REGRESS_FRONT_BAD_INPUT);
+    CHECK(told("\xFF", SMALL, NULL, 0) == REGRESS_FRONT_BAD_INPUT && kind == 0 && place == 0);
+}
+
+/* The examples of docs/errors.md. Both calls report the same kind and position. */
+static void kinds_of_faults(void) {
+    static const struct {
+        const char *pattern;
+        uint32_t flags, kind;
+        size_t place;
+    } examples[] = {
+        {"x(a", 0, REGRESS_FRONT_KIND_UNBALANCED_PARENTHESIS, 1},
+        {"a\\", 0, REGRESS_FRONT_KIND_INCOMPLETE_ESCAPE, 1},
+        {"[a\\", 0, REGRESS_FRONT_KIND_UNTERMINATED_ESCAPE, 2},
+        {"a\\-", REGRESS_FRONT_UNICODE, REGRESS_FRONT_KIND_INVALID_ESCAPE, 1},
+        {"a\\u{}", REGRESS_FRONT_UNICODE, REGRESS_FRONT_KIND_INVALID_UNICODE_ESCAPE, 1},
+        {"a{2}{3}", 0, REGRESS_FRONT_KIND_INVALID_BRACED_QUANTIFIER, 4},
+        {"a**", 0, REGRESS_FRONT_KIND_INVALID_ATOM, 2},
+        {"^*", 0, REGRESS_FRONT_KIND_QUANTIFIER_NOT_ALLOWED, 1},
+        {"a{3,2}", 0, REGRESS_FRONT_KIND_INVALID_QUANTIFIER, 1},
+        {"a[b", 0, REGRESS_FRONT_KIND_UNBALANCED_BRACKET, 1},
+        {"[ac-b]", 0, REGRESS_FRONT_KIND_REVERSED_RANGE, 2},
+        {"[a\\d-z]", REGRESS_FRONT_UNICODE, REGRESS_FRONT_KIND_INVALID_RANGE, 2},
+        {"a[b", REGRESS_FRONT_UNICODE_SETS, REGRESS_FRONT_KIND_UNBALANCED_SET, 1},
+        {"[ac-b]", REGRESS_FRONT_UNICODE_SETS, REGRESS_FRONT_KIND_INVALID_SET_RANGE, 2},
+        {"[a&&bc]", REGRESS_FRONT_UNICODE_SETS, REGRESS_FRONT_KIND_UNEXPECTED_IN_INTERSECTION, 5},
+        {"[a--bc]", REGRESS_FRONT_UNICODE_SETS, REGRESS_FRONT_KIND_UNEXPECTED_IN_SUBTRACTION, 5},
+        {"[a&&", REGRESS_FRONT_UNICODE_SETS, REGRESS_FRONT_KIND_EMPTY_OPERAND, 4},
+        {"[a\\", REGRESS_FRONT_UNICODE_SETS, REGRESS_FRONT_KIND_INCOMPLETE_SET_ESCAPE, 2},
+        {"[\\qa]", REGRESS_FRONT_UNICODE_SETS, REGRESS_FRONT_KIND_STRINGS_WITHOUT_BRACE, 3},
+        {"[\\q{a", REGRESS_FRONT_UNICODE_SETS, REGRESS_FRONT_KIND_UNBALANCED_STRINGS, 1},
+        {"[a(]", REGRESS_FRONT_UNICODE_SETS, REGRESS_FRONT_KIND_INVALID_SET_CHARACTER, 2},
+        {"a[^\\q{bc}]", REGRESS_FRONT_UNICODE_SETS, REGRESS_FRONT_KIND_INVALID_NEGATED_CLASS, 1},
+        {"a\\pL", REGRESS_FRONT_UNICODE, REGRESS_FRONT_KIND_PROPERTY_WITHOUT_BRACE, 3},
+        {"a\\p{Foo}", REGRESS_FRONT_UNICODE, REGRESS_FRONT_KIND_INVALID_PROPERTY, 4},
+        {"a(?<1>x)", 0, REGRESS_FRONT_KIND_INVALID_GROUP_NAME, 3},
+        {"a(?ii:x)", 0, REGRESS_FRONT_KIND_INVALID_MODIFIER, 3},
+        {"a\\k<", REGRESS_FRONT_UNICODE, REGRESS_FRONT_KIND_INVALID_REFERENCE, 1},
+        {"(?<b>x)\\k<a>", 0, REGRESS_FRONT_KIND_UNKNOWN_NAME, 10},
+        {"(?<a>x)(?<a>y)", 0, REGRESS_FRONT_KIND_DUPLICATE_NAME, 10},
+    };
+    char text[128];
+    for (size_t i = 0; i < sizeof examples / sizeof *examples; i++) {
+        const char *pattern = examples[i].pattern;
+        uint32_t flags = SMALL | examples[i].flags;
+        CHECK(parsed(pattern, flags, 0, ROOM) == REGRESS_FRONT_FAULT);
+        CHECK(kind == examples[i].kind && place == examples[i].place);
+        CHECK(told(pattern, flags, text, sizeof text) == REGRESS_FRONT_FAULT);
+        CHECK(kind == examples[i].kind && place == examples[i].place);
+    }
 }
 
 /* With each allocation failing in order, the status is MEMORY, or the result is that of a run without failures. */
@@ -143,7 +202,7 @@ static void refuse(const char *pattern, uint32_t flags, uint32_t optimize) {
         uint32_t status = parsed(pattern, flags, optimize, ROOM);
         if (status == REGRESS_FRONT_MEMORY) {
             wanting++;
-            CHECK(words[0] == MARK && needed == 0 && place == 0);
+            CHECK(words[0] == MARK && needed == 0 && kind == 0 && place == 0);
         } else {
             CHECK(status == ample && needed == ample_needed && place == ample_place);
             CHECK(memcmp(words, expected, sizeof expected) == 0);
@@ -158,11 +217,11 @@ static void refuse_text(const char *pattern, uint32_t flags) {
     char text[128];
     size_t wanting = 0;
     requests = 0;
-    uint32_t ample = regress_front_fault_utf8(pattern, strlen(pattern), flags, text, sizeof text, &needed);
+    uint32_t ample = told(pattern, flags, text, sizeof text);
     long most = requests;
     for (refused = 0; refused < most; refused++) {
         requests = 0;
-        uint32_t status = regress_front_fault_utf8(pattern, strlen(pattern), flags, text, sizeof text, &needed);
+        uint32_t status = told(pattern, flags, text, sizeof text);
         wanting += status == REGRESS_FRONT_MEMORY;
         CHECK(status == REGRESS_FRONT_MEMORY || status == ample);
     }
@@ -177,6 +236,7 @@ int main(int count, char **arguments) {
     rooms();
     bad_input();
     faults();
+    kinds_of_faults();
     refuse("(?<a>x)|(?<a>y)\\k<a>", SMALL, REGRESS_FRONT_PARSED);
     refuse("(?<=ab)c{2}[a-c]+|[^a]", SMALL | REGRESS_FRONT_ICASE, REGRESS_FRONT_OPTIMIZED);
     refuse("a)", SMALL, REGRESS_FRONT_PARSED);

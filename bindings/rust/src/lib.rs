@@ -13,9 +13,11 @@
 //! - The right sides of [`Node::Alt`] are nested as deeply as there are alternatives. Iterate over them: recursion, such
 //!   as that of the derived `Debug`, overflows a stack of 8 MiB at some 200,000 alternatives.
 
+mod kind;
 mod library;
 mod node;
 mod words;
 
+pub use kind::FaultKind;
 pub use library::{parse, parse_and_optimize, Fault, Flags, Table};
 pub use node::{AnchorType, BracketContents, Interval, Node, Quantifier};

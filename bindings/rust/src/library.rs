@@ -1,5 +1,6 @@
 //! The functions of the library.
 
+use crate::kind::FaultKind;
 use crate::node::Node;
 use crate::words::decode;
 use std::error::Error;
@@ -14,6 +15,7 @@ extern "C" {
         words: *mut u32,
         room: usize,
         needed: *mut usize,
+        kind: *mut u32,
         place: *mut usize,
     ) -> u32;
 
@@ -24,6 +26,8 @@ extern "C" {
         text: *mut u8,
         room: usize,
         needed: *mut usize,
+        kind: *mut u32,
+        place: *mut usize,
     ) -> u32;
 }
 
@@ -56,9 +60,13 @@ pub enum Table {
 /// Why parsing fails.
 #[derive(Clone, Debug, PartialEq, Eq)]
 pub enum Fault {
-    /// The pattern is rejected: the text of the syntax error, and its position, a code-point index from 0 to the
-    /// length.
-    Syntax { text: String, place: usize },
+    /// The pattern is rejected: the kind of the syntax error, its text, and its position, a code-point index from 0 to
+    /// the length.
+    Syntax {
+        kind: FaultKind,
+        text: String,
+        place: usize,
+    },
     /// The library is out of memory.
     Memory,
     /// A number in the pattern is above U+10FFFF.
@@ -120,11 +128,7 @@ fn tree(pattern: &[u32], bits: u32, optimize: u32) -> Result<Node, Fault> {
     }
     match answer.status {
         OK => Ok(decode(&words[..answer.needed]).expect("the encoding of a tree")),
-        FAULT => {
-            let text = fault_text(pattern, bits)?;
-            let place = answer.place;
-            Err(Fault::Syntax { text, place })
-        }
+        FAULT => Err(fault(pattern, bits)),
         MEMORY => Err(Fault::Memory),
         _ => Err(Fault::NoCodePoint),
     }
@@ -133,11 +137,12 @@ fn tree(pattern: &[u32], bits: u32, optimize: u32) -> Result<Node, Fault> {
 struct Answer {
     status: u32,
     needed: usize,
+    kind: u32,
     place: usize,
 }
 
 fn words_into(pattern: &[u32], bits: u32, optimize: u32, words: &mut [u32]) -> Answer {
-    let (mut needed, mut place) = (0, 0);
+    let (mut needed, mut kind, mut place) = (0, 0, 0);
     // SAFETY: pointers and lengths are those of slices, which are never null, and the call keeps none of them.
     let status = unsafe {
         regress_front_parse_code_points(
@@ -148,32 +153,39 @@ fn words_into(pattern: &[u32], bits: u32, optimize: u32, words: &mut [u32]) -> A
             words.as_mut_ptr(),
             words.len(),
             &mut needed,
+            &mut kind,
             &mut place,
         )
     };
     Answer {
         status,
         needed,
+        kind,
         place,
     }
 }
 
-fn fault_text(pattern: &[u32], bits: u32) -> Result<String, Fault> {
+/// Returns the syntax error of a pattern that is rejected: its kind, text and position from one call.
+fn fault(pattern: &[u32], bits: u32) -> Fault {
     let mut text = vec![0; 128];
-    let (mut status, mut needed) = text_into(pattern, bits, &mut text);
-    if status == ROOM {
-        text.resize(needed, 0);
-        (status, needed) = text_into(pattern, bits, &mut text);
+    let mut answer = text_into(pattern, bits, &mut text);
+    if answer.status == ROOM {
+        text.resize(answer.needed, 0);
+        answer = text_into(pattern, bits, &mut text);
     }
-    if status != FAULT {
-        return Err(Fault::Memory);
+    if answer.status != FAULT {
+        return Fault::Memory;
     }
-    text.truncate(needed);
-    Ok(String::from_utf8(text).expect("a text in UTF-8"))
+    text.truncate(answer.needed);
+    Fault::Syntax {
+        kind: FaultKind::from_number(answer.kind).expect("the number of a kind"),
+        text: String::from_utf8(text).expect("a text in UTF-8"),
+        place: answer.place,
+    }
 }
 
-fn text_into(pattern: &[u32], bits: u32, text: &mut [u8]) -> (u32, usize) {
-    let mut needed = 0;
+fn text_into(pattern: &[u32], bits: u32, text: &mut [u8]) -> Answer {
+    let (mut needed, mut kind, mut place) = (0, 0, 0);
     // SAFETY: as above.
     let status = unsafe {
         regress_front_tell_fault(
@@ -183,7 +195,14 @@ fn text_into(pattern: &[u32], bits: u32, text: &mut [u8]) -> (u32, usize) {
             text.as_mut_ptr(),
             text.len(),
             &mut needed,
+            &mut kind,
+            &mut place,
         )
     };
-    (status, needed)
+    Answer {
+        status,
+        needed,
+        kind,
+        place,
+    }
 }

@@ -3,7 +3,7 @@
 mod printed;
 
 use printed::printed;
-use regress_front::{parse, parse_and_optimize, Fault, Flags, Interval, Node, Table};
+use regress_front::{parse, parse_and_optimize, Fault, FaultKind, Flags, Interval, Node, Table};
 
 fn points(text: &str) -> Vec<u32> {
     text.chars().map(u32::from).collect()
@@ -63,11 +63,14 @@ fn the_optimized_tree_differs() {
 }
 
 #[test]
-fn a_syntax_error_has_a_text_and_a_position() {
+fn a_syntax_error_has_a_kind_a_text_and_a_position() {
     let fault = parse(&points("ab)"), Flags::default(), Table::Whole).unwrap_err();
-    let Fault::Syntax { text, place } = fault else {
+    let Fault::Syntax { kind, text, place } = fault else {
         panic!("{fault:?}")
     };
+    assert_eq!(kind, FaultKind::UnbalancedParenthesis);
+    assert_eq!(kind.name(), "UnbalancedParenthesis");
+    assert_eq!(kind.number(), 1);
     assert_eq!(text, "Unbalanced parenthesis");
     assert_eq!(place, 2);
 }

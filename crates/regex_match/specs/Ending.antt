@@ -19,7 +19,7 @@ status_of Input = 7
 
 -- an error of the parser as a failure
 abbrev pub failure_of : PlacedFault → Failure
-failure_of (fault.Syntax e position) = Syntax e position
+failure_of (fault.Syntax kind e position) = Syntax e position
 failure_of (fault.Memory e) = Memory
 
 -- When a failure is due: a syntax error if no pattern is accepted, and a later failure if one is.

@@ -45,7 +45,11 @@ impl From<PlacedFault> for Failure {
 
     fn from(fault: PlacedFault) -> Failure {
         match fault {
-            PlacedFault::Syntax { error, position } => Failure::Syntax { error, position },
+            PlacedFault::Syntax {
+                error,
+                position,
+                ..
+            } => Failure::Syntax { error, position },
             PlacedFault::Memory(_) => Failure::Memory,
         }
     }

@@ -8,7 +8,8 @@ use Rattle.regress_base.specs.declared.types.Flags.{Flags}
 use Rattle.regress_base.specs.Table.{Table}
 use Rattle.regress_lexer.specs.Source.{Source}
 use Rattle.regress_parse.specs.Accepted as parse
-use Rattle.regress_parse.specs.Fault.{HasPositionWithin, RejectedOnlyIf, ReportsKind, unplaced}
+use Rattle.regress_parse.specs.Fault.{HasPositionWithin, HasTextOfKind, RejectedOnlyIf, ReportsKindAt, unplaced}
+use Rattle.regress_parse.specs.Settled.{IsFinal}
 use Rattle.regress_parse.specs.declared.fault.PlacedFault.{PlacedFault}
 use Rattle.regress_parse.specs.declared.fault.PlacedFault.TheVariants as fault
 use Rattle.regress_parse.specs.TreeOf.{tree_of}
@@ -64,17 +65,16 @@ spanned_parsed shown setting source (Err fault) spanned = tt
 
 -- the clauses of the parser on an error
 pub fault_of : {X : Type 0} (setting : Setting) (source : Source) (r : Result X PlacedFault) →
-    RejectedOnlyIf (unplaced r) (parse.NoneIsAccepted setting source) → ReportsKind (unplaced r) (parse.IsTrueOf setting source) →
-    HasPositionWithin (length source) r → IfErr r (IsFaultOf setting source)
-fault_of setting source (Ok x) none reported within = tt
-fault_of setting source (Err (fault.Syntax e position)) none (kind, words, is_true) within = record {
+    RejectedOnlyIf (unplaced r) (parse.NoneIsAccepted setting source) → HasTextOfKind r →
+    ReportsKindAt r (λ kind position. parse.IsTrueOf setting source kind) → ReportsKindAt r (λ kind position. parse.MayExceed source kind) →
+    HasPositionWithin (length source) r → ReportsKindAt r (IsFinal setting source) → IfErr r (IsFaultOf setting source)
+fault_of setting source (Ok x) none words reported limits within settled = tt
+fault_of setting source (Err (fault.Syntax kind e position)) none words reported limits within settled = record {
   none = none;
-  kind = kind;
   words = words;
-  is_true = is_true;
-  within = within;
+  reported = record { reported = reported; limits = limits; within = within; settled = settled };
 }
-fault_of setting source (Err (fault.Memory e)) none reported within = tt
+fault_of setting source (Err (fault.Memory e)) none words reported limits within settled = tt
 
 -- the result of parsing with the requested table
 module _ (shown : Bool) (flags : Flags) (source : Source) (r : Result SpannedRegex PlacedFault) where
@@ -149,7 +149,7 @@ module _ (request : Request) (parsed : SpannedRegex) (old new : Option (List ℕ
       IfErr r (Leaves nothing (Took old new (IsFirstShown request.stage request.format request.flags (tree parsed.regex.node) parsed.spans.items))) →
       IfErr r (Leaves nothing (Took old new (IsFirstOutput request)))
   leaves_output nothing (Ok done) h = tt
-  leaves_output nothing (Err (Syntax e position)) h = h
+  leaves_output nothing (Err (Syntax kind e position)) h = h
   leaves_output nothing (Err Usage) h = h
   leaves_output nothing (Err Memory) (inl h) = inl h
   leaves_output nothing (Err Memory) (inr h) = inr (first_output h)

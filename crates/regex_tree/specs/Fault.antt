@@ -1,6 +1,8 @@
 -- A syntax error in the output of `--json`.
 use Rattle.std.specs.Prelude.{◌≡◌, ℕ, ◌/◌, ◌%◌, List, ◌++◌, codes, chars, encode_utf8, flat_map, if◌then◌else◌, nat_lt, ◌==◌, false}
 use Rattle.std.specs.Fmt.{decimal, digits}
+use Rattle.regress_lexer.specs.declared.fault.FaultKind.{FaultKind}
+use Rattle.regress_lexer.specs.FaultKinds.{name_of}
 use Rattle.regex_tree.specs.Accepted.{IsFault, setting_of_request}
 use Rattle.regex_tree.specs.Asked.{Request}
 
@@ -16,13 +18,15 @@ json_character c =
 abbrev pub json_text : List ℕ → List ℕ
 json_text text = flat_map json_character (chars text)
 
--- `{"fault":"Unbalanced parenthesis","place":1}`
-abbrev pub fault_json : (text : List ℕ) → (position : ℕ) → List ℕ
-fault_json text position = codes "{\"fault\":\"" ++ json_text text ++ codes "\",\"place\":" ++ decimal position ++ codes "}"
+-- `{"fault":"Unbalanced parenthesis","kind":"UnbalancedParenthesis","place":1}`
+abbrev pub fault_json : (kind : FaultKind) → (text : List ℕ) → (position : ℕ) → List ℕ
+fault_json kind text position =
+    codes "{\"fault\":\"" ++ json_text text ++ codes "\",\"kind\":\"" ++ name_of kind ++ codes "\",\"place\":" ++ decimal position ++ codes "}"
 
 -- the output of `--json` for a rejected pattern: an object and a line feed
 pub record IsFaultOutput (request : Request) (bytes : List ℕ) : Type 0 where
+  pub kind : FaultKind
   pub text : List ℕ
   pub position : ℕ
-  pub fault : IsFault (setting_of_request request) request.pattern text position
-  pub written : bytes ≡ fault_json text position ++ codes "\n"
+  pub fault : IsFault (setting_of_request request) request.pattern kind text position
+  pub written : bytes ≡ fault_json kind text position ++ codes "\n"

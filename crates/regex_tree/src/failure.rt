@@ -4,7 +4,7 @@ ghost use Rattle.std.specs.Io.KnownBytes.{Appends};
 ghost use Rattle.regex_tree.specs.declared.failure.Failure.TheVariants.{Output};
 ghost use Rattle.regex_tree.specs.Ending.{status_of};
 
-use regress_parse::{Error, ParseFault, PlacedFault};
+use regress_parse::{Error, FaultKind, ParseFault, PlacedFault};
 use std::alloc::AllocError;
 use std::io::{self, Write};
 
@@ -42,8 +42,12 @@ exit status:
 /// `io::Error` has no `From` conversion: only the error of a write becomes `Output`.
 #[derive(Drop)]
 pub(crate) enum Failure {
-    /// The pattern is rejected, with a syntax error at that code-point index: status 1.
-    Syntax { error: Error, position: usize },
+    /// The pattern is rejected, with a syntax error of that kind at that code-point index: status 1.
+    Syntax {
+        kind: FaultKind,
+        error: Error,
+        position: usize,
+    },
     /// The arguments are invalid: status 2.
     Usage,
     /// An allocation failed: status 3.
@@ -71,7 +75,15 @@ impl From<PlacedFault> for Failure {
 
     fn from(fault: PlacedFault) -> Failure {
         match fault {
-            PlacedFault::Syntax { error, position } => Failure::Syntax { error, position },
+            PlacedFault::Syntax {
+                kind,
+                error,
+                position,
+            } => Failure::Syntax {
+                kind,
+                error,
+                position,
+            },
             PlacedFault::Memory(_) => Failure::Memory,
         }
     }

@@ -3,7 +3,7 @@ ghost use Rattle.std.specs.Prelude.{◌≡◌};
 ghost use Rattle.std.specs.Fmt.{WritesOnOk};
 ghost use Rattle.regex_tree.specs.Fault.{json_character, json_text};
 
-use regress_parse::Error;
+use regress_parse::{Error, FaultKind};
 use std::fmt;
 use std::fmt::Formatter;
 use std::io::{self, Write};
@@ -38,9 +38,10 @@ fn write_spaces<E: Write>(count: usize, err: &mut E) -> io::Result<()> {
     Ok(())
 }
 
-/// A syntax error that displays as an object of JSON: `{"fault":"..","place":0}`.
+/// A syntax error that displays as an object of JSON: `{"fault":"..","kind":"..","place":0}`.
 #[derive(Clone, Copy)]
 pub(crate) struct JsonFault<'a> {
+    pub(crate) kind: &'a FaultKind,
     pub(crate) error: &'a Error,
     pub(crate) position: usize,
 }
@@ -49,12 +50,17 @@ impl fmt::Display for JsonFault<'_> {
     ghost use Rattle.std.specs.Prelude.{Some, string_bytes};
     ghost use Rattle.regex_tree.specs.Fault.{fault_json};
 
-    ghost output = { λ fault. Some (fault_json (string_bytes fault.error.now.text) fault.position) };
+    ghost output = { λ fault. Some (fault_json fault.kind.now (string_bytes fault.error.now.text) fault.position) };
 
     fn fmt<W: fmt::Write>(&self, f: &mut Formatter<W>) -> fmt::Result {
         f.write_str("{\"fault\":\"")?;
         write_json_text(&self.error.text, f)?;
-        write!(f, "\",\"place\":{}}}", self.position)
+        write!(
+            f,
+            "\",\"kind\":\"{}\",\"place\":{}}}",
+            self.kind.name(),
+            self.position
+        )
     }
 }
 

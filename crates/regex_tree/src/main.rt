@@ -23,7 +23,7 @@ mod trees;
 use failure::{Failure, USAGE, report, write_usage};
 use fault::{JsonFault, write_fault};
 use regress_arguments::{ArgumentsError, arguments};
-use regress_parse::Error;
+use regress_parse::{Error, FaultKind};
 use request::{Asked, Format, Request, read_request};
 use std::alloc::Global;
 use std::env::Env;
@@ -136,22 +136,27 @@ fn run_request<W: Write, E: Write>(
 {
     match show(alloc, request, out) {
         Ok(()) => 0,
-        Err(Failure::Syntax { error, position }) => report_fault(
-            &error, position, request, out, err,
-        ),
+        Err(
+            Failure::Syntax {
+                kind,
+                error,
+                position,
+            },
+        ) => report_fault(&kind, &error, position, request, out, err),
         Err(failure) => report(failure, err),
     }
 }
 
 /// Writes a syntax error in the requested format, and returns the exit status.
 fn report_fault<W: Write, E: Write>(
+    kind: &FaultKind,
     error: &Error,
     position: usize,
     request: &Request<'_>,
     out: &mut W,
     err: &mut E,
 ) -> u8
-    requires { IsFault (setting_of_request (requested request.now)) (requested request.now).pattern
+    requires { IsFault (setting_of_request (requested request.now)) (requested request.now).pattern kind.now
         (string_bytes error.now.text) position }
     ensures known { (result ≡ 1) ⊎ (result ≡ 4) }
     ensures fault { result ≡ 1 → WritesFault (out.new ≡ out.old)
@@ -164,7 +169,7 @@ fn report_fault<W: Write, E: Write>(
             let _ = write_fault(error, request.pattern, position, err);
             1
         }
-        Format::Json => match write_json_fault(error, position, out) {
+        Format::Json => match write_json_fault(kind, error, position, out) {
             Ok(()) => 1,
             Err(failure) => report(failure, err),
         },
@@ -172,12 +177,21 @@ fn report_fault<W: Write, E: Write>(
 }
 
 /// Writes a syntax error as an object of JSON and a line feed.
-fn write_json_fault<W: Write>(error: &Error, position: usize, out: &mut W) -> Result<(), Failure>
+fn write_json_fault<W: Write>(
+    kind: &FaultKind,
+    error: &Error,
+    position: usize,
+    out: &mut W,
+) -> Result<(), Failure>
     ensures written { OnOk result (Appends (W.contents out.old) (W.contents out.new)
-        (fault_json (string_bytes error.now.text) position ++ codes "\n")) }
+        (fault_json kind.now (string_bytes error.now.text) position ++ codes "\n")) }
     ensures failed { IfErr result (λ failure. failure ≡ Output) }
 {
-    let fault = JsonFault { error, position };
+    let fault = JsonFault {
+        kind,
+        error,
+        position,
+    };
     writeln!(out, "{fault}").map_err(|_| Failure::Output)?;
     out.flush().map_err(|_| Failure::Output)
 }

@@ -6,18 +6,19 @@ use Rattle.regress_syntax.specs.Syntax.{Pattern}
 use Rattle.regress_parse.specs.Accepted.{IsAccepted, NoneIsAccepted}
 use Rattle.regress_c.specs.Results.{IsText, Gives, IsTooSmall}
 
--- The status, `needed`, and the buffer before and after. `Asked` states that the arguments are valid.
+-- The status, `needed`, `kind`, `position`, and the buffer before and after. `Asked` states that the arguments are
+-- valid.
 pub data ErrorResult (Asked : Type 0) (setting : Setting) (source : Source) (old : List ℕ) :
-    (status needed : ℕ) (new : List ℕ) → Type 0 where
+    (status needed kind position : ℕ) (new : List ℕ) → Type 0 where
   -- the pattern is accepted
-  faultless : (p : Pattern) → Asked → IsAccepted setting source p → ErrorResult Asked setting source old 0 0 old
-  -- the pattern is rejected, and the text is written
-  reported : {needed : ℕ} {new : List ℕ} → Asked → NoneIsAccepted setting source → Gives (IsText setting source) needed old new →
-      ErrorResult Asked setting source old 1 needed new
+  faultless : (p : Pattern) → Asked → IsAccepted setting source p → ErrorResult Asked setting source old 0 0 0 0 old
+  -- the pattern is rejected, and the text is written, with the kind and the position of the same syntax error
+  reported : {needed kind position : ℕ} {new : List ℕ} → Asked → NoneIsAccepted setting source →
+      Gives (IsText setting source kind position) needed old new → ErrorResult Asked setting source old 1 needed kind position new
   -- an allocation failed
-  out_of_memory : Asked → ErrorResult Asked setting source old 2 0 old
+  out_of_memory : Asked → ErrorResult Asked setting source old 2 0 0 0 old
   -- the pattern is rejected, and the buffer is too small for the text
-  little : {needed : ℕ} → Asked → NoneIsAccepted setting source → IsTooSmall (IsText setting source) needed old →
-      ErrorResult Asked setting source old 3 needed old
+  little : {needed kind position : ℕ} → Asked → NoneIsAccepted setting source →
+      IsTooSmall (IsText setting source kind position) needed old → ErrorResult Asked setting source old 3 needed kind position old
   -- the arguments are invalid
-  bad : (Asked → ⊥) → ErrorResult Asked setting source old 4 0 old
+  bad : (Asked → ⊥) → ErrorResult Asked setting source old 4 0 0 0 old

@@ -6,10 +6,12 @@ use Rattle.regress_tree.specs.Tree.{Tree}
 use Rattle.regress_tree.specs.WellFormed.{captures}
 use Rattle.regress_lexer.specs.Source.{Source}
 use Rattle.regress_lexer.specs.declared.fault.FaultKind.{FaultKind}
+use Rattle.regress_lexer.specs.FaultKinds.{number_of}
 use Rattle.regress_syntax.specs.Syntax.{Pattern}
 use Rattle.regress_parse.specs.TreeOf.{tree_of}
-use Rattle.regress_parse.specs.Accepted.{IsAccepted, IsTrueOf, Means}
+use Rattle.regress_parse.specs.Accepted.{IsAccepted, Means}
 use Rattle.regress_parse.specs.Fault.{text_of}
+use Rattle.regress_parse.specs.Settled.{IsReported}
 use Rattle.regress_words.specs.Words.{encode}
 
 -- A tree of the pattern that the source denotes: as parsed, or in normal form.
@@ -25,9 +27,15 @@ pub record IsResult (setting : Setting) (source : Source) (optimized : Bool) (t 
 abbrev pub AreWords : Setting → Source → Bool → List ℕ → Type 0
 AreWords setting source optimized words = (t : Tree) × IsResult setting source optimized t × (words ≡ encode t)
 
--- the text of a syntax error that the source has
-abbrev pub IsText : Setting → Source → List ℕ → Type 0
-IsText setting source text = (kind : FaultKind) × (text ≡ text_of kind) × IsTrueOf setting source kind
+-- A syntax error that is reported of the source: its kind has this number, and it is at this position.
+pub record IsError (setting : Setting) (source : Source) (number position : ℕ) : Type 0 where
+  pub kind : FaultKind
+  pub numbered : number ≡ number_of kind
+  pub reported : IsReported setting source kind position
+
+-- the text of such a syntax error
+abbrev pub IsText : Setting → Source → (number position : ℕ) → List ℕ → Type 0
+IsText setting source number position text = (error : IsError setting source number position) × (text ≡ text_of error.kind)
 
 -- All items of a list with this property are at the start of the buffer, and `needed` is their number.
 abbrev pub Gives : {X : Type 0} → (List X → Type 0) → (needed : ℕ) (old new : List X) → Type 0

@@ -9,13 +9,14 @@ use super::results::{BAD_INPUT, MEMORY, write_encoding, write_error};
 use std::alloc::Global;
 
 /// Writes the encoding of the tree of a pattern in code points to `words`, and its length in words to `needed`; or, if
-/// the pattern is rejected, the code-point index of its syntax error to `position`.
+/// the pattern is rejected, the number of the kind of its syntax error to `kind`, and the code-point index to `position`.
 ///
 /// The encoding is written only if it fits. Otherwise `words` is unchanged.
 ///
 /// # Errors
 /// Returns a status: 0 for success, 1 if the pattern is rejected, 2 if an allocation failed, 3 if `words` is too small,
-/// and 4 if the arguments are invalid. `words` is changed only with 0, and `needed` is 0 unless the status is 0 or 3.
+/// and 4 if the arguments are invalid. `words` is changed only with 0, `needed` is 0 unless the status is 0 or 3, and
+/// `kind` and `position` are 0 unless it is 1.
 #[unsafe(no_mangle)]
 pub extern "C" fn regress_front_parse_code_points(
     alloc: Global,
@@ -24,12 +25,15 @@ pub extern "C" fn regress_front_parse_code_points(
     optimize: u32,
     words: &mut [u32],
     needed: &mut usize,
+    kind: &mut u32,
     position: &mut usize,
 ) -> u32
     ensures status { EncodingResult (IsRequest pattern.now flags optimize) (setting_by flags) pattern.now (optimize == 1)
-        words.old result needed.new position.new words.new }
+        words.old result needed.new kind.new position.new words.new }
 {
-    write_encoding(alloc, pattern, flags, optimize, words, needed, position)
+    write_encoding(
+        alloc, pattern, flags, optimize, words, needed, kind, position,
+    )
 }
 
 /// As `regress_front_parse_code_points`, for a pattern in UTF-8. `position` counts code points here too.
@@ -44,16 +48,18 @@ pub extern "C" fn regress_front_parse_text(
     optimize: u32,
     words: &mut [u32],
     needed: &mut usize,
+    kind: &mut u32,
     position: &mut usize,
 ) -> u32
     ensures status { EncodingResult (IsTextRequest pattern.now flags optimize) (setting_by flags) (chars pattern.now) (optimize == 1)
-        words.old result needed.new position.new words.new }
+        words.old result needed.new kind.new position.new words.new }
 {
     *needed = 0;
+    *kind = 0;
     *position = 0;
     match read_points(alloc, pattern, flags, optimize) {
         Ok(Some(points)) => write_encoding(
-            alloc, &points, flags, optimize, words, needed, position,
+            alloc, &points, flags, optimize, words, needed, kind, position,
         ),
         Ok(None) => BAD_INPUT,
         Err(_) => MEMORY,
@@ -61,12 +67,12 @@ pub extern "C" fn regress_front_parse_text(
 }
 
 /// Writes the text of the syntax error of a pattern in code points to `text`, in UTF-8, and its length in bytes to
-/// `needed`.
+/// `needed`; and the number of the kind of the same error to `kind`, and its code-point index to `position`.
 ///
 /// # Errors
 /// Returns a status: 0 if the pattern is accepted, 1 if it is rejected and the text is written, 2 if an allocation
-/// failed, 3 if `text` is too small, and 4 if the arguments are invalid. `text` is changed only with 1, and `needed` is
-/// 0 unless the status is 1 or 3.
+/// failed, 3 if it is rejected and `text` is too small, and 4 if the arguments are invalid. `text` is changed only with
+/// 1, and `needed`, `kind` and `position` are 0 unless the status is 1 or 3.
 #[unsafe(no_mangle)]
 pub extern "C" fn regress_front_tell_fault(
     alloc: Global,
@@ -74,13 +80,16 @@ pub extern "C" fn regress_front_tell_fault(
     flags: u32,
     text: &mut [u8],
     needed: &mut usize,
+    kind: &mut u32,
+    position: &mut usize,
 ) -> u32
-    ensures status { ErrorResult (IsRequest pattern.now flags 0) (setting_by flags) pattern.now text.old result needed.new text.new }
+    ensures status { ErrorResult (IsRequest pattern.now flags 0) (setting_by flags) pattern.now
+        text.old result needed.new kind.new position.new text.new }
 {
-    write_error(alloc, pattern, flags, text, needed)
+    write_error(alloc, pattern, flags, text, needed, kind, position)
 }
 
-/// As `regress_front_tell_fault`, for a pattern in UTF-8.
+/// As `regress_front_tell_fault`, for a pattern in UTF-8. `position` counts code points here too.
 ///
 /// # Errors
 /// As `regress_front_tell_fault`; a pattern that is not UTF-8 is an invalid argument.
@@ -91,13 +100,17 @@ pub extern "C" fn regress_front_tell_fault_of_text(
     flags: u32,
     text: &mut [u8],
     needed: &mut usize,
+    kind: &mut u32,
+    position: &mut usize,
 ) -> u32
     ensures status { ErrorResult (IsTextRequest pattern.now flags 0) (setting_by flags) (chars pattern.now)
-        text.old result needed.new text.new }
+        text.old result needed.new kind.new position.new text.new }
 {
     *needed = 0;
+    *kind = 0;
+    *position = 0;
     match read_points(alloc, pattern, flags, 0) {
-        Ok(Some(points)) => write_error(alloc, &points, flags, text, needed),
+        Ok(Some(points)) => write_error(alloc, &points, flags, text, needed, kind, position),
         Ok(None) => BAD_INPUT,
         Err(_) => MEMORY,
     }

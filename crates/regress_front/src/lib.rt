@@ -22,7 +22,9 @@ pub mod literal {
 /// Parsing: from the text of a pattern to its tree.
 pub mod parse {
     pub use regress_bound::node_bound;
-    pub use regress_parse::{Error, ParseFault, PlacedFault, try_parse, try_parse_with_position};
+    pub use regress_parse::{
+        Error, FaultKind, ParseFault, PlacedFault, try_parse, try_parse_with_position,
+    };
     pub use regress_spans::{Span, SpannedRegex, try_parse_with_spans};
 }
 

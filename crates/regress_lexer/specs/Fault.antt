@@ -7,12 +7,12 @@ use Rattle.regress_lexer.specs.declared.fault.Fault.TheVariants.{Rejected, Memor
 
 -- If the fault is a syntax error, P holds; an allocation failure implies nothing.
 abbrev pub OnRejected : Fault → Type 0 → Type 0
-OnRejected (Rejected r) P = P
+OnRejected (Rejected kind left) P = P
 OnRejected (Memory e) P = Unit {0}
 
 -- If the fault is a syntax error, P holds of its kind.
 abbrev pub OnKind : Fault → (FaultKind → Type 0) → Type 0
-OnKind (Rejected r) P = P r.kind
+OnKind (Rejected kind left) P = P kind
 OnKind (Memory e) P = Unit {0}
 
 -- If the result is a syntax error, P holds.

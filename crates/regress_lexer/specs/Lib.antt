@@ -5,5 +5,6 @@ pub mod Quantifiers
 pub mod FirstCodePoint
 pub mod Modifiers
 pub mod Fault
+pub mod FaultKinds
 pub mod Reads
 pub mod Views

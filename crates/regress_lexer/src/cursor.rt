@@ -60,7 +60,7 @@ impl Cursor<'_> {
 
     /// Returns a syntax error of this kind at the cursor's position.
     pub fn reject(&self, kind: FaultKind) -> Fault
-        ensures { result ≡ Rejected (record { kind = kind; left = length (source self.now) }) }
+        ensures { result ≡ Rejected kind (length (source self.now)) }
     {
         rejected(self.rest.len(), kind)
     }

@@ -10,5 +10,5 @@ pub mod modifiers;
 pub mod quantifier;
 
 pub use cursor::Cursor;
-pub use fault::{Fault, FaultKind, Rejection};
+pub use fault::{Fault, FaultKind};
 pub use modifiers::Change;

@@ -3,18 +3,18 @@ use Rattle.std.proofs.Common.{◌≡◌, ℕ, suc, ◌+◌, ◌-◌, false, ◌+
 use Rattle.regress_base.specs.Table.{IsValidTable}
 use Rattle.regress_tree.specs.Setting.{Setting}
 use Rattle.regress_tree.specs.declared.ir.node.Regex.{Regex}
-use Rattle.regress_lexer.specs.declared.fault.Rejection.{Rejection}
 use Rattle.regress_lexer.specs.declared.fault.FaultKind.{FaultKind}
 use Rattle.regress_lexer.specs.declared.fault.Fault.{Fault}
 use Rattle.regress_lexer.specs.declared.fault.Fault.TheVariants.{Rejected, Memory}
 use Rattle.regress_lexer.specs.Source.{Source, is_at}
 use Rattle.regress_syntax.specs.Scan.{plain, tokens}
 use Rattle.regress_syntax.specs.FirstErrors.{Flaw, remaining_at}
-use Rattle.regress_syntax.specs.Scanning.{IsLocated, OnRejection}
+use Rattle.regress_syntax.specs.Scanning.{IsLocated, OnKindAt}
 use Rattle.regress_syntax.proofs.lemmas.Scan.{gives_tokens}
 use Rattle.regress_syntax.proofs.lemmas.FirstErrors.{Shows, left_within, shows_front, shows_none}
 use Rattle.regress_parse.specs.Accepted.{own_context}
-use Rattle.regress_parse.specs.Settled.{NoneStartsWith, IsFinal, ReportsKindAt}
+use Rattle.regress_parse.specs.Fault.{ReportsKindAt}
+use Rattle.regress_parse.specs.Settled.{NoneStartsWith, IsFinal}
 use Rattle.regress_parse.specs.Parsing.{HasMessageAndPosition}
 use Rattle.regress_parse.specs.declared.fault.PlacedFault.{PlacedFault}
 use Rattle.regress_parse.specs.declared.fault.PlacedFault.TheVariants.{Syntax as PlacedSyntax, Memory as PlacedMemory}
@@ -33,21 +33,21 @@ none_begins setting flaw t left position lawful first split is after p accepted 
     (subst (Shows flaw 1) (sym (gives_tokens sets setting.table (take (position + 1) t ++ after) lawful (own_context setting p) p refl refl accepted.derived))
     shown)
 
-located_settles : (setting : Setting) (t : Source) (r : Rejection) → IsValidTable setting.table → IsLocated setting.flags.unicode_sets t r →
-    IsFinal setting t r.kind (length t - r.left)
-located_settles setting t r lawful located flaw left kind first =
+located_settles : (setting : Setting) (t : Source) (kind : FaultKind) (remaining : ℕ) → IsValidTable setting.table →
+    IsLocated setting.flags.unicode_sets t kind remaining → IsFinal setting t kind (length t - remaining)
+located_settles setting t kind remaining lawful located flaw left is first =
     let within = left_within flaw setting.flags.unicode_sets plain 1 t left first in
-    let split : length t - r.left + left ≡ length t = omega (arith, within, located flaw left kind first) in
-    (split, none_begins setting flaw t left (length t - r.left) lawful first split)
+    let split : length t - remaining + left ≡ length t = omega (arith, within, located flaw left is first) in
+    (split, none_begins setting flaw t left (length t - remaining) lawful first split)
 
-pub settled : (setting : Setting) (t : Source) (fault : Fault) → IsValidTable setting.table → OnRejection fault (IsLocated setting.flags.unicode_sets t) →
-    OnRejection fault (λ r. IsFinal setting t r.kind (length t - r.left))
-settled setting t (Rejected r) lawful located = located_settles setting t r lawful located
+pub settled : (setting : Setting) (t : Source) (fault : Fault) → IsValidTable setting.table → OnKindAt fault (IsLocated setting.flags.unicode_sets t) →
+    OnKindAt fault (λ kind left. IsFinal setting t kind (length t - left))
+settled setting t (Rejected kind left) lawful located = located_settles setting t kind left lawful located
 settled setting t (Memory e) lawful located = tt
 
 -- the same for the error with its position
 pub placed_settles : (n : ℕ) (fault : Fault) (placed : PlacedFault) (P : FaultKind → ℕ → Type 0) → HasMessageAndPosition n fault placed →
-    OnRejection fault (λ r. P r.kind (n - r.left)) → ReportsKindAt {X = Regex} (Err placed) P
-placed_settles n fault (PlacedSyntax e position) P (r, is, text, here, within) settles =
-    (r.kind, text, subst (λ k. P r.kind k) (sym here) (subst (λ f. OnRejection f (λ r. P r.kind (n - r.left))) is settles))
+    OnKindAt fault (λ kind left. P kind (n - left)) → ReportsKindAt {X = Regex} (Err placed) P
+placed_settles n fault (PlacedSyntax kind e position) P (left, is, text, here, within) settles =
+    subst (P kind) (sym here) (subst (λ f. OnKindAt f (λ kind left. P kind (n - left))) is settles)
 placed_settles n fault (PlacedMemory e) P placed settles = tt

@@ -1,3 +1,4 @@
 -- Lemmas on this crate's definitions, for the crates above.
 pub mod Nodes
 pub mod Scanned
+pub mod Reported

@@ -57,24 +57,36 @@ RejectedOnlyIf (Ok x) P = Unit {0}
 RejectedOnlyIf (Err (Syntax e)) P = P
 RejectedOnlyIf (Err (Memory e)) P = Unit {0}
 
--- A syntax error has the text of a kind for which P holds.
+-- A syntax error without its kind has the text of a kind for which P holds.
 abbrev pub ReportsKind : {X : Type 0} → Result X ParseFault → (FaultKind → Type 0) → Type 0
 ReportsKind (Ok x) P = Unit {0}
 ReportsKind (Err (Syntax e)) P = (kind : FaultKind) × (string_bytes e.text ≡ text_of kind) × P kind
 ReportsKind (Err (Memory e)) P = Unit {0}
 
--- the error without its position
+-- the error without its kind and its position
 abbrev pub without_position : PlacedFault → ParseFault
-without_position (PlacedSyntax e position) = Syntax e
+without_position (PlacedSyntax kind e position) = Syntax e
 without_position (PlacedMemory e) = Memory e
 
--- the result, where an error has no position
+-- the result, where an error has no kind and no position
 abbrev pub unplaced : {X : Type 0} → Result X PlacedFault → Result X ParseFault
 unplaced (Ok x) = Ok x
 unplaced (Err fault) = Err (without_position fault)
 
+-- A syntax error has a kind and a position for which P holds.
+abbrev pub ReportsKindAt : {X : Type 0} → Result X PlacedFault → (FaultKind → (position : ℕ) → Type 0) → Type 0
+ReportsKindAt (Ok x) P = Unit {0}
+ReportsKindAt (Err (PlacedSyntax kind e position)) P = P kind position
+ReportsKindAt (Err (PlacedMemory e)) P = Unit {0}
+
+-- A syntax error has the text of its kind.
+abbrev pub HasTextOfKind : {X : Type 0} → Result X PlacedFault → Type 0
+HasTextOfKind (Ok x) = Unit {0}
+HasTextOfKind (Err (PlacedSyntax kind e position)) = string_bytes e.text ≡ text_of kind
+HasTextOfKind (Err (PlacedMemory e)) = Unit {0}
+
 -- The position of a syntax error is at most the length of the pattern.
 abbrev pub HasPositionWithin : {X : Type 0} → ℕ → Result X PlacedFault → Type 0
 HasPositionWithin length (Ok x) = Unit {0}
-HasPositionWithin length (Err (PlacedSyntax e position)) = position ≤ length
+HasPositionWithin length (Err (PlacedSyntax kind e position)) = position ≤ length
 HasPositionWithin length (Err (PlacedMemory e)) = Unit {0}

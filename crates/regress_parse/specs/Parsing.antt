@@ -8,7 +8,6 @@ use Rattle.regress_unicode.specs.TableOf.{table_of}
 use Rattle.regress_tree.specs.Tree.{Tree, tree, alt}
 use Rattle.regress_lexer.specs.declared.fault.Fault.{Fault}
 use Rattle.regress_lexer.specs.declared.fault.Fault.TheVariants.{Rejected}
-use Rattle.regress_lexer.specs.declared.fault.Rejection.{Rejection}
 use Rattle.regress_parse.specs.declared.fault.PlacedFault.{PlacedFault}
 use Rattle.regress_parse.specs.declared.fault.PlacedFault.TheVariants.{Syntax, Memory}
 use Rattle.regress_parse.specs.Fault.{text_of}
@@ -164,10 +163,11 @@ YieldsWhole ctx t (Err fault) =
     OnKind fault (λ kind. (p : Pattern) → pattern_at ctx t ≡ Some (p, []) →
     Exceeds kind nothing_counted 0 (pattern_part ctx.setting.table ctx.names p))
 
--- The syntax error has its text and its position in a pattern of this length, or an allocation failed.
+-- The syntax error has its kind, the text of the kind, and its position in a pattern of this length, or an allocation
+-- failed.
 abbrev pub HasMessageAndPosition : ℕ → Fault → PlacedFault → Type 0
-HasMessageAndPosition length fault (Syntax e position) =
-    (r : Rejection) × (fault ≡ Rejected r) × (string_bytes e.text ≡ text_of r.kind) × (position ≡ length - r.left) × (position ≤ length)
+HasMessageAndPosition length fault (Syntax kind e position) =
+    (left : ℕ) × (fault ≡ Rejected kind left) × (string_bytes e.text ≡ text_of kind) × (position ≡ length - left) × (position ≤ length)
 HasMessageAndPosition length fault (Memory e) = Unit {0}
 
 -- alternatives before a last one, as nested `Alt` nodes

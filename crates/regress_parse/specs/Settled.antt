@@ -1,5 +1,5 @@
 -- Syntax errors that no change after their position can mend, and where names in conflict are reported.
-use Rattle.std.specs.Prelude.{◌≡◌, ℕ, ◌+◌, ◌≤◌, false, ◌++◌, take, drop, length, Some, string_bytes, Result, Ok, Err}
+use Rattle.std.specs.Prelude.{◌≡◌, ℕ, ◌+◌, ◌≤◌, false, ◌++◌, take, drop, length, Some}
 use Rattle.regress_base.specs.Limits.{max_nesting_depth}
 use Rattle.regress_tree.specs.Setting.{Setting}
 use Rattle.regress_lexer.specs.declared.fault.FaultKind.{FaultKind}
@@ -8,10 +8,7 @@ use Rattle.regress_lexer.specs.Source.{Source, char, is_at}
 use Rattle.regress_syntax.specs.Paths.{are_tokens_apart}
 use Rattle.regress_syntax.specs.Scan.{plain, tokens, deepest}
 use Rattle.regress_syntax.specs.FirstErrors.{Flaw, kind_of, remaining_at, IsFirstDuplicate}
-use Rattle.regress_parse.specs.declared.fault.PlacedFault.{PlacedFault}
-use Rattle.regress_parse.specs.declared.fault.PlacedFault.TheVariants.{Syntax, Memory}
-use Rattle.regress_parse.specs.Fault.{text_of}
-use Rattle.regress_parse.specs.Accepted.{NoneIsAccepted}
+use Rattle.regress_parse.specs.Accepted.{NoneIsAccepted, IsTrueOf, MayExceed}
 
 -- No source with this prefix is accepted.
 abbrev pub NoneStartsWith : Setting → Source → Type 0
@@ -33,8 +30,10 @@ IsAtFirstDuplicate setting t kind position =
     are_tokens_apart marks ≡ false → deepest 1 marks ≤ max_nesting_depth →
     (kind ≡ DuplicateName) × IsFirstDuplicate setting.flags.unicode_sets setting.table t position
 
--- A syntax error has the text of a kind and a position for which P holds.
-abbrev pub ReportsKindAt : {X : Type 0} → Result X PlacedFault → (FaultKind → ℕ → Type 0) → Type 0
-ReportsKindAt (Ok x) P = Unit {0}
-ReportsKindAt (Err (Syntax e position)) P = (kind : FaultKind) × (string_bytes e.text ≡ text_of kind) × P kind position
-ReportsKindAt (Err (Memory e)) P = Unit {0}
+-- What is known of a syntax error that is reported of the source, by its kind and its position.
+pub record IsReported (setting : Setting) (source : Source) (kind : FaultKind) (position : ℕ) : Type 0 where
+  pub reported : IsTrueOf setting source kind
+  pub limits : MayExceed source kind
+  pub within : position ≤ length source
+  pub settled : IsFinal setting source kind position
+  pub duplicate : IsAtFirstDuplicate setting source kind position

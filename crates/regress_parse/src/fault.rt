@@ -58,16 +58,18 @@ impl<T: Drop> From<AllocFailed<T>> for ParseFault {
     }
 }
 
-/// Why a pattern was not parsed, and the position of a syntax error.
+/// Why a pattern was not parsed, with the kind and the position of a syntax error.
 #[derive(Debug, Drop, thiserror::Error)]
 pub enum PlacedFault {
     /// The pattern is rejected: the grammar does not derive it within the limits.
     #[error("{error}")]
     Syntax {
-        /// What is wrong, as a text.
+        /// What is wrong, as a kind for a program.
+        kind: FaultKind,
+        /// What is wrong, as the text of the kind.
         error: Error,
         /// The position of the error: a code-point index of the pattern, at most its length. `docs/errors.md` specifies
-        /// it for each text.
+        /// it for each kind.
         position: usize,
     },
     /// An allocation failed, whether or not the pattern is valid.
@@ -94,16 +96,17 @@ impl From<PlacedFault> for ParseFault {
     }
 }
 
-/// Returns the error with its text, and its position in a pattern of `length` code points. If the text cannot be
-/// allocated, returns `Memory`.
+/// Returns the error with the text of its kind, and its position in a pattern of `length` code points. If the text
+/// cannot be allocated, returns `Memory`.
 pub(crate) fn position(alloc: Global, fault: Fault, length: usize) -> PlacedFault
     ensures { HasMessageAndPosition length fault result }
 {
     match fault {
-        Fault::Rejected(rejection) => match report(alloc, &rejection.kind) {
+        Fault::Rejected { kind, left } => match report(alloc, &kind) {
             Ok(error) => PlacedFault::Syntax {
+                kind,
                 error,
-                position: length.saturating_sub(rejection.left),
+                position: length.saturating_sub(left),
             },
             Err(fault) => PlacedFault::Memory(fault),
         },

@@ -11,8 +11,8 @@ ghost use Rattle.regress_syntax.specs.Scanning.{NotesFirst, IsLocated, FailsAt};
 ghost use Rattle.regress_syntax.specs.Views.{context_of};
 ghost use Rattle.regress_parse.specs.TreeOf.{tree_of};
 ghost use Rattle.regress_parse.specs.Accepted.{IsAccepted, NoneIsAccepted, IsTrueOf, MayExceed, OneIsDerived, OfAccepted, Means};
-ghost use Rattle.regress_parse.specs.Fault.{RejectedOnlyIf, ReportsKind, unplaced, HasPositionWithin};
-ghost use Rattle.regress_parse.specs.Settled.{ReportsKindAt, IsFinal, IsAtFirstDuplicate};
+ghost use Rattle.regress_parse.specs.Fault.{RejectedOnlyIf, ReportsKind, ReportsKindAt, HasTextOfKind, unplaced, HasPositionWithin};
+ghost use Rattle.regress_parse.specs.Settled.{IsFinal, IsAtFirstDuplicate};
 ghost use Rattle.regress_parse.specs.Parsing.{YieldsWhole, Reaches};
 
 use crate::fault::{ParseFault, PlacedFault, position};
@@ -90,14 +90,15 @@ pub fn try_parse(
     Ok(try_parse_with_position(alloc, pattern, flags, tables)?)
 }
 
-/// Parses a pattern as [`try_parse`] does, and returns the position of a syntax error too.
+/// Parses a pattern as [`try_parse`] does, and returns the kind and the position of a syntax error too.
 ///
 /// # Preconditions
 /// Each element of `pattern` is a code point, at most U+10FFFF.
 ///
 /// # Errors
-/// - [`PlacedFault::Syntax`] if the pattern is rejected, with the text that [`try_parse`] reports and the code-point
-///   index of the error, at most the length of `pattern`. `docs/errors.md` specifies the position for each text.
+/// - [`PlacedFault::Syntax`] if the pattern is rejected, with the kind of the error, its text, which is that of
+///   [`try_parse`], and its code-point index, at most the length of `pattern`. `docs/errors.md` specifies the position
+///   for each kind.
 /// - [`PlacedFault::Memory`] if an allocation fails, also that of the text of a syntax error.
 ///
 /// # Complexity
@@ -115,8 +116,9 @@ pub fn try_parse_with_position(
     ensures accepted { IfOk result (λ r. (p : Pattern)
         × IsAccepted (setting_of flags tables.now) pattern.now p × (tree r.node ≡ tree_of (table_of tables.now) p)) }
     ensures rejected { RejectedOnlyIf (unplaced result) (NoneIsAccepted (setting_of flags tables.now) pattern.now) }
-    ensures reported { ReportsKind (unplaced result) (IsTrueOf (setting_of flags tables.now) pattern.now) }
-    ensures limits { ReportsKind (unplaced result) (MayExceed pattern.now) }
+    ensures text { HasTextOfKind result }
+    ensures reported { ReportsKindAt result (λ kind position. IsTrueOf (setting_of flags tables.now) pattern.now kind) }
+    ensures limits { ReportsKindAt result (λ kind position. MayExceed pattern.now kind) }
     ensures position { HasPositionWithin (length pattern.now) result }
     ensures settled { ReportsKindAt result (IsFinal (setting_of flags tables.now) pattern.now) }
     ensures duplicate { ReportsKindAt result (IsAtFirstDuplicate (setting_of flags tables.now) pattern.now) }
@@ -141,8 +143,8 @@ fn parse(alloc: Global, pattern: &[u32], flags: Flags, tables: &Tables) -> Resul
         × IsAccepted (setting_of flags tables.now) pattern.now p × (tree r.node ≡ tree_of (table_of tables.now) p)) }
     ensures reported { FailsBy result (IsTrueOf (setting_of flags tables.now) pattern.now) }
     ensures limits { FailsBy result (MayExceed pattern.now) }
-    ensures settled { FailsAt result (λ r. IsFinal (setting_of flags tables.now) pattern.now r.kind (length pattern.now - r.left)) }
-    ensures duplicate { FailsAt result (λ r. IsAtFirstDuplicate (setting_of flags tables.now) pattern.now r.kind (length pattern.now - r.left)) }
+    ensures settled { FailsAt result (λ kind left. IsFinal (setting_of flags tables.now) pattern.now kind (length pattern.now - left)) }
+    ensures duplicate { FailsAt result (λ kind left. IsAtFirstDuplicate (setting_of flags tables.now) pattern.now kind (length pattern.now - left)) }
     ensures only { OneIsDerived (setting_of flags tables.now) pattern.now }
     ensures meaning { let setting = setting_of flags tables.now in
         IfOk result (λ r. OfAccepted setting pattern.now (Means setting (tree r.node))) }

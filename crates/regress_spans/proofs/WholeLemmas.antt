@@ -17,12 +17,12 @@ use Rattle.regress_spans.specs.Reading.{ReadsPattern}
 
 -- An accepted source has no error of any kind that its contract allows.
 pub kind_rejects : {Q : FaultKind → Type 0} {P : Type 0} (fault : Fault) → ((kind : FaultKind) → Q kind → P) → OnKind fault Q → OnRejected fault P
-kind_rejects (Rejected r) f h = f r.kind h
+kind_rejects (Rejected kind left) f h = f kind h
 kind_rejects (Memory e) f h = tt
 
 module _ (setting : Setting) (t : Source) where
   pub none_accepted : (fault : Fault) → ((p : Pattern) → IsAccepted setting t p → OnRejected fault ⊥) → OnRejected fault (NoneIsAccepted setting t)
-  none_accepted (Rejected r) f = f
+  none_accepted (Rejected kind left) f = f
   none_accepted (Memory e) f = tt
 
   module _ (p : Pattern) (accepted : IsAccepted setting t p) (ctx : Context) (same : ctx ≡ own_context setting p) (n : ℕ) (before : List Span)

@@ -9,8 +9,8 @@ ghost use Rattle.regress_lexer.specs.Source.{IsCodePoint};
 ghost use Rattle.regress_syntax.specs.Syntax.{Pattern};
 ghost use Rattle.regress_syntax.specs.SettingOf.{setting_of};
 ghost use Rattle.regress_parse.specs.Accepted.{IsAccepted, NoneIsAccepted, IsTrueOf, MayExceed, OneIsDerived, OfAccepted, Means};
-ghost use Rattle.regress_parse.specs.Fault.{RejectedOnlyIf, ReportsKind, unplaced, HasPositionWithin};
-ghost use Rattle.regress_parse.specs.Settled.{IsFinal, IsAtFirstDuplicate, ReportsKindAt};
+ghost use Rattle.regress_parse.specs.Fault.{RejectedOnlyIf, ReportsKindAt, HasTextOfKind, unplaced, HasPositionWithin};
+ghost use Rattle.regress_parse.specs.Settled.{IsFinal, IsAtFirstDuplicate};
 ghost use Rattle.regress_parse.specs.TreeOf.{tree_of};
 ghost use Rattle.regress_spans.specs.Spans.{IsWithin, IsInsideOrApart, spans_of};
 ghost use Rattle.regress_spans.specs.Reading.{ReadsPattern};
@@ -54,8 +54,8 @@ pub struct SpannedRegex {
 /// Each element of `pattern` is a code point, at most U+10FFFF.
 ///
 /// # Errors
-/// - [`PlacedFault::Syntax`] if the pattern is rejected, with the text and the position that [`try_parse_with_position`]
-///   reports.
+/// - [`PlacedFault::Syntax`] if the pattern is rejected, with the kind, the text and the position that
+///   [`try_parse_with_position`] reports.
 /// - [`PlacedFault::Memory`] if an allocation fails.
 ///
 /// # Complexity
@@ -94,8 +94,9 @@ pub fn try_parse_with_spans(
 
     // The contract of `try_parse_with_position`.
     ensures rejected { RejectedOnlyIf (unplaced result) (NoneIsAccepted (setting_of flags tables.now) pattern.now) }
-    ensures reported { ReportsKind (unplaced result) (IsTrueOf (setting_of flags tables.now) pattern.now) }
-    ensures limits { ReportsKind (unplaced result) (MayExceed pattern.now) }
+    ensures text { HasTextOfKind result }
+    ensures reported { ReportsKindAt result (λ kind position. IsTrueOf (setting_of flags tables.now) pattern.now kind) }
+    ensures limits { ReportsKindAt result (λ kind position. MayExceed pattern.now kind) }
     ensures position { HasPositionWithin (length pattern.now) result }
     ensures settled { ReportsKindAt result (IsFinal (setting_of flags tables.now) pattern.now) }
     ensures duplicate { ReportsKindAt result (IsAtFirstDuplicate (setting_of flags tables.now) pattern.now) }
@@ -129,7 +130,7 @@ fn find_spans(
         Ok(spans) => Ok(spans),
         Err(Fault::Memory(fault)) => Err(fault),
         // An accepted pattern has no syntax error.
-        Err(Fault::Rejected(_)) => Err(AllocError),
+        Err(Fault::Rejected { .. }) => Err(AllocError),
     }
 }
 

@@ -16,7 +16,6 @@ use Rattle.regress_base.specs.Limits.{max_nesting_depth}
 use Rattle.regress_base.specs.Table.{Table}
 use Rattle.regress_lexer.specs.declared.fault.Fault.{Fault}
 use Rattle.regress_lexer.specs.declared.fault.Fault.TheVariants.{Rejected, Memory}
-use Rattle.regress_lexer.specs.declared.fault.Rejection.{Rejection}
 use Rattle.regress_lexer.specs.declared.fault.FaultKind.{FaultKind}
 use Rattle.regress_lexer.specs.declared.fault.FaultKind.TheVariants.{DuplicateName}
 use Rattle.regress_lexer.specs.Source.{Source, opening, closing, bar, question_mark}
@@ -25,7 +24,7 @@ use Rattle.regress_syntax.specs.GroupTokens.{GroupToken, opens, captures, closes
 use Rattle.regress_syntax.specs.Paths.{Path, Position, CaptureAt, at_the_start, groups_by, are_apart, are_tokens_apart}
 use Rattle.regress_syntax.specs.Scan.{Mode, plain, escape, class, class_escape, opened_at, mode_after, token_at, tokens, deepest, is_insignificant}
 use Rattle.regress_syntax.specs.FirstErrors.{tokens_within, IsFirstDuplicate}
-use Rattle.regress_syntax.specs.Scanning.{capture_of, bears_name, is_before, first_conflict, path_of, position_of, position_after, tokens_down_to, is_from, AddsGroup, AreInOrder, HasPlaces, IsAtConflict, IsAtDuplicate, After, OnRejection, noted_for, located}
+use Rattle.regress_syntax.specs.Scanning.{capture_of, bears_name, is_before, first_conflict, path_of, position_of, position_after, tokens_down_to, is_from, AddsGroup, AreInOrder, HasPlaces, IsAtConflict, IsAtDuplicate, After, OnKindAt, noted_for, located}
 use Rattle.regress_syntax.specs.declared.scan.first_errors.FirstErrors.{FirstErrors}
 use Rattle.regress_syntax.specs.declared.scan.scanner.Scanner.{Scanner}
 use Rattle.regress_syntax.specs.declared.scan.scanner.NamedGroup.{NamedGroup}
@@ -280,12 +279,12 @@ none_found all scanner sorted after few order moved up stable none =
     ∙ none_conflict 0 scanner.named.items sorted moved before near
 
 -- The conflict that the search finds is the first one.
-pub first_found : (all : List GroupToken) (scanner : Scanner) (sorted : List NamedGroup) (left : ℕ) (r : Rejection) → After all [] scanner →
+pub first_found : (all : List GroupToken) (scanner : Scanner) (sorted : List NamedGroup) (left : ℕ) (reported : FaultKind) (at : ℕ) → After all [] scanner →
     deepest 1 all ≤ max_nesting_depth → AreInOrder 0 scanner.named.items → IsPermutation scanner.named.items sorted → IsSortedBy is_before sorted →
-    IsStableBy is_before scanner.named.items sorted → first_conflict sorted ≡ Some left → r.kind ≡ DuplicateName → r.left ≡ left - 3 →
-    IsAtConflict scanner.named.items r
-first_found all scanner [] left r after few order moved up stable some kind is conflicts = absurd (omega (arith, (conflict_found [] left some).within))
-first_found all scanner (g ∷ gs) left r after few order moved up stable some kind is conflicts =
+    IsStableBy is_before scanner.named.items sorted → first_conflict sorted ≡ Some left → reported ≡ DuplicateName → at ≡ left - 3 →
+    IsAtConflict scanner.named.items reported at
+first_found all scanner [] left reported at after few order moved up stable some kind is conflicts = absurd (omega (arith, (conflict_found [] left some).within))
+first_found all scanner (g ∷ gs) left reported at after few order moved up stable some kind is conflicts =
     let before = sorted_before scanner.named.items (g ∷ gs) (placed_all all scanner 0 after few order) up stable in
     let found = conflict_found (g ∷ gs) left some in
     let near : NearApart (left + 1) (g ∷ gs) = subst (λ (first : Option ℕ). NearApart (beyond first) (g ∷ gs)) some (near_first (g ∷ gs)) in
@@ -310,12 +309,12 @@ within_down (suc n) m sets table mode (c ∷ t) e =
     rw some (ap (λ ts. option_to_list (token_at sets table mode c t) ++ ts) (within_down n m sets table (mode_after sets mode c) t (omega (arith, e))))
 
 -- The first of the groups that conflicts with one before it is the first one in the source.
-pub duplicate_at : (sets : Bool) (table : Table) (t : Source) (mode : Mode) (scanner : Scanner) (r : Rejection) →
+pub duplicate_at : (sets : Bool) (table : Table) (t : Source) (mode : Mode) (scanner : Scanner) (reported : FaultKind) (at : ℕ) →
     deepest 1 (tokens sets table plain t) ≤ max_nesting_depth → HasPlaces sets table t mode [] scanner →
-    are_apart (map capture_of scanner.named.items) ≡ false → IsAtConflict scanner.named.items r →
-    (r.kind ≡ DuplicateName) × IsFirstDuplicate sets table t (length t - r.left)
+    are_apart (map capture_of scanner.named.items) ≡ false → IsAtConflict scanner.named.items reported at →
+    (reported ≡ DuplicateName) × IsFirstDuplicate sets table t (length t - at)
 unfolding tokens_down_to
-duplicate_at sets table t mode scanner r few places some conflict =
+duplicate_at sets table t mode scanner reported at few places some conflict =
     let (kind, left, is, three, apart, conflicts) = conflict some in
     let cut : (n : ℕ) → are_tokens_apart (tokens_down_to n sets table plain t) ≡ are_apart (map capture_of (filter (is_from n) scanner.named.items)) =
     λ n. are_apart-named (groups_by at_the_start (tokens_down_to n sets table plain t))
@@ -340,19 +339,19 @@ duplicate_at sets table t mode scanner r few places some conflict =
 pub duplicates_at : (sets : Bool) (table : Table) (t : Source) (mode : Mode) (rest here : Source) (scanner : Scanner) (fault : Fault) → length here ≡ 0 →
     After (tokens sets table plain t) [] scanner →
     ((left : ℕ) → tokens_down_to left sets table mode rest ≡ tokens_down_to left sets table mode here) → HasPlaces sets table t mode rest scanner →
-    (deepest 1 (tokens sets table plain t) ≤ max_nesting_depth → OnRejection fault (IsAtConflict scanner.named.items)) →
-    OnRejection fault (IsAtDuplicate sets table t)
+    (deepest 1 (tokens sets table plain t) ≤ max_nesting_depth → OnKindAt fault (IsAtConflict scanner.named.items)) →
+    OnKindAt fault (IsAtDuplicate sets table t)
 duplicates_at sets table t mode rest (c ∷ here) scanner fault empty after same before conflict = absurd (omega (arith, empty))
-duplicates_at sets table t mode rest [] scanner (Rejected r) empty after same before conflict = λ some few.
-    duplicate_at sets table t mode scanner r few (places_same sets table t mode rest [] scanner same before)
+duplicates_at sets table t mode rest [] scanner (Rejected kind left) empty after same before conflict = λ some few.
+    duplicate_at sets table t mode scanner kind left few (places_same sets table t mode rest [] scanner same before)
     (sym (apart_after (tokens sets table plain t) scanner after few) ∙ some) (conflict few)
 duplicates_at sets table t mode rest [] scanner (Memory e) empty after same before conflict = tt
 
 -- An error about names keeps its position.
 pub located-duplicate : (sets : Bool) (table : Table) (t : Source) (first_errors : FirstErrors) (fault : Fault) →
-    OnRejection fault (IsAtDuplicate sets table t) → OnRejection (located first_errors fault) (IsAtDuplicate sets table t)
-located-duplicate sets table t first_errors (Rejected r) h = λ some few.
+    OnKindAt fault (IsAtDuplicate sets table t) → OnKindAt (located first_errors fault) (IsAtDuplicate sets table t)
+located-duplicate sets table t first_errors (Rejected kind left) h = λ some few.
     let found = h some few in
-    let same : unwrap_or (noted_for first_errors r.kind) r.left ≡ r.left = ap (λ (k : FaultKind). unwrap_or (noted_for first_errors k) r.left) found.0 in
+    let same : unwrap_or (noted_for first_errors kind) left ≡ left = ap (λ (k : FaultKind). unwrap_or (noted_for first_errors k) left) found.0 in
     (found.0, subst (λ n. IsFirstDuplicate sets table t (length t - n)) (sym same) found.1)
 located-duplicate sets table t first_errors (Memory e) h = tt

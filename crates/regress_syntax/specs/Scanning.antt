@@ -22,7 +22,6 @@ use Rattle.regress_lexer.specs.declared.fault.FaultKind.{FaultKind}
 use Rattle.regress_lexer.specs.declared.fault.FaultKind.TheVariants.{UnbalancedParenthesis, TooDeep, DuplicateName}
 use Rattle.regress_lexer.specs.declared.fault.Fault.{Fault}
 use Rattle.regress_lexer.specs.declared.fault.Fault.TheVariants.{Rejected, Memory}
-use Rattle.regress_lexer.specs.declared.fault.Rejection.{Rejection}
 use Rattle.regress_lexer.specs.Source.{Source}
 use Rattle.regress_syntax.specs.FirstErrors.{Flaw, unopened, too_deep, kind_of, remaining_at, IsFirstDuplicate}
 use Rattle.regress_syntax.specs.declared.scan.first_errors.FirstErrors.{FirstErrors}
@@ -175,11 +174,11 @@ first_conflict [] = None
 first_conflict (group ∷ groups) = greatest (conflict_with_next group groups) (first_conflict groups)
 
 -- If some of these groups conflict, the error is about that, and at the first one that conflicts with one before it.
-abbrev pub IsAtConflict : List NamedGroup → Rejection → Type 0
-IsAtConflict groups r =
-    are_apart (map capture_of groups) ≡ false → (r.kind ≡ DuplicateName) × (left : ℕ) × (r.left ≡ left - 3) × (3 ≤ left)
-    × (are_apart (map capture_of (filter (is_from (left + 1)) groups)) ≡ true)
-    × (are_apart (map capture_of (filter (is_from left) groups)) ≡ false)
+abbrev pub IsAtConflict : List NamedGroup → FaultKind → (left : ℕ) → Type 0
+IsAtConflict groups kind left =
+    are_apart (map capture_of groups) ≡ false → (kind ≡ DuplicateName) × (begin : ℕ) × (left ≡ begin - 3) × (3 ≤ begin)
+    × (are_apart (map capture_of (filter (is_from (begin + 1)) groups)) ≡ true)
+    × (are_apart (map capture_of (filter (is_from begin) groups)) ≡ false)
 
 -- ---- first errors
 
@@ -193,25 +192,25 @@ abbrev pub NotesFirst : (sets : Bool) → Source → FirstErrors → Type 0
 NotesFirst sets t first_errors = (flaw : Flaw) → remaining_at flaw sets plain 1 t ≡ noted flaw first_errors
 
 -- An error for one of the flaws is at the first such flaw of the source, if there is one.
-abbrev pub IsLocated : (sets : Bool) → Source → Rejection → Type 0
-IsLocated sets t r = (flaw : Flaw) (left : ℕ) → r.kind ≡ kind_of flaw → remaining_at flaw sets plain 1 t ≡ Some left → r.left ≡ left
+abbrev pub IsLocated : (sets : Bool) → Source → FaultKind → (left : ℕ) → Type 0
+IsLocated sets t kind left = (flaw : Flaw) (first : ℕ) → kind ≡ kind_of flaw → remaining_at flaw sets plain 1 t ≡ Some first → left ≡ first
 
 -- If two groups of the source conflict, and it is not nested too deeply, the error is about that, and at the first name
 -- that conflicts with one before it.
-abbrev pub IsAtDuplicate : (sets : Bool) → Table → Source → Rejection → Type 0
-IsAtDuplicate sets table t r =
+abbrev pub IsAtDuplicate : (sets : Bool) → Table → Source → FaultKind → (left : ℕ) → Type 0
+IsAtDuplicate sets table t kind left =
     are_tokens_apart (tokens sets table plain t) ≡ false → deepest 1 (tokens sets table plain t) ≤ max_nesting_depth →
-    (r.kind ≡ DuplicateName) × IsFirstDuplicate sets table t (length t - r.left)
+    (kind ≡ DuplicateName) × IsFirstDuplicate sets table t (length t - left)
 
--- the property holds of a syntax error; running out of memory is no syntax error
-abbrev pub OnRejection : Fault → (Rejection → Type 0) → Type 0
-OnRejection (Rejected r) P = P r
-OnRejection (Memory e) P = Unit {0}
+-- If the fault is a syntax error, P holds of its kind and of the number of code points that remain at its position.
+abbrev pub OnKindAt : Fault → (FaultKind → ℕ → Type 0) → Type 0
+OnKindAt (Rejected kind left) P = P kind left
+OnKindAt (Memory e) P = Unit {0}
 
--- If the call fails with a syntax error, the property holds of it.
-abbrev pub FailsAt : {X : Type 0} → Result X Fault → (Rejection → Type 0) → Type 0
+-- If the result is a syntax error, P holds of its kind and of the number of code points that remain at its position.
+abbrev pub FailsAt : {X : Type 0} → Result X Fault → (FaultKind → ℕ → Type 0) → Type 0
 FailsAt (Ok x) P = Unit {0}
-FailsAt (Err fault) P = OnRejection fault P
+FailsAt (Err fault) P = OnKindAt fault P
 
 -- the position that was noted for errors of this kind
 abbrev pub noted_for : FirstErrors → FaultKind → Option ℕ
@@ -221,5 +220,5 @@ noted_for first_errors other = None
 
 -- the error, at the position that was noted for its kind
 abbrev pub located : FirstErrors → Fault → Fault
-located first_errors (Rejected r) = Rejected (record r { left = unwrap_or (noted_for first_errors r.kind) r.left })
+located first_errors (Rejected kind left) = Rejected kind (unwrap_or (noted_for first_errors kind) left)
 located first_errors (Memory e) = Memory e

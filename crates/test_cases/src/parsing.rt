@@ -51,7 +51,13 @@ pub(crate) fn find_fault(call: &mut Call, flags: Flags, tables: &Tables) {
     let points = call.pattern();
     match try_parse_with_position(call.alloc(), &points, flags, tables) {
         Ok(_) => call.say("a tree"),
-        Err(PlacedFault::Syntax { error, position }) => {
+        Err(
+            PlacedFault::Syntax {
+                error,
+                position,
+                ..
+            },
+        ) => {
             call.report(&position);
             call.report(&error);
         }

@@ -13,7 +13,7 @@ fn main() -> ExitCode {
             println!("{}", names.join(" "));
             ExitCode::SUCCESS
         }
-        Err(Fault::Syntax { text, place }) => {
+        Err(Fault::Syntax { text, place, .. }) => {
             eprintln!("{text}, at code point {place}");
             ExitCode::FAILURE
         }

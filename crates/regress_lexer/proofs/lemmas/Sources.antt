@@ -67,20 +67,20 @@ some_and (Some x) P h = (x, refl, h)
 
 -- What holds anyway holds for a syntax error.
 pub on_rejected : {P : Type 0} (fault : Fault) → P → OnRejected fault P
-on_rejected (Rejected r) h = h
+on_rejected (Rejected kind left) h = h
 on_rejected (Memory e) h = tt
 
 pub on_rejected_then : {P Q : Type 0} (fault : Fault) → (P → Q) → OnRejected fault P → OnRejected fault Q
-on_rejected_then (Rejected r) f h = f h
+on_rejected_then (Rejected kind left) f h = f h
 on_rejected_then (Memory e) f h = tt
 
 pub on_kind_then : {P Q : FaultKind → Type 0} (fault : Fault) → ((kind : FaultKind) → P kind → Q kind) → OnKind fault P → OnKind fault Q
-on_kind_then (Rejected r) f h = f r.kind h
+on_kind_then (Rejected kind left) f h = f kind h
 on_kind_then (Memory e) f h = tt
 
 -- A property that implies another for every kind implies it for the kind of an error.
 pub on_each_kind : {P : Type 0} {Q : FaultKind → Type 0} (fault : Fault) → ((kind : FaultKind) → P → Q kind) → OnRejected fault P → OnKind fault Q
-on_each_kind (Rejected r) f h = f r.kind h
+on_each_kind (Rejected kind left) f h = f kind h
 on_each_kind (Memory e) f h = tt
 
 -- Two facts about a successful result imply what they imply for each value.

@@ -20,7 +20,7 @@ use Rattle.regress_lexer.specs.declared.fault.Fault.TheVariants.{Rejected, Memor
 use Rattle.regress_lexer.specs.Fault.{OnKind}
 use Rattle.regress_syntax.specs.declared.scan.first_errors.FirstErrors.{FirstErrors}
 use Rattle.regress_syntax.specs.FirstErrors.{Flaw, unopened, too_deep, kind_of, is_flaw, open_groups_after, remaining_at}
-use Rattle.regress_syntax.specs.Scanning.{noted, NotesFirst, IsLocated, OnRejection, noted_for, located}
+use Rattle.regress_syntax.specs.Scanning.{noted, NotesFirst, IsLocated, OnKindAt, noted_for, located}
 
 -- ---- what the marks show
 
@@ -217,15 +217,15 @@ shows_none too_deep p few h = omega (arith, few, deepest-whole p, h)
 
 -- An error keeps its kind when its position changes.
 pub located-kind : (first_errors : FirstErrors) (fault : Fault) (P : FaultKind → Type 0) → OnKind fault P → OnKind (located first_errors fault) P
-located-kind first_errors (Rejected r) P h = h
+located-kind first_errors (Rejected kind left) P h = h
 located-kind first_errors (Memory e) P h = h
 
 pub located-is : (sets : Bool) (t : Source) (first_errors : FirstErrors) (fault : Fault) → NotesFirst sets t first_errors →
-    OnRejection (located first_errors fault) (IsLocated sets t)
-located-is sets t first_errors (Rejected r) notes =
-    λ flaw left is first. ap (λ kind. unwrap_or (noted_for first_errors kind) r.left) is ∙ by flaw left (sym (notes flaw) ∙ first)
+    OnKindAt (located first_errors fault) (IsLocated sets t)
+located-is sets t first_errors (Rejected kind left) notes =
+    λ flaw first is found. ap (λ kind. unwrap_or (noted_for first_errors kind) left) is ∙ by flaw first (sym (notes flaw) ∙ found)
   where
-    by : (flaw : Flaw) (left : ℕ) → noted flaw first_errors ≡ Some left → unwrap_or (noted_for first_errors (kind_of flaw)) r.left ≡ left
-    by unopened left e = ap (λ found. unwrap_or found r.left) e
-    by too_deep left e = ap (λ found. unwrap_or found r.left) e
+    by : (flaw : Flaw) (first : ℕ) → noted flaw first_errors ≡ Some first → unwrap_or (noted_for first_errors (kind_of flaw)) left ≡ first
+    by unopened first e = ap (λ found. unwrap_or found left) e
+    by too_deep first e = ap (λ found. unwrap_or found left) e
 located-is sets t first_errors (Memory e) notes = tt

@@ -48,9 +48,8 @@ impl FirstErrors {
         ensures { result ≡ located self fault }
     {
         match fault {
-            Fault::Rejected(rejection) => {
-                let left = self.noted_for(&rejection.kind).unwrap_or(rejection.left);
-                rejected(left, rejection.kind)
+            Fault::Rejected { kind, left } => {
+                rejected(self.noted_for(&kind).unwrap_or(left), kind)
             }
             Fault::Memory(_) => fault,
         }

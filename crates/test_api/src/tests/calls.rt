@@ -5,6 +5,7 @@ use example_callers::caret::pointed_at;
 use example_callers::quickstart::{compile, find_matches};
 use example_callers::underline::underlined_loop;
 use regress_front::codepointset::canonical_form_is_unique;
+use regress_front::parse::FaultKind;
 use regress_front::types::{Flags, limits_are_as_defined};
 use regress_front::unicode::Tables;
 use std::test::Fail;
@@ -38,10 +39,30 @@ fn a_caret_is_below_the_position_of_a_syntax_error(rt: HostRuntime) -> Result<()
     let alloc = rt.alloc();
     let tables = Tables::small(alloc)?;
     match pointed_at(alloc, "ab[c", Flags::default(), &tables)? {
-        Some(shown) => assert_eq!(rt; shown.as_str(), "ab[c\n  ^ Unbalanced bracket"),
+        Some(shown) => assert_eq!(rt;
+            shown.as_str(),
+            "ab[c\n  ^ Unbalanced bracket: a bracket of the text is `\\[`"
+        ),
+        None => assert!(rt; false, "it is accepted"),
+    }
+    match pointed_at(alloc, "a**", Flags::default(), &tables)? {
+        Some(shown) => assert_eq!(rt; shown.as_str(), "a**\n  ^ Invalid atom character"),
         None => assert!(rt; false, "it is accepted"),
     }
     assert!(rt; pointed_at(alloc, "ab", Flags::default(), &tables)?.is_none());
+    Ok(())
+}
+
+#[test]
+fn a_kind_of_error_has_a_name_and_a_number(rt: HostRuntime) -> Result<(), Fail> {
+    let name = String::new(rt.alloc());
+    assert_eq!(rt;
+        FaultKind::UnbalancedParenthesis.name(),
+        "UnbalancedParenthesis"
+    );
+    assert_eq!(rt; FaultKind::UnbalancedParenthesis.number(), 1);
+    assert_eq!(rt; FaultKind::UnknownName(name).number(), 31);
+    assert_eq!(rt; FaultKind::DuplicateName.number(), 32);
     Ok(())
 }
 

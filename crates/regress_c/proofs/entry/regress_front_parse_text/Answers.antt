@@ -12,8 +12,8 @@ returns-in-Ok-Some c =
     let read = rw c.in-Ok-Some.field-0-is at c.in-Ok-Some.ensures.points in
     let same : c.deref.result.now ≡ chars c.args.pattern.now = c.deref.ensures.value ∙ read.1 in
     let status = subst (λ source. EncodingResult (IsRequest source c.args.flags c.args.optimize) (setting_by c.args.flags) source
-    (c.args.optimize == 1) c.args.words.now c.write_encoding.result c.write_encoding.new.needed c.write_encoding.new.position
-    c.write_encoding.new.words) same c.write_encoding.ensures.status in
+    (c.args.optimize == 1) c.args.words.now c.write_encoding.result c.write_encoding.new.needed c.write_encoding.new.kind
+    c.write_encoding.new.position c.write_encoding.new.words) same c.write_encoding.ensures.status in
     let points : All (λ c. c ≤ code_point_max) (chars c.args.pattern.now) = subst (All (λ c. c ≤ code_point_max)) read.1 read.2 in
     record { status = words-asked (λ asked. read.0) (λ asked. (points, asked.1)) status }
 

@@ -12,7 +12,7 @@ returns-in-Ok-Some c =
     let read = rw c.in-Ok-Some.field-0-is at c.in-Ok-Some.ensures.points in
     let same : c.deref.result.now ≡ chars c.args.pattern.now = c.deref.ensures.value ∙ read.1 in
     let status = subst (λ source. ErrorResult (IsRequest source c.args.flags 0) (setting_by c.args.flags) source c.args.text.now c.write_error.result
-    c.write_error.new.needed c.write_error.new.text) same c.write_error.ensures.status in
+    c.write_error.new.needed c.write_error.new.kind c.write_error.new.position c.write_error.new.text) same c.write_error.ensures.status in
     let points : All (λ c. c ≤ code_point_max) (chars c.args.pattern.now) = subst (All (λ c. c ≤ code_point_max)) read.1 read.2 in
     record { status = fault-asked (λ asked. read.0) (λ asked. (points, asked.1)) status }
 

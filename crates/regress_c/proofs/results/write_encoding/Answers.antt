@@ -26,8 +26,11 @@ returns-in-Ok c = record {
 pub returns-in-Err-Syntax : goal.returns-in-Err-Syntax
 returns-in-Err-Syntax c = record {
   status =
-      rejected (c.is_request.ensures.0 (cc)) (rw c.in-Err-Syntax.field-0-is at c.in-Err-Syntax.ensures.rejected)
-      (omega (arith, rw c.in-Err-Syntax.field-0-is at c.in-Err-Syntax.ensures.position));
+      rejected (c.is_request.ensures.0 (cc)) (rw c.in-Err-Syntax.field-0-is at c.in-Err-Syntax.ensures.rejected) (record {
+        kind = c.in-Err-Syntax.found;
+        numbered = c.number.ensures;
+        reported = rw c.in-Err-Syntax.field-0-is at c.in-Err-Syntax.ensures.reported;
+      });
 }
 
 pub returns : goal.returns

@@ -14,21 +14,21 @@ returns-in-Ok c = record { status = no-fault c.in-Ok.field-0.items (c.is_request
 
 pub returns-then-copy_to : goal.returns-then-copy_to
 returns-then-copy_to c =
-    let says = rw c.in-Err-Syntax.field-0-is at c.in-Err-Syntax.ensures.reported in
     record {
       status =
-          fault-reported says.0 _ c.as_bytes-bytes.result.now (c.is_request.ensures.0 (cc))
-          (rw c.in-Err-Syntax.field-0-is at c.in-Err-Syntax.ensures.rejected) says.1 says.2
+          fault-reported c.in-Err-Syntax.found _ _ _ c.as_bytes-bytes.result.now (c.is_request.ensures.0 (cc))
+          (rw c.in-Err-Syntax.field-0-is at c.in-Err-Syntax.ensures.rejected) c.number.ensures
+          (rw c.in-Err-Syntax.field-0-is at c.in-Err-Syntax.ensures.reported) (rw c.in-Err-Syntax.field-0-is at c.in-Err-Syntax.ensures.text)
           (first_of (search rules, first_of (cc, grind (arith, common_steps)))) c.if-copy_to.ensures;
     }
 
 pub returns-in-Err-Syntax : goal.returns-in-Err-Syntax
 returns-in-Err-Syntax c =
-    let says = rw c.in-Err-Syntax.field-0-is at c.in-Err-Syntax.ensures.reported in
     record {
       status =
-          fault-little says.0 _ c.as_bytes-bytes.result.now (c.is_request.ensures.0 (cc))
-          (rw c.in-Err-Syntax.field-0-is at c.in-Err-Syntax.ensures.rejected) says.1 says.2
+          fault-little c.in-Err-Syntax.found _ _ _ c.as_bytes-bytes.result.now (c.is_request.ensures.0 (cc))
+          (rw c.in-Err-Syntax.field-0-is at c.in-Err-Syntax.ensures.rejected) c.number.ensures
+          (rw c.in-Err-Syntax.field-0-is at c.in-Err-Syntax.ensures.reported) (rw c.in-Err-Syntax.field-0-is at c.in-Err-Syntax.ensures.text)
           (first_of (search rules, first_of (cc, grind (arith, common_steps)))) c.if-copy_to.ensures.0 c.if-copy_to.ensures.1;
     }
 

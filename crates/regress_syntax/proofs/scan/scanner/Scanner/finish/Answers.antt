@@ -24,7 +24,7 @@ returns-in-Some-clause-conflict c = λ all after few.
     let found : first_conflict sorted ≡ Some c.in-Some.left =
     sym (c.find_conflict.ensures ∙ ap first_conflict c.deref.ensures.value) ∙ c.in-Some.is in
     rw c.rejected.ensures
-    (first_found all c.args.self sorted c.in-Some.left _ after few c.requires.order c.in_ok-sort_by_name.ensures.permutation
+    (first_found all c.args.self sorted c.in-Some.left _ _ after few c.requires.order c.in_ok-sort_by_name.ensures.permutation
     c.in_ok-sort_by_name.ensures.sorted c.in_ok-sort_by_name.ensures.stable found refl
     (omega (arith, c.saturating_sub-name.ensures)))
 

@@ -1,0 +1,26 @@
+-- What is stated of the kind of a syntax error.
+use Rattle.std.proofs.Common.{ℕ, ◌≤◌, length, Result, Ok, Err}
+use Rattle.regress_tree.specs.Setting.{Setting}
+use Rattle.regress_lexer.specs.declared.fault.FaultKind.{FaultKind}
+use Rattle.regress_lexer.specs.Source.{Source}
+use Rattle.regress_parse.specs.declared.fault.PlacedFault.{PlacedFault}
+use Rattle.regress_parse.specs.declared.fault.PlacedFault.TheVariants.{Syntax, Memory}
+use Rattle.regress_parse.specs.Accepted.{IsTrueOf, MayExceed}
+use Rattle.regress_parse.specs.Fault.{ReportsKind, ReportsKindAt, HasTextOfKind, HasPositionWithin, unplaced}
+use Rattle.regress_parse.specs.Settled.{IsFinal, IsReported}
+
+-- Without its kind, the error still has the text of a kind for which P holds.
+pub unplaced_reports : {X : Type 0} (P : FaultKind → Type 0) (r : Result X PlacedFault) → HasTextOfKind r →
+    ReportsKindAt r (λ kind position. P kind) → ReportsKind (unplaced r) P
+unplaced_reports P (Ok x) text reported = tt
+unplaced_reports P (Err (Syntax kind e position)) text reported = (kind, text, reported)
+unplaced_reports P (Err (Memory e)) text reported = tt
+
+-- All that is known of the error.
+pub all_reported : {X : Type 0} (setting : Setting) (source : Source) (r : Result X PlacedFault) →
+    ReportsKindAt r (λ kind position. IsTrueOf setting source kind) → ReportsKindAt r (λ kind position. MayExceed source kind) →
+    HasPositionWithin (length source) r → ReportsKindAt r (IsFinal setting source) → ReportsKindAt r (IsReported setting source)
+all_reported setting source (Ok x) reported limits within settled = tt
+all_reported setting source (Err (Syntax kind e position)) reported limits within settled =
+    record { reported = reported; limits = limits; within = within; settled = settled }
+all_reported setting source (Err (Memory e)) reported limits within settled = tt
