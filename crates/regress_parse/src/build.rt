@@ -304,6 +304,7 @@ pub(crate) fn make_loop(
 }
 
 /// Returns the node of a group around `contents`. `groups` is the range of the ids of the group and of those inside.
+#[inline(always)]
 pub(crate) fn make_group(
     alloc: Global,
     kind: Group,
