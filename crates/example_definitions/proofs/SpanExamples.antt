@@ -5,8 +5,8 @@ use Rattle.regress_lexer.specs.Quantifiers.{quantifier_at}
 use Rattle.regress_syntax.specs.Syntax.{Pattern, one, either, no_terms, more_terms, group, grouping, capture, look}
 use Rattle.regress_syntax.specs.Productions.{head_at, optional_quantifier_at}
 use Rattle.regress_parse.specs.Accepted.{IsDerived}
-use Rattle.regress_spans.specs.declared.span.Span.{Span}
-use Rattle.regress_spans.specs.Spans.{spans_of}
+use Rattle.regress_parse.specs.declared.span.Span.{Span}
+use Rattle.regress_parse.specs.Spans.{spans_of}
 use Rattle.example_definitions.proofs.Meanings.{plain}
 use Rattle.example_definitions.proofs.PatternExamples.{letter, word, two, quantifier}
 

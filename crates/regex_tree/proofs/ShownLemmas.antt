@@ -13,9 +13,9 @@ use Rattle.regress_parse.specs.Settled.{IsFinal}
 use Rattle.regress_parse.specs.declared.fault.PlacedFault.{PlacedFault}
 use Rattle.regress_parse.specs.declared.fault.PlacedFault.TheVariants as fault
 use Rattle.regress_parse.specs.TreeOf.{tree_of}
-use Rattle.regress_spans.specs.Spans.{spans_of}
-use Rattle.regress_spans.specs.declared.span.Span.{Span}
-use Rattle.regress_spans.specs.declared.pattern.SpannedRegex.{SpannedRegex}
+use Rattle.regress_parse.specs.Spans.{spans_of}
+use Rattle.regress_parse.specs.declared.span.Span.{Span}
+use Rattle.regress_parse.specs.declared.pattern.SpannedRegex.{SpannedRegex}
 use Rattle.regress_syntax.specs.Syntax.{Pattern}
 use Rattle.regress_tree.specs.Setting.{Setting}
 use Rattle.regress_tree.specs.Tree.{Tree, tree}

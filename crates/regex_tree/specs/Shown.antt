@@ -14,9 +14,9 @@ use Rattle.regress_parse.specs.Accepted as parse
 use Rattle.regress_parse.specs.TreeOf.{tree_of}
 use Rattle.regress_svg.specs.Markup.{IsDocument}
 use Rattle.regress_json.specs.Json.{spanned_json_of}
-use Rattle.regress_spans.specs.Spans.{spans_of}
-use Rattle.regress_spans.specs.declared.pattern.SpannedRegex.{SpannedRegex}
-use Rattle.regress_spans.specs.declared.span.Span.{Span}
+use Rattle.regress_parse.specs.Spans.{spans_of}
+use Rattle.regress_parse.specs.declared.pattern.SpannedRegex.{SpannedRegex}
+use Rattle.regress_parse.specs.declared.span.Span.{Span}
 use Rattle.regex_tree.specs.Accepted.{IsAccepted, setting_of_request}
 use Rattle.regex_tree.specs.Asked.{Request, Task, help, show}
 use Rattle.regex_tree.specs.declared.request.Format.{Format}

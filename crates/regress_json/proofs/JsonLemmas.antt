@@ -11,7 +11,7 @@ use Rattle.std.specs.declared.fmt.Formatter.{Formatter}
 use Rattle.std.proofs.Math.Nat.{add-zero}
 use Rattle.std.proofs.lemmas.List.Folds.{flat_map-map}
 use Rattle.std.proofs.lemmas.List.{drop-drop, flat_map_more, take_more}
-use Rattle.regress_spans.specs.declared.span.Span.{Span}
+use Rattle.regress_parse.specs.declared.span.Span.{Span}
 use Rattle.regress_tree.specs.Copies.{is_leaf}
 use Rattle.regress_tree.specs.Held.{is_wrapper, HasBody}
 use Rattle.regress_tree.specs.Spine.{is_alt}

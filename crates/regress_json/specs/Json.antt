@@ -8,7 +8,7 @@ use Rattle.regress_base.specs.declared.types.Quantifier.{Quantifier}
 use Rattle.regress_tree.specs.Display.{anchored, truth}
 use Rattle.regress_tree.specs.Tree.{Leaf, empty, goal, char, byte_sequence, byte_set, char_set, match_any, match_any_except_line_terminator, anchor, word_boundary, bracket, back_ref, string_set, Wrapper, capture_group, loop, loop_one, lookaround, Tree, Trees, leaf, cat, alt, wrapped, no_trees, more_trees}
 use Rattle.regress_tree.specs.Visits.{nodes, nodes_in_list}
-use Rattle.regress_spans.specs.declared.span.Span.{Span}
+use Rattle.regress_parse.specs.declared.span.Span.{Span}
 
 -- `[97,98]`
 abbrev pub numbers : List ℕ → List ℕ

@@ -6,7 +6,7 @@ ghost use Rattle.std.specs.Fmt.{WritesOnOk, decimal};
 ghost use Rattle.std.specs.Slice.Iter.{iter_rest};
 ghost use Rattle.regress_tree.specs.Tree.{tree, trees, capture_group, loop, loop_one, lookaround, anchor, word_boundary, bracket, char_set, back_ref, string_set};
 ghost use Rattle.regress_tree.specs.Visits.{nodes, nodes_in_list};
-ghost use Rattle.regress_spans.specs.declared.span.Span.{Span};
+ghost use Rattle.regress_parse.specs.declared.span.Span.{Span};
 ghost use Rattle.regress_json.specs.Json as text;
 
 use crate::marks::{Marks, pass_alternations, write_ending};
@@ -15,7 +15,7 @@ use regress_base::codepointset::Interval;
 use regress_base::types::{
     AnchorType, BracketContents, CaptureGroupID, CaptureGroupName, Flags, Quantifier,
 };
-use regress_spans::Span;
+use regress_parse::Span;
 use regress_tree::ir::held::body;
 use regress_tree::ir::{Node, Regex};
 use std::boxed::BoxedSlice;

@@ -7,7 +7,7 @@ ghost use Rattle.regress_json.specs.Json as text;
 ghost use Rattle.regress_json.specs.Passed.{alternations};
 
 use crate::sides::sides;
-use regress_spans::Span;
+use regress_parse::Span;
 use regress_tree::ir::Node;
 use std::fmt::{Formatter, Write};
 use std::{fmt, slice};

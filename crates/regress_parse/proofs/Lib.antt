@@ -21,3 +21,9 @@ pub mod GroupLemmas
 pub mod CodePointLemmas
 pub mod WellFormedLemmas
 pub mod ReachLemmas
+pub mod FlatLemmas
+pub mod SpanLists
+pub mod SpansOfItem
+pub mod SpansOfTerms
+pub mod SpansOfPattern
+pub mod SpansOfWhole

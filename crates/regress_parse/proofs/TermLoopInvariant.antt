@@ -186,7 +186,7 @@ module _ (table : Table) (names : List (Option Name)) (d : Direction) where
         (to_each (term_at ctx t) _ rejected whole.0 whole.1))
 
 module _ (table : Table) (names : List (Option Name)) (d : Direction) (ctx : Context) (depth : ℕ) (old : Parser) where
-  none-fit : depth ≤ max_nesting_depth → Fits (counted old) depth (terms_part table names no_terms)
+  pub none-fit : depth ≤ max_nesting_depth → Fits (counted old) depth (terms_part table names no_terms)
   none-fit deep = record {
     groups = omega (arith, old.groups_within);
     loops = omega (arith, old.loops_within);

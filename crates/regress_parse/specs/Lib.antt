@@ -5,6 +5,8 @@ pub mod Accepted
 pub mod Fault
 pub mod Settled
 pub mod Parsing
+pub mod Spans
+pub mod Recorded
 -- definitions of the crates below that the public contracts cite, exported again so that a caller names one library
 pub use Rattle.regress_base.specs.Table
 pub use Rattle.regress_unicode.specs.TableOf

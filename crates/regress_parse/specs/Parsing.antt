@@ -21,6 +21,7 @@ use Rattle.regress_syntax.specs.Views.{names_in, context_of}
 use Rattle.regress_lexer.specs.Views.{source}
 use Rattle.regress_parse.specs.declared.parser.Parser.{Parser}
 use Rattle.regress_parse.specs.declared.parser.PartContext.{PartContext}
+use Rattle.regress_parse.specs.declared.pattern.Body.{Body}
 use Rattle.regress_parse.specs.Reader.{Term, pattern_at, term_at}
 use Rattle.regress_parse.specs.TreeOf.{tree_of_atom, tree_of_pattern, trees_of_terms, tree_of_item, tree_of_quantified, concatenation}
 use Rattle.regress_base.specs.Limits.{max_capture_groups, max_loops, max_nesting_depth}
@@ -155,10 +156,10 @@ Yields part d depth before new (Err fault) found =
     OnKind fault (λ kind. IfSome found (λ x. Exceeds kind before depth (part x.0)))
 
 -- The result of parsing a whole source: its pattern, within the limits, or an error, as above.
-abbrev pub YieldsWhole : Context → Source → Result Node Fault → Type 0
-YieldsWhole ctx t (Ok node) =
+abbrev pub YieldsWhole : Context → Source → Result Body Fault → Type 0
+YieldsWhole ctx t (Ok body) =
     (p : Pattern) × (pattern_at ctx t ≡ Some (p, [])) × Fits nothing_counted 0 (pattern_part ctx.setting.table ctx.names p)
-    × (tree node ≡ tree_of_pattern ctx.setting.table ctx.names forwards 0 p)
+    × (tree body.node ≡ tree_of_pattern ctx.setting.table ctx.names forwards 0 p)
 YieldsWhole ctx t (Err fault) =
     OnKind fault (λ kind. (p : Pattern) → pattern_at ctx t ≡ Some (p, []) →
     Exceeds kind nothing_counted 0 (pattern_part ctx.setting.table ctx.names p))

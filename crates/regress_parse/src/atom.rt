@@ -50,7 +50,7 @@ use std::alloc::AllocError;
 /// # Complexity
 /// With the flag `v`, the depth of recursion is at most the nesting depth of the classes, and at most
 /// [`MAX_NESTING_DEPTH`].
-pub fn parse_atom(cursor: &mut Cursor, scope: &Scope, left: u32) -> Result<Node, Fault>
+pub(crate) fn parse_atom(cursor: &mut Cursor, scope: &Scope, left: u32) -> Result<Node, Fault>
     requires { left ≤ max_nesting_depth }
     ensures value { ReadsAtom (context_of scope.now) left (not (is_anchor (source cursor.old))) (source cursor.new) result
         (atom_at (context_of scope.now) (source cursor.old)) }
@@ -122,7 +122,7 @@ fn next_reference(cursor: &mut Cursor, scope: &Scope) -> Option<u32>
 }
 
 /// Returns whether `source` starts with `^` or `$`, which no quantifier may follow.
-pub fn begins_anchor(source: &[u32]) -> bool
+pub(crate) fn begins_anchor(source: &[u32]) -> bool
     ensures { result ≡ is_anchor source.now }
 {
     match source {

@@ -7,8 +7,10 @@ mod fault;
 mod parser;
 mod pattern;
 mod productions;
+mod recording;
+mod span;
 
-pub use atom::{begins_anchor, parse_atom};
 pub use fault::{Error, ParseFault, PlacedFault};
-pub use pattern::{try_parse, try_parse_with_position};
+pub use pattern::{SpannedRegex, parse_with_spans, try_parse, try_parse_with_position};
 pub use regress_lexer::FaultKind;
+pub use span::Span;

@@ -1,5 +1,5 @@
 //! Parses a whole pattern into its tree.
-ghost use Rattle.std.specs.Prelude.{◌≡◌, ◌-◌, Bool, All, length, IfOk};
+ghost use Rattle.std.specs.Prelude.{◌≡◌, ◌-◌, true, Bool, All, length, IfOk};
 ghost use Rattle.regress_unicode.specs.TableOf.{table_of};
 ghost use Rattle.regress_syntax.specs.SettingOf.{setting_of};
 ghost use Rattle.regress_tree.specs.Tree.{tree};
@@ -14,14 +14,33 @@ ghost use Rattle.regress_parse.specs.Accepted.{IsAccepted, NoneIsAccepted, IsTru
 ghost use Rattle.regress_parse.specs.Fault.{RejectedOnlyIf, ReportsKind, ReportsKindAt, HasTextOfKind, unplaced, HasPositionWithin};
 ghost use Rattle.regress_parse.specs.Settled.{IsFinal, IsAtFirstDuplicate};
 ghost use Rattle.regress_parse.specs.Parsing.{YieldsWhole, Reaches};
+ghost use Rattle.regress_parse.specs.Spans.{spans_of};
+ghost use Rattle.regress_parse.specs.Recorded.{HasSpans};
 
 use crate::fault::{ParseFault, PlacedFault, position};
 use crate::parser::{Parser, PartContext};
+use crate::span::Span;
 use regress_base::types::Flags;
 use regress_syntax::{Cursor, Fault, FaultKind, FirstErrors, Scope, scan_groups};
 use regress_tree::ir::{Node, Regex};
 use regress_unicode::Tables;
 use std::alloc::Global;
+
+/// The tree of a pattern, with the position of each of its nodes in the pattern.
+#[derive(Drop)]
+pub struct SpannedRegex {
+    /// The tree of the pattern, and its flags.
+    pub regex: Regex,
+    /// One span for each node, in postorder. `try_parse_with_spans` specifies each.
+    pub spans: Vec<Span>,
+}
+
+/// The tree of a pattern without its last node, and the spans of all nodes if they are recorded.
+#[derive(Drop)]
+pub(crate) struct Body {
+    pub(crate) node: Node,
+    pub(crate) spans: Vec<Span>,
+}
 
 /// Parses a pattern and returns its tree (ECMA-262, Pattern). `docs/syntax.md` has the grammar of the dialect, and
 /// `docs/ir.md` the tree.
@@ -130,26 +149,78 @@ pub fn try_parse_with_position(
     ensures well_formed { IfOk result (λ r. IsWellFormed (tree r.node)) }
     ensures flags { IfOk result (λ r. r.flags ≡ flags) }
 {
-    match parse(alloc, pattern, flags, tables) {
-        Ok(regex) => Ok(regex),
+    match parse(alloc, pattern, flags, tables, false) {
+        Ok(parsed) => Ok(parsed.regex),
         Err(fault) => Err(position(alloc, fault, pattern.len())),
     }
 }
 
-/// Returns the tree, or the kind of the syntax error and the number of code points that remain at its position.
-fn parse(alloc: Global, pattern: &[u32], flags: Flags, tables: &Tables) -> Result<Regex, Fault>
+/// Parses a pattern as [`try_parse_with_position`] does, and returns a span for each node of the tree too.
+///
+/// # Preconditions
+/// Each element of `pattern` is a code point, at most U+10FFFF.
+///
+/// # Errors
+/// As for [`try_parse_with_position`].
+///
+/// # Complexity
+/// As for [`try_parse`]. In a lookbehind the spans are copied, twice for each lookbehind around them.
+pub fn parse_with_spans(
+    alloc: Global,
+    pattern: &[u32],
+    flags: Flags,
+    tables: &Tables,
+) -> Result<SpannedRegex, PlacedFault>
+    requires { All IsCodePoint pattern.now }
+
+    // The tree of the pattern that the grammar derives, and the spans of its nodes.
+    ensures spanned { IfOk result (λ r. (p : Pattern) × (accepted : IsAccepted (setting_of flags tables.now) pattern.now p)
+        × (tree r.regex.node ≡ tree_of (table_of tables.now) p)
+        × (r.spans.items ≡ spans_of (setting_of flags tables.now) pattern.now p accepted.derived)) }
+
+    // The contract of `try_parse_with_position`.
+    ensures rejected { RejectedOnlyIf (unplaced result) (NoneIsAccepted (setting_of flags tables.now) pattern.now) }
+    ensures text { HasTextOfKind result }
+    ensures reported { ReportsKindAt result (λ kind position. IsTrueOf (setting_of flags tables.now) pattern.now kind) }
+    ensures limits { ReportsKindAt result (λ kind position. MayExceed pattern.now kind) }
+    ensures position { HasPositionWithin (length pattern.now) result }
+    ensures settled { ReportsKindAt result (IsFinal (setting_of flags tables.now) pattern.now) }
+    ensures duplicate { ReportsKindAt result (IsAtFirstDuplicate (setting_of flags tables.now) pattern.now) }
+    ensures only { OneIsDerived (setting_of flags tables.now) pattern.now }
+    ensures meaning { let setting = setting_of flags tables.now in
+        IfOk result (λ r. OfAccepted setting pattern.now (Means setting (tree r.regex.node))) }
+    ensures well_formed { IfOk result (λ r. IsWellFormed (tree r.regex.node)) }
+    ensures flags { IfOk result (λ r. r.regex.flags ≡ flags) }
+{
+    match parse(alloc, pattern, flags, tables, true) {
+        Ok(parsed) => Ok(parsed),
+        Err(fault) => Err(position(alloc, fault, pattern.len())),
+    }
+}
+
+/// Returns the tree, and the spans of its nodes if `records`, or the kind of the syntax error and the number of code
+/// points that remain at its position.
+fn parse(
+    alloc: Global,
+    pattern: &[u32],
+    flags: Flags,
+    tables: &Tables,
+    records: bool,
+) -> Result<SpannedRegex, Fault>
     requires { All IsCodePoint pattern.now }
     ensures accepted { IfOk result (λ r. (p : Pattern)
-        × IsAccepted (setting_of flags tables.now) pattern.now p × (tree r.node ≡ tree_of (table_of tables.now) p)) }
+        × IsAccepted (setting_of flags tables.now) pattern.now p × (tree r.regex.node ≡ tree_of (table_of tables.now) p)) }
+    ensures spans { records ≡ true → IfOk result (λ r. (p : Pattern) (accepted : IsAccepted (setting_of flags tables.now) pattern.now p) →
+        r.spans.items ≡ spans_of (setting_of flags tables.now) pattern.now p accepted.derived) }
     ensures reported { FailsBy result (IsTrueOf (setting_of flags tables.now) pattern.now) }
     ensures limits { FailsBy result (MayExceed pattern.now) }
     ensures settled { FailsAt result (λ kind left. IsFinal (setting_of flags tables.now) pattern.now kind (length pattern.now - left)) }
     ensures duplicate { FailsAt result (λ kind left. IsAtFirstDuplicate (setting_of flags tables.now) pattern.now kind (length pattern.now - left)) }
     ensures only { OneIsDerived (setting_of flags tables.now) pattern.now }
     ensures meaning { let setting = setting_of flags tables.now in
-        IfOk result (λ r. OfAccepted setting pattern.now (Means setting (tree r.node))) }
-    ensures well_formed { IfOk result (λ r. IsWellFormed (tree r.node)) }
-    ensures flags { IfOk result (λ r. r.flags ≡ flags) }
+        IfOk result (λ r. OfAccepted setting pattern.now (Means setting (tree r.regex.node))) }
+    ensures well_formed { IfOk result (λ r. IsWellFormed (tree r.regex.node)) }
+    ensures flags { IfOk result (λ r. r.regex.flags ≡ flags) }
 {
     let found = scan_groups(alloc, pattern, flags.unicode_sets, tables)?;
     let scope = Scope {
@@ -157,11 +228,14 @@ fn parse(alloc: Global, pattern: &[u32], flags: Flags, tables: &Tables) -> Resul
         tables,
         groups: &found.groups,
     };
-    let body = parse_body(alloc, pattern, &scope, found.first_errors)?;
-    let parts = vec![in alloc; body, Node::Goal]?;
-    Ok(Regex {
-        node: Node::Cat(parts),
-        flags,
+    let body = parse_body(alloc, pattern, &scope, records, found.first_errors)?;
+    let parts = vec![in alloc; body.node, Node::Goal]?;
+    Ok(SpannedRegex {
+        regex: Regex {
+            node: Node::Cat(parts),
+            flags,
+        },
+        spans: body.spans,
     })
 }
 
@@ -171,24 +245,27 @@ fn parse_body(
     alloc: Global,
     pattern: &[u32],
     scope: &Scope,
+    records: bool,
     first_errors: FirstErrors,
-) -> Result<Node, Fault>
+) -> Result<Body, Fault>
     requires { All IsCodePoint pattern.now }
     ensures value { YieldsWhole (context_of scope.now) pattern.now result }
     ensures reached { FailsBy result (λ kind. Reaches kind nothing_counted 1 pattern.now) }
+    ensures spans { records ≡ true → IfOk result (λ body. HasSpans (context_of scope.now) pattern.now body.spans.items) }
     ensures located { (sets : Bool) → NotesFirst sets pattern.now first_errors → FailsAt result (IsLocated sets pattern.now) }
 {
-    match parse_source(alloc, pattern, scope) {
+    match parse_source(alloc, pattern, scope, records) {
         Ok(body) => Ok(body),
         Err(fault) => Err(first_errors.locate(fault)),
     }
 }
 
 /// Parses the whole source. A syntax error is reported at the position where the parser found it.
-fn parse_source(alloc: Global, pattern: &[u32], scope: &Scope) -> Result<Node, Fault>
+fn parse_source(alloc: Global, pattern: &[u32], scope: &Scope, records: bool) -> Result<Body, Fault>
     requires { All IsCodePoint pattern.now }
     ensures value { YieldsWhole (context_of scope.now) pattern.now result }
     ensures reached { FailsBy result (λ kind. Reaches kind nothing_counted 1 pattern.now) }
+    ensures spans { records ≡ true → IfOk result (λ body. HasSpans (context_of scope.now) pattern.now body.spans.items) }
 {
     let mut parser = Parser {
         cursor: Cursor {
@@ -197,16 +274,22 @@ fn parse_source(alloc: Global, pattern: &[u32], scope: &Scope) -> Result<Node, F
         },
         group_count: 0,
         loop_count: 0,
+        spans: Vec::new(alloc),
     };
     let around = PartContext {
         scope: *scope,
         backwards: false,
         depth: 0,
+        records,
+        whole: pattern.len(),
     };
-    let body = parser.consume_disjunction(&around)?;
-    if parser.cursor.rest.is_empty() {
-        Ok(body)
-    } else {
-        Err(parser.cursor.reject(FaultKind::UnbalancedParenthesis))
+    let node = parser.consume_disjunction(&around)?;
+    if !parser.cursor.rest.is_empty() {
+        return Err(parser.cursor.reject(FaultKind::UnbalancedParenthesis));
     }
+    parser.record_end(&around)?;
+    Ok(Body {
+        node,
+        spans: parser.spans,
+    })
 }

@@ -1,17 +1,22 @@
 //! Parses the productions of the grammar.
-ghost use Rattle.std.specs.Prelude.{◌≡◌, ◌≤◌, ◌+◌, ◌∷◌, false, Some};
+ghost use Rattle.std.specs.Prelude.{◌≡◌, ◌≤◌, ◌+◌, ◌∷◌, true, false, Bool, List, Some, OnOk, length};
 ghost use Rattle.regress_lexer.specs.Fault.{FailsBy};
 ghost use Rattle.regress_lexer.specs.Source.{Source, opening, ends_alternative};
 ghost use Rattle.regress_syntax.specs.Views.{group_of};
 ghost use Rattle.regress_syntax.specs.Syntax.{Item, Counts};
-ghost use Rattle.regress_syntax.specs.Productions.{opens, allows, head_of_item};
+ghost use Rattle.regress_syntax.specs.Productions.{opens, allows, group_allows, head_at, head_of_item};
 ghost use Rattle.regress_base.specs.Limits.{max_nesting_depth};
 ghost use Rattle.regress_parse.specs.Reader.{Term, pattern_at, terms_at, term_at, item_after_head, with_quantifier};
 ghost use Rattle.regress_parse.specs.Parsing.{text, counted, direction_of, context_in, table_in, names_in_context, pattern_part, terms_part, term_part, item_part, Builds, Yields, Reaches};
+ghost use Rattle.regress_parse.specs.Recorded.{RecordsPattern, RecordsAlternative, RecordsTerm, RecordsItem};
+ghost use Rattle.regress_parse.specs.declared.span.Span.{Span};
 
 use crate::atom::{begins_anchor, parse_atom, push_simple_term};
 use crate::build::{make_alt, make_cat, make_group, make_literal, make_loop};
 use crate::parser::{Parser, PartContext};
+use crate::recording::{
+    has_node, note_start, push_reversed, record_alternations, record_if, record_nodes, set_apart,
+};
 use regress_base::types::{CaptureGroupID, MAX_NESTING_DEPTH};
 use regress_lexer::quantifier::may_begin;
 use regress_syntax::fault::FaultKind;
@@ -25,6 +30,8 @@ impl Parser<'_> {
         ensures value { Yields (pattern_part (table_in around.now) (names_in_context around.now)) (direction_of around.now) around.now.depth (counted self.old) self.new result
             (pattern_at (context_in around.now) (text self.old)) }
         ensures reached { FailsBy result (λ kind. Reaches kind (counted self.old) (around.now.depth + 1) (text self.old)) }
+        ensures spans { around.now.records ≡ true → OnOk result
+            (RecordsPattern around.now.whole (context_in around.now) (direction_of around.now) (text self.old) self.old.spans.items (text self.new) self.new.spans.items) }
     {
         if around.depth >= MAX_NESTING_DEPTH {
             return Err(self.cursor.reject(FaultKind::TooDeep));
@@ -33,16 +40,22 @@ impl Parser<'_> {
             depth: around.depth + 1,
             ..*around
         };
+        let mut start = self.cursor.rest.len();
         let first = self.consume_alternative(&inside);
         if !self.cursor.is_at('|') {
             return first;
         }
+        // The number of code points that remained at the start of each alternative before the last.
+        let mut starts = Vec::new(self.cursor.alloc);
         let mut before = Vec::new(self.cursor.alloc);
         let mut last = first?;
         while self.cursor.try_consume('|') {
             before.push(last)?;
+            note_start(&mut starts, around, start)?;
+            start = self.cursor.rest.len();
             last = self.consume_alternative(&inside)?;
         }
+        record_alternations(&mut self.spans, starts, around, &self.cursor)?;
         Ok(make_alt(self.cursor.alloc, before, last)?)
     }
 
@@ -53,7 +66,12 @@ impl Parser<'_> {
         ensures value { Yields (terms_part (table_in around.now) (names_in_context around.now)) (direction_of around.now) around.now.depth (counted self.old) self.new result
             (terms_at (context_in around.now) (text self.old)) }
         ensures reached { FailsBy result (λ kind. Reaches kind (counted self.old) around.now.depth (text self.old)) }
+        ensures spans { around.now.records ≡ true → OnOk result
+            (RecordsAlternative around.now.whole (context_in around.now) (direction_of around.now) (text self.old) self.old.spans.items (text self.new) self.new.spans.items) }
     {
+        if around.records {
+            return self.consume_recorded(around);
+        }
         if self.cursor.ends_alternative() {
             return Ok(Node::Empty);
         }
@@ -62,6 +80,38 @@ impl Parser<'_> {
             return first;
         }
         self.consume_terms(first?, around)
+    }
+
+    /// Parses terms up to the end of the alternative as [`Parser::consume_alternative`] does, and records spans. The parts
+    /// of a lookbehind are in reverse order in the tree, so there each span is copied.
+    #[cycle(parser)]
+    fn consume_recorded(&mut self, around: &PartContext) -> Result<Node, Fault>
+        requires depth { around.now.depth ≤ max_nesting_depth }
+        requires records { around.now.records ≡ true }
+        ensures value { Yields (terms_part (table_in around.now) (names_in_context around.now)) (direction_of around.now) around.now.depth (counted self.old) self.new result
+            (terms_at (context_in around.now) (text self.old)) }
+        ensures reached { FailsBy result (λ kind. Reaches kind (counted self.old) around.now.depth (text self.old)) }
+        ensures spans { OnOk result
+            (RecordsAlternative around.now.whole (context_in around.now) (direction_of around.now) (text self.old) self.old.spans.items (text self.new) self.new.spans.items) }
+    {
+        let start = self.cursor.rest.len();
+        let mut nodes = Vec::new(self.cursor.alloc);
+        let mut parts = Vec::new(self.cursor.alloc);
+        while !self.cursor.ends_alternative() {
+            let begin = self.spans.len();
+            nodes.push(self.consume_term(around)?)?;
+            set_apart(&mut parts, &mut self.spans, begin, around.backwards)?;
+        }
+        push_reversed(&mut self.spans, parts)?;
+        // A single term has no further node.
+        record_if(
+            nodes.len() != 1,
+            &mut self.spans,
+            around,
+            start,
+            &self.cursor,
+        )?;
+        Ok(make_cat(nodes, around.backwards))
     }
 
     /// Parses the first term. Most often it is a literal character, which needs no test of the other productions.
@@ -109,6 +159,8 @@ impl Parser<'_> {
         ensures value { Yields (term_part (table_in around.now) (names_in_context around.now)) (direction_of around.now) around.now.depth (counted self.old) self.new result
             (term_at (context_in around.now) (text self.old)) }
         ensures reached { FailsBy result (λ kind. Reaches kind (counted self.old) around.now.depth (text self.old)) }
+        ensures spans { around.now.records ≡ true → OnOk result
+            (RecordsTerm around.now.whole (context_in around.now) (direction_of around.now) (text self.old) self.old.spans.items (text self.new) self.new.spans.items) }
     {
         let first = self.group_count;
         let opened = self.cursor.rest.len();
@@ -116,22 +168,24 @@ impl Parser<'_> {
             let kind = parse_group(&mut self.cursor, around.scope.tables)?;
             let allowed = kind.allows_quantifier(around.scope.flags.unicode);
             let item = self.consume_group(kind, opened, around)?;
-            return self.consume_times(item, allowed, first, around);
+            return self.consume_times(item, allowed, first, opened, around);
         }
         let allowed = !begins_anchor(self.cursor.rest);
         let left = MAX_NESTING_DEPTH - around.depth;
         let item = parse_atom(&mut self.cursor, &around.scope, left)?;
-        self.consume_times(item, allowed, first, around)
+        record_nodes(&item, &mut self.spans, around, opened, &self.cursor)?;
+        self.consume_times(item, allowed, first, opened, around)
     }
 
     /// Parses the quantifier after an item, if there is one (ECMA-262, Quantifier). `first` is the number of groups
-    /// before the item.
+    /// before the item, and `opened` the number of code points that remained there.
     #[inline(always)]
     fn consume_times(
         &mut self,
         item: Node,
         allowed: bool,
         first: CaptureGroupID,
+        opened: usize,
         around: &PartContext,
     ) -> Result<Node, Fault>
         ensures value { (x : Item) (before : Counts) → before.groups ≡ first → allowed ≡ allows around.now.scope.flags.unicode (head_of_item x) →
@@ -139,6 +193,9 @@ impl Parser<'_> {
             Yields (term_part (table_in around.now) (names_in_context around.now)) (direction_of around.now) around.now.depth before self.new result
             (with_quantifier (context_in around.now) (Some (x, text self.old))) }
         ensures reached { FailsBy result (λ kind. Reaches kind (counted self.old) around.now.depth (text self.old)) }
+        ensures spans { (t : Source) (before : List Span) → around.now.records ≡ true → opened ≡ length t →
+            RecordsItem around.now.whole (context_in around.now) (direction_of around.now) t before (text self.old) self.old.spans.items allowed →
+            OnOk result (RecordsTerm around.now.whole (context_in around.now) (direction_of around.now) t before (text self.new) self.new.spans.items) }
     {
         if !may_begin(self.cursor.rest) {
             return Ok(item);
@@ -149,6 +206,7 @@ impl Parser<'_> {
             return Ok(item);
         };
         self.count_loop(left)?;
+        record_if(true, &mut self.spans, around, opened, &self.cursor)?;
         Ok(make_loop(self.cursor.alloc, item, quantifier, first..self.group_count)?)
     }
 
@@ -164,11 +222,22 @@ impl Parser<'_> {
         ensures value { Yields (item_part (table_in around.now) (names_in_context around.now)) (direction_of around.now) around.now.depth (counted self.old) self.new result
             (item_after_head pattern_at (context_in around.now) (opens (group_of kind), text self.old)) }
         ensures reached { FailsBy result (λ kind. Reaches kind (counted self.old) around.now.depth (opening ∷ text self.old)) }
+        ensures spans { (t : Source) → around.now.records ≡ true → opened ≡ length t →
+            head_at (context_in around.now) t ≡ Some (opens (group_of kind), text self.old) → OnOk result
+            (RecordsItem around.now.whole (context_in around.now) (direction_of around.now) t self.old.spans.items (text self.new) self.new.spans.items
+            (group_allows around.now.scope.flags.unicode (group_of kind))) }
     {
         let first = self.group_count;
         self.count_group(&kind, opened)?;
         let contents = self.consume_disjunction(&around.inside(&kind))?;
         self.cursor.consume_closing(opened)?;
+        record_if(
+            has_node(&kind),
+            &mut self.spans,
+            around,
+            opened,
+            &self.cursor,
+        )?;
         Ok(make_group(self.cursor.alloc, kind, first..self.group_count, contents)?)
     }
 }

@@ -10,7 +10,7 @@ use crate::sets::{
 };
 use regress_base::codepointset::CodePointSet;
 use regress_base::types::Quantifier;
-use regress_spans::Span;
+use regress_parse::Span;
 use regress_tree::ir::Node;
 use std::alloc::{AllocError, Global};
 use std::{mem, slice};

@@ -8,7 +8,7 @@ use crate::layout::layout;
 use crate::parts::draw_circle;
 use crate::style::{MARGIN, STYLE};
 use crate::ways::{Drawn, draw_line};
-use regress_spans::Span;
+use regress_parse::Span;
 use regress_svg::{Element, Sheet};
 use regress_tree::ir::Regex;
 use std::alloc::{AllocError, Global};

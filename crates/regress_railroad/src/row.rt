@@ -6,7 +6,7 @@ use crate::sets::Character;
 use crate::source::{excerpt, joined};
 use crate::style::{GAP, LIST_WIDTH, RADIUS};
 use crate::symbols::{columns_of, is_seen, push_symbol};
-use regress_spans::Span;
+use regress_parse::Span;
 use std::alloc::{AllocError, Global};
 use std::mem;
 

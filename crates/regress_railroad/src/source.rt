@@ -1,6 +1,6 @@
 //! Excerpts of a pattern's source text.
 
-use regress_spans::Span;
+use regress_parse::Span;
 use std::alloc::{AllocError, Global};
 
 /// The maximum length of a title in code points. Parts are nested, so that whole texts could take quadratic space.

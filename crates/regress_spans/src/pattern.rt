@@ -4,7 +4,6 @@ ghost use Rattle.regress_unicode.specs.TableOf.{table_of};
 ghost use Rattle.regress_tree.specs.Tree.{tree};
 ghost use Rattle.regress_tree.specs.Visits.{nodes};
 ghost use Rattle.regress_tree.specs.WellFormed.{IsWellFormed};
-ghost use Rattle.regress_lexer.specs.Fault.{FailsOnlyIf};
 ghost use Rattle.regress_lexer.specs.Source.{IsCodePoint};
 ghost use Rattle.regress_syntax.specs.Syntax.{Pattern};
 ghost use Rattle.regress_syntax.specs.SettingOf.{setting_of};
@@ -12,28 +11,12 @@ ghost use Rattle.regress_parse.specs.Accepted.{IsAccepted, NoneIsAccepted, IsTru
 ghost use Rattle.regress_parse.specs.Fault.{RejectedOnlyIf, ReportsKindAt, HasTextOfKind, unplaced, HasPositionWithin};
 ghost use Rattle.regress_parse.specs.Settled.{IsFinal, IsAtFirstDuplicate};
 ghost use Rattle.regress_parse.specs.TreeOf.{tree_of};
-ghost use Rattle.regress_spans.specs.Spans.{IsWithin, IsInsideOrApart, spans_of};
-ghost use Rattle.regress_spans.specs.Reading.{ReadsPattern};
+ghost use Rattle.regress_parse.specs.Spans.{IsWithin, IsInsideOrApart, spans_of};
 
-use crate::around::PartContext;
-use crate::reading::parse_disjunction;
-use crate::span::Span;
 use regress_base::types::Flags;
-use regress_lexer::cursor::Cursor;
-use regress_parse::{PlacedFault, try_parse_with_position};
-use regress_syntax::{Fault, Scope, scan_groups};
-use regress_tree::ir::Regex;
+use regress_parse::{PlacedFault, SpannedRegex, parse_with_spans};
 use regress_unicode::Tables;
-use std::alloc::{AllocError, Global};
-
-/// The tree of a pattern, with the position of each of its nodes in the pattern.
-#[derive(Drop)]
-pub struct SpannedRegex {
-    /// The tree of the pattern, and its flags.
-    pub regex: Regex,
-    /// One span for each node, in postorder. [`try_parse_with_spans`] specifies each.
-    pub spans: Vec<Span>,
-}
+use std::alloc::Global;
 
 /// Parses a pattern as [`try_parse_with_position`] does, and returns a span for each node of the tree.
 ///
@@ -59,8 +42,7 @@ pub struct SpannedRegex {
 /// - [`PlacedFault::Memory`] if an allocation fails.
 ///
 /// # Complexity
-/// The pattern is parsed twice. A span is copied once for each lookbehind around it. The depth of recursion is at most
-/// `MAX_NESTING_DEPTH`.
+/// As for [`try_parse_with_position`]. In a lookbehind the spans are copied, twice for each lookbehind around them.
 ///
 /// # Examples
 /// ```
@@ -106,64 +88,5 @@ pub fn try_parse_with_spans(
     ensures well_formed { IfOk result (λ r. IsWellFormed (tree r.regex.node)) }
     ensures flags { IfOk result (λ r. r.regex.flags ≡ flags) }
 {
-    match try_parse_with_position(alloc, pattern, flags, tables) {
-        Ok(regex) => match find_spans(alloc, pattern, flags, tables) {
-            Ok(spans) => Ok(SpannedRegex { regex, spans }),
-            Err(fault) => Err(PlacedFault::Memory(fault)),
-        },
-        Err(fault) => Err(fault),
-    }
-}
-
-/// Returns the spans of an accepted pattern. The error is an allocation failure.
-fn find_spans(
-    alloc: Global,
-    pattern: &[u32],
-    flags: Flags,
-    tables: &Tables,
-) -> Result<Vec<Span>, AllocError>
-    requires { All IsCodePoint pattern.now }
-    ensures { IfOk result (λ spans. (p : Pattern) (accepted : IsAccepted (setting_of flags tables.now) pattern.now p) →
-        spans.items ≡ spans_of (setting_of flags tables.now) pattern.now p accepted.derived) }
-{
-    match parse_again(alloc, pattern, flags, tables) {
-        Ok(spans) => Ok(spans),
-        Err(Fault::Memory(fault)) => Err(fault),
-        // An accepted pattern has no syntax error.
-        Err(Fault::Rejected { .. }) => Err(AllocError),
-    }
-}
-
-/// Returns the spans of a pattern, or an error if it is rejected or an allocation fails.
-fn parse_again(
-    alloc: Global,
-    pattern: &[u32],
-    flags: Flags,
-    tables: &Tables,
-) -> Result<Vec<Span>, Fault>
-    requires { All IsCodePoint pattern.now }
-    ensures value { IfOk result (λ spans. (p : Pattern) (accepted : IsAccepted (setting_of flags tables.now) pattern.now p) →
-        spans.items ≡ spans_of (setting_of flags tables.now) pattern.now p accepted.derived) }
-    ensures rejected { FailsOnlyIf result (NoneIsAccepted (setting_of flags tables.now) pattern.now) }
-{
-    let found = scan_groups(alloc, pattern, flags.unicode_sets, tables)?;
-    let around = PartContext {
-        scope: Scope {
-            flags,
-            tables,
-            groups: &found.groups,
-        },
-        backwards: false,
-        whole: pattern.len(),
-    };
-    let mut cursor = Cursor {
-        rest: pattern,
-        alloc,
-    };
-    let mut spans = Vec::new(alloc);
-    parse_disjunction(&mut cursor, &around, &mut spans)?;
-    // The final `Goal`, and the root.
-    spans.push(around.span(0, &cursor))?;
-    spans.push(around.span(pattern.len(), &cursor))?;
-    Ok(spans)
+    parse_with_spans(alloc, pattern, flags, tables)
 }

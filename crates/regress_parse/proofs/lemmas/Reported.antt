@@ -7,7 +7,7 @@ use Rattle.regress_parse.specs.declared.fault.PlacedFault.{PlacedFault}
 use Rattle.regress_parse.specs.declared.fault.PlacedFault.TheVariants.{Syntax, Memory}
 use Rattle.regress_parse.specs.Accepted.{IsTrueOf, MayExceed}
 use Rattle.regress_parse.specs.Fault.{ReportsKind, ReportsKindAt, HasTextOfKind, HasPositionWithin, unplaced}
-use Rattle.regress_parse.specs.Settled.{IsFinal, IsReported}
+use Rattle.regress_parse.specs.Settled.{IsFinal, IsAtFirstDuplicate, IsReported}
 
 -- Without its kind, the error still has the text of a kind for which P holds.
 pub unplaced_reports : {X : Type 0} (P : FaultKind → Type 0) (r : Result X PlacedFault) → HasTextOfKind r →
@@ -19,8 +19,9 @@ unplaced_reports P (Err (Memory e)) text reported = tt
 -- All that is known of the error.
 pub all_reported : {X : Type 0} (setting : Setting) (source : Source) (r : Result X PlacedFault) →
     ReportsKindAt r (λ kind position. IsTrueOf setting source kind) → ReportsKindAt r (λ kind position. MayExceed source kind) →
-    HasPositionWithin (length source) r → ReportsKindAt r (IsFinal setting source) → ReportsKindAt r (IsReported setting source)
-all_reported setting source (Ok x) reported limits within settled = tt
-all_reported setting source (Err (Syntax kind e position)) reported limits within settled =
-    record { reported = reported; limits = limits; within = within; settled = settled }
-all_reported setting source (Err (Memory e)) reported limits within settled = tt
+    HasPositionWithin (length source) r → ReportsKindAt r (IsFinal setting source) → ReportsKindAt r (IsAtFirstDuplicate setting source) →
+    ReportsKindAt r (IsReported setting source)
+all_reported setting source (Ok x) reported limits within settled duplicate = tt
+all_reported setting source (Err (Syntax kind e position)) reported limits within settled duplicate =
+    record { reported = reported; limits = limits; within = within; settled = settled; duplicate = duplicate }
+all_reported setting source (Err (Memory e)) reported limits within settled duplicate = tt

@@ -16,8 +16,8 @@ use Rattle.regress_syntax.specs.Grammar.{IsPattern, AreTerms, IsItem}
 use Rattle.regress_parse.specs.Accepted.{own_context, IsDerived}
 use Rattle.regress_parse.specs.TreeOf.{concatenation, tree_of_group, tree_of_quantified, tree_of_atom, tree_of_pattern, trees_of_terms, tree_of_item, tree_of}
 use Rattle.regress_parse.proofs.lemmas.Nodes.{nodes-turned}
-use Rattle.regress_spans.specs.declared.span.Span.{Span}
-use Rattle.regress_spans.specs.Spans.{span_of_times, span_of_group, how_many, span_of_alternative, in_order, between, spans_of_pattern, spans_of_terms, spans_of_item, spans_of}
+use Rattle.regress_parse.specs.declared.span.Span.{Span}
+use Rattle.regress_parse.specs.Spans.{span_of_times, span_of_group, how_many, span_of_alternative, in_order, between, spans_of_pattern, spans_of_terms, spans_of_item, spans_of}
 
 -- ---- trees
 

@@ -13,8 +13,8 @@ use Rattle.regress_syntax.specs.Productions.{Context, context_inside, head_of_it
 use Rattle.regress_syntax.specs.Grammar.{IsPattern, AreTerms, IsItem}
 use Rattle.regress_syntax.proofs.lemmas.Productions.{optional_quantifier_at-shortens}
 use Rattle.regress_parse.specs.Accepted.{own_context, IsDerived}
-use Rattle.regress_spans.specs.declared.span.Span.{Span}
-use Rattle.regress_spans.specs.Spans.{IsWithin, IsInsideOrApart, is_inside, ends_before, begins_after, span_of_times, span_of_group, how_many, span_of_alternative, in_order, between, spans_of_pattern, spans_of_terms, spans_of_item, spans_of}
+use Rattle.regress_parse.specs.declared.span.Span.{Span}
+use Rattle.regress_parse.specs.Spans.{IsWithin, IsInsideOrApart, is_inside, ends_before, begins_after, span_of_times, span_of_group, how_many, span_of_alternative, in_order, between, spans_of_pattern, spans_of_terms, spans_of_item, spans_of}
 use Rattle.regress_spans.proofs.lemmas.Nesting.{AllBetween, itself, wider, item-shortens, item-within, inner-within, term-within, terms-within, alternative-within, alternatives-within, pattern-within}
 
 -- ---- lists of spans

@@ -12,8 +12,8 @@ use Rattle.regress_syntax.specs.Productions.{Context, context_inside, single, op
 use Rattle.regress_syntax.specs.Grammar.{IsPattern, AreTerms, IsItem}
 use Rattle.regress_syntax.proofs.lemmas.Productions.{head_at-shortens, optional_quantifier_at-shortens}
 use Rattle.regress_parse.specs.Accepted.{own_context, IsDerived}
-use Rattle.regress_spans.specs.declared.span.Span.{Span}
-use Rattle.regress_spans.specs.Spans.{IsWithin, span_of_times, span_of_group, how_many, span_of_alternative, in_order, between, spans_of_pattern, spans_of_terms, spans_of_item, spans_of}
+use Rattle.regress_parse.specs.declared.span.Span.{Span}
+use Rattle.regress_parse.specs.Spans.{IsWithin, span_of_times, span_of_group, how_many, span_of_alternative, in_order, between, spans_of_pattern, spans_of_terms, spans_of_item, spans_of}
 
 -- ---- the rest of a derivation is no longer than its source
 

@@ -2,7 +2,7 @@
 use Rattle.std.proofs.Common.{◌≡◌, ◌≤◌, ℕ, List, true, drop}
 use Rattle.std.specs.Slice.Iter.{iter_rest}
 use Rattle.std.specs.Fmt.{IsPlainFormatter}
-use Rattle.regress_spans.specs.declared.span.Span.{Span}
+use Rattle.regress_parse.specs.declared.span.Span.{Span}
 use Rattle.regress_tree.specs.declared.ir.node.Node.{size-Node}
 use Rattle.regress_tree.specs.Tree.{tree, trees}
 use Rattle.regress_tree.specs.Visits.{nodes_in_list}

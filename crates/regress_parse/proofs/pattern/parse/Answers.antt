@@ -19,6 +19,8 @@ use Rattle.regress_parse.proofs.GrammarLemmas.{pattern_at-sound}
 use Rattle.regress_parse.proofs.MeaningLemmas.{tree_of-means}
 use Rattle.regress_parse.proofs.DuplicateLemmas.{reported_by_scan, reported_by_parser}
 use Rattle.regress_parse.proofs.SettledLemmas.{settled}
+use Rattle.regress_parse.proofs.SpansOfWhole.{accepted-spans}
+use Rattle.regress_parse.proofs.lemmas.Scanned.{scanned_context}
 use Rattle.regress_parse.proofs.WellFormedLemmas.{tree_of-well_formed}
 use Rattle.regress_parse.proofs.pattern.parse.Goals as goal
 
@@ -109,6 +111,15 @@ returns-clause-accepted c =
           ∙ ap₂ (λ a b. cat (more_trees a (more_trees b no_trees)))
           (read.3 ∙ ap (λ names. tree_of_pattern setting.table names forwards 0 p) (sym names)) tree-Goal,
     )
+
+pub returns-clause-spans : goal.returns-clause-spans
+returns-clause-spans c on p accepted =
+    let setting = setting_of c.args.flags c.args.tables.now in
+    let t = c.args.pattern.now in
+    let found = c.in_ok-found.ensures in
+    let groups = c.in_ok-found.found.groups in
+    accepted-spans setting t p accepted _ (scanned_context setting t found.whole p accepted groups.count (names_in groups) found.names found.count)
+    c.in_ok-body.body.spans.items (c.in_ok-body.ensures.spans on)
 
 pub returns-clause-only : goal.returns-clause-only
 returns-clause-only c = same_derived (setting_of c.args.flags c.args.tables.now) c.args.pattern.now c.in_ok-found.ensures.whole

@@ -1,5 +1,6 @@
 -- Whether the whole source was parsed.
-use Rattle.std.proofs.Common.{◌≡◌, [], Ok, Some, None, length, ◌==◌, false, refl, sym, ap, ◌∙◌}
+use Rattle.std.proofs.Common.{◌≡◌, [], Ok, Some, None, Vec, length, ◌==◌, false, refl, sym, ap, ◌∙◌}
+use Rattle.std.specs.declared.alloc.Global.{Global}
 use Rattle.std.proofs.lemmas.Option.{same_Some}
 use Rattle.std.specs.Option.{IsSomeAnd}
 use Rattle.regress_tree.specs.declared.ir.node.Node.{Node}
@@ -12,6 +13,8 @@ use Rattle.regress_syntax.specs.Views.{context_of}
 use Rattle.regress_parse.specs.declared.parser.Parser.{Parser}
 use Rattle.regress_parse.specs.Parsing.{text, pattern_part, Builds, YieldsWhole}
 use Rattle.regress_parse.specs.Reader.{pattern_at}
+use Rattle.regress_parse.specs.declared.span.Span.{Span}
+use Rattle.regress_parse.proofs.SpansOfWhole.{whole-spans}
 use Rattle.regress_parse.proofs.pattern.parse_source.Goals as goal
 
 module _ (ctx : Context) (t : Source) (new : Parser) (node : Node) where
@@ -22,9 +25,10 @@ module _ (ctx : Context) (t : Source) (new : Parser) (node : Node) where
   built None e b = absurd b
   built (Some x) e b = (x, e, b)
 
-  whole : IsSomeAnd (pattern_at ctx t) Built → text new ≡ [] → YieldsWhole ctx t (Ok node)
+  whole : (spans : Vec Span Global) → IsSomeAnd (pattern_at ctx t) Built → text new ≡ [] →
+      YieldsWhole ctx t (Ok (record { node = node; spans = spans }))
   unfolding Built
-  whole b empty =
+  whole spans b empty =
       let found = built (pattern_at ctx t) refl b in
       (found.0.0, found.1 ∙ ap (λ (u : Source). Some (found.0.0, u)) (sym found.2.rest ∙ empty), found.2.fits, found.2.node)
 
@@ -34,15 +38,22 @@ module _ (ctx : Context) (t : Source) (new : Parser) (node : Node) where
       let found = built (pattern_at ctx t) refl b in
       length-some (text new) left (found.2.rest ∙ ap (λ (x : Pattern × Source). x.1) (same_Some found.0 (p, []) (sym found.1 ∙ e)))
 
-pub returns-then-is_empty-clause-value : goal.returns-then-is_empty-clause-value
+pub returns-clause-value : goal.returns-clause-value
 unfolding Built
-returns-then-is_empty-clause-value c =
-    whole (context_of c.args.scope.now) c.args.pattern.now c.consume_disjunction.new.self c.in_ok-body.body c.in_ok-body.ensures.value
-    (length-none _ (sym c.is_empty.ensures ∙ c.if-is_empty.true))
+returns-clause-value c =
+    whole (context_of c.args.scope.now) c.args.pattern.now c.consume_disjunction.new.self c.in_ok-node.node c.record_end.new.self.spans c.in_ok-node.ensures.value
+    (length-none _ (sym c.is_empty.ensures ∙ c.if-not-is_empty.false))
 
-pub returns-else-is_empty-clause-value : goal.returns-else-is_empty-clause-value
+pub returns-clause-spans : goal.returns-clause-spans
+returns-clause-spans c on =
+    let new = c.consume_disjunction.new.self in
+    whole-spans (context_of c.args.scope.now) c.args.pattern.now c.new.result.items (text new) new.spans.items c.record_end.new.self.spans.items
+    c.new.ensures.items (c.in_ok-node.ensures.spans on) (length-none _ (sym c.is_empty.ensures ∙ c.if-not-is_empty.false))
+    (c.in_ok-record_end.ensures on)
+
+pub returns-then-not-is_empty-clause-value : goal.returns-then-not-is_empty-clause-value
 unfolding Built
-returns-else-is_empty-clause-value c =
+returns-then-not-is_empty-clause-value c =
     rw c.reject.ensures
-    (λ p e. absurd (not_whole (context_of c.args.scope.now) c.args.pattern.now c.consume_disjunction.new.self c.in_ok-body.body c.in_ok-body.ensures.value
-    (sym c.is_empty.ensures ∙ c.if-is_empty.false) p e))
+    (λ p e. absurd (not_whole (context_of c.args.scope.now) c.args.pattern.now c.consume_disjunction.new.self c.in_ok-node.node c.in_ok-node.ensures.value
+    (sym c.is_empty.ensures ∙ c.if-not-is_empty.true) p e))

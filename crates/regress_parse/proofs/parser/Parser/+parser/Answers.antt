@@ -1,10 +1,11 @@
 -- Each clause follows from a lemma on what was parsed, at the values of the call.
-use Rattle.std.proofs.Common.{◌≡◌, ◌+◌, ◌-◌, ◌<◌, Bool, false, not, ◌∷◌, inr, drop, Some, None, Ok, Err, length, refl, sym, ap, ◌∙◌, subst, arith, length-drop}
-use Rattle.std.proofs.lemmas.Result.{err_from_is_err_and}
+use Rattle.std.proofs.Common.{◌≡◌, ◌+◌, ◌-◌, ◌<◌, Bool, false, not, cond, ◌==◌, List, [], ◌∷◌, ◌++◌, inr, drop, replicate, Some, None, Ok, Err, length, refl, sym, ap, ◌∙◌, subst, arith, length-drop}
+use Rattle.std.proofs.lemmas.List.{length_push}
+use Rattle.std.proofs.lemmas.Result.{err_from_is_err_and, on_ok_weaker}
 use Rattle.regress_lexer.specs.declared.fault.FaultKind.TheVariants.{TooDeep}
 use Rattle.regress_lexer.specs.Source.{Source, Found, found_map, opening, is_at, ends_alternative, bar as the_bar}
 use Rattle.regress_syntax.specs.Syntax.{Group, Counts, atom}
-use Rattle.regress_syntax.specs.Productions.{Context, opens, allows, group_at, head_at}
+use Rattle.regress_syntax.specs.Productions.{Context, context_inside, opens, allows, group_at, head_at}
 use Rattle.regress_syntax.specs.Views.{group_of}
 use Rattle.regress_base.specs.Limits.{max_nesting_depth}
 use Rattle.regress_lexer.specs.Views.{source}
@@ -14,12 +15,22 @@ use Rattle.regress_lexer.proofs.lemmas.Faults.{fails_then, by_nesting_then}
 use Rattle.regress_syntax.proofs.lemmas.Productions.{head_at-shortens}
 use Rattle.regress_syntax.proofs.lemmas.Lengths.{opened_by-one}
 use Rattle.regress_parse.proofs.ReachLemmas.{no_limit, nesting_reach, groups_reach, reaches_before, spends_same, spends_then, spends_read, costs_spends, terms_at-costs, item_at-costs, term_at-costs}
+use Rattle.regress_tree.specs.Tree.{tree}
+use Rattle.regress_tree.specs.Visits.{nodes}
+use Rattle.regress_syntax.specs.Meaning.{direction_of_group}
 use Rattle.regress_parse.specs.TreeOf.{concatenation}
+use Rattle.regress_parse.specs.declared.span.Span.{Span}
+use Rattle.regress_parse.specs.Spans.{between, span_of_group}
+use Rattle.regress_parse.specs.Recorded.{span_to, RecordsPattern, RecordsItem}
+use Rattle.regress_parse.proofs.SpanLists.{alternative_if}
+use Rattle.regress_parse.proofs.SpansOfItem.{node-flat, atom-records, group-records, records_inside}
+use Rattle.regress_parse.proofs.SpansOfTerms.{apart_in, term_spans-start, term_spans-step, term_spans-end}
+use Rattle.regress_parse.proofs.SpansOfPattern.{pattern_spans-start, pattern_spans-step, pattern_spans-end, lone-alternative}
 use Rattle.regress_parse.specs.Reader.{Term, item_after_head, pattern_at, terms_at, term_at, item_at, with_quantifier}
 use Rattle.regress_parse.specs.Parsing.{text, counted, context_in, table_in, names_in_context, direction_of, terms_part, term_part, item_part, atom_at, ReadsAtom, Yields, Reaches, CountsAtMostConsumed}
 use Rattle.regress_parse.proofs.CountLemmas.{added-nothing}
 use Rattle.regress_parse.proofs.ReaderLemmas.{terms_at-shortens, term_at-shortens, term_at-is}
-use Rattle.regress_parse.proofs.TermLoopInvariant.{TermsSoFar, terms-first, terms-step, terms-end, terms-fail, no_terms-yield, one_term-yields, first_term-fails}
+use Rattle.regress_parse.proofs.TermLoopInvariant.{TermsSoFar, none-fit, terms-start, terms-first, terms-step, terms-end, terms-fail, no_terms-yield, one_term-yields, first_term-fails}
 use Rattle.regress_parse.proofs.AlternativesLemmas.{alternatives-start, alternatives-step, lone-yields, first-fail, alternatives-fail}
 use Rattle.regress_parse.proofs.TermLemmas.{front_is, times-fail, too_deep, plain_yields, no_term, opening_head, opening_item, opened_same, atom_item, atom_yields, atom_allowed}
 use Rattle.regress_parse.proofs.ParserLemmas.{built, built_here, of_built}
@@ -215,34 +226,37 @@ consume_disjunction-returns-in_err-last-clause-value t c =
     (λ kind. first-fail (table_in around) (names_in_context around) (context_in around) kind around.depth (text c.args.self.now) (counted c.args.self.now))
     c.in_err-last.ensures.value)
 
-pub consume_disjunction-loop-inside-init : goal.consume_disjunction-loop-inside-init
-consume_disjunction-loop-inside-init t c =
+pub consume_disjunction-loop-self-init : goal.consume_disjunction-loop-self-init
+consume_disjunction-loop-self-init t c =
     let around = c.args.around.now in
     let old = c.args.self.now in
-    let found = built (terms_part (table_in around) (names_in_context around)) (direction_of around) (around.depth + 1) (counted old)
-    c.consume_alternative-first.new.self
-    (terms_at (context_in around) (text old)) c.in_ok-last.last c.in_ok-last.ensures.value in
+    let new = c.consume_alternative-first.new.self in
+    let found = built_here (terms_part (table_in around) (names_in_context around)) (direction_of around) (around.depth + 1) (counted old)
+    new (terms_at (context_in around) (text old)) c.in_ok-last.last c.in_ok-last.ensures.value in
     let b = found.2 in
-    rw (b.rest, c.new-before.ensures.items) (
-      alternatives-start _ _ _ _ _ (text c.args.self.now) (counted c.args.self.now) found.0.1 (counted c.consume_alternative-first.new.self)
-          c.in_ok-last.last found.0.0 found.1 b.node b.counts b.fits,
-      costs_spends (counted old) b.counts (terms_at-costs (context_in around) (text old) found.0 found.1),
+    rw (c.new-before.ensures.items, c.new-starts.ensures.items) (
+      alternatives-start _ _ _ _ _ (text c.args.self.now) (counted c.args.self.now) (text new) (counted new)
+          c.in_ok-last.last found.0 found.1 b.node b.counts b.fits,
+      costs_spends (counted old) b.counts (terms_at-costs (context_in around) (text old) (found.0, text new) found.1),
+      λ on.
+          pattern_spans-start around.whole (context_in around) (direction_of around) (text old) old.spans.items (text new) new.spans.items (length (text old))
+          (c.in_ok-last.ensures.spans on) refl,
     )
 
 pub consume_disjunction-returns-in_err-last-2-clause-value : goal.consume_disjunction-returns-in_err-last-2-clause-value
 consume_disjunction-returns-in_err-last-2-clause-value t c =
     let p = err_from_is_err_and c.from_residual-in_err-last-2.result c.from_residual-in_err-last-2.ensures.1 in
-    let l = c.loop-inside in
-    let past = c.loop-inside-test.ensures in
+    let l = c.loop-self in
+    let past = c.loop-self-test.ensures in
     rw (p.1, p.2) (on_kind_then c.in_err-last-2.field-0.0
     (λ kind rejected. alternatives-fail _ _ _ _ kind _ _ _ (text l.self) (counted l.self) l.before.items l.last l.invariant.0 (sym past.found)
     (rw past.moves at rejected))
     c.in_err-last-2.ensures.value)
 
-pub consume_disjunction-loop-inside-smaller : goal.consume_disjunction-loop-inside-smaller
-consume_disjunction-loop-inside-smaller t c =
-    let l = c.loop-inside in
-    let past = c.loop-inside-test.ensures in
+pub consume_disjunction-loop-self-smaller : goal.consume_disjunction-loop-self-smaller
+consume_disjunction-loop-self-smaller t c =
+    let l = c.loop-self in
+    let past = c.loop-self-test.ensures in
     let around = c.args.around.now in
     let found = built (terms_part (table_in around) (names_in_context around)) (direction_of around) (around.depth + 1) (counted l.self)
     c.consume_alternative.new.self (terms_at (context_in around) (source c.try_consume.new.self)) c.in_ok-last-2.last
@@ -256,21 +270,26 @@ consume_disjunction-loop-inside-smaller t c =
       at_front the_bar (text l.self) (sym past.found),
     )
 
-pub consume_disjunction-loop-inside-preserved : goal.consume_disjunction-loop-inside-preserved
-consume_disjunction-loop-inside-preserved t c =
-    let l = c.loop-inside in
-    let past = c.loop-inside-test.ensures in
+pub consume_disjunction-loop-self-preserved : goal.consume_disjunction-loop-self-preserved
+consume_disjunction-loop-self-preserved t c =
+    let l = c.loop-self in
+    let past = c.loop-self-test.ensures in
     let around = c.args.around.now in
-    let found = built (terms_part (table_in around) (names_in_context around)) (direction_of around) (around.depth + 1) (counted l.self)
-    c.consume_alternative.new.self (terms_at (context_in around) (source c.try_consume.new.self)) c.in_ok-last-2.last
-    c.in_ok-last-2.ensures.value in
-    let b = found.2 in
-    rw (b.rest, c.in_ok-push.ensures.items) (
-      alternatives-step _ _ _ _ _ _ _ (text l.self) (counted l.self) l.before.items l.last c.in_ok-last-2.last found.0.0 found.0.1
-          (counted c.consume_alternative.new.self) l.invariant.0 (sym past.found)
-          (subst (λ u. terms_at (context_in around) u ≡ Some found.0) past.moves found.1) b.node b.counts b.fits,
-      spends_then l.invariant.1 (spends_then (bar_spends (counted l.self) (text l.self) (source c.try_consume.new.self) past.moves)
-          (costs_spends (counted l.self) b.counts (terms_at-costs (context_in around) (source c.try_consume.new.self) found.0 found.1))),
+    let old = c.args.self.now in
+    let here = source c.try_consume.new.self in
+    let new = c.consume_alternative.new.self in
+    let found = built_here (terms_part (table_in around) (names_in_context around)) (direction_of around) (around.depth + 1) (counted l.self)
+    new (terms_at (context_in around) here) c.in_ok-last-2.last c.in_ok-last-2.ensures.value in
+    let b = found.2 in (
+      rw c.in_ok-push.ensures.items (alternatives-step _ _ _ _ _ _ _ (text l.self) (counted l.self) l.before.items l.last c.in_ok-last-2.last found.0 (text new)
+          (counted new) l.invariant.0 (sym past.found)
+          (subst (λ u. terms_at (context_in around) u ≡ Some (found.0, text new)) past.moves found.1) b.node b.counts b.fits),
+      spends_then l.invariant.1 (spends_then (bar_spends (counted l.self) (text l.self) here past.moves)
+          (costs_spends (counted l.self) b.counts (terms_at-costs (context_in around) here (found.0, text new) found.1))),
+      λ on.
+          rw (c.in_ok-note_start.ensures on)
+          (pattern_spans-step around.whole (context_in around) (direction_of around) (text old) old.spans.items (text l.self) l.self.spans.items l.starts.items l.start
+          here (text new) new.spans.items (length here) (l.invariant.2 on) (sym past.found) past.moves (c.in_ok-last-2.ensures.spans on) refl),
     )
 
 pub consume_term-returns-in_err-kind-clause-value : goal.consume_term-returns-in_err-kind-clause-value
@@ -426,9 +445,9 @@ consume_disjunction-returns-then-around-ge-MAX_NESTING_DEPTH-clause-reached t c 
 pub consume_disjunction-returns-in_err-last-2-clause-reached : goal.consume_disjunction-returns-in_err-last-2-clause-reached
 consume_disjunction-returns-in_err-last-2-clause-reached t c =
     let p = err_from_is_err_and c.from_residual-in_err-last-2.result c.from_residual-in_err-last-2.ensures.1 in
-    let l = c.loop-inside in
+    let l = c.loop-self in
     let around = c.args.around.now in
-    let past = c.loop-inside-test.ensures in
+    let past = c.loop-self-test.ensures in
     rw (p.1, p.2) (on_kind_then c.in_err-last-2.field-0.0
     (reaches_before (around.depth + 1) (around.depth + 1)
     (spends_then l.invariant.1 (bar_spends (counted l.self) (text l.self) (source c.try_consume.new.self) past.moves))
@@ -540,3 +559,175 @@ consume_group-returns-in_err-consume_closing-clause-reached t c =
     let p = err_from_is_err_and c.from_residual-in_err-consume_closing.result c.from_residual-in_err-consume_closing.ensures.1 in
     rw (p.1, p.2) (on_kind_then c.in_err-consume_closing.field-0.0
     (no_limit (counted c.args.self.now) c.args.around.now.depth (opening ∷ text c.args.self.now)) c.in_err-consume_closing.ensures.kind)
+
+-- ---- an alternative with its spans
+
+pub consume_recorded-loop-self-init : goal.consume_recorded-loop-self-init
+consume_recorded-loop-self-init t c =
+    let around = c.args.around.now in
+    let old = c.args.self.now in
+    rw (c.new-nodes.ensures.items, c.new-parts.ensures.items) (
+      terms-start (table_in around) (names_in_context around) (direction_of around) (context_in around) around.depth (text old) (counted old)
+          (none-fit (table_in around) (names_in_context around) (direction_of around) (context_in around) around.depth old c.requires.depth),
+      term_spans-start around.whole (context_in around) (direction_of around) (text old) old.spans.items,
+      spends_same (counted old) (text old),
+    )
+
+pub consume_recorded-returns-in_err-consume_term-clause-value : goal.consume_recorded-returns-in_err-consume_term-clause-value
+consume_recorded-returns-in_err-consume_term-clause-value t c =
+    let p = err_from_is_err_and c.from_residual.result c.from_residual.ensures.1 in
+    let l = c.loop-self in
+    rw (p.1, p.2) (on_kind_then c.in_err-consume_term.field-0.0
+    (λ kind. terms-fail _ _ _ _ _ _ _ kind (text l.self) (counted l.self) l.nodes.items l.invariant.0
+    (sym c.ends_alternative.ensures ∙ c.loop-self-test.true))
+    c.in_err-consume_term.ensures.value)
+
+pub consume_recorded-returns-in_err-consume_term-clause-reached : goal.consume_recorded-returns-in_err-consume_term-clause-reached
+consume_recorded-returns-in_err-consume_term-clause-reached t c =
+    let p = err_from_is_err_and c.from_residual.result c.from_residual.ensures.1 in
+    let l = c.loop-self in
+    let around = c.args.around.now in
+    rw (p.1, p.2) (on_kind_then c.in_err-consume_term.field-0.0
+    (reaches_before around.depth around.depth l.invariant.2 (omega (arith, l.invariant.0.shorter)))
+    c.in_err-consume_term.ensures.reached)
+
+pub consume_recorded-loop-self-smaller : goal.consume_recorded-loop-self-smaller
+consume_recorded-loop-self-smaller t c =
+    let around = c.args.around.now in
+    let l = c.loop-self in
+    let found = built (term_part (table_in around) (names_in_context around)) (direction_of around) around.depth (counted l.self) c.consume_term.new.self
+    (term_at (context_in around) (text l.self)) c.in_ok-consume_term.field-0 c.in_ok-consume_term.ensures.value in
+    omega (arith, term_at-shortens (context_in around) (text l.self) found.0 found.1, ap length found.2.rest)
+
+pub consume_recorded-loop-self-preserved : goal.consume_recorded-loop-self-preserved
+consume_recorded-loop-self-preserved t c =
+    let l = c.loop-self in
+    let around = c.args.around.now in
+    let ctx = context_in around in
+    let goes_on : ends_alternative (text l.self) ≡ false = sym c.ends_alternative.ensures ∙ c.loop-self-test.true in
+    let new = c.consume_term.new.self in
+    let found = built_here (term_part (table_in around) (names_in_context around)) (direction_of around) around.depth (counted l.self) new
+    (term_at ctx (text l.self)) c.in_ok-consume_term.field-0 c.in_ok-consume_term.ensures.value in
+    let b = found.2 in
+    rw c.in_ok-push.ensures.items (
+      terms-step _ _ _ _ _ _ _ (text l.self) (counted l.self) l.nodes.items c.in_ok-consume_term.field-0 found.0 (text new)
+          (counted new) l.invariant.0 goes_on found.1 b.node b.counts b.fits,
+      term_spans-step around.whole ctx (direction_of around) (text c.args.self.now) c.args.self.now.spans.items (text l.self) l.self.spans.items l.parts.items
+          (length l.nodes.items) (text new) new.spans.items c.set_apart.new.spans.items c.set_apart.new.parts.items
+          (length (l.nodes.items ++ c.in_ok-consume_term.field-0 ∷ [])) l.invariant.1 goes_on (c.in_ok-consume_term.ensures.spans c.requires.records)
+          (λ part added. apart_in around.backwards l.self.spans.items part new.spans.items c.set_apart.new.spans.items l.parts.items
+          c.set_apart.new.parts.items added c.in_ok-set_apart.ensures.forwards
+          (λ on. c.in_ok-set_apart.ensures.backwards l.self.spans.items part on added (sym (c.len-begin.ensures ∙ l.self.spans.ok.0))))
+          (length_push l.nodes.items c.in_ok-consume_term.field-0),
+      spends_then l.invariant.2 (costs_spends (counted l.self) b.counts (term_at-costs ctx (text l.self) (found.0, text new) found.1)),
+    )
+
+pub consume_recorded-returns-clause-value : goal.consume_recorded-returns-clause-value
+consume_recorded-returns-clause-value t c =
+    let l = c.loop-self in
+    let h = l.invariant.0 in
+    let end = terms-end _ _ _ _ _ _ _ (text l.self) (counted l.self) l.nodes.items h (sym c.ends_alternative.ensures ∙ c.loop-self-test.false) in
+    rw end (record {
+      node = c.make_cat.ensures ∙ ap (concatenation (direction_of c.args.around.now)) h.nodes;
+      fits = h.fits;
+      counts = h.counts;
+      rest = refl;
+    })
+
+pub consume_recorded-returns-clause-spans : goal.consume_recorded-returns-clause-spans
+consume_recorded-returns-clause-spans t c =
+    let l = c.loop-self in
+    let around = c.args.around.now in
+    let old = c.args.self.now in
+    term_spans-end around.whole (context_in around) (direction_of around) (text old) old.spans.items (text l.self) l.self.spans.items l.parts.items
+    (length l.nodes.items) c.push_reversed.new.spans.items c.record_if.new.spans.items l.invariant.1
+    (sym c.ends_alternative.ensures ∙ c.loop-self-test.false) c.in_ok-push_reversed.ensures
+    (c.in_ok-record_if.ensures c.requires.records
+    ∙ ap (λ n. c.push_reversed.new.spans.items ++ cond (not (n == 1)) (between around.whole (text old) (text l.self) ∷ []) [])
+    (c.len.ensures ∙ l.nodes.ok.0)
+    ∙ ap (λ (ss : List Span). c.push_reversed.new.spans.items ++ ss) (alternative_if (length l.nodes.items) (between around.whole (text old) (text l.self))))
+
+-- ---- spans
+
+pub consume_disjunction-returns-then-not-is_at-clause-spans : goal.consume_disjunction-returns-then-not-is_at-clause-spans
+consume_disjunction-returns-then-not-is_at-clause-spans t c on =
+    let around = c.args.around.now in
+    let old = c.args.self.now in
+    let new = c.consume_alternative-first.new.self in
+    on_ok_weaker c.consume_alternative-first.result
+    (λ reads. lone-alternative around.whole (context_in around) (direction_of around) (text old) old.spans.items (text new) new.spans.items reads
+    (sym c.is_at.ensures ∙ c.if-not-is_at.true))
+    (c.consume_alternative-first.ensures.spans on)
+
+pub consume_disjunction-returns-clause-spans : goal.consume_disjunction-returns-clause-spans
+consume_disjunction-returns-clause-spans t c on =
+    let l = c.loop-self in
+    let around = c.args.around.now in
+    let old = c.args.self.now in
+    let past = c.loop-self-test.ensures in
+    pattern_spans-end around.whole (context_in around) (direction_of around) (text old) old.spans.items (text l.self) (source c.try_consume.new.self)
+    l.self.spans.items c.record_alternations.new.spans.items l.starts.items l.start (l.invariant.2 on) (sym past.found) past.moves
+    c.in_ok-record_alternations.ensures
+
+pub consume_term-returns-then-try_consume-clause-spans : goal.consume_term-returns-then-try_consume-clause-spans
+consume_term-returns-then-try_consume-clause-spans t c on =
+    let around = c.args.around.now in
+    let ctx = context_in around in
+    let old = c.args.self.now in
+    let past = c.if-try_consume.ensures in
+    let here = source c.try_consume.new.self in
+    let kind = group_of c.in_ok-kind.kind in
+    let there = source c.parse_group.new.cursor in
+    let front : text old ≡ opening ∷ here = front_is opening (text old) here (sym past.found) past.moves in
+    let head : head_at ctx (text old) ≡ Some (opens kind, there) =
+    ap (head_at ctx) front ∙ opening_head (table_in around) (names_in_context around) ctx here ∙ c.in_ok-kind.ensures.value in
+    let new = c.consume_group.new.self in
+    c.consume_times.ensures.spans (text old) old.spans.items on refl
+    (subst (λ (b : Bool). RecordsItem around.whole ctx (direction_of around) (text old) old.spans.items (text new) new.spans.items b)
+    (sym c.allows_quantifier-allowed.ensures)
+    (c.in_ok-item.ensures.spans (text old) on refl head))
+
+pub consume_term-returns-clause-spans : goal.consume_term-returns-clause-spans
+consume_term-returns-clause-spans t c on =
+    let around = c.args.around.now in
+    let ctx = context_in around in
+    let d = direction_of around in
+    let old = c.args.self.now in
+    let past = c.if-try_consume.ensures in
+    let here = source c.try_consume.new.self in
+    let new = source c.parse_atom.new.cursor in
+    let same : here ≡ text old = past.moves in
+    let none : is_at opening here ≡ false = ap (is_at opening) same ∙ sym past.found in
+    let node = c.in_ok-item-2.item in
+    let deep = max_nesting_depth - around.depth in
+    let read = subst (λ (b : Bool). ReadsAtom ctx deep (not b) new (Ok node) (atom_at ctx here)) (sym c.begins_anchor-allowed.ensures)
+    c.in_ok-item-2.ensures.value in
+    let now = c.record_nodes.new.spans.items in
+    let added = c.in_ok-record_nodes.ensures on (node-flat ctx around.whole d here old.spans.items none deep new (not c.begins_anchor-allowed.result) node read) in
+    c.consume_times-2.ensures.spans (text old) old.spans.items on refl
+    (subst (λ (u : Source). RecordsItem around.whole ctx d u old.spans.items new now (not c.begins_anchor-allowed.result)) same
+    (atom-records ctx around.whole d here old.spans.items none deep new (not c.begins_anchor-allowed.result) node read now
+    (added ∙ ap (λ n. old.spans.items ++ replicate (nodes (tree node)) (span_to around.whole n new)) (ap length (sym same)))))
+
+pub consume_group-returns-clause-spans : goal.consume_group-returns-clause-spans
+consume_group-returns-clause-spans t c u on opened head =
+    let around = c.args.around.now in
+    let ctx = context_in around in
+    let d = direction_of around in
+    let old = c.args.self.now in
+    let kind = group_of c.args.kind in
+    let start = c.count_group.new.self in
+    let mid = c.consume_disjunction.new.self in
+    let new = source c.consume_closing.new.self in
+    let same = c.in_ok-count_group.ensures in
+    let inner = records_inside around.whole _ (context_inside kind ctx) _ (direction_of_group kind d) _ (text start) start.spans.items (text mid) mid.spans.items
+    c.inside.ensures.whole c.inside.ensures.context c.inside.ensures.direction (c.in_ok-contents.ensures.spans (c.inside.ensures.records ∙ on)) in
+    let reads = subst (λ (v : Source). RecordsPattern around.whole (context_inside kind ctx) (direction_of_group kind d) v old.spans.items
+    (text mid) mid.spans.items) same.text
+    (subst (λ (ss : List Span). RecordsPattern around.whole (context_inside kind ctx) (direction_of_group kind d) (text start) ss
+    (text mid) mid.spans.items) same.spans inner) in
+    group-records ctx around.whole d u old.spans.items kind (text old) head (text mid) mid.spans.items new c.record_if.new.spans.items reads
+    c.in_ok-consume_closing.ensures.ok
+    (c.in_ok-record_if.ensures on
+    ∙ ap (λ (b : Bool). mid.spans.items ++ cond b (span_to around.whole c.args.opened new ∷ []) []) c.has_node.ensures
+    ∙ ap (λ n. mid.spans.items ++ span_of_group kind (span_to around.whole n new)) opened)

@@ -1,12 +1,18 @@
 -- The quantifier is parsed after the item that was found.
-use Rattle.std.proofs.Common.{◌≡◌, ◌+◌, Some, None, Ok, refl, sym, ap, ap₂, ◌∙◌, arith}
+use Rattle.std.proofs.Common.{◌≡◌, ◌+◌, List, [], ◌∷◌, ◌++◌, Some, None, Ok, refl, sym, ap, ap₂, ◌∙◌, subst, arith}
+use Rattle.std.proofs.lemmas.List.{append-nil}
 use Rattle.std.proofs.lemmas.Result.{err_from_is_err_and}
 use Rattle.regress_lexer.specs.Views.{source}
+use Rattle.regress_lexer.specs.Source.{Source}
 use Rattle.regress_lexer.proofs.lemmas.Sources.{on_rejected, on_kind_then, on_each_kind}
 use Rattle.regress_syntax.specs.Syntax.{Counts, added, one_loop, counts_of_item}
 use Rattle.regress_tree.specs.Tree.{tree}
 use Rattle.regress_parse.specs.TreeOf.{tree_of_quantified}
 use Rattle.regress_parse.specs.Parsing.{text, counted, context_in, table_in, names_in_context, direction_of, term_part, item_part}
+use Rattle.regress_syntax.proofs.lemmas.Plain.{no_times}
+use Rattle.regress_parse.specs.declared.span.Span.{Span}
+use Rattle.regress_parse.specs.Recorded.{span_to, RecordsTerm}
+use Rattle.regress_parse.proofs.SpansOfItem.{term-records}
 use Rattle.regress_parse.proofs.CountLemmas.{added-assoc, added-nothing, Fits-inside}
 use Rattle.regress_parse.proofs.ReachLemmas.{no_limit, loops_reach, begins_some}
 use Rattle.regress_parse.proofs.TermLemmas.{alone, times_read, times-too_many}
@@ -111,3 +117,39 @@ returns-in_err-count_loop-clause-reached c =
     let some = begins_some (text old) (sym c.may_begin.ensures ∙ c.if-not-may_begin.false) in
     rw (p.1, p.2) (on_kind_then c.in_err-count_loop.field-0.0
     (λ kind reported. loops_reach (counted old) c.args.around.now.depth (text old) kind reported.0 (omega (arith, reported.1, some))) c.in_err-count_loop.ensures.err)
+
+-- ---- spans
+
+pub returns-then-not-may_begin-clause-spans : goal.returns-then-not-may_begin-clause-spans
+returns-then-not-may_begin-clause-spans c t before on opened reads =
+    let around = c.args.around.now in
+    let ctx = context_in around in
+    let old = c.args.self.now in
+    term-records ctx around.whole (direction_of around) t before (text old) old.spans.items c.args.allowed reads None (text old) old.spans.items
+    (no_times ctx c.args.allowed (text old) (sym c.may_begin.ensures ∙ c.if-not-may_begin.true)) (sym (append-nil old.spans.items))
+
+pub returns-in_default-clause-spans : goal.returns-in_default-clause-spans
+returns-in_default-clause-spans c t before on opened reads =
+    let around = c.args.around.now in
+    let ctx = context_in around in
+    let old = c.args.self.now in
+    let new = source c.parse_optional_quantifier.new.cursor in
+    term-records ctx around.whole (direction_of around) t before (text old) old.spans.items c.args.allowed reads None new old.spans.items
+    (c.in_ok-times.ensures.value ∙ ap (λ q. Some (q, new)) c.in_default.is) (sym (append-nil old.spans.items))
+
+pub returns-clause-spans : goal.returns-clause-spans
+returns-clause-spans c t before on opened reads =
+    let around = c.args.around.now in
+    let ctx = context_in around in
+    let old = c.args.self.now in
+    let new = source c.parse_optional_quantifier.new.cursor in
+    let counted = c.count_loop.new.self in
+    let same = c.in_ok-count_loop.ensures in
+    subst (λ (u : Source). RecordsTerm around.whole ctx (direction_of around) t before u c.record_if.new.spans.items) (sym same.text)
+    (term-records ctx around.whole (direction_of around) t before (text old) old.spans.items c.args.allowed reads
+    (Some c.in-Some.quantifier) new c.record_if.new.spans.items
+    (c.in_ok-times.ensures.value ∙ ap (λ q. Some (q, new)) c.in-Some.is)
+    (c.in_ok-record_if.ensures on
+    ∙ ap (λ (ss : List Span). ss ++ span_to around.whole c.args.opened (text counted) ∷ []) same.spans
+    ∙ ap (λ (u : Source). old.spans.items ++ span_to around.whole c.args.opened u ∷ []) same.text
+    ∙ ap (λ n. old.spans.items ++ span_to around.whole n new ∷ []) opened))

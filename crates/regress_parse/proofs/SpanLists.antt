@@ -1,19 +1,18 @@
 -- Lists of spans that are appended in reverse order.
-use Rattle.std.proofs.Common.{◌≡◌, ℕ, ◌-◌, ◌==◌, Bool, true, false, not, cond, List, [], ◌∷◌, ◌++◌, length, Option, Some, None, is_some, Vec, refl, sym, ap, ◌∙◌}
+use Rattle.std.proofs.Common.{◌≡◌, ℕ, min, ◌==◌, Bool, true, false, not, cond, List, [], ◌∷◌, ◌++◌, take, drop, length, Vec, refl, sym, ap, ◌∙◌, arith, length-append}
 use Rattle.std.specs.declared.alloc.Global.{Global}
-use Rattle.std.proofs.lemmas.List.{append_assoc, append-nil}
-use Rattle.regress_base.specs.declared.types.Quantifier.{Quantifier}
+use Rattle.std.proofs.lemmas.List.{append_assoc, append-nil, take_at, drop_at}
 use Rattle.regress_lexer.specs.Source.{Source}
-use Rattle.regress_spans.specs.declared.span.Span.{Span}
-use Rattle.regress_spans.specs.Spans.{span_of_times, span_of_alternative}
-use Rattle.regress_spans.specs.Reading.{turned, alternations}
+use Rattle.regress_parse.specs.declared.span.Span.{Span}
+use Rattle.regress_parse.specs.Spans.{span_of_alternative}
+use Rattle.regress_parse.specs.Recorded.{turned, span_to, alternations}
 
 pub alternations-push : (whole : ℕ) (lefts : List ℕ) (left : ℕ) (rest : Source) →
     alternations whole (lefts ++ left ∷ []) rest
-    ≡ record { start = whole - left; end = whole - length rest } ∷ [] ++ alternations whole lefts rest
+    ≡ span_to whole left rest ∷ [] ++ alternations whole lefts rest
 alternations-push whole [] left rest = refl
 alternations-push whole (l ∷ lefts) left rest =
-    ap (λ (ss : List Span). ss ++ record { start = whole - l; end = whole - length rest } ∷ []) (alternations-push whole lefts left rest)
+    ap (λ (ss : List Span). ss ++ span_to whole l rest ∷ []) (alternations-push whole lefts left rest)
 
 pub turned-push : (parts : List (Vec Span Global)) (part : Vec Span Global) → turned (parts ++ part ∷ []) ≡ part.items ++ turned parts
 turned-push [] part = sym (append-nil part.items)
@@ -27,7 +26,7 @@ alternative_joined now first others all around =
     ap (λ (ss : List Span). now ++ ss) (append_assoc (first ++ others) (all ∷ []) around ∙ append_assoc first others (all ∷ [] ++ around))
     ∙ sym (append_assoc now first (others ++ (all ∷ [] ++ around)))
 
--- The conditional span of an alternative is the one of the definition, and so is that of a quantifier.
+-- The conditional span of an alternative is the one of the definition.
 pub alternative_if : (n : ℕ) (s : Span) → cond (not (n == 1)) (s ∷ []) [] ≡ span_of_alternative n s
 alternative_if n s = by (n == 1)
   where
@@ -35,6 +34,9 @@ alternative_if n s = by (n == 1)
     by true = refl
     by false = refl
 
-pub times_if : (q : Option Quantifier) (s : Span) → cond (is_some q) (s ∷ []) [] ≡ span_of_times q s
-times_if None s = refl
-times_if (Some q) s = refl
+-- Where a list begins with another of that length, it is split there.
+pub split-apart : (before part items : List Span) (at begin : ℕ) → items ≡ before ++ part → length before ≡ begin → at ≡ min begin (length items) →
+    (take at items ≡ before) × (drop at items ≡ part)
+split-apart before part items at begin is from bounded =
+    let front : length before ≡ at = omega (arith, from, bounded, ap (λ (ss : List Span). length ss) is, length-append before part) in
+    (ap (take at) is ∙ take_at before part at front, ap (drop at) is ∙ drop_at before part at front)

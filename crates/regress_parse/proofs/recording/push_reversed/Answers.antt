@@ -1,10 +1,10 @@
 use Rattle.std.proofs.Common.{◌++◌, List, Vec, sym, ap, ◌∙◌}
 use Rattle.std.specs.declared.alloc.Global.{Global}
 use Rattle.std.proofs.lemmas.List.{append_assoc}
-use Rattle.regress_spans.specs.declared.span.Span.{Span}
-use Rattle.regress_spans.specs.Reading.{turned}
-use Rattle.regress_spans.proofs.ListLemmas.{turned-push}
-use Rattle.regress_spans.proofs.list.push_reversed.Goals as goal
+use Rattle.regress_parse.specs.declared.span.Span.{Span}
+use Rattle.regress_parse.specs.Recorded.{turned}
+use Rattle.regress_parse.proofs.SpanLists.{turned-push}
+use Rattle.regress_parse.proofs.recording.push_reversed.Goals as goal
 
 pub loop-part-preserved : goal.loop-part-preserved
 loop-part-preserved c =

@@ -12,7 +12,7 @@ use Rattle.regress_syntax.specs.Productions.{Context, context_inside}
 use Rattle.regress_syntax.specs.Grammar.{IsPattern, AreTerms, IsItem}
 use Rattle.regress_parse.specs.Accepted.{own_context, IsDerived}
 use Rattle.regress_parse.specs.TreeOf.{tree_of_atom}
-use Rattle.regress_spans.specs.declared.span.Span.{Span}
+use Rattle.regress_parse.specs.declared.span.Span.{Span}
 
 -- the span is inside the other one, and its start is at most its end
 pub record IsWithin (outer s : Span) : Type 0 where

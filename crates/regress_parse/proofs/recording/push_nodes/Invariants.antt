@@ -2,8 +2,8 @@ use Rattle.std.proofs.Common.{◌≡◌, ◌++◌, replicate}
 use Rattle.regress_tree.specs.declared.ir.node.Node.{size-Node}
 use Rattle.regress_tree.specs.Tree.{tree}
 use Rattle.regress_tree.specs.Visits.{nodes}
-use Rattle.regress_spans.specs.Reading.{IsFlat}
-use Rattle.regress_spans.proofs.list.push_nodes.Given as goal
+use Rattle.regress_parse.specs.Recorded.{IsFlat}
+use Rattle.regress_parse.proofs.recording.push_nodes.Given as goal
 
 -- The spans of the remaining nodes are still to be appended.
 abbrev pub invariant-loop-last : goal.invariant-loop-last

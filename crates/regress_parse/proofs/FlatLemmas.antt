@@ -7,8 +7,8 @@ use Rattle.regress_tree.specs.Visits.{nodes}
 use Rattle.regress_syntax.specs.Syntax.{Name, Atom, literal, dot, anchor, boundary, class_escape, class, class_set, string_property, back_reference}
 use Rattle.regress_syntax.specs.Meaning.{referred}
 use Rattle.regress_parse.specs.TreeOf.{alternation, references, or_empty, strings_or_points, tree_of_atom}
-use Rattle.regress_spans.specs.declared.span.Span.{Span}
-use Rattle.regress_spans.specs.Reading.{IsFlat}
+use Rattle.regress_parse.specs.declared.span.Span.{Span}
+use Rattle.regress_parse.specs.Recorded.{IsFlat}
 
 references-flat : (icase : Bool) (groups : List ℕ) → IsFlat (alternation (references icase groups))
 references-flat icase [] = tt

@@ -1,10 +1,10 @@
 use Rattle.std.proofs.Common.{ℕ, ◌++◌, List, [], ◌∷◌, sym, ap, ◌∙◌}
 use Rattle.std.proofs.lemmas.List.{append_assoc}
 use Rattle.regress_lexer.specs.Views.{source}
-use Rattle.regress_spans.specs.declared.span.Span.{Span}
-use Rattle.regress_spans.specs.Reading.{alternations}
-use Rattle.regress_spans.proofs.ListLemmas.{alternations-push}
-use Rattle.regress_spans.proofs.list.push_alternations.Goals as goal
+use Rattle.regress_parse.specs.declared.span.Span.{Span}
+use Rattle.regress_parse.specs.Recorded.{alternations}
+use Rattle.regress_parse.proofs.SpanLists.{alternations-push}
+use Rattle.regress_parse.proofs.recording.record_alternations.Goals as goal
 
 pub loop-left-preserved : goal.loop-left-preserved
 loop-left-preserved c =

@@ -2,10 +2,10 @@ use Rattle.std.proofs.Common.{◌++◌, [], ◌∷◌, List, replicate, sym, ap,
 use Rattle.regress_tree.specs.Tree.{Tree, tree}
 use Rattle.regress_tree.specs.Visits.{nodes}
 use Rattle.regress_tree.proofs.lemmas.Nodes.{tree-Alt}
-use Rattle.regress_spans.specs.declared.span.Span.{Span}
-use Rattle.regress_spans.specs.Reading.{IsFlat}
-use Rattle.regress_spans.proofs.TreeLemmas.{flat-alt}
-use Rattle.regress_spans.proofs.list.push_nodes.Goals as goal
+use Rattle.regress_parse.specs.declared.span.Span.{Span}
+use Rattle.regress_parse.specs.Recorded.{IsFlat}
+use Rattle.regress_parse.proofs.FlatLemmas.{flat-alt}
+use Rattle.regress_parse.proofs.recording.push_nodes.Goals as goal
 
 pub loop-last-preserved : goal.loop-last-preserved
 loop-last-preserved c flat =

@@ -1,6 +1,6 @@
 use Rattle.std.proofs.Common.{◌≡◌, ◌++◌, vec_len}
-use Rattle.regress_spans.specs.Reading.{turned}
-use Rattle.regress_spans.proofs.list.push_reversed.Given as goal
+use Rattle.regress_parse.specs.Recorded.{turned}
+use Rattle.regress_parse.proofs.recording.push_reversed.Given as goal
 
 abbrev pub invariant-loop-part : goal.invariant-loop-part
 invariant-loop-part l = l.spans.items ++ turned l.parts.items ≡ l.fn.spans.items ++ turned l.fn.parts.items

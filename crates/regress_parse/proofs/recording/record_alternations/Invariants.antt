@@ -1,7 +1,7 @@
 use Rattle.std.proofs.Common.{◌≡◌, ◌++◌, vec_len}
 use Rattle.regress_lexer.specs.Views.{source}
-use Rattle.regress_spans.specs.Reading.{alternations}
-use Rattle.regress_spans.proofs.list.push_alternations.Given as goal
+use Rattle.regress_parse.specs.Recorded.{alternations}
+use Rattle.regress_parse.proofs.recording.record_alternations.Given as goal
 
 abbrev pub invariant-loop-left : goal.invariant-loop-left
 invariant-loop-left l =
