@@ -8,6 +8,7 @@ pub mod caret;
 pub mod length;
 pub mod linter;
 pub mod quickstart;
+pub mod slice;
 pub mod underline;
 
 pub use quickstart::{compile, find_matches};

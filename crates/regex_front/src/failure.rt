@@ -1,11 +1,15 @@
 //! Failures of a run, with their exit statuses.
-ghost use Rattle.std.specs.Prelude.{◌≡◌};
+ghost use Rattle.std.specs.Prelude.{◌≡◌, OnOk};
+ghost use Rattle.std.specs.Io.KnownBytes.{Appends};
 ghost use Rattle.regex_front.specs.declared.failure.Failure.TheVariants.{Output};
 ghost use Rattle.regex_front.specs.Ending.{status_of};
 
 use regress_front::parse::{Error, ParseFault};
 use std::alloc::AllocError;
-use std::io::Write;
+use std::io::{self, Write};
+
+/// The text that a run with invalid arguments writes.
+const USAGE: &str = "usage: regex-front PATTERN [FLAGS]\n";
 
 /// Why a run ends with a status other than 0.
 ///
@@ -58,7 +62,7 @@ pub(crate) fn report<E: Write>(failure: Failure, err: &mut E) -> u8
             1
         }
         Failure::Usage => {
-            let _ = writeln!(err, "usage: regex-front PATTERN [FLAGS]");
+            let _ = write_usage(err);
             2
         }
         Failure::Memory => {
@@ -67,4 +71,11 @@ pub(crate) fn report<E: Write>(failure: Failure, err: &mut E) -> u8
         }
         Failure::Output => 4,
     }
+}
+
+/// Writes the usage.
+fn write_usage<E: Write>(err: &mut E) -> io::Result<()>
+    ensures { OnOk result (Appends (E.contents err.old) (E.contents err.new) USAGE.now) }
+{
+    err.write_all(USAGE.as_bytes())
 }

@@ -4,6 +4,7 @@
 #![tactic(auto)]
 
 ghost use Rattle.std.specs.Prelude.{◌≡◌, ◌≢◌, ◌≤◌, ◌↔◌, ◌⊎◌, None, IfSome, IfErr, OnOk};
+ghost use Rattle.std.specs.Io.KnownBytes.{Keeps};
 ghost use Rattle.regex_front.specs.declared.failure.Failure.TheVariants.{Memory, Output};
 ghost use Rattle.regex_front.specs.Printed.{IsAcceptedPattern, NoneIsAccepted, IsParsedText, IsOutput};
 ghost use Rattle.regress_arguments.specs.Output.{Took};
@@ -30,29 +31,41 @@ fn run<R: Env + AllocGlobal, W: Write + Drop, E: Write>(rt: &R, out: W, err: &mu
     ensures known { result ≤ 4 }
 {
     match arguments(rt) {
-        Ok(args) => run_buffered(rt.alloc(), &args, out, err),
+        Ok(args) => {
+            let (status, _) = run_buffered(rt.alloc(), &args, out, err);
+            status
+        }
         Err(ArgumentsError::NotUtf8) => report(Failure::Usage, err),
         Err(ArgumentsError::OutOfMemory) => report(Failure::Memory, err),
     }
 }
 
-/// Runs `run_front` with a buffered output. The status is 3 if the buffer cannot be allocated.
+/// Runs `run_front` with a buffered output, and returns the exit status, and the output if it has all that was written.
+/// The status is 3 if the buffer cannot be allocated.
 fn run_buffered<W: Write + Drop, E: Write>(
     alloc: Global,
     args: &[String],
     out: W,
     err: &mut E,
-) -> u8
-    ensures known { result ≤ 4 }
-    ensures usage { result ≡ 2 → request_of args.now ≡ None }
-    ensures rejected { result ≡ 1 → IfSome (request_of args.now) NoneIsAccepted }
-    ensures accepted { (result ≡ 0) ⊎ (result ≡ 4) → IfSome (request_of args.now) IsAcceptedPattern }
-    ensures reported { request_of args.now ≡ None → (result ≡ 2) ⊎ (result ≡ 3) }
-    ensures quiet { (result ≡ 0) ⊎ (result ≡ 4) → err.new ≡ err.old }
+) -> (u8, Option<W>)
+    ensures known { result.0 ≤ 4 }
+    ensures usage { result.0 ≡ 2 → request_of args.now ≡ None }
+    ensures reported { request_of args.now ≡ None → (result.0 ≡ 2) ⊎ (result.0 ≡ 3) }
+    ensures rejected { result.0 ≡ 1 → IfSome (request_of args.now) NoneIsAccepted }
+    ensures accepted { (result.0 ≡ 0) ⊎ (result.0 ≡ 4) → IfSome (request_of args.now) IsAcceptedPattern }
+    ensures printed { result.0 ≡ 0 → IfSome (request_of args.now) (λ request. IfSome result.1 (λ new.
+        Took (W.contents out) (W.contents new) (IsOutput request))) }
+    ensures untouched { (result.0 ≡ 1) ⊎ (result.0 ≡ 2) → IfSome result.1 (λ new. Keeps (W.contents out) (W.contents new)) }
+    ensures out_of_memory { result.0 ≡ 3 → IfSome result.1 (λ new. Keeps (W.contents out) (W.contents new)
+        ⊎ IfSome (request_of args.now) (λ request. Took (W.contents out) (W.contents new) (IsParsedText request))) }
+    ensures quiet { (result.0 ≡ 0) ⊎ (result.0 ≡ 4) → err.new ≡ err.old }
 {
     match BufWriter::new(alloc, out) {
-        Ok(mut out) => run_front(alloc, args, &mut out, err),
-        Err(_) => report(Failure::Memory, err),
+        Ok(mut buffered) => {
+            let status = run_front(alloc, args, &mut buffered, err);
+            (status, buffered.into_inner().ok())
+        }
+        Err(_) => (report(Failure::Memory, err), None),
     }
 }
 

@@ -1,3 +1,4 @@
+pub mod BufferedLemmas
 pub mod LineLemmas
 pub mod SearchingLemmas
 pub mod FoundLemmas

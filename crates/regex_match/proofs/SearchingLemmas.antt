@@ -1,5 +1,5 @@
--- A search advances to the right, with one output line for each match.
-use Rattle.std.proofs.Common.{◌≡◌, ℕ, ◌+◌, ◌-◌, ◌<◌, Bool, true, false, List, [], ◌∷◌, ◌++◌, Option, Some, None, inl, inr, map, length, not-suc-le-zero, refl, sym, ap, subst, arith, ◌∙◌, flat_map}
+-- A search writes one output line for each match.
+use Rattle.std.proofs.Common.{◌≡◌, ℕ, ◌<◌, Bool, true, false, List, [], ◌∷◌, ◌++◌, Option, Some, None, inl, inr, map, length, not-suc-le-zero, refl, sym, ap, subst, arith, ◌∙◌, flat_map}
 use Rattle.std.proofs.lemmas.List.{append-nil, flat_map_more, get_or-map, length-map}
 use Rattle.std.specs.Io.KnownBytes.{Appends, Keeps}
 use Rattle.std.specs.List.Sorted.{IsNonDecreasingBy, IsPermutation}
@@ -22,11 +22,6 @@ use Rattle.regex_match.specs.Ending.{Leaves}
 use Rattle.regex_match.specs.Printed.{AreLines, AreLinesOf, WritesAll, WritesFirst, WritesRest, WritesSome, has_some}
 use Rattle.regex_match.specs.declared.failure.Failure.{Failure}
 use Rattle.regex_match.specs.declared.failure.Failure.TheVariants.{Usage, Memory, Output, Syntax, OutOfSteps, Input}
-
-pub further : (old new : Matches) (m : Match) → IsLeftmost (searched_text old) (searched_outcomes old) (next_from old) m →
-    next_from new ≡ next_offset m → searched_text new ≡ searched_text old →
-    length (searched_text new) + 2 - next_from new < length (searched_text old) + 2 - next_from old
-further old new m found next same = omega (arith, found.from, found.boundary.0, next, ap length same)
 
 -- the matches found and the lines written between two states of a search
 pub record Progress (old new : Matches) (groups : List Capture) (before after : Option (List ℕ)) (any : Bool) : Type 0 where

@@ -41,12 +41,12 @@ Leaves nothing first (Syntax e position) = nothing
 Leaves nothing first OutOfSteps = first
 Leaves nothing first Input = nothing
 
--- The result of a run: wrong usage, the help, all matches printed, or a failure that is due.
-abbrev pub Ends : (all : Bool → Request → Type 0) → (first : Request → Type 0) → (nothing : Type 0) → Option Task →
+-- The result of a run: wrong usage, the help or all matches printed, or a failure that is due.
+abbrev pub Ends : (helped : Type 0) → (all : Bool → Request → Type 0) → (first : Request → Type 0) → (nothing : Type 0) → Option Task →
     Result Bool Failure → Type 0
-Ends all first nothing None r = (r ≡ Err Usage) × nothing
-Ends all first nothing (Some help) (Ok any) = any ≡ true
-Ends all first nothing (Some help) (Err failure) = failure ≡ Output
-Ends all first nothing (Some (matches request)) (Ok any) = all any request
-Ends all first nothing (Some (matches request)) (Err failure) =
+Ends helped all first nothing None r = (r ≡ Err Usage) × nothing
+Ends helped all first nothing (Some help) (Ok any) = (any ≡ true) × helped
+Ends helped all first nothing (Some help) (Err failure) = failure ≡ Output
+Ends helped all first nothing (Some (matches request)) (Ok any) = all any request
+Ends helped all first nothing (Some (matches request)) (Err failure) =
     IsDue (IsAcceptedPattern request) (NoneIsAccepted request) failure × Leaves nothing (first request) failure

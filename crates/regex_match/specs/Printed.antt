@@ -1,5 +1,6 @@
 -- The program's output for a text.
 use Rattle.std.specs.Prelude.{◌≡◌, ℕ, Bool, true, false, List, [], ◌∷◌, flat_map, Option, IfSome}
+use Rattle.std.specs.Io.KnownBytes.{Appends}
 use Rattle.std.specs.List.Sorted.{IsNonDecreasingBy, IsPermutation}
 use Rattle.regress_arguments.specs.Output.{Took}
 use Rattle.regress_arguments.specs.Request.{Request}
@@ -13,6 +14,7 @@ use Rattle.regress_match.specs.declared.matching.Match.{Match}
 use Rattle.regress_match.specs.declared.matching.Outcome.TheVariants as outcomes
 use Rattle.regress_match.specs.declared.search.Matches.{Matches}
 use Rattle.regex_match.specs.Accepted.{setting_of_request}
+use Rattle.regex_match.specs.Asked.{Task, help, matches}
 use Rattle.regex_match.specs.Found.{IsTreeOf}
 use Rattle.regex_match.specs.Lines.{line}
 
@@ -48,6 +50,11 @@ has_some (m ∷ ms) = true
 abbrev pub PrintsAll : (input old new : Option (List ℕ)) → (any : Bool) → Request → Type 0
 PrintsAll input old new any request =
     (found : List Match) × (has_some found ≡ any) × Took old new (IsPrinted request input true found)
+
+-- The output of a run that succeeds: this help, or all matches, of which there are some.
+abbrev pub PrintsOutput : (text : List ℕ) → (input old new : Option (List ℕ)) → Task → Type 0
+PrintsOutput text input old new help = Appends old new text
+PrintsOutput text input old new (matches request) = PrintsAll input old new true request
 
 -- the first matches were printed
 abbrev pub PrintsFirst : (input old new : Option (List ℕ)) → Request → Type 0

@@ -1,11 +1,15 @@
 //! Failures of a run, with their exit statuses.
-ghost use Rattle.std.specs.Prelude.{◌≡◌};
+ghost use Rattle.std.specs.Prelude.{◌≡◌, OnOk};
+ghost use Rattle.std.specs.Io.KnownBytes.{Appends};
 ghost use Rattle.regex_match.specs.Ending.{status_of};
 ghost use Rattle.regex_match.specs.declared.failure.Failure.TheVariants.{Output};
 
 use regress_front::parse::{Error, PlacedFault};
 use std::alloc::AllocError;
-use std::io::Write;
+use std::io::{self, Write};
+
+/// The text that a run with invalid arguments writes.
+const USAGE: &str = "usage: regex-match [--] PATTERN [FLAGS]\n";
 
 /// Why a run ends with a status other than 0 or 1.
 ///
@@ -62,7 +66,7 @@ pub(crate) fn report<E: Write>(failure: Failure, err: &mut E) -> u8
 {
     match failure {
         Failure::Usage => {
-            let _ = writeln!(err, "usage: regex-match [--] PATTERN [FLAGS]");
+            let _ = write_usage(err);
             2
         }
         Failure::Memory => {
@@ -83,4 +87,11 @@ pub(crate) fn report<E: Write>(failure: Failure, err: &mut E) -> u8
             7
         }
     }
+}
+
+/// Writes the usage.
+fn write_usage<E: Write>(err: &mut E) -> io::Result<()>
+    ensures { OnOk result (Appends (E.contents err.old) (E.contents err.new) USAGE.now) }
+{
+    err.write_all(USAGE.as_bytes())
 }

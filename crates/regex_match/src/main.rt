@@ -3,11 +3,12 @@
 //! for the arguments or the output buffer fails, with 3.
 #![tactic(auto)]
 
-ghost use Rattle.std.specs.Prelude.{◌≡◌, ◌≤◌, ◌↔◌, ◌⊎◌, true, false, None, IfSome, IfOk, IfErr};
+ghost use Rattle.std.specs.Prelude.{◌≡◌, ◌≤◌, ◌↔◌, ◌⊎◌, true, false, None, IfSome, IfOk, IfErr, OnOk};
+ghost use Rattle.std.specs.Io.KnownBytes.{Appends, Keeps};
 ghost use Rattle.regex_match.specs.Accepted.{IsAcceptedPattern, NoneIsAccepted};
 ghost use Rattle.regex_match.specs.Asked.{OfPattern, OrHelp, task_of};
 ghost use Rattle.regex_match.specs.Ending.{Ends};
-ghost use Rattle.regex_match.specs.Printed.{PrintsAll, PrintsFirst};
+ghost use Rattle.regex_match.specs.Printed.{PrintsAll, PrintsFirst, PrintsOutput};
 ghost use Rattle.regex_match.specs.declared.failure.Failure.TheVariants.{Output};
 
 mod asked;
@@ -38,25 +39,47 @@ fn run<R: Env + AllocGlobal, I: Read + Drop, W: Write + Drop, E: Write>(
     ensures known { result ≤ 7 }
 {
     match arguments(rt) {
-        Ok(args) => run_buffered(rt.alloc(), &args, input, out, err),
+        Ok(args) => {
+            let (status, _) = run_buffered(rt.alloc(), &args, input, out, err);
+            status
+        }
         Err(ArgumentsError::NotUtf8) => report(Failure::Usage, err),
         Err(ArgumentsError::OutOfMemory) => report(Failure::Memory, err),
     }
 }
 
-/// Runs `run_match` with a buffered output. The status is 3 if the buffer cannot be allocated.
+/// Runs `run_match` with a buffered output, and returns the exit status, and the output if it has all that was written.
+/// The status is 3 if the buffer cannot be allocated.
 fn run_buffered<I: Read + Drop, W: Write + Drop, E: Write>(
     alloc: Global,
     args: &[String],
     input: I,
     out: W,
     err: &mut E,
-) -> u8
-    ensures known { result ≤ 7 }
+) -> (u8, Option<W>)
+    ensures known { result.0 ≤ 7 }
+    ensures usage { result.0 ≡ 2 → task_of args.now ≡ None }
+    ensures reported { task_of args.now ≡ None → (result.0 ≡ 2) ⊎ (result.0 ≡ 3) }
+    ensures found { result.0 ≡ 0 → IfSome (task_of args.now) (λ task. IfSome result.1 (λ new.
+        PrintsOutput HELP.now (I.remaining input) (W.contents out) (W.contents new) task)) }
+    ensures none { result.0 ≡ 1 → IfSome (task_of args.now) (OfPattern (λ request. IfSome result.1 (λ new.
+        PrintsAll (I.remaining input) (W.contents out) (W.contents new) false request))) }
+    ensures steps { result.0 ≡ 6 → IfSome (task_of args.now) (OfPattern (λ request. IfSome result.1 (λ new.
+        PrintsFirst (I.remaining input) (W.contents out) (W.contents new) request))) }
+    ensures out_of_memory { result.0 ≡ 3 → IfSome result.1 (λ new. Keeps (W.contents out) (W.contents new)
+        ⊎ IfSome (task_of args.now) (OfPattern (PrintsFirst (I.remaining input) (W.contents out) (W.contents new)))) }
+    ensures untouched { (result.0 ≡ 2) ⊎ ((result.0 ≡ 5) ⊎ (result.0 ≡ 7)) →
+        IfSome result.1 (λ new. Keeps (W.contents out) (W.contents new)) }
+    ensures quiet { (result.0 ≡ 0) ⊎ ((result.0 ≡ 1) ⊎ (result.0 ≡ 4)) → err.new ≡ err.old }
+    ensures rejected { result.0 ≡ 5 → IfSome (task_of args.now) (OfPattern NoneIsAccepted) }
+    ensures accepted { (result.0 ≡ 4) ⊎ (result.0 ≡ 7) → IfSome (task_of args.now) (OrHelp IsAcceptedPattern) }
 {
     match BufWriter::new(alloc, out) {
-        Ok(mut out) => run_match(alloc, args, input, &mut out, err),
-        Err(_) => report(Failure::Memory, err),
+        Ok(mut buffered) => {
+            let status = run_match(alloc, args, input, &mut buffered, err);
+            (status, buffered.into_inner().ok())
+        }
+        Err(_) => (report(Failure::Memory, err), None),
     }
 }
 
@@ -82,9 +105,9 @@ pub fn run_match<I: Read + Drop, W: Write, E: Write>(
     ensures known { result ≤ 7 }
     ensures usage { (result ≡ 2) ↔ (task_of args.now ≡ None) }
 
-    // All matches of the pattern under its flags and all of Unicode, byte for byte: some, or none.
+    // The help, or all matches of the pattern under its flags and all of Unicode, byte for byte: some, or none.
     ensures found { result ≡ 0 → IfSome (task_of args.now)
-        (OrHelp (PrintsAll (I.remaining input) (W.contents out.old) (W.contents out.new) true)) }
+        (PrintsOutput HELP.now (I.remaining input) (W.contents out.old) (W.contents out.new)) }
     ensures none { result ≡ 1 → IfSome (task_of args.now)
         (OfPattern (PrintsAll (I.remaining input) (W.contents out.old) (W.contents out.new) false)) }
     // The first matches, if the step limit was reached; nothing or the first matches, if an allocation failed.
@@ -113,9 +136,9 @@ fn response<I: Read + Drop, W: Write>(
     input: I,
     out: &mut W,
 ) -> Result<bool, Failure>
-    ensures { Ends (PrintsAll (I.remaining input) (W.contents out.old) (W.contents out.new))
-        (PrintsFirst (I.remaining input) (W.contents out.old) (W.contents out.new)) (out.new ≡ out.old)
-        (task_of args.now) result }
+    ensures { Ends (Appends (W.contents out.old) (W.contents out.new) HELP.now)
+        (PrintsAll (I.remaining input) (W.contents out.old) (W.contents out.new))
+        (PrintsFirst (I.remaining input) (W.contents out.old) (W.contents out.new)) (out.new ≡ out.old) (task_of args.now) result }
 {
     match read_asked(args) {
         None => Err(Failure::Usage),
@@ -155,7 +178,8 @@ exit status:
 
 /// Prints the help.
 fn print_help<W: Write>(out: &mut W) -> Result<bool, Failure>
-    ensures help { IfOk result (λ any. any ≡ true) }
+    ensures help { OnOk result (Appends (W.contents out.old) (W.contents out.new) HELP.now) }
+    ensures any { IfOk result (λ any. any ≡ true) }
     ensures failed { IfErr result (λ failure. failure ≡ Output) }
 {
     out.write_all(HELP.as_bytes()).map_err(|_| Failure::Output)?;

@@ -37,7 +37,7 @@ pub(crate) fn print_matches<I: Read + Drop, W: Write>(
     input: I,
     out: &mut W,
 ) -> Result<bool, Failure>
-    ensures { Ends (PrintsAll (I.remaining input) (W.contents out.old) (W.contents out.new))
+    ensures { Ends ⊥ (PrintsAll (I.remaining input) (W.contents out.old) (W.contents out.new))
         (PrintsFirst (I.remaining input) (W.contents out.old) (W.contents out.new)) (out.new ≡ out.old)
         (Some (matches (chars pattern.now, flags))) result }
 {

@@ -1,1 +1,2 @@
+mod BufferedLemmas
 mod ShownLemmas

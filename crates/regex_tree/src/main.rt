@@ -4,7 +4,7 @@
 #![tactic(auto)]
 
 ghost use Rattle.std.specs.Prelude.{◌≡◌, ◌≢◌, ◌≤◌, ◌↔◌, ◌⊎◌, ◌++◌, None, IfSome, IfErr, OnOk, codes, string_bytes};
-ghost use Rattle.std.specs.Io.KnownBytes.{Appends};
+ghost use Rattle.std.specs.Io.KnownBytes.{Appends, Keeps};
 ghost use Rattle.regress_arguments.specs.Output.{Took};
 ghost use Rattle.regex_tree.specs.Accepted.{IsAcceptedPattern, IsFault, NoneIsAccepted, setting_of_request};
 ghost use Rattle.regex_tree.specs.Asked.{OfTree, OrHelp, requested, task_of};
@@ -40,30 +40,45 @@ fn run<R: Env + AllocGlobal, W: Write + Drop, E: Write>(rt: &R, out: W, err: &mu
     ensures known { result ≤ 4 }
 {
     match arguments(rt) {
-        Ok(args) => run_buffered(rt.alloc(), &args, out, err),
+        Ok(args) => {
+            let (status, _) = run_buffered(rt.alloc(), &args, out, err);
+            status
+        }
         Err(ArgumentsError::NotUtf8) => report(Failure::Usage, err),
         Err(ArgumentsError::OutOfMemory) => report(Failure::Memory, err),
     }
 }
 
-/// Runs `run_tree` with a buffered output. The status is 3 if the buffer cannot be allocated.
+/// Runs `run_tree` with a buffered output, and returns the exit status, and the output if it has all that was written.
+/// The status is 3 if the buffer cannot be allocated.
 fn run_buffered<W: Write + Drop, E: Write>(
     alloc: Global,
     args: &[String],
     out: W,
     err: &mut E,
-) -> u8
-    ensures known { result ≤ 4 }
-    ensures usage { result ≡ 2 → task_of args.now ≡ None }
-    ensures reported { task_of args.now ≡ None → (result ≡ 2) ⊎ (result ≡ 3) }
-    ensures rejected { result ≡ 1 → IfSome (task_of args.now) (OfTree NoneIsAccepted) }
-    ensures accepted { result ≡ 0 → IfSome (task_of args.now) (OrHelp IsAcceptedPattern) }
-    ensures failed { result ≡ 4 → IfSome (task_of args.now) (OrHelp HasOutput) }
-    ensures quiet { (result ≡ 0) ⊎ (result ≡ 4) → err.new ≡ err.old }
+) -> (u8, Option<W>)
+    ensures known { result.0 ≤ 4 }
+    ensures usage { result.0 ≡ 2 → task_of args.now ≡ None }
+    ensures reported { task_of args.now ≡ None → (result.0 ≡ 2) ⊎ (result.0 ≡ 3) }
+    ensures shown { result.0 ≡ 0 → IfSome (task_of args.now) (λ task. IfSome result.1 (λ new.
+        Took (W.contents out) (W.contents new) (IsOutputOf USAGE.now task))) }
+    ensures fault { result.0 ≡ 1 → IfSome (task_of args.now) (OfTree (λ request. IfSome result.1 (λ new.
+        WritesFault (Keeps (W.contents out) (W.contents new))
+        (Took (W.contents out) (W.contents new) (IsFaultOutput request)) request.format))) }
+    ensures untouched { result.0 ≡ 2 → IfSome result.1 (λ new. Keeps (W.contents out) (W.contents new)) }
+    ensures out_of_memory { result.0 ≡ 3 → IfSome result.1 (λ new. Keeps (W.contents out) (W.contents new)
+        ⊎ IfSome (task_of args.now) (OfTree (λ request. Took (W.contents out) (W.contents new) (IsFirstOutput request)))) }
+    ensures quiet { (result.0 ≡ 0) ⊎ (result.0 ≡ 4) → err.new ≡ err.old }
+    ensures accepted { result.0 ≡ 0 → IfSome (task_of args.now) (OrHelp IsAcceptedPattern) }
+    ensures rejected { result.0 ≡ 1 → IfSome (task_of args.now) (OfTree NoneIsAccepted) }
+    ensures failed { result.0 ≡ 4 → IfSome (task_of args.now) (OrHelp HasOutput) }
 {
     match BufWriter::new(alloc, out) {
-        Ok(mut out) => run_tree(alloc, args, &mut out, err),
-        Err(_) => report(Failure::Memory, err),
+        Ok(mut buffered) => {
+            let status = run_tree(alloc, args, &mut buffered, err);
+            (status, buffered.into_inner().ok())
+        }
+        Err(_) => (report(Failure::Memory, err), None),
     }
 }
 

@@ -1,15 +1,11 @@
 -- Texts that, parsed from the start, determine what they were written from.
-use Rattle.std.proofs.Common.{◌≡◌, ◌≢◌, ◌∙◌, ℕ, ◌<◌, ◌≤◌, ◌==◌, Bool, true, false, not, List, [], ◌∷◌, ◌++◌, length, flat_map, refl, sym, ap, arith, append_assoc, codes}
-use Rattle.std.specs.Fmt.{decimal}
-use Rattle.std.specs.List.{All, join_by}
-use Rattle.std.specs.Str.Parse.{AllDigits, digits_value}
-use Rattle.std.proofs.lemmas.Bool.{and_parts, and_from, le-leb, eq-eqb, ne_eqb}
-use Rattle.std.proofs.lemmas.Fmt.{decimal_is_IsNumeral}
+use Rattle.std.proofs.Common.{◌≡◌, ◌≢◌, ◌∙◌, ℕ, ◌==◌, Bool, true, false, not, List, [], ◌∷◌, ◌++◌, flat_map, refl, sym, ap, arith, append_assoc, codes}
+use Rattle.std.specs.List.{join_by}
+use Rattle.std.proofs.lemmas.Bool.{and_parts, eq-eqb, ne_eqb}
 use Rattle.std.proofs.lemmas.List.{append_cancel_left}
-use Rattle.std.proofs.lemmas.List.Elements.{All-head, All-tail}
-use Rattle.std.proofs.lemmas.Str.Parse.{digit_from_value}
 use Rattle.regress_json.specs.Json.{is_word_byte, is_word}
-use Rattle.regress_json.specs.Numbers.{Fits}
+use Rattle.regress_json.specs.Numbers.{numeral}
+use Rattle.regress_json.proofs.NumeralLemmas.{value, numeral-is_word, value-numeral, numeral-begins}
 
 -- Whatever follows them, equal texts imply E, and the two end at the same position.
 pub record Determines (p q : List ℕ) (E : Type 0) : Type 0 where
@@ -159,7 +155,7 @@ left_longer {p} {q} t r there = record {
 }
 
 -- lists of items, separated by commas
-module _ {X : Type 0} (f : X → List ℕ) (P : X → Type 0) (each : (x y : X) → P x → P y → DeterminesIfEnded (f x) (f y) (x ≡ y)) where
+module _ {X : Type 0} (f : X → List ℕ) (each : (x y : X) → DeterminesIfEnded (f x) (f y) (x ≡ y)) where
   abbrev further : List X → List ℕ
   further xs = flat_map (λ x. codes "," ++ f x) xs
 
@@ -167,28 +163,26 @@ module _ {X : Type 0} (f : X → List ℕ) (P : X → Type 0) (each : (x y : X) 
   further-punctuated [] a = refl
   further-punctuated (x ∷ xs) a = refl
 
-  item-determines : (x y : X) (xs ys : List X) → P x → P y → DeterminesIfClosed (further xs) (further ys) (xs ≡ ys) →
+  item-determines : (x y : X) (xs ys : List X) → DeterminesIfClosed (further xs) (further ys) (xs ≡ ys) →
       DeterminesIfClosed (f x ++ further xs) (f y ++ further ys) (x ∷ xs ≡ y ∷ ys)
-  item-determines x y xs ys px py others = gives_if_closed (λ e. λ i. e.0 i ∷ e.1 i)
-      (item_if_ended (each x y px py) others (further-punctuated xs) (further-punctuated ys))
+  item-determines x y xs ys others = gives_if_closed (λ e. λ i. e.0 i ∷ e.1 i)
+      (item_if_ended (each x y) others (further-punctuated xs) (further-punctuated ys))
 
-  further-determines : (xs ys : List X) → All P xs → All P ys → DeterminesIfClosed (further xs) (further ys) (xs ≡ ys)
-  further-determines [] [] px py = gives_if_closed (λ u. refl) none
-  further-determines [] (y ∷ ys) px py = none_some (λ c. refl)
-  further-determines (x ∷ xs) [] px py = some_none (λ c. refl)
-  further-determines (x ∷ xs) (y ∷ ys) px py = after (codes ",") (item-determines x y xs ys (All-head P x xs px) (All-head P y ys py)
-      (further-determines xs ys (All-tail P x xs px) (All-tail P y ys py)))
+  further-determines : (xs ys : List X) → DeterminesIfClosed (further xs) (further ys) (xs ≡ ys)
+  further-determines [] [] = gives_if_closed (λ u. refl) none
+  further-determines [] (y ∷ ys) = none_some (λ c. refl)
+  further-determines (x ∷ xs) [] = some_none (λ c. refl)
+  further-determines (x ∷ xs) (y ∷ ys) = after (codes ",") (item-determines x y xs ys (further-determines xs ys))
 
-  module _ (opens : (x : X) → P x → (a : List ℕ) → goes_on (f x ++ a) ≡ true) where
-    item-opens : (x : X) (xs : List X) → P x → (a : List ℕ) → goes_on ((f x ++ further xs) ++ a) ≡ true
-    item-opens x xs px a = ap goes_on (append_assoc (f x) (further xs) a) ∙ opens x px (further xs ++ a)
+  module _ (opens : (x : X) (a : List ℕ) → goes_on (f x ++ a) ≡ true) where
+    item-opens : (x : X) (xs : List X) (a : List ℕ) → goes_on ((f x ++ further xs) ++ a) ≡ true
+    item-opens x xs a = ap goes_on (append_assoc (f x) (further xs) a) ∙ opens x (further xs ++ a)
 
-    pub items-determine : (xs ys : List X) → All P xs → All P ys → DeterminesIfClosed (join_by f (codes ",") xs) (join_by f (codes ",") ys) (xs ≡ ys)
-    items-determine [] [] px py = gives_if_closed (λ u. refl) none
-    items-determine [] (y ∷ ys) px py = none_some (item-opens y ys (All-head P y ys py))
-    items-determine (x ∷ xs) [] px py = some_none (item-opens x xs (All-head P x xs px))
-    items-determine (x ∷ xs) (y ∷ ys) px py = item-determines x y xs ys (All-head P x xs px) (All-head P y ys py)
-        (further-determines xs ys (All-tail P x xs px) (All-tail P y ys py))
+    pub items-determine : (xs ys : List X) → DeterminesIfClosed (join_by f (codes ",") xs) (join_by f (codes ",") ys) (xs ≡ ys)
+    items-determine [] [] = gives_if_closed (λ u. refl) none
+    items-determine [] (y ∷ ys) = none_some (item-opens y ys)
+    items-determine (x ∷ xs) [] = some_none (item-opens x xs)
+    items-determine (x ∷ xs) (y ∷ ys) = item-determines x y xs ys (further-determines xs ys)
 
 -- words
 pub words-determine : (xs ys : List ℕ) → is_word xs ≡ true → is_word ys ≡ true → DeterminesIfEnded xs ys (xs ≡ ys)
@@ -215,32 +209,16 @@ words-determine xs ys wx wy = record { determined = λ a b pa pb e. from xs ys w
         ((λ i. first i ∷ beyond.0 i), beyond.1)
 
 -- words with an inverse parser
-pub read-determines : {X : Type 0} (f : X → List ℕ) (P : X → Type 0) (read : List ℕ → X) → ((x : X) → P x → is_word (f x) ≡ true) →
-    ((x : X) → P x → read (f x) ≡ x) → (x y : X) → P x → P y → DeterminesIfEnded (f x) (f y) (x ≡ y)
-read-determines f P read letters back x y px py =
-    gives_if_ended (λ e. sym (back x px) ∙ ap read e ∙ back y py) (words-determine (f x) (f y) (letters x px) (letters y py))
+pub read-determines : {X : Type 0} (f : X → List ℕ) (read : List ℕ → X) → ((x : X) → is_word (f x) ≡ true) → ((x : X) → read (f x) ≡ x) →
+    (x y : X) → DeterminesIfEnded (f x) (f y) (x ≡ y)
+read-determines f read letters back x y =
+    gives_if_ended (λ e. sym (back x) ∙ ap read e ∙ back y) (words-determine (f x) (f y) (letters x) (letters y))
 
-digit-is_word_byte : (c : ℕ) → 48 ≤ c → c ≤ 57 → is_word_byte c ≡ true
-digit-is_word_byte c low high = let l = le-leb 48 c low in let u = le-leb c 57 high in rw (l, u)
+pub number-determines : (m n : ℕ) → DeterminesIfEnded (numeral m) (numeral n) (m ≡ n)
+number-determines = read-determines numeral value numeral-is_word value-numeral
 
-digits-are_word : (ds : List ℕ) → AllDigits 10 ds → is_word ds ≡ true
-digits-are_word [] h = refl
-digits-are_word (c ∷ cs) h =
-    let range = digit_from_value c h.0 in
-    and_from (is_word_byte c) (is_word cs) (digit-is_word_byte c (omega arith) (omega arith)) (digits-are_word cs h.1)
-
-pub number-is_word : (n : ℕ) → Fits n → is_word (decimal n) ≡ true
-number-is_word n h = digits-are_word (decimal n) (decimal_is_IsNumeral n h).0.1
-
-pub number-determines : (m n : ℕ) → Fits m → Fits n → DeterminesIfEnded (decimal m) (decimal n) (m ≡ n)
-number-determines = read-determines decimal Fits (digits_value 10) number-is_word (λ n h. (decimal_is_IsNumeral n h).1)
-
-digits-go_on : (ds a : List ℕ) → 0 < length ds → AllDigits 10 ds → goes_on (ds ++ a) ≡ true
-digits-go_on [] a some h = absurd (omega arith)
-digits-go_on (c ∷ cs) a some h =
-    let range = digit_from_value c h.0 in
-    let differ : c ≢ 93 = λ e. omega arith in
-    ap not (ne_eqb c 93 differ)
-
-pub number-goes_on : (n : ℕ) → Fits n → (a : List ℕ) → goes_on (decimal n ++ a) ≡ true
-number-goes_on n h a = let d = decimal_is_IsNumeral n h in digits-go_on (decimal n) a d.0.0 d.0.1
+pub number-goes_on : (n : ℕ) (a : List ℕ) → goes_on (numeral n ++ a) ≡ true
+number-goes_on n a =
+    let begins = numeral-begins n in
+    let differ : begins.digit ≢ 93 = λ e. omega (arith, begins.high) in
+    ap (λ ds. goes_on (ds ++ a)) begins.is ∙ ap not (ne_eqb begins.digit 93 differ)

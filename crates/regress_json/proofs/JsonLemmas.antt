@@ -1,5 +1,5 @@
 -- Appending JSON text to what a formatter has written.
-use Rattle.std.proofs.Common.{◌≡◌, ◌∙◌, ℕ, zero, suc, ◌+◌, ◌<◌, true, false, List, [], ◌∷◌, ◌++◌, length, get_or, take, drop, map, flat_map, refl, sym, ap, add-one, append_assoc, append-nil, codes, Option, Some, None, Bor, Vec, Box, Global, rules, arith}
+use Rattle.std.proofs.Common.{◌≡◌, ◌∙◌, ℕ, zero, suc, ◌+◌, ◌<◌, ◌^◌, true, false, List, [], ◌∷◌, ◌++◌, length, get_or, take, drop, map, flat_map, refl, sym, ap, add-one, append_assoc, append-nil, codes, Option, Some, None, Bor, Vec, Box, Global, rules, arith}
 use denote.Text.{Utf8}
 use denote.Shadow.{shadow}
 use lib.Utf8.{encode}
@@ -21,6 +21,7 @@ use Rattle.regress_tree.specs.declared.ir.node.Node.{Node, the_lemmas}
 use Rattle.regress_tree.specs.declared.ir.node.Node.TheVariants.{Cat, Alt}
 use Rattle.regress_json.specs.Json.{pair, opening, ending, node_json, further_json, list_json, span_or_none, span_mark}
 use Rattle.regress_json.specs.Passed.{alternations}
+use Rattle.regress_json.proofs.NumeralLemmas.{decimal-numeral}
 
 -- a node that is neither a `Cat` nor an `Alt` and that contains no node is a leaf
 pub leaf_of : (node : Node) → ((parts : Vec Node Global) → node ≡ Cat parts → ⊥) → ((left right : Box Node Global) → node ≡ Alt left right → ⊥) →
@@ -137,8 +138,8 @@ separator (suc i) = codes ","
 pub to-left : (a b c d : List ℕ) → a ++ ((b ++ c) ++ d) ≡ ((a ++ b) ++ c) ++ d
 to-left a b c d = simp append_assoc
 
-pub pair-after : (s : List ℕ) (a b : ℕ) → s ++ (codes "[" ++ (decimal a ++ (codes "," ++ (decimal b ++ codes "]")))) ≡ s ++ pair a b
-pair-after s a b = ap (λ t. s ++ t) (simp append_assoc)
+pub pair-after : (s : List ℕ) (a b : ℕ) → a < 2 ^ 64 → b < 2 ^ 64 → s ++ (codes "[" ++ (decimal a ++ (codes "," ++ (decimal b ++ codes "]")))) ≡ s ++ pair a b
+pair-after s a b ha hb = ap (λ t. s ++ t) (rw (decimal-numeral a ha, decimal-numeral b hb) (simp append_assoc))
 
 pub comma-is_text : shadow (Utf8 (codes ","))
 unfolding encode

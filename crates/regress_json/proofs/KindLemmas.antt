@@ -4,7 +4,6 @@ use Rattle.std.proofs.lemmas.Bool.{eq-eqb}
 use Rattle.std.proofs.lemmas.List.{append_cancel_left}
 use Rattle.regress_tree.specs.Tree.{Leaf, empty, goal, char, byte_sequence, byte_set, char_set, match_any, match_any_except_line_terminator, anchor, word_boundary, bracket, back_ref, string_set, Wrapper, capture_group, loop, loop_one, lookaround}
 use Rattle.regress_json.specs.Json.{is_word, numbers, interval, leaf_json, front}
-use Rattle.regress_json.specs.Numbers.{AllFit, IntervalFits, LeafFits, WrapperFits}
 use Rattle.regress_json.proofs.DeterminingLemmas.{Determines, gives, if_ended, then, start, more, more_items, items-determine, words-determine, number-determines}
 use Rattle.regress_json.proofs.PieceLemmas.{truth-determines, anchored-determines, numbers-determine, pair-determines, interval-determines, quantifier-determines, name-determines}
 
@@ -80,41 +79,41 @@ ended l = leaf_json l ++ codes "}"
 pub ended-kind : (l : Leaf) → HasKind (ended l) (leaf_kind l)
 ended-kind l = begun_more (leaf-kind l) (codes "}")
 
-pub leaf-determines : (l m : Leaf) → LeafFits l → LeafFits m → Determines (ended l) (ended m) (l ≡ m)
-leaf-determines empty empty h k = gives (λ u. refl) (start (ended empty))
-leaf-determines goal goal h k = gives (λ u. refl) (start (ended goal))
-leaf-determines (char c) (char d) h k = gives (λ e. ap char e.1)
-    (more (start (codes "{\"kind\":\"Char\",\"c\":")) (number-determines c d h k) (codes "}") refl)
-leaf-determines (byte_sequence xs) (byte_sequence ys) h k = gives (λ e. ap byte_sequence e.1)
-    (more (start (codes "{\"kind\":\"ByteSequence\",\"bytes\":")) (if_ended (numbers-determine xs ys h k)) (codes "}") refl)
-leaf-determines (byte_set xs) (byte_set ys) h k = gives (λ e. ap byte_set e.1)
-    (more (start (codes "{\"kind\":\"ByteSet\",\"bytes\":")) (if_ended (numbers-determine xs ys h k)) (codes "}") refl)
-leaf-determines (char_set xs) (char_set ys) h k = gives (λ e. ap char_set e.1)
-    (more (start (codes "{\"kind\":\"CharSet\",\"characters\":")) (if_ended (numbers-determine xs ys h k)) (codes "}") refl)
-leaf-determines match_any match_any h k = gives (λ u. refl) (start (ended match_any))
-leaf-determines match_any_except_line_terminator match_any_except_line_terminator h k =
+pub leaf-determines : (l m : Leaf) → Determines (ended l) (ended m) (l ≡ m)
+leaf-determines empty empty = gives (λ u. refl) (start (ended empty))
+leaf-determines goal goal = gives (λ u. refl) (start (ended goal))
+leaf-determines (char c) (char d) = gives (λ e. ap char e.1)
+    (more (start (codes "{\"kind\":\"Char\",\"c\":")) (number-determines c d) (codes "}") refl)
+leaf-determines (byte_sequence xs) (byte_sequence ys) = gives (λ e. ap byte_sequence e.1)
+    (more (start (codes "{\"kind\":\"ByteSequence\",\"bytes\":")) (if_ended (numbers-determine xs ys)) (codes "}") refl)
+leaf-determines (byte_set xs) (byte_set ys) = gives (λ e. ap byte_set e.1)
+    (more (start (codes "{\"kind\":\"ByteSet\",\"bytes\":")) (if_ended (numbers-determine xs ys)) (codes "}") refl)
+leaf-determines (char_set xs) (char_set ys) = gives (λ e. ap char_set e.1)
+    (more (start (codes "{\"kind\":\"CharSet\",\"characters\":")) (if_ended (numbers-determine xs ys)) (codes "}") refl)
+leaf-determines match_any match_any = gives (λ u. refl) (start (ended match_any))
+leaf-determines match_any_except_line_terminator match_any_except_line_terminator =
     gives (λ u. refl) (start (ended match_any_except_line_terminator))
-leaf-determines (anchor x m) (anchor y n) h k = gives (λ e. λ i. anchor (e.0.1 i) (e.1 i))
+leaf-determines (anchor x m) (anchor y n) = gives (λ e. λ i. anchor (e.0.1 i) (e.1 i))
     (more (more (start (codes "{\"kind\":\"Anchor\",\"anchor_type\":\""))
     (anchored-determines x y) (codes "\",\"multiline\":") refl)
     (truth-determines m n) (codes "}") refl)
-leaf-determines (word_boundary x m) (word_boundary y n) h k = gives (λ e. λ i. word_boundary (e.0.1 i) (e.1 i))
+leaf-determines (word_boundary x m) (word_boundary y n) = gives (λ e. λ i. word_boundary (e.0.1 i) (e.1 i))
     (more (more (start (codes "{\"kind\":\"WordBoundary\",\"invert\":"))
     (truth-determines x y) (codes ",\"unicode_icase\":") refl)
     (truth-determines m n) (codes "}") refl)
-leaf-determines (bracket x xs) (bracket y ys) h k = gives (λ e. λ i. bracket (e.0.1 i) (e.1 i))
+leaf-determines (bracket x xs) (bracket y ys) = gives (λ e. λ i. bracket (e.0.1 i) (e.1 i))
     (then (more_items (more (start (codes "{\"kind\":\"Bracket\",\"invert\":"))
     (truth-determines x y) (codes ",\"cps\":[") refl)
-    (items-determine interval IntervalFits (λ iv jv p q. if_ended (interval-determines iv jv p q)) (λ iv p a. refl) xs ys h k) []) (codes "}"))
-leaf-determines (back_ref x m) (back_ref y n) h k = gives (λ e. λ i. back_ref (e.0.1 i) (e.1 i))
+    (items-determine interval (λ iv jv. if_ended (interval-determines iv jv)) (λ iv a. refl) xs ys) []) (codes "}"))
+leaf-determines (back_ref x m) (back_ref y n) = gives (λ e. λ i. back_ref (e.0.1 i) (e.1 i))
     (more (more (start (codes "{\"kind\":\"BackRef\",\"group\":"))
-    (number-determines x y h k) (codes ",\"icase\":") refl)
+    (number-determines x y) (codes ",\"icase\":") refl)
     (truth-determines m n) (codes "}") refl)
-leaf-determines (string_set xs m) (string_set ys n) h k = gives (λ e. λ i. string_set (e.0.1 i) (e.1 i))
+leaf-determines (string_set xs m) (string_set ys n) = gives (λ e. λ i. string_set (e.0.1 i) (e.1 i))
     (more (more_items (start (codes "{\"kind\":\"StringSet\",\"alternatives\":["))
-    (items-determine numbers AllFit (λ s t p q. if_ended (numbers-determine s t p q)) (λ s p a. refl) xs ys h k) (codes ",\"icase\":"))
+    (items-determine numbers (λ s t. if_ended (numbers-determine s t)) (λ s a. refl) xs ys) (codes ",\"icase\":"))
     (truth-determines m n) (codes "}") refl)
-leaf-determines l m h k = kinds-apart code (ended-kind l) (ended-kind m) refl
+leaf-determines l m = kinds-apart code (ended-kind l) (ended-kind m) refl
 
 abbrev pub wrapper_kind : Wrapper → List ℕ
 wrapper_kind (capture_group id name) = codes "CaptureGroup"
@@ -128,22 +127,22 @@ wrapper-kind (loop q start end) = begun (codes "Loop") _ refl
 wrapper-kind (loop_one q) = begun (codes "Loop1CharBody") _ refl
 wrapper-kind (lookaround negate backwards start end) = begun (codes "LookaroundAssertion") _ refl
 
-pub wrapper-determines : (w v : Wrapper) → WrapperFits w → WrapperFits v → Determines (front w) (front v) (w ≡ v)
-wrapper-determines (capture_group a m) (capture_group b n) h k = gives (λ e. λ i. capture_group (e.0.1 i) (e.1 i))
+pub wrapper-determines : (w v : Wrapper) → Determines (front w) (front v) (w ≡ v)
+wrapper-determines (capture_group a m) (capture_group b n) = gives (λ e. λ i. capture_group (e.0.1 i) (e.1 i))
     (more (more (start (codes "{\"kind\":\"CaptureGroup\",\"id\":"))
-    (number-determines a b h.0 k.0) (codes ",\"name\":") refl)
-    (if_ended (name-determines m n h.1 k.1)) (codes ",\"contents\":") refl)
-wrapper-determines (loop p a b) (loop q c d) h k = gives (λ e. λ i. loop (e.1 i) (e.0.1.0 i) (e.0.1.1 i))
+    (number-determines a b) (codes ",\"name\":") refl)
+    (if_ended (name-determines m n)) (codes ",\"contents\":") refl)
+wrapper-determines (loop p a b) (loop q c d) = gives (λ e. λ i. loop (e.1 i) (e.0.1.0 i) (e.0.1.1 i))
     (more (more (start (codes "{\"kind\":\"Loop\",\"enclosed_groups\":"))
-    (if_ended (pair-determines a b c d h.1 h.2 k.1 k.2)) (codes ",\"quant\":") refl)
-    (if_ended (quantifier-determines p q h.0 k.0)) (codes ",\"loopee\":") refl)
-wrapper-determines (loop_one p) (loop_one q) h k = gives (λ e. ap loop_one e.1)
-    (more (start (codes "{\"kind\":\"Loop1CharBody\",\"quant\":")) (if_ended (quantifier-determines p q h k)) (codes ",\"loopee\":") refl)
-wrapper-determines (lookaround m x a b) (lookaround n y c d) h k =
+    (if_ended (pair-determines a b c d)) (codes ",\"quant\":") refl)
+    (if_ended (quantifier-determines p q)) (codes ",\"loopee\":") refl)
+wrapper-determines (loop_one p) (loop_one q) = gives (λ e. ap loop_one e.1)
+    (more (start (codes "{\"kind\":\"Loop1CharBody\",\"quant\":")) (if_ended (quantifier-determines p q)) (codes ",\"loopee\":") refl)
+wrapper-determines (lookaround m x a b) (lookaround n y c d) =
     gives (λ e. λ i. lookaround (e.0.0.0.1 i) (e.0.0.1 i) (e.0.1 i) (e.1 i))
     (more (more (more (more (start (codes "{\"kind\":\"LookaroundAssertion\",\"negate\":"))
     (truth-determines m n) (codes ",\"backwards\":") refl)
     (truth-determines x y) (codes ",\"start_group\":") refl)
-    (number-determines a c h.0 k.0) (codes ",\"end_group\":") refl)
-    (number-determines b d h.1 k.1) (codes ",\"contents\":") refl)
-wrapper-determines w v h k = kinds-apart code (wrapper-kind w) (wrapper-kind v) refl
+    (number-determines a c) (codes ",\"end_group\":") refl)
+    (number-determines b d) (codes ",\"contents\":") refl)
+wrapper-determines w v = kinds-apart code (wrapper-kind w) (wrapper-kind v) refl

@@ -1,5 +1,6 @@
 pub mod JsonLemmas
 pub mod lemmas
+mod NumeralLemmas
 mod DeterminingLemmas
 mod PieceLemmas
 mod KindLemmas

@@ -1,7 +1,6 @@
 -- A tree as JSON (RFC 8259): one object for each node, whose `kind` and members are named as in `Node`.
 use Rattle.std.specs.Prelude.{ℕ, ◌+◌, Bool, true, false, List, [], ◌∷◌, ◌++◌, codes, Option, Some, None, if◌then◌else◌, nat_le, ◌==◌, ◌||◌, ◌&&◌}
 use Rattle.std.specs.List.{join_by, slice_get}
-use Rattle.std.specs.Fmt.{decimal}
 use Rattle.regress_base.specs.Intervals.{Bounds}
 use Rattle.regress_base.specs.declared.types.Flags.{Flags}
 use Rattle.regress_base.specs.declared.types.Quantifier.{Quantifier}
@@ -9,14 +8,15 @@ use Rattle.regress_tree.specs.Display.{anchored, truth}
 use Rattle.regress_tree.specs.Tree.{Leaf, empty, goal, char, byte_sequence, byte_set, char_set, match_any, match_any_except_line_terminator, anchor, word_boundary, bracket, back_ref, string_set, Wrapper, capture_group, loop, loop_one, lookaround, Tree, Trees, leaf, cat, alt, wrapped, no_trees, more_trees}
 use Rattle.regress_tree.specs.Visits.{nodes, nodes_in_list}
 use Rattle.regress_parse.specs.declared.span.Span.{Span}
+use Rattle.regress_json.specs.Numbers.{numeral}
 
 -- `[97,98]`
 abbrev pub numbers : List ℕ → List ℕ
-numbers ns = codes "[" ++ join_by decimal (codes ",") ns ++ codes "]"
+numbers ns = codes "[" ++ join_by numeral (codes ",") ns ++ codes "]"
 
 -- `[97,122]`, for `a` to `z`
 abbrev pub pair : ℕ → ℕ → List ℕ
-pair first last = codes "[" ++ decimal first ++ codes "," ++ decimal last ++ codes "]"
+pair first last = codes "[" ++ numeral first ++ codes "," ++ numeral last ++ codes "]"
 
 -- an interval, as a pair of its first and its last code point
 abbrev pub interval : Bounds → List ℕ
@@ -25,11 +25,11 @@ interval iv = pair iv.first iv.last
 -- a number, or `null`
 abbrev pub number_or_null : Option ℕ → List ℕ
 number_or_null None = codes "null"
-number_or_null (Some n) = decimal n
+number_or_null (Some n) = numeral n
 
 -- `{"min":2,"max":null,"greedy":true}`
 abbrev pub quantifier : Quantifier → List ℕ
-quantifier q = codes "{\"min\":" ++ decimal q.min ++ codes ",\"max\":" ++ number_or_null q.max ++ codes ",\"greedy\":" ++ truth q.greedy ++ codes "}"
+quantifier q = codes "{\"min\":" ++ numeral q.min ++ codes ",\"max\":" ++ number_or_null q.max ++ codes ",\"greedy\":" ++ truth q.greedy ++ codes "}"
 
 -- an ASCII letter, a digit, `_`, `$`, or a byte of a character that isn't ASCII
 abbrev pub is_word_byte : ℕ → Bool
@@ -55,7 +55,7 @@ node_of_bytes kind bytes = codes "{\"kind\":\"" ++ kind ++ codes "\",\"bytes\":"
 abbrev pub leaf_json : Leaf → List ℕ
 leaf_json empty = codes "{\"kind\":\"Empty\""
 leaf_json goal = codes "{\"kind\":\"Goal\""
-leaf_json (char c) = codes "{\"kind\":\"Char\",\"c\":" ++ decimal c
+leaf_json (char c) = codes "{\"kind\":\"Char\",\"c\":" ++ numeral c
 leaf_json (byte_sequence bytes) = node_of_bytes (codes "ByteSequence") bytes
 leaf_json (byte_set bytes) = node_of_bytes (codes "ByteSet") bytes
 leaf_json (char_set characters) = codes "{\"kind\":\"CharSet\",\"characters\":" ++ numbers characters
@@ -66,19 +66,19 @@ leaf_json (word_boundary invert unicode_icase) =
     codes "{\"kind\":\"WordBoundary\",\"invert\":" ++ truth invert ++ codes ",\"unicode_icase\":" ++ truth unicode_icase
 leaf_json (bracket invert intervals) =
     codes "{\"kind\":\"Bracket\",\"invert\":" ++ truth invert ++ codes ",\"cps\":[" ++ join_by interval (codes ",") intervals ++ codes "]"
-leaf_json (back_ref group icase) = codes "{\"kind\":\"BackRef\",\"group\":" ++ decimal group ++ codes ",\"icase\":" ++ truth icase
+leaf_json (back_ref group icase) = codes "{\"kind\":\"BackRef\",\"group\":" ++ numeral group ++ codes ",\"icase\":" ++ truth icase
 leaf_json (string_set strings icase) =
     codes "{\"kind\":\"StringSet\",\"alternatives\":[" ++ join_by numbers (codes ",") strings ++ codes "],\"icase\":" ++ truth icase
 
 -- the text before the node inside
 abbrev pub front : Wrapper → List ℕ
-front (capture_group id n) = codes "{\"kind\":\"CaptureGroup\",\"id\":" ++ decimal id ++ codes ",\"name\":" ++ name n ++ codes ",\"contents\":"
+front (capture_group id n) = codes "{\"kind\":\"CaptureGroup\",\"id\":" ++ numeral id ++ codes ",\"name\":" ++ name n ++ codes ",\"contents\":"
 front (loop q start end) =
     codes "{\"kind\":\"Loop\",\"enclosed_groups\":" ++ pair start end ++ codes ",\"quant\":" ++ quantifier q ++ codes ",\"loopee\":"
 front (loop_one q) = codes "{\"kind\":\"Loop1CharBody\",\"quant\":" ++ quantifier q ++ codes ",\"loopee\":"
 front (lookaround negate backwards start end) = codes "{\"kind\":\"LookaroundAssertion\",\"negate\":" ++ truth negate
-    ++ codes ",\"backwards\":" ++ truth backwards ++ codes ",\"start_group\":" ++ decimal start
-    ++ codes ",\"end_group\":" ++ decimal end ++ codes ",\"contents\":"
+    ++ codes ",\"backwards\":" ++ truth backwards ++ codes ",\"start_group\":" ++ numeral start
+    ++ codes ",\"end_group\":" ++ numeral end ++ codes ",\"contents\":"
 
 -- the text before the nodes inside; all members, if there are none
 abbrev pub opening : Tree → List ℕ
@@ -129,7 +129,7 @@ flags_json f = codes "{\"icase\":" ++ truth f.icase ++ codes ",\"multiline\":" +
 -- the span of a node, if it is known
 abbrev pub span_or_none : Option Span → List ℕ
 span_or_none None = []
-span_or_none (Some s) = codes ",\"span\":[" ++ decimal s.start ++ codes "," ++ decimal s.end ++ codes "]"
+span_or_none (Some s) = codes ",\"span\":[" ++ numeral s.start ++ codes "," ++ numeral s.end ++ codes "]"
 
 -- the span with that number
 abbrev pub span_mark : List Span → ℕ → List ℕ

@@ -2,9 +2,9 @@
 ghost use Rattle.std.specs.Prelude.{◌≡◌, ◌++◌, ℕ, List, OnOk, Some, true, codes, drop, flat_map, option_map, string_bytes, map};
 ghost use Rattle.std.specs.Box.{boxed_slice_items};
 ghost use Rattle.std.specs.List.{join_by};
-ghost use Rattle.std.specs.Fmt.{WritesOnOk, decimal};
+ghost use Rattle.std.specs.Fmt.{WritesOnOk};
 ghost use Rattle.std.specs.Slice.Iter.{iter_rest};
-ghost use Rattle.regress_tree.specs.Tree.{tree, trees, capture_group, loop, loop_one, lookaround, anchor, word_boundary, bracket, char_set, back_ref, string_set};
+ghost use Rattle.regress_tree.specs.Tree.{tree, trees, capture_group, loop, loop_one, lookaround, anchor, word_boundary, bracket, char, char_set, back_ref, string_set};
 ghost use Rattle.regress_tree.specs.Visits.{nodes, nodes_in_list};
 ghost use Rattle.regress_parse.specs.declared.span.Span.{Span};
 ghost use Rattle.regress_json.specs.Json as text;
@@ -171,7 +171,7 @@ fn write_opening<W: Write>(node: &Node, f: &mut Formatter<W>) -> fmt::Result
     match node {
         Node::Empty => f.write_str("{\"kind\":\"Empty\""),
         Node::Goal => f.write_str("{\"kind\":\"Goal\""),
-        Node::Char { c } => write!(f, "{{\"kind\":\"Char\",\"c\":{c}"),
+        Node::Char { c } => write_char(*c, f),
         Node::ByteSequence(bytes) => write_bytes("ByteSequence", bytes, f),
         Node::ByteSet(bytes) => write_bytes("ByteSet", bytes, f),
         Node::CharSet(characters) => write_char_set(characters, f),
@@ -210,6 +210,12 @@ fn write_opening<W: Write>(node: &Node, f: &mut Formatter<W>) -> fmt::Result
             icase,
         } => write_string_set(alternatives, *icase, f),
     }
+}
+
+fn write_char<W: Write>(c: u32, f: &mut Formatter<W>) -> fmt::Result
+    ensures { WritesOnOk W.write_str_gives f.old result (text.leaf_json (char c)) f.new }
+{
+    write!(f, "{{\"kind\":\"Char\",\"c\":{c}")
 }
 
 fn write_word_boundary<W: Write>(
@@ -265,7 +271,7 @@ fn write_name<W: Write>(name: &Option<CaptureGroupName>, f: &mut Formatter<W>) -
     match name {
         None => f.write_str("null"),
         Some(name) if is_word(name.as_bytes()) => write!(f, "\"{name}\""),
-        Some(name) => write_list(name.as_bytes(), f),
+        Some(name) => write_byte_list(name.as_bytes(), f),
     }
 }
 
@@ -378,7 +384,7 @@ fn write_strings<W: Write>(strings: &[BoxedSlice<u32>], f: &mut Formatter<W>) ->
     let mut comma = "";
     for string in strings {
         f.write_str(comma)?;
-        write_list(string, f)?;
+        write_numbers(string, f)?;
         comma = ",";
     }
     Ok(())
@@ -388,14 +394,26 @@ fn write_char_set<W: Write>(characters: &[u32], f: &mut Formatter<W>) -> fmt::Re
     ensures { WritesOnOk W.write_str_gives f.old result (text.leaf_json (char_set characters.now)) f.new }
 {
     f.write_str("{\"kind\":\"CharSet\",\"characters\":")?;
-    write_list(characters, f)
+    write_numbers(characters, f)
 }
 
 fn write_bytes<W: Write>(kind: &str, bytes: &[u8], f: &mut Formatter<W>) -> fmt::Result
     ensures { WritesOnOk W.write_str_gives f.old result (text.node_of_bytes kind.now bytes.now) f.new }
 {
     write!(f, "{{\"kind\":\"{kind}\",\"bytes\":")?;
+    write_byte_list(bytes, f)
+}
+
+fn write_byte_list<W: Write>(bytes: &[u8], f: &mut Formatter<W>) -> fmt::Result
+    ensures { WritesOnOk W.write_str_gives f.old result (text.numbers bytes.now) f.new }
+{
     write_list(bytes, f)
+}
+
+fn write_numbers<W: Write>(values: &[u32], f: &mut Formatter<W>) -> fmt::Result
+    ensures { WritesOnOk W.write_str_gives f.old result (text.numbers values.now) f.new }
+{
+    write_list(values, f)
 }
 
 /// Writes values in brackets, separated by commas.

@@ -1,5 +1,5 @@
 //! The span of a node, written at the end of its object.
-ghost use Rattle.std.specs.Prelude.{◌≡◌, drop};
+ghost use Rattle.std.specs.Prelude.{◌≡◌, ◌++◌, Some, codes, drop};
 ghost use Rattle.std.specs.Fmt.{WritesOnOk};
 ghost use Rattle.std.specs.Slice.Iter.{iter_rest};
 ghost use Rattle.regress_tree.specs.Tree.{tree};
@@ -21,9 +21,17 @@ pub(crate) fn write_ending<W: Write>(marks: &mut Marks<'_>, f: &mut Formatter<W>
     ensures passed { iter_rest marks.new ≡ drop 1 (iter_rest marks.old) }
 {
     match marks.next() {
-        Some(Span { start, end }) => write!(f, ",\"span\":[{start},{end}]}}"),
+        Some(span) => write_span(*span, f),
         None => f.write_str("}"),
     }
+}
+
+/// Writes a span, and ends the object.
+fn write_span<W: Write>(span: Span, f: &mut Formatter<W>) -> fmt::Result
+    ensures { WritesOnOk W.write_str_gives f.old result (text.span_or_none (Some span) ++ codes "}") f.new }
+{
+    let Span { start, end } = span;
+    write!(f, ",\"span\":[{start},{end}]}}")
 }
 
 /// Skips the marks of the `Alt`s on the right spine of a right side: they have no objects of their own.

@@ -1,5 +1,5 @@
 -- The loop over terms: the spans so far, and the derivation of the remaining terms.
-use Rattle.std.proofs.Common.{◌≡◌, ℕ, ◌+◌, Bool, true, false, List, [], ◌∷◌, ◌++◌, length, Some, Vec, refl, sym, ap, ◌∙◌, subst, arith}
+use Rattle.std.proofs.Common.{◌≡◌, ℕ, ◌+◌, Bool, true, false, List, [], ◌++◌, Some, Vec, refl, sym, ap, ◌∙◌, subst, arith}
 use Rattle.std.specs.declared.alloc.Global.{Global}
 use Rattle.std.proofs.lemmas.List.{append_assoc, append-nil}
 use Rattle.std.proofs.lemmas.Bool.{false≢true}
@@ -12,7 +12,7 @@ use Rattle.regress_syntax.specs.Grammar.{AreTerms, IsItem}
 use Rattle.regress_syntax.proofs.lemmas.Productions.{no_head_at_end}
 use Rattle.regress_parse.specs.declared.span.Span.{Span}
 use Rattle.regress_parse.specs.Spans.{in_order, how_many, span_of_times, span_of_alternative, between, spans_of_terms, spans_of_item}
-use Rattle.regress_parse.specs.Recorded.{turned, Adds, RecordsAlternative, RecordsTerm}
+use Rattle.regress_parse.specs.Recorded.{turned, RecordsAlternative, RecordsTerm}
 
 -- No item begins where the alternative ends.
 none_at_end : (ctx : Context) (t : Source) (x : Head × Source) → head_at ctx t ≡ Some x → ends_alternative t ≡ true → ⊥

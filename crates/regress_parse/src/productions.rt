@@ -84,6 +84,8 @@ impl Parser<'_> {
 
     /// Parses terms up to the end of the alternative as [`Parser::consume_alternative`] does, and records spans. The parts
     /// of a lookbehind are in reverse order in the tree, so there each span is copied.
+    #[cold]
+    #[inline(never)]
     #[cycle(parser)]
     fn consume_recorded(&mut self, around: &PartContext) -> Result<Node, Fault>
         requires depth { around.now.depth ≤ max_nesting_depth }

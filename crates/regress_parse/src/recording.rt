@@ -30,6 +30,20 @@ pub(crate) fn record_if(
     if !around.records || !condition {
         return Ok(());
     }
+    push_span(spans, around, left, cursor)
+}
+
+/// Appends the span from the position where `left` code points remained to the cursor.
+#[cold]
+#[inline(never)]
+fn push_span(
+    spans: &mut Vec<Span>,
+    around: &PartContext,
+    left: usize,
+    cursor: &Cursor,
+) -> Result<(), AllocError>
+    ensures { OnOk result (spans.new.items ≡ spans.old.items ++ span_to around.now.whole left (source cursor.now) ∷ []) }
+{
     spans.push(around.span(left, cursor))?;
     Ok(())
 }
@@ -55,6 +69,8 @@ pub(crate) fn record_nodes(
 
 /// Appends the span of an item once for each node of the item: one node, or a chain of `Alt` nodes whose alternatives
 /// are leaves.
+#[cold]
+#[inline(never)]
 fn push_nodes(spans: &mut Vec<Span>, item: &Node, span: Span) -> Result<(), AllocError>
     ensures { IsFlat (tree item.now) → OnOk result (spans.new.items ≡ spans.old.items ++ replicate (nodes (tree item.now)) span) }
 {
@@ -77,9 +93,19 @@ pub(crate) fn note_start(
 ) -> Result<(), AllocError>
     ensures { around.now.records ≡ true → OnOk result (starts.new.items ≡ starts.old.items ++ left ∷ []) }
 {
-    if around.records {
-        starts.push(left)?;
+    if !around.records {
+        return Ok(());
     }
+    push_start(starts, left)
+}
+
+/// Appends the start of an alternative to the list.
+#[cold]
+#[inline(never)]
+fn push_start(starts: &mut Vec<usize>, left: usize) -> Result<(), AllocError>
+    ensures { OnOk result (starts.new.items ≡ starts.old.items ++ left ∷ []) }
+{
+    starts.push(left)?;
     Ok(())
 }
 

@@ -4,7 +4,6 @@ use Rattle.regress_base.specs.declared.types.Flags.{Flags}
 use Rattle.regress_tree.specs.Tree.{Leaf, empty, goal, char, byte_sequence, byte_set, char_set, match_any, match_any_except_line_terminator, anchor, word_boundary, bracket, back_ref, string_set, Wrapper, capture_group, loop, loop_one, lookaround, Tree, Trees, leaf, cat, alt, wrapped, no_trees, more_trees}
 use Rattle.regress_tree.specs.Visits.{nodes}
 use Rattle.regress_json.specs.Json.{node_json, further_json, list_json, span_mark, json_of}
-use Rattle.regress_json.specs.Numbers.{NumbersFit, ListFits}
 use Rattle.regress_json.proofs.DeterminingLemmas.{Determines, DeterminesIfClosed, gives, gives_if_closed, if_ended, if_closed, after, start, more, more_items, item, goes_on, none, none_some, some_none, right_longer, left_longer}
 use Rattle.regress_json.proofs.PieceLemmas.{flags-determine}
 use Rattle.regress_json.proofs.KindLemmas.{HasKind, begun, begun_more, code, kinds-apart, leaf_kind, ended-kind, leaf-determines, wrapper_kind, wrapper-kind, wrapper-determines}
@@ -91,63 +90,63 @@ further-goes_on n (wrapped w body) a = refl
 -- The induction hypotheses for a tree: its text as a node, as a further alternative, and in a list of parts, whatever
 -- the numbers of the first nodes are.
 abbrev Determined : Tree → Type 0
-Determined t = (u : Tree) (m n : ℕ) → NumbersFit t → NumbersFit u → Determines (node m t) (node n u) (t ≡ u)
+Determined t = (u : Tree) (m n : ℕ) → Determines (node m t) (node n u) (t ≡ u)
 
 abbrev FurtherDetermined : Tree → Type 0
-FurtherDetermined t = (u : Tree) (m n : ℕ) → NumbersFit t → NumbersFit u → DeterminesIfClosed (further m t) (further n u) (t ≡ u)
+FurtherDetermined t = (u : Tree) (m n : ℕ) → DeterminesIfClosed (further m t) (further n u) (t ≡ u)
 
 abbrev ListDetermined : Trees → Type 0
-ListDetermined ts = (first : Bool) (us : Trees) (m n : ℕ) → ListFits ts → ListFits us → DeterminesIfClosed (list m first ts) (list n first us) (ts ≡ us)
+ListDetermined ts = (first : Bool) (us : Trees) (m n : ℕ) → DeterminesIfClosed (list m first ts) (list n first us) (ts ≡ us)
 
 leaf-determined : (l : Leaf) → Determined (leaf l)
-leaf-determined l (leaf v) m n h k = gives (λ e. ap leaf e) (leaf-determines l v h k)
-leaf-determined l u m n h k = constructors-apart m n (leaf l) u refl
+leaf-determined l (leaf v) m n = gives (λ e. ap leaf e) (leaf-determines l v)
+leaf-determined l u m n = constructors-apart m n (leaf l) u refl
 
 cat-determined : (ts : Trees) → ListDetermined ts → Determined (cat ts)
-cat-determined ts parts (cat us) m n h k =
-    gives (λ e. ap cat e.1) (more_items (start (codes "{\"kind\":\"Cat\",\"parts\":[")) (parts true us m n h k) (codes "}"))
-cat-determined ts parts u m n h k = constructors-apart m n (cat ts) u refl
+cat-determined ts parts (cat us) m n =
+    gives (λ e. ap cat e.1) (more_items (start (codes "{\"kind\":\"Cat\",\"parts\":[")) (parts true us m n) (codes "}"))
+cat-determined ts parts u m n = constructors-apart m n (cat ts) u refl
 
 wrapped-determined : (w : Wrapper) (t : Tree) → Determined t → Determined (wrapped w t)
-wrapped-determined w t inside (wrapped v u) m n h k = gives (λ e. λ i. wrapped (e.0 i) (e.1 i))
-    (more (wrapper-determines w v h.0 k.0) (if_ended (inside u m n h.1 k.1)) (codes "}") refl)
-wrapped-determined w t inside u m n h k = constructors-apart m n (wrapped w t) u refl
+wrapped-determined w t inside (wrapped v u) m n = gives (λ e. λ i. wrapped (e.0 i) (e.1 i))
+    (more (wrapper-determines w v) (if_ended (inside u m n)) (codes "}") refl)
+wrapped-determined w t inside u m n = constructors-apart m n (wrapped w t) u refl
 
-sides-determined : (l r l' r' : Tree) → Determined l → FurtherDetermined r → (m n : ℕ) → NumbersFit (alt l r) → NumbersFit (alt l' r') →
+sides-determined : (l r l' r' : Tree) → Determined l → FurtherDetermined r → (m n : ℕ) →
     DeterminesIfClosed (node m l ++ further (m + nodes l) r) (node n l' ++ further (n + nodes l') r') (alt l r ≡ alt l' r')
-sides-determined l r l' r' left right m n h k = gives_if_closed (λ e. λ i. alt (e.0 i) (e.1 i))
-    (item (left l' m n h.0 k.0) (right r' (m + nodes l) (n + nodes l') h.1 k.1))
+sides-determined l r l' r' left right m n = gives_if_closed (λ e. λ i. alt (e.0 i) (e.1 i))
+    (item (left l' m n) (right r' (m + nodes l) (n + nodes l')))
 
 alt-determined : (l r : Tree) → Determined l → FurtherDetermined r → Determined (alt l r)
-alt-determined l r left right (alt l' r') m n h k = gives (λ e. e.1)
-    (more_items (start (codes "{\"kind\":\"Alt\",\"alternatives\":[")) (sides-determined l r l' r' left right m n h k) (codes "}"))
-alt-determined l r left right u m n h k = constructors-apart m n (alt l r) u refl
+alt-determined l r left right (alt l' r') m n = gives (λ e. e.1)
+    (more_items (start (codes "{\"kind\":\"Alt\",\"alternatives\":[")) (sides-determined l r l' r' left right m n) (codes "}"))
+alt-determined l r left right u m n = constructors-apart m n (alt l r) u refl
 
 -- several alternatives on one side, one on the other
-longer-determined : (l r u : Tree) → Determined l → (m n : ℕ) → NumbersFit (alt l r) → NumbersFit u →
+longer-determined : (l r u : Tree) → Determined l → (m n : ℕ) →
     DeterminesIfClosed (further m (alt l r)) (codes "," ++ node n u) (alt l r ≡ u)
-longer-determined l r u left m n h k =
-    after (codes ",") (left_longer (left u m n h.0 k) (further (m + nodes l) r) (further-goes_on (m + nodes l) r))
+longer-determined l r u left m n =
+    after (codes ",") (left_longer (left u m n) (further (m + nodes l) r) (further-goes_on (m + nodes l) r))
 
 further_alt-determined : (l r : Tree) → Determined l → FurtherDetermined r → FurtherDetermined (alt l r)
-further_alt-determined l r left right (alt l' r') m n h k = after (codes ",") (sides-determined l r l' r' left right m n h k)
-further_alt-determined l r left right (leaf v) m n h k = longer-determined l r (leaf v) left m n h k
-further_alt-determined l r left right (cat us) m n h k = longer-determined l r (cat us) left m n h k
-further_alt-determined l r left right (wrapped v u) m n h k = longer-determined l r (wrapped v u) left m n h k
+further_alt-determined l r left right (alt l' r') m n = after (codes ",") (sides-determined l r l' r' left right m n)
+further_alt-determined l r left right (leaf v) m n = longer-determined l r (leaf v) left m n
+further_alt-determined l r left right (cat us) m n = longer-determined l r (cat us) left m n
+further_alt-determined l r left right (wrapped v u) m n = longer-determined l r (wrapped v u) left m n
 
 -- the last alternative
-last-determined : (t : Tree) → Determined t → (u : Tree) (m n : ℕ) → NumbersFit t → NumbersFit u →
+last-determined : (t : Tree) → Determined t → (u : Tree) (m n : ℕ) →
     DeterminesIfClosed (codes "," ++ node m t) (further n u) (t ≡ u)
-last-determined t own (alt l r) m n h k =
-    after (codes ",") (right_longer (own l m n h k.0) (further (n + nodes l) r) (further-goes_on (n + nodes l) r))
-last-determined t own (leaf v) m n h k = after (codes ",") (if_closed (own (leaf v) m n h k))
-last-determined t own (cat us) m n h k = after (codes ",") (if_closed (own (cat us) m n h k))
-last-determined t own (wrapped v u) m n h k = after (codes ",") (if_closed (own (wrapped v u) m n h k))
+last-determined t own (alt l r) m n =
+    after (codes ",") (right_longer (own l m n) (further (n + nodes l) r) (further-goes_on (n + nodes l) r))
+last-determined t own (leaf v) m n = after (codes ",") (if_closed (own (leaf v) m n))
+last-determined t own (cat us) m n = after (codes ",") (if_closed (own (cat us) m n))
+last-determined t own (wrapped v u) m n = after (codes ",") (if_closed (own (wrapped v u) m n))
 
-parts-determined : (t u : Tree) (ts us : Trees) → Determined t → ListDetermined ts → (m n : ℕ) → ListFits (more_trees t ts) → ListFits (more_trees u us) →
+parts-determined : (t u : Tree) (ts us : Trees) → Determined t → ListDetermined ts → (m n : ℕ) →
     DeterminesIfClosed (node m t ++ list (m + nodes t) false ts) (node n u ++ list (n + nodes u) false us) (more_trees t ts ≡ more_trees u us)
-parts-determined t u ts us own others m n h k = gives_if_closed (λ e. λ i. more_trees (e.0 i) (e.1 i))
-    (item (own u m n h.0 k.0) (others false us (m + nodes t) (n + nodes u) h.1 k.1))
+parts-determined t u ts us own others m n = gives_if_closed (λ e. λ i. more_trees (e.0 i) (e.1 i))
+    (item (own u m n) (others false us (m + nodes t) (n + nodes u)))
 
 mutual
   tree-determined : (t : Tree) → Determined t × FurtherDetermined t
@@ -160,25 +159,25 @@ mutual
   tree-determined (wrapped w t) = let own = wrapped-determined w t (tree-determined t).0 in (own, last-determined (wrapped w t) own)
 
   list-determined : (ts : Trees) → ListDetermined ts
-  list-determined no_trees first no_trees m n h k = gives_if_closed (λ u. refl) none
-  list-determined no_trees true (more_trees u us) m n h k = none_some (node-goes_on n u (list (n + nodes u) false us))
-  list-determined no_trees false (more_trees u us) m n h k = none_some (λ c. refl)
-  list-determined (more_trees t ts) true no_trees m n h k = some_none (node-goes_on m t (list (m + nodes t) false ts))
-  list-determined (more_trees t ts) false no_trees m n h k = some_none (λ c. refl)
-  list-determined (more_trees t ts) true (more_trees u us) m n h k = parts-determined t u ts us (tree-determined t).0 (list-determined ts) m n h k
-  list-determined (more_trees t ts) false (more_trees u us) m n h k =
-      after (codes ",") (parts-determined t u ts us (tree-determined t).0 (list-determined ts) m n h k)
+  list-determined no_trees first no_trees m n = gives_if_closed (λ u. refl) none
+  list-determined no_trees true (more_trees u us) m n = none_some (node-goes_on n u (list (n + nodes u) false us))
+  list-determined no_trees false (more_trees u us) m n = none_some (λ c. refl)
+  list-determined (more_trees t ts) true no_trees m n = some_none (node-goes_on m t (list (m + nodes t) false ts))
+  list-determined (more_trees t ts) false no_trees m n = some_none (λ c. refl)
+  list-determined (more_trees t ts) true (more_trees u us) m n = parts-determined t u ts us (tree-determined t).0 (list-determined ts) m n
+  list-determined (more_trees t ts) false (more_trees u us) m n =
+      after (codes ",") (parts-determined t u ts us (tree-determined t).0 (list-determined ts) m n)
 
-pattern-determined : (f g : Flags) (t u : Tree) → NumbersFit t → NumbersFit u → Determines (json_of f t) (json_of g u) ((f ≡ g) × (t ≡ u))
-pattern-determined f g t u h k = gives (λ e. (e.0.1, e.1))
+pattern-determined : (f g : Flags) (t u : Tree) → Determines (json_of f t) (json_of g u) ((f ≡ g) × (t ≡ u))
+pattern-determined f g t u = gives (λ e. (e.0.1, e.1))
     (more (more (start (codes "{\"flags\":"))
     (if_ended (flags-determine f g)) (codes ",\"node\":") refl)
-    (if_ended ((tree-determined t).0 u 0 0 h k)) (codes "}") refl)
+    (if_ended ((tree-determined t).0 u 0 0)) (codes "}") refl)
 
 -- whatever follows
-pub json-determines_in_front : (f g : Flags) (t u : Tree) → NumbersFit t → NumbersFit u → (a b : List ℕ) →
+pub json-determines_in_front : (f g : Flags) (t u : Tree) → (a b : List ℕ) →
     json_of f t ++ a ≡ json_of g u ++ b → ((f ≡ g) × (t ≡ u)) × (a ≡ b)
-json-determines_in_front f g t u h k a b e = (pattern-determined f g t u h k).determined a b e
+json-determines_in_front f g t u a b e = (pattern-determined f g t u).determined a b e
 
-pub json-determines : (f g : Flags) (t u : Tree) → NumbersFit t → NumbersFit u → json_of f t ≡ json_of g u → (f ≡ g) × (t ≡ u)
-json-determines f g t u h k e = (json-determines_in_front f g t u h k [] [] (ap (λ xs. xs ++ []) e)).0
+pub json-determines : (f g : Flags) (t u : Tree) → json_of f t ≡ json_of g u → (f ≡ g) × (t ≡ u)
+json-determines f g t u e = (json-determines_in_front f g t u [] [] (ap (λ xs. xs ++ []) e)).0

@@ -1,8 +1,10 @@
 //! The callers of docs/guide.md, and functions that state a theorem and do nothing.
 
+use super::parsed;
 use example_callers::caller::optimized_text;
 use example_callers::caret::pointed_at;
 use example_callers::quickstart::{compile, find_matches};
+use example_callers::slice::{SearchError, first_match};
 use example_callers::underline::underlined_loop;
 use regress_front::codepointset::canonical_form_is_unique;
 use regress_front::parse::FaultKind;
@@ -90,5 +92,20 @@ fn the_matches_of_a_pattern_are_found(rt: HostRuntime) -> Result<(), Fail> {
         }
         None => assert!(rt; false, "the steps are enough"),
     }
+    Ok(())
+}
+
+#[test]
+fn a_text_is_sliced_by_its_first_match(rt: HostRuntime) -> Result<(), Fail> {
+    let alloc = rt.alloc();
+    let tables = Tables::small(alloc)?;
+    let regex = parsed(alloc, "é+", false)?;
+    assert_eq!(rt;
+        first_match(alloc, &regex, &tables, "caféé é", 100)?,
+        Some("éé")
+    );
+    assert_eq!(rt; first_match(alloc, &regex, &tables, "cafe", 100)?, None);
+    let stopped = first_match(alloc, &regex, &tables, "café", 1);
+    assert_eq!(rt; stopped, Err(SearchError::OutOfSteps));
     Ok(())
 }

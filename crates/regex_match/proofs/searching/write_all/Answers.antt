@@ -1,6 +1,7 @@
 use Rattle.std.proofs.Common.{map}
 use Rattle.regress_match.specs.Names.{capture_of}
-use Rattle.regex_match.proofs.SearchingLemmas.{all, begins, further, goes_on}
+use Rattle.regress_match.proofs.lemmas.Searched.{remaining-falls}
+use Rattle.regex_match.proofs.SearchingLemmas.{all, begins, goes_on}
 use Rattle.regex_match.proofs.searching.write_all.Goals as goal
 
 pub loop-found-init : goal.loop-found-init
@@ -8,7 +9,7 @@ loop-found-init g c = begins c.args.matches.now (map capture_of c.args.groups.no
 
 pub loop-found-smaller : goal.loop-found-smaller
 loop-found-smaller g c =
-    further c.loop-found.matches c.next.new.self c.in-Matched.found (rw c.in-Matched.is at c.in_ok-found.ensures.finds)
+    remaining-falls c.loop-found.matches c.next.new.self c.in-Matched.found (rw c.in-Matched.is at c.in_ok-found.ensures.finds)
     (rw c.in-Matched.is at c.in_ok-found.ensures.goes_on) c.in_ok-found.ensures.same.text
 
 pub loop-found-preserved : goal.loop-found-preserved

@@ -1,7 +1,7 @@
 -- Each match starts further on, and has its line.
-use Rattle.std.proofs.Common.{◌+◌, ◌-◌, length, map}
+use Rattle.std.proofs.Common.{map}
 use Rattle.regress_match.specs.Names.{capture_of}
-use Rattle.regress_match.specs.Searched.{next_from, searched_text}
+use Rattle.regress_match.proofs.lemmas.Searched.{remaining}
 use Rattle.regex_match.proofs.SearchingLemmas.{Progress}
 use Rattle.regex_match.proofs.searching.write_all.Given as goal
 
@@ -10,4 +10,4 @@ invariant-loop-found g l =
     Progress l.fn.matches l.matches (map capture_of l.fn.groups) (g.W.Write.contents l.fn.out) (g.W.Write.contents l.out) l.any
 
 abbrev pub decreases-loop-found : goal.decreases-loop-found
-decreases-loop-found g l = length (searched_text l.matches) + 2 - next_from l.matches
+decreases-loop-found g l = remaining l.matches

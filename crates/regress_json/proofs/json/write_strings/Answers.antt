@@ -1,6 +1,5 @@
 use Rattle.std.proofs.Common.{refl, add-one}
 use Rattle.std.specs.Box.{boxed_slice_items}
-use Rattle.std.specs.Fmt.{decimal}
 use Rattle.std.proofs.lemmas.List.{take_all}
 use Rattle.std.proofs.Output.{has_written_append, has_written_of_eq}
 use Rattle.regress_json.specs.Json.{numbers}
@@ -16,7 +15,7 @@ loop-string-preserved g c = record {
       let string = c.string-item.result in
       let so_far = l.invariant.written plain in
       let comma = c.in_ok-write_str.ensures.writes so_far.plain refl in
-      let own = rw c.deref.ensures.value at (c.in_ok-write_list.ensures decimal (λ n. refl) comma.plain refl) in
+      let own = rw c.deref.ensures.value at (c.in_ok-write_numbers.ensures comma.plain refl) in
       let more = join-more (λ s. numbers (boxed_slice_items s)) c.args.strings.now l.string-index string l.comma.now c.loop-string-test.true
       l.invariant.comma c.string-item.is in
       has_written_of_eq _ _ _ _ _ more (has_written_append _ _ _ _ _ _ so_far (has_written_append _ _ _ _ _ _ comma own));

@@ -1,5 +1,4 @@
-use Rattle.std.proofs.Common.{◌++◌, min, List, Vec, ap, ◌∙◌}
-use Rattle.std.specs.declared.alloc.Global.{Global}
+use Rattle.std.proofs.Common.{◌++◌, min, List, ap, ◌∙◌}
 use Rattle.regress_parse.specs.declared.span.Span.{Span}
 use Rattle.regress_parse.specs.Recorded.{turned}
 use Rattle.regress_parse.proofs.SpanLists.{turned-push, split-apart}
