@@ -1,9 +1,8 @@
 -- Examples: the first name of a source that conflicts with one before it, computed from the definition. The names are
 -- those of the small table.
-use Rattle.std.proofs.Common.{◌≡◌, ℕ, Bool, true, false, refl, codes}
+use Rattle.std.proofs.Common.{◌≡◌, false, refl, codes}
 use Rattle.regress_base.specs.Intervals.{is_member, is_within}
 use Rattle.regress_unicode.specs.SmallTable.{small_table}
-use Rattle.regress_lexer.specs.Source.{Source}
 use Rattle.regress_syntax.specs.Names.{name_at, rest_of_name_by}
 use Rattle.regress_syntax.specs.Paths.{are_tokens_apart}
 use Rattle.regress_syntax.specs.Scan.{plain}

@@ -15,8 +15,8 @@ ghost use Rattle.regress_parse.specs.TreeOf.{tree_of};
 ghost use Rattle.regress_parse.specs.Accepted.{IsAccepted, NoneIsAccepted, IsTrueOf, MayExceed, OneIsDerived, OfAccepted, Means};
 ghost use Rattle.regress_front.specs.Optimized.{IsOptimized};
 
-use regress_normalize::optimize;
 use regress_base::types::Flags;
+use regress_normalize::optimize;
 use regress_parse::{ParseFault, try_parse};
 use regress_tree::ir::Regex;
 use regress_unicode::Tables;

@@ -1,4 +1,5 @@
 -- Lemmas about this crate's definitions, for the crates that depend on it.
+pub mod Paired
 pub mod Each
 pub mod Nesting
 pub mod Neighbours

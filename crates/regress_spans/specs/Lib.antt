@@ -1,3 +1,4 @@
+pub mod Paired
 -- re-exports what the public contracts cite from other crates, so that a caller names one library
 pub use Rattle.regress_syntax.specs.SettingOf
 pub use Rattle.regress_parse.specs.Accepted

@@ -1,5 +1,5 @@
 //! Parses a pattern, with spans.
-ghost use Rattle.std.specs.Prelude.{◌≡◌, length, All, AllPairs, IfOk};
+ghost use Rattle.std.specs.Prelude.{◌≡◌, length, zip, All, AllPairs, IfOk};
 ghost use Rattle.regress_unicode.specs.TableOf.{table_of};
 ghost use Rattle.regress_tree.specs.Tree.{tree};
 ghost use Rattle.regress_tree.specs.Visits.{nodes};
@@ -12,6 +12,7 @@ ghost use Rattle.regress_parse.specs.Fault.{RejectedOnlyIf, ReportsKindAt, HasTe
 ghost use Rattle.regress_parse.specs.Settled.{IsFinal, IsAtFirstDuplicate};
 ghost use Rattle.regress_parse.specs.TreeOf.{tree_of};
 ghost use Rattle.regress_parse.specs.Spans.{IsWithin, IsInsideOrApart, spans_of};
+ghost use Rattle.regress_spans.specs.Paired.{postorder, spanned_of};
 
 use regress_base::types::Flags;
 use regress_parse::{PlacedFault, SpannedRegex, parse_with_spans};
@@ -68,6 +69,9 @@ pub fn try_parse_with_spans(
     ensures spanned { IfOk result (λ r. (p : Pattern) × (accepted : IsAccepted (setting_of flags tables.now) pattern.now p)
         × (tree r.regex.node ≡ tree_of (table_of tables.now) p)
         × (r.spans.items ≡ spans_of (setting_of flags tables.now) pattern.now p accepted.derived)) }
+    // The k-th span is that of the k-th node in postorder: the production that makes the node gives the span.
+    ensures paired { IfOk result (λ r. (p : Pattern) × (accepted : IsAccepted (setting_of flags tables.now) pattern.now p)
+        × (zip (postorder (tree r.regex.node)) r.spans.items ≡ spanned_of (setting_of flags tables.now) pattern.now p accepted.derived)) }
     ensures each { IfOk result (λ r. length r.spans.items ≡ nodes (tree r.regex.node)) }
 
     ensures within { IfOk result (λ r. All (IsWithin (record { start = 0; end = length pattern.now })) r.spans.items) }

@@ -1,14 +1,24 @@
-use Rattle.std.proofs.Common.{List, length, sym, ap, ◌∙◌, subst}
-use Rattle.std.specs.List.{All, AllPairs}
+use Rattle.std.proofs.Common.{List, length, sym, ap, ap₂, ◌∙◌, subst}
+use Rattle.std.specs.List.{All, AllPairs, zip}
 use Rattle.std.proofs.lemmas.Result.{IfOk-weaker}
 use Rattle.regress_tree.specs.Visits.{nodes}
 use Rattle.regress_syntax.specs.SettingOf.{setting_of}
 use Rattle.regress_parse.specs.declared.span.Span.{Span}
 use Rattle.regress_parse.specs.Spans.{IsWithin, IsInsideOrApart}
+use Rattle.regress_spans.specs.Paired.{postorder}
 use Rattle.regress_spans.proofs.lemmas.Each.{each_node}
 use Rattle.regress_spans.proofs.lemmas.Nesting.{all_within}
 use Rattle.regress_spans.proofs.lemmas.Neighbours.{all_nest}
+use Rattle.regress_spans.proofs.lemmas.Paired.{paired}
 use Rattle.regress_spans.proofs.pattern.try_parse_with_spans.Goals as goal
+
+pub returns-clause-paired : goal.returns-clause-paired
+returns-clause-paired c =
+    let setting = setting_of c.args.flags c.args.tables.now in
+    let t = c.args.pattern.now in
+    IfOk-weaker c.parse_with_spans.result _ _
+    (λ r found. (found.0, found.1, ap₂ (λ u ss. zip (postorder u) ss) found.2 found.3 ∙ paired setting t found.0 found.1.derived))
+    c.parse_with_spans.ensures.spanned
 
 pub returns-clause-each : goal.returns-clause-each
 returns-clause-each c =
@@ -23,7 +33,8 @@ returns-clause-within c =
     let setting = setting_of c.args.flags c.args.tables.now in
     let t = c.args.pattern.now in
     IfOk-weaker c.parse_with_spans.result _ _
-    (λ r found. subst (λ (ss : List Span). All (IsWithin (record { start = 0; end = length t })) ss) (sym found.3) (all_within setting t found.0 found.1.derived))
+    (λ r found. subst (λ (ss : List Span). All (IsWithin (record { start = 0; end = length t })) ss) (sym found.3)
+    (all_within setting t found.0 found.1.derived))
     c.parse_with_spans.ensures.spanned
 
 pub returns-clause-nested : goal.returns-clause-nested
