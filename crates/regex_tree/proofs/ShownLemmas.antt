@@ -9,7 +9,7 @@ use Rattle.regress_base.specs.Table.{Table}
 use Rattle.regress_lexer.specs.Source.{Source}
 use Rattle.regress_parse.specs.Accepted as parse
 use Rattle.regress_parse.specs.Fault.{HasPositionWithin, HasTextOfKind, RejectedOnlyIf, ReportsKindAt, unplaced}
-use Rattle.regress_parse.specs.Settled.{IsFinal}
+use Rattle.regress_parse.specs.Settled.{IsFinal, IsAtFirstDuplicate}
 use Rattle.regress_parse.specs.declared.fault.PlacedFault.{PlacedFault}
 use Rattle.regress_parse.specs.declared.fault.PlacedFault.TheVariants as fault
 use Rattle.regress_parse.specs.TreeOf.{tree_of}
@@ -67,14 +67,15 @@ spanned_parsed shown setting source (Err fault) spanned = tt
 pub fault_of : {X : Type 0} (setting : Setting) (source : Source) (r : Result X PlacedFault) →
     RejectedOnlyIf (unplaced r) (parse.NoneIsAccepted setting source) → HasTextOfKind r →
     ReportsKindAt r (λ kind position. parse.IsTrueOf setting source kind) → ReportsKindAt r (λ kind position. parse.MayExceed source kind) →
-    HasPositionWithin (length source) r → ReportsKindAt r (IsFinal setting source) → IfErr r (IsFaultOf setting source)
-fault_of setting source (Ok x) none words reported limits within settled = tt
-fault_of setting source (Err (fault.Syntax kind e position)) none words reported limits within settled = record {
+    HasPositionWithin (length source) r → ReportsKindAt r (IsFinal setting source) → ReportsKindAt r (IsAtFirstDuplicate setting source) →
+    IfErr r (IsFaultOf setting source)
+fault_of setting source (Ok x) none words reported limits within settled duplicate = tt
+fault_of setting source (Err (fault.Syntax kind e position)) none words reported limits within settled duplicate = record {
   none = none;
   words = words;
-  reported = record { reported = reported; limits = limits; within = within; settled = settled };
+  reported = record { reported = reported; limits = limits; within = within; settled = settled; duplicate = duplicate };
 }
-fault_of setting source (Err (fault.Memory e)) none words reported limits within settled = tt
+fault_of setting source (Err (fault.Memory e)) none words reported limits within settled duplicate = tt
 
 -- the result of parsing with the requested table
 module _ (shown : Bool) (flags : Flags) (source : Source) (r : Result SpannedRegex PlacedFault) where

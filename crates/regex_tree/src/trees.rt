@@ -74,7 +74,7 @@ fn parse(alloc: Global, points: &[u32], request: &Request<'_>) -> Result<Spanned
     parse_with(alloc, points, request, &tables)
 }
 
-/// Parses a pattern with these tables. Spans are computed only if they are shown, since that takes as long as parsing.
+/// Parses a pattern with these tables. Spans are recorded only if they are shown.
 fn parse_with(
     alloc: Global,
     points: &[u32],

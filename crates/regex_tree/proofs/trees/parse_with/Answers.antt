@@ -13,7 +13,7 @@ pub returns-then-reports_spans-clause-rejected : goal.returns-then-reports_spans
 returns-then-reports_spans-clause-rejected c =
     let found = c.try_parse_with_spans in
     fault_of (setting_of c.args.request.now.flags c.args.tables.now) c.args.points.now found.result found.ensures.rejected
-    found.ensures.text found.ensures.reported found.ensures.limits found.ensures.position found.ensures.settled
+    found.ensures.text found.ensures.reported found.ensures.limits found.ensures.position found.ensures.settled found.ensures.duplicate
 
 pub returns-in-Ok-clause-parsed : goal.returns-in-Ok-clause-parsed
 returns-in-Ok-clause-parsed c =
@@ -30,4 +30,4 @@ returns-in-Err-clause-rejected c =
     let found = c.try_parse_with_position in
     rw c.in-Err.is at
     (fault_of (setting_of c.args.request.now.flags c.args.tables.now) c.args.points.now found.result found.ensures.rejected
-    found.ensures.text found.ensures.reported found.ensures.limits found.ensures.position found.ensures.settled)
+    found.ensures.text found.ensures.reported found.ensures.limits found.ensures.position found.ensures.settled found.ensures.duplicate)
