@@ -1,6 +1,6 @@
 -- `pattern_at` parses a whole source as exactly the pattern that the grammar derives, since the scan finds the groups
 -- and names of every derived pattern.
-use Rattle.std.proofs.Common.{◌≡◌, ◌+◌, ◌<◌, ℕ, ◌≤◌, ◌⊎◌, ⊎_elim, min, List, [], length, Option, Some, inl, inr, refl, sym, ap, ap₂, ◌∙◌, subst, arith}
+use Rattle.std.proofs.Common.{◌≡◌, ◌+◌, ◌<◌, ℕ, ◌≤◌, ⊎_elim, min, List, [], length, Option, Some, inl, inr, refl, sym, ap, ap₂, ◌∙◌, subst, arith}
 use Rattle.std.proofs.lemmas.Option.{same_Some}
 use Rattle.std.proofs.lemmas.Bool.{false≢true, cases_lt}
 use Rattle.regress_base.specs.Limits.{max_capture_groups, max_nesting_depth}
@@ -17,7 +17,7 @@ use Rattle.regress_syntax.proofs.lemmas.SameNames.{apart_by_tokens}
 use Rattle.regress_syntax.proofs.lemmas.Scan.{named_by-pattern, deepest-whole}
 use Rattle.regress_parse.specs.Reader.{pattern_at}
 use Rattle.regress_parse.specs.Parsing.{Fits, Exceeds, pattern_part}
-use Rattle.regress_parse.specs.Accepted.{own_context, IsDerived, IsWithinLimits, NoneIsAccepted, Says, IsTrueOf}
+use Rattle.regress_parse.specs.Accepted.{own_context, IsDerived, IsWithinLimits, Says, IsTrueOf}
 use Rattle.regress_parse.proofs.GrammarLemmas.{pattern_at-sound, pattern_at-complete}
 use Rattle.regress_parse.proofs.GroupLemmas.{length-names}
 
@@ -117,15 +117,3 @@ module _ (setting : Setting) (t : Source) (gives : GivesTokens setting.flags.uni
 module _ (setting : Setting) (names : List (Option Name)) where
   pub fit-limits : (p : Pattern) → Fits nothing_counted 0 (pattern_part setting.table names p) → IsWithinLimits p
   fit-limits p h = record { groups = omega (arith, h.groups); loops = omega (arith, h.loops); nesting = omega (arith, h.nesting) }
-
--- A source with a true syntax error has no accepted pattern.
-pub true-rejects : (setting : Setting) (t : Source) (kind : FaultKind) → IsTrueOf setting t kind → NoneIsAccepted setting t
-true-rejects setting t kind reported p h = by (reported p h.derived)
-  where
-    by : Says kind p ⊎ (max_capture_groups < (counts p).groups) → ⊥
-    by (inl (inl (_, many))) = omega (arith, many, h.limits.groups)
-    by (inl (inr (inl (_, many)))) = omega (arith, many, h.limits.loops)
-    by (inl (inr (inr (inl (_, deep))))) = omega (arith, deep, h.limits.nesting)
-    by (inl (inr (inr (inr (_, inl conflict))))) = conflict h.names
-    by (inl (inr (inr (inr (_, inr deep))))) = omega (arith, deep, h.limits.nesting)
-    by (inr many) = omega (arith, many, h.limits.groups)

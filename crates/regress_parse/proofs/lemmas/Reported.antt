@@ -1,5 +1,5 @@
 -- What is stated of the kind of a syntax error.
-use Rattle.std.proofs.Common.{ℕ, ◌≤◌, length, Result, Ok, Err}
+use Rattle.std.proofs.Common.{length, Result, Ok, Err}
 use Rattle.regress_tree.specs.Setting.{Setting}
 use Rattle.regress_lexer.specs.declared.fault.FaultKind.{FaultKind}
 use Rattle.regress_lexer.specs.Source.{Source}

@@ -1,13 +1,12 @@
 -- What the scan finds in an accepted source.
-use Rattle.std.proofs.Common.{◌≡◌, ℕ, min, List, length, Option, inl, refl, sym, ◌∙◌, arith}
+use Rattle.std.proofs.Common.{◌≡◌, ℕ, min, List, length, Option, refl, sym, ◌∙◌, arith}
 use Rattle.regress_base.specs.Limits.{max_capture_groups}
 use Rattle.regress_tree.specs.Setting.{Setting}
-use Rattle.regress_lexer.specs.declared.fault.FaultKind.{FaultKind}
 use Rattle.regress_lexer.specs.Source.{Source}
 use Rattle.regress_syntax.specs.Syntax.{Name, Pattern, counts}
-use Rattle.regress_syntax.specs.Scan.{GivesTokens, plain, tokens, named_by, TokensShow}
+use Rattle.regress_syntax.specs.Scan.{GivesTokens, plain, tokens, named_by}
 use Rattle.regress_parse.specs.Accepted.{own_context, IsAccepted}
-use Rattle.regress_parse.proofs.AcceptedLemmas.{most, groups_found, own_is, scanned-is, tokens-say, true-rejects}
+use Rattle.regress_parse.proofs.AcceptedLemmas.{most, groups_found, own_is, scanned-is}
 
 module _ (setting : Setting) (t : Source) (gives : GivesTokens setting.flags.unicode_sets setting.table t)
     (p : Pattern) (h : IsAccepted setting t p) where
@@ -21,8 +20,3 @@ module _ (setting : Setting) (t : Source) (gives : GivesTokens setting.flags.uni
   scanned_context groups ns same e =
       scanned-is setting t gives groups ns same e
       ∙ sym (own_is setting t gives (own_context setting p) p refl refl h.derived (most setting t gives) own_groups)
-
-  -- The scan rejects no accepted source.
-  pub scan_content : (kind : FaultKind) → TokensShow (tokens setting.flags.unicode_sets setting.table plain t) kind → ⊥
-  scan_content kind shown =
-      true-rejects setting t kind (λ q derived. inl (tokens-say setting t gives kind shown q derived)) p h
