@@ -14,8 +14,8 @@ use Rattle.regress_tree.proofs.lemmas.Characters.{character_at_parts}
 use Rattle.regress_tree.proofs.lemmas.Readings.{read_before-after}
 use Rattle.regress_prefilter.specs.OneCharacter.{test_of}
 use Rattle.regress_prefilter.proofs.lemmas.OneCharacter.{after_parts}
-use Rattle.regress_match.specs.Leaves.{put}
-use Rattle.regress_match.specs.Iterations.{opposite, read_on, along, one_of, giving_back, taking_more}
+use Rattle.regress_leaves.specs.Leaves.{put, one_of}
+use Rattle.regress_match.specs.Iterations.{opposite, read_on, along, giving_back, taking_more}
 use Rattle.regress_match.proofs.LoopLemmas.{more_greedy, more_lazy, iterations-less}
 
 -- ---- decoding a character advances, and decoding backwards returns

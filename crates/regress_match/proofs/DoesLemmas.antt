@@ -8,8 +8,8 @@ use Rattle.regress_tree.specs.Steps.{MatchState, Matcher}
 use Rattle.regress_tree.proofs.lemmas.Outcomes.{flat_map-then}
 use Rattle.regress_match.specs.Captures.{undone, state, Later}
 use Rattle.regress_match.specs.Machine.{frame_step, frames_from, known_from, continuation, pending, backtrack_outcomes, saved, IsMachine, onward, Pushed, Chosen, Does, Continues}
-use Rattle.regress_match.specs.Subject.{Subject}
-use Rattle.regress_match.specs.Leaves.{put}
+use Rattle.regress_leaves.specs.Subject.{Subject}
+use Rattle.regress_leaves.specs.Leaves.{put}
 use Rattle.regress_match.specs.declared.machine.Looking.{Looking}
 use Rattle.regress_tree.specs.Lookaround.{lookaround_matcher}
 use Rattle.regress_tree.specs.Matching.{steps}

@@ -7,7 +7,7 @@ use Rattle.regress_tree.specs.Matching.{steps}
 use Rattle.regress_tree.specs.Tree.{Tree, tree}
 use Rattle.regress_tree.specs.Repetition.{iteration, iterations, moving, up_to, extra_iterations, repeat_matcher}
 use Rattle.regress_match.specs.Machine.{frame_step, optional_of}
-use Rattle.regress_match.specs.Subject.{Subject}
+use Rattle.regress_leaves.specs.Subject.{Subject}
 use Rattle.regress_match.specs.declared.machine.Repeat.{Repeat}
 use Rattle.regress_match.specs.declared.machine.Frame.TheVariants as whats
 use Rattle.regress_tree.specs.Steps.{MatchState, Matcher, stay, ◌then_◌, ◌or_◌, capture, captured}

@@ -5,7 +5,7 @@ use Rattle.std.proofs.Math.Seq.{take-suc}
 use Rattle.regress_tree.specs.Steps.{Matcher, stay, ◌then_◌}
 use Rattle.regress_match.specs.Captures.{undone, state, Later}
 use Rattle.regress_match.specs.Machine.{frame_step, choose, after, continuation, pending, backtrack_outcomes, saved, frames_from, known_from, IsMachine, remaining_at}
-use Rattle.regress_match.specs.Subject.{Subject}
+use Rattle.regress_leaves.specs.Subject.{Subject}
 use Rattle.regress_match.specs.declared.captures.Captures.{Captures}
 use Rattle.regress_match.specs.declared.machine.Choice.{Choice}
 use Rattle.regress_match.specs.declared.machine.Machine.{Machine}

@@ -9,8 +9,8 @@ use Rattle.regress_tree.specs.Repetition.{iteration, iterations, up_to, extra_it
 use Rattle.regress_tree.specs.Steps.{MatchState, Matcher, capture, captured}
 use Rattle.regress_tree.specs.Tree.{Tree, Trees, tree, cat, more_trees, alt, wrapped, capture_group, lookaround, loop, loop_one}
 use Rattle.regress_match.specs.Machine.{IsMachine, continuation, iteration_of, optional_of, frame_step}
-use Rattle.regress_match.specs.Peek.{FailsAt, GoesTo}
-use Rattle.regress_match.specs.Subject.{Subject}
+use Rattle.regress_leaves.specs.Leaves.{FailsAt, GoesTo}
+use Rattle.regress_leaves.specs.Subject.{Subject}
 use Rattle.regress_match.specs.declared.captures.Captures.{Captures}
 use Rattle.regress_match.specs.declared.machine.Machine.{Machine}
 use Rattle.regress_match.specs.declared.machine.Repeat.{Repeat}

@@ -12,7 +12,7 @@ use Rattle.std.specs.Borrow.{Bor}
 use Rattle.regress_tree.proofs.lemmas.Outcomes.{flat_map-stay}
 use Rattle.regress_match.specs.Captures.{undone, state, Later}
 use Rattle.regress_match.specs.Machine.{frame_step, continuation, backtrack_outcomes, frames_from, known_from, Fits, IsMachine, left_ahead, onward, Does, Continues, Settles, Looks}
-use Rattle.regress_match.specs.Subject.{Subject}
+use Rattle.regress_leaves.specs.Subject.{Subject}
 use Rattle.regress_match.specs.declared.captures.Captures.{Captures}
 use Rattle.regress_match.specs.declared.machine.Pending.{Pending}
 use Rattle.regress_match.specs.declared.machine.Pending.TheVariants as aheads

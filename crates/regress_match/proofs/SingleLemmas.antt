@@ -9,10 +9,10 @@ use Rattle.regress_tree.specs.Tree.{tree, leaf, empty}
 use Rattle.regress_tree.proofs.lemmas.Groups.{iteration-none}
 use Rattle.regress_match.specs.Captures.{state}
 use Rattle.regress_prefilter.specs.OneCharacter.{takes_one}
-use Rattle.regress_match.specs.Leaves.{put}
+use Rattle.regress_leaves.specs.Leaves.{put, one_of}
 use Rattle.regress_match.specs.Machine.{frame_step, iteration_of, continuation, backtrack_outcomes, Continues, IsMachine, onward, Pushed, Chosen, Does}
-use Rattle.regress_match.specs.Subject.{Subject}
-use Rattle.regress_match.specs.Iterations.{opposite, one_of, giving_back}
+use Rattle.regress_leaves.specs.Subject.{Subject}
+use Rattle.regress_match.specs.Iterations.{opposite, giving_back}
 use Rattle.regress_match.specs.declared.captures.Captures.{Captures}
 use Rattle.regress_match.specs.declared.machine.Machine.{Machine}
 use Rattle.regress_match.specs.declared.machine.Transition.{Transition}

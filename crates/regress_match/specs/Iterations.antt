@@ -2,9 +2,9 @@
 use Rattle.std.specs.Prelude.{ℕ, zero, suc, ◌+◌, ◌==◌, false, List, [], ◌∷◌, length, Option, Some, None, if◌then◌else◌}
 use Rattle.regress_tree.specs.Reading.{Direction, forwards, backwards, Reading, Read, next_character, of_bytes}
 use Rattle.regress_tree.specs.Repetition.{moving, up_to}
-use Rattle.regress_tree.specs.Steps.{MatchState, Matcher, one_character, ◌then_◌}
+use Rattle.regress_tree.specs.Steps.{MatchState, Matcher, ◌then_◌}
 use Rattle.regress_tree.specs.Tree.{Tree}
-use Rattle.regress_prefilter.specs.OneCharacter.{test_of}
+use Rattle.regress_leaves.specs.Leaves.{one_of}
 
 abbrev pub opposite : Direction → Direction
 opposite forwards = backwards
@@ -19,10 +19,6 @@ read_on f s (Some read) = f (record s { position = read.position })
 abbrev pub along : Direction → Reading → (stop n : ℕ) → Matcher
 along d r stop zero s = s ∷ []
 along d r stop (suc n) s = s ∷ (if s.position == stop then [] else read_on (along d r stop n) s (next_character d r s.position))
-
--- one character that the test of a leaf accepts (CharacterSetMatcher)
-abbrev pub one_of : Direction → List ℕ → Tree → Matcher
-one_of d bytes t = one_character d (of_bytes bytes) (test_of t)
 
 -- The outcomes of a greedy loop that has reached a position: there, and then back to the position `stop`.
 abbrev pub giving_back : Direction → List ℕ → (stop : ℕ) → Matcher

@@ -1,10 +1,6 @@
-pub mod Known
-pub mod Subject
 pub mod Captures
-pub mod Leaves
 pub mod Iterations
 pub mod Machine
-pub mod Peek
 pub mod Matched
 pub mod Fresh
 pub mod Prepared

@@ -8,8 +8,8 @@ use Rattle.regress_tree.specs.Steps.{MatchState, Matcher, stay, ◌then_◌, cap
 use Rattle.regress_tree.specs.Tree.{tree, trees}
 use Rattle.regress_tree.specs.declared.ir.node.Node.{Node}
 use Rattle.regress_match.specs.Captures.{undone, state, Later}
-use Rattle.regress_match.specs.Leaves.{any_of}
-use Rattle.regress_match.specs.Subject.{Subject}
+use Rattle.regress_leaves.specs.Leaves.{any_of}
+use Rattle.regress_leaves.specs.Subject.{Subject}
 use Rattle.regress_match.specs.Iterations.{giving_back, taking_more}
 use Rattle.regress_match.specs.declared.captures.Captures.{Captures}
 use Rattle.regress_match.specs.declared.machine.Pending.{Pending}

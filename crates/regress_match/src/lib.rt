@@ -3,17 +3,13 @@
 
 pub mod all_matches;
 mod captures;
-mod characters;
-mod known;
-mod leaves;
+mod leaf;
 mod machine;
 mod match_single_char_loop;
 pub mod matching;
 pub mod names;
 mod peek;
 mod prepared;
-mod reading;
-mod rules;
 mod run;
 pub mod search;
 mod visits;

@@ -2,7 +2,7 @@
 ghost use Rattle.std.specs.Prelude.{◌≡◌, ◌+◌, ◌≤◌, [], IfOk, length, min};
 ghost use Rattle.regress_match.specs.Captures.{undone};
 ghost use Rattle.regress_match.specs.Machine.{IsMachine, Resumed, Pushed, Chosen, backtrack_outcomes, frame_step};
-ghost use Rattle.regress_match.specs.Subject.{Subject};
+ghost use Rattle.regress_leaves.specs.Subject.{Subject};
 
 use crate::captures::Captures;
 use regress_tree::ir::Node;

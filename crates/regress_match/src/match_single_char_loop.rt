@@ -6,17 +6,17 @@ ghost use Rattle.regress_tree.specs.Steps.{MatchState, Matcher};
 ghost use Rattle.regress_match.specs.Captures.{state};
 ghost use Rattle.regress_tree.specs.Tree.{tree};
 ghost use Rattle.regress_prefilter.specs.OneCharacter.{takes_one};
-ghost use Rattle.regress_match.specs.Leaves.{put};
+ghost use Rattle.regress_leaves.specs.Leaves.{put, one_of};
 ghost use Rattle.regress_match.specs.Machine.{Does, IsMachine, Pushed, onward, frame_step};
-ghost use Rattle.regress_match.specs.Subject.{subject};
-ghost use Rattle.regress_match.specs.Iterations.{giving_back, one_of};
+ghost use Rattle.regress_leaves.specs.Subject.{subject};
+ghost use Rattle.regress_match.specs.Iterations.{giving_back};
 
 use crate::captures::Captures;
-use crate::leaves::{one_character, takes_one};
 use crate::machine::{Frame, Machine, Repeat, Transition, count};
 use crate::peek::frame_fails;
-use crate::reading::next_read;
-use crate::rules::MatchContext;
+use regress_leaves::leaves::{one_character, takes_one};
+use regress_leaves::reading::next_read;
+use regress_leaves::rules::MatchContext;
 use regress_tree::ir::Node;
 use std::alloc::AllocError;
 

@@ -9,10 +9,10 @@ ghost use Rattle.regress_match.specs.Matched.{IfMatched, IsFirst, IsInside, Star
 ghost use Rattle.regress_match.specs.Fresh.{IsFresh, IfNoOutcome};
 
 use crate::captures::Captures;
-use crate::known::Known;
 use crate::machine::{Response, Scratch};
-use crate::rules::MatchContext;
 use crate::run::run;
+use regress_leaves::known::Known;
+use regress_leaves::rules::MatchContext;
 use regress_tree::ir::{Node, Regex, Walk, walk};
 use regress_unicode::Tables;
 use std::alloc::{AllocError, Global};

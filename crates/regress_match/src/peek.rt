@@ -3,15 +3,14 @@ ghost use Rattle.std.specs.Prelude.{◌≡◌, [], ℕ, true, IfSome, Some};
 ghost use Rattle.regress_tree.specs.Matching.{steps};
 ghost use Rattle.regress_tree.specs.Tree.{tree, trees, cat};
 ghost use Rattle.regress_tree.specs.Steps.{MatchState};
-ghost use Rattle.regress_match.specs.Leaves.{any_of};
+ghost use Rattle.regress_leaves.specs.Leaves.{any_of, FailsAt, GoesTo};
 ghost use Rattle.regress_match.specs.Machine.{IsMachine, continuation};
-ghost use Rattle.regress_match.specs.Peek.{FailsAt, GoesTo};
-ghost use Rattle.regress_match.specs.Subject.{Subject, subject};
+ghost use Rattle.regress_leaves.specs.Subject.{Subject, subject};
 ghost use Rattle.regress_match.specs.declared.captures.Captures.{Captures};
 
-use crate::leaves::{all_of, is_simple, simple_leaf};
 use crate::machine::{Frame, Machine};
-use crate::rules::MatchContext;
+use regress_leaves::leaves::{all_of, is_simple, simple_leaf};
+use regress_leaves::rules::MatchContext;
 use regress_tree::ir::Node;
 use std::boxed::BoxedSlice;
 

@@ -9,15 +9,15 @@ ghost use Rattle.regress_match.specs.Captures.{state, undone, Later};
 ghost use Rattle.regress_match.specs.Machine.{Answers, Continues, Fits, IsMachine, Looks, Settles, left_ahead};
 ghost use Rattle.regress_match.specs.declared.machine.Pending.TheVariants.{Task};
 ghost use Rattle.regress_match.specs.declared.machine.Looked.TheVariants.{Holds, Fails};
-ghost use Rattle.regress_match.specs.Subject.{subject};
+ghost use Rattle.regress_leaves.specs.Subject.{subject};
 
 use crate::captures::Captures;
 use crate::machine::{
     Looked, Looking, Machine, Pending, Response, Settled, Transition, keep_idle, take_idle,
 };
 use crate::peek::cannot_match_at;
-use crate::rules::MatchContext;
 use crate::visits::{step, visit};
+use regress_leaves::rules::MatchContext;
 use regress_tree::ir::Node;
 use std::alloc::{AllocError, Global};
 use std::mem;

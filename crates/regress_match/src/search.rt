@@ -6,12 +6,12 @@ ghost use Rattle.regress_unicode.specs.TableOf.{table_of};
 ghost use Rattle.regress_match.specs.Matched.{Finds, IfMatched, IsInside, outcomes_at};
 ghost use Rattle.regress_match.specs.Searched.{IsSameSearch, offset_after, next_from, outcomes_of, searched_outcomes, searched_text, searched_tree};
 
-use crate::known::Known;
 use crate::machine::{Response, Scratch};
 use crate::matching::{Match, Outcome, first_at, unset_captures};
 use crate::peek::cannot_match_at;
 use crate::prepared::Prepared;
-use crate::rules::MatchContext;
+use regress_leaves::known::Known;
+use regress_leaves::rules::MatchContext;
 use regress_prefilter::candidates::next_candidate_from;
 use regress_tree::ir::Regex;
 use regress_unicode::Tables;

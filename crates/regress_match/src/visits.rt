@@ -5,18 +5,19 @@ ghost use Rattle.regress_tree.specs.Repetition.{extra_iterations};
 ghost use Rattle.regress_tree.specs.Steps.{capture};
 ghost use Rattle.regress_tree.specs.Tree.{tree};
 ghost use Rattle.regress_match.specs.Captures.{state};
-ghost use Rattle.regress_match.specs.Leaves.{put};
+ghost use Rattle.regress_leaves.specs.Leaves.{put};
 ghost use Rattle.regress_match.specs.Machine.{Continues, Does, IsMachine, Pushed, onward, sequence_of, frame_step, optional_of};
-ghost use Rattle.regress_match.specs.Subject.{Subject, subject};
+ghost use Rattle.regress_leaves.specs.Subject.{Subject, subject};
 
 use crate::captures::Captures;
-use crate::leaves::{all_of, is_leaf, leaf};
+use crate::leaf::leaf;
 use crate::machine::{Frame, Looking, Machine, Repeat, Task, Transition, count};
 use crate::match_single_char_loop::{
     give_back, is_single_char_loop, match_single_char_loop, take_more,
 };
 use crate::peek::{cannot_match_at, skip_failing_alternatives, skip_missing_strings};
-use crate::rules::MatchContext;
+use regress_leaves::leaves::{all_of, is_leaf};
+use regress_leaves::rules::MatchContext;
 use regress_tree::ir::{Node, Quantifier};
 use std::alloc::{AllocError, Global};
 use std::boxed::BoxedSlice;

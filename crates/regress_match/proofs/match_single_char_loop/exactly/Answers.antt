@@ -2,9 +2,8 @@ use Rattle.std.proofs.Common.{arith, ◌≡◌, ◌∙◌, ap, sym, refl, None, 
 use Rattle.regress_tree.specs.Reading.{direction_if}
 use Rattle.regress_tree.specs.Steps.{MatchState}
 use Rattle.regress_tree.specs.Tree.{tree}
-use Rattle.regress_match.specs.Leaves.{put}
-use Rattle.regress_match.specs.Iterations.{one_of}
-use Rattle.regress_match.proofs.LeafLemmas.{none_of}
+use Rattle.regress_leaves.specs.Leaves.{put, one_of}
+use Rattle.regress_leaves.proofs.lemmas.Leaves.{none_of}
 use Rattle.regress_match.proofs.CharacterLoopLemmas.{exactly_more, exactly_none}
 use Rattle.regress_match.proofs.match_single_char_loop.exactly.Goals as goal
 

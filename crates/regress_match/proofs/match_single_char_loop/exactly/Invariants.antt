@@ -4,7 +4,7 @@ use Rattle.regress_tree.specs.Reading.{direction_if}
 use Rattle.regress_tree.specs.Repetition.{iterations}
 use Rattle.regress_tree.specs.Steps.{MatchState}
 use Rattle.regress_tree.specs.Tree.{tree}
-use Rattle.regress_match.specs.Iterations.{one_of}
+use Rattle.regress_leaves.specs.Leaves.{one_of}
 use Rattle.regress_match.proofs.match_single_char_loop.exactly.Given as goal
 
 abbrev pub invariant-loop-left : goal.invariant-loop-left

@@ -3,11 +3,11 @@ use Rattle.std.specs.Option.{option_map}
 use Rattle.regress_tree.specs.Reading.{next_character, of_bytes, direction_if}
 use Rattle.regress_tree.specs.Tree.{leaf, empty}
 use Rattle.regress_match.specs.Captures.{state}
-use Rattle.regress_match.specs.Leaves.{read_of}
-use Rattle.regress_match.specs.Subject.{subject}
+use Rattle.regress_leaves.specs.Leaves.{read_of}
+use Rattle.regress_leaves.specs.Subject.{subject}
 use Rattle.regress_match.specs.Iterations.{opposite, giving_back}
 use Rattle.regress_match.proofs.DoesLemmas.{goes_on}
-use Rattle.regress_match.proofs.LeafLemmas.{none_of}
+use Rattle.regress_leaves.proofs.lemmas.Leaves.{none_of}
 use Rattle.regress_match.proofs.SingleLemmas.{turned_round, does_from, does_or_at}
 use Rattle.regress_match.proofs.CharacterLoopLemmas.{gives_last, gives_only, gives_more}
 use Rattle.regress_match.proofs.match_single_char_loop.give_back.Goals as goal

@@ -2,8 +2,8 @@ use Rattle.std.proofs.Common.{◌≡◌, ◌∙◌, ap, sym, refl, Some}
 use Rattle.std.specs.Option.{option_map}
 use Rattle.regress_tree.specs.Reading.{Read, next_character, of_bytes, direction_if}
 use Rattle.regress_match.specs.Captures.{state}
-use Rattle.regress_match.specs.Leaves.{read_of}
-use Rattle.regress_match.specs.Subject.{subject}
+use Rattle.regress_leaves.specs.Leaves.{read_of}
+use Rattle.regress_leaves.specs.Subject.{subject}
 use Rattle.regress_match.specs.Iterations.{opposite}
 use Rattle.regress_match.proofs.SingleLemmas.{skips_back, turned_round}
 use Rattle.regress_match.proofs.CharacterLoopLemmas.{less_ahead}

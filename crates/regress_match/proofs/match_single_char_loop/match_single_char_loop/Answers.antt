@@ -2,11 +2,11 @@ use Rattle.std.proofs.Common.{refl}
 use Rattle.regress_tree.specs.Steps.{MatchState}
 use Rattle.regress_match.specs.Captures.{state}
 use Rattle.regress_match.specs.Machine.{frame_step}
-use Rattle.regress_match.specs.Subject.{subject}
+use Rattle.regress_leaves.specs.Subject.{subject}
 use Rattle.regress_match.specs.declared.machine.Frame.TheVariants as whats
 use Rattle.regress_match.specs.declared.machine.Machine.{Machine}
 use Rattle.regress_match.proofs.DoesLemmas.{goes_back, does_counted, ok_map}
-use Rattle.regress_match.proofs.LeafLemmas.{none_of}
+use Rattle.regress_leaves.proofs.lemmas.Leaves.{none_of}
 use Rattle.regress_match.proofs.SingleLemmas.{loop_short, loop_greedy, loop_lazy, does_or_at}
 use Rattle.regress_match.proofs.match_single_char_loop.match_single_char_loop.Goals as goal
 

@@ -2,11 +2,11 @@ use Rattle.std.proofs.Common.{◌≡◌, ◌∙◌, ap, sym, refl, None, Some}
 use Rattle.regress_tree.specs.Reading.{direction_if}
 use Rattle.regress_tree.specs.Tree.{tree}
 use Rattle.regress_match.specs.Captures.{state}
-use Rattle.regress_match.specs.Leaves.{put}
-use Rattle.regress_match.specs.Subject.{subject}
-use Rattle.regress_match.specs.Iterations.{one_of, taking_more}
+use Rattle.regress_leaves.specs.Leaves.{put, one_of}
+use Rattle.regress_leaves.specs.Subject.{subject}
+use Rattle.regress_match.specs.Iterations.{taking_more}
 use Rattle.regress_match.proofs.DoesLemmas.{goes_back}
-use Rattle.regress_match.proofs.LeafLemmas.{none_of}
+use Rattle.regress_leaves.proofs.lemmas.Leaves.{none_of}
 use Rattle.regress_match.proofs.SingleLemmas.{does_or_at}
 use Rattle.regress_match.proofs.CharacterLoopLemmas.{more_none, more_some}
 use Rattle.regress_match.proofs.match_single_char_loop.take_more.Goals as goal

@@ -2,8 +2,8 @@ use Rattle.std.proofs.Common.{◌∙◌, ap, sym, subst}
 use Rattle.regress_tree.specs.Tree.{tree}
 use Rattle.regress_tree.specs.declared.ir.node.Node.{Node}
 use Rattle.regress_tree.proofs.lemmas.Nodes.{tree-Alt}
-use Rattle.regress_match.specs.Peek.{FailsAt}
-use Rattle.regress_match.specs.Subject.{subject}
+use Rattle.regress_leaves.specs.Leaves.{FailsAt}
+use Rattle.regress_leaves.specs.Subject.{subject}
 use Rattle.regress_match.proofs.PeekLemmas.{fails_alt}
 use Rattle.regress_match.proofs.peek.cannot_match_at.Goals as goal
 

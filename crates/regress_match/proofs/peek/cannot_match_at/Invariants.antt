@@ -1,6 +1,6 @@
 -- The node fails where the remaining alternatives fail.
-use Rattle.regress_match.specs.Peek.{FailsAt}
-use Rattle.regress_match.specs.Subject.{subject}
+use Rattle.regress_leaves.specs.Leaves.{FailsAt}
+use Rattle.regress_leaves.specs.Subject.{subject}
 use Rattle.regress_tree.specs.Tree.{tree}
 use Rattle.regress_match.proofs.peek.cannot_match_at.Given as goal
 

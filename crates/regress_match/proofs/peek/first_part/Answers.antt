@@ -1,6 +1,6 @@
 use Rattle.std.proofs.Common.{rules, ◌≡◌, ◌∷◌, sym, subst}
 use Rattle.regress_tree.specs.Tree.{tree, trees, cat}
-use Rattle.regress_match.specs.Peek.{FailsAt}
+use Rattle.regress_leaves.specs.Leaves.{FailsAt}
 use Rattle.regress_match.proofs.PeekLemmas.{fails_cat}
 use Rattle.regress_match.proofs.peek.first_part.Goals as goal
 

@@ -1,6 +1,6 @@
 use Rattle.std.proofs.Common.{arith}
 use Rattle.regress_tree.specs.Steps.{captured}
-use Rattle.regress_match.specs.Subject.{subject}
+use Rattle.regress_leaves.specs.Subject.{subject}
 use Rattle.regress_match.proofs.PeekLemmas.{close_none}
 use Rattle.regress_match.proofs.peek.frame_fails.Goals as goal
 

@@ -1,6 +1,6 @@
 use Rattle.std.proofs.Common.{◌∙◌, arith, ap}
 use Rattle.regress_match.specs.Machine.{frame_step}
-use Rattle.regress_match.specs.Subject.{subject}
+use Rattle.regress_leaves.specs.Subject.{subject}
 use Rattle.regress_match.proofs.PeekLemmas.{task_none}
 use Rattle.regress_match.proofs.peek.frame_itself_fails.Goals as goal
 

@@ -7,11 +7,10 @@ use Rattle.regress_tree.specs.Reading.{direction_if, of_bytes}
 use Rattle.regress_tree.specs.Tree.{tree, leaf, string_set, wrapped, lookaround}
 use Rattle.regress_tree.specs.declared.ir.node.Node.{Node, the_lemmas}
 use Rattle.regress_tree.proofs.lemmas.Nodes.{tree-LookaroundAssertion}
-use Rattle.regress_match.specs.Leaves.{any_of}
-use Rattle.regress_match.specs.Peek.{FailsAt, GoesTo}
-use Rattle.regress_match.specs.Subject.{Subject, subject}
+use Rattle.regress_leaves.specs.Leaves.{any_of, FailsAt, GoesTo}
+use Rattle.regress_leaves.specs.Subject.{Subject, subject}
 use Rattle.regress_match.proofs.DoesLemmas.{nothing_in}
-use Rattle.regress_match.proofs.LeafLemmas.{any-nil}
+use Rattle.regress_leaves.proofs.lemmas.Leaves.{any-nil}
 use Rattle.regress_match.proofs.PeekLemmas.{fails_look, fails_look_negated}
 use Rattle.regress_match.proofs.peek.front_fails.Goals as goal
 

@@ -1,6 +1,6 @@
 -- The node fails where its first part fails.
-use Rattle.regress_match.specs.Peek.{FailsAt}
-use Rattle.regress_match.specs.Subject.{Subject}
+use Rattle.regress_leaves.specs.Leaves.{FailsAt}
+use Rattle.regress_leaves.specs.Subject.{Subject}
 use Rattle.regress_tree.specs.Tree.{tree}
 use Rattle.std.proofs.Common.{ℕ}
 use Rattle.regress_match.proofs.peek.leading_leaf.Given as goal

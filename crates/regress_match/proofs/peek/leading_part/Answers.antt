@@ -3,7 +3,7 @@ use Rattle.std.specs.Prelude.{option_map, string_bytes}
 use Rattle.regress_tree.specs.Tree.{tree, trees, cat}
 use Rattle.regress_tree.specs.declared.ir.node.Node.{Node}
 use Rattle.regress_tree.proofs.lemmas.Nodes.{tree-Cat, tree-CaptureGroup, tree-Loop, tree-Loop1CharBody}
-use Rattle.regress_match.specs.Peek.{FailsAt}
+use Rattle.regress_leaves.specs.Leaves.{FailsAt}
 use Rattle.regress_match.proofs.PeekLemmas.{fails_group, fails_loop, fails_loop_one, some_map}
 use Rattle.regress_match.proofs.peek.leading_part.Goals as goal
 

@@ -3,8 +3,8 @@ use Rattle.regress_tree.specs.Matching.{steps}
 use Rattle.regress_tree.specs.Tree.{Tree, tree}
 use Rattle.regress_tree.specs.declared.ir.node.Node.{Node}
 use Rattle.regress_tree.proofs.lemmas.Nodes.{tree-Alt}
-use Rattle.regress_match.specs.Peek.{FailsAt}
-use Rattle.regress_match.specs.Subject.{subject}
+use Rattle.regress_leaves.specs.Leaves.{FailsAt}
+use Rattle.regress_leaves.specs.Subject.{subject}
 use Rattle.regress_match.proofs.PeekLemmas.{fails_first}
 use Rattle.regress_match.proofs.peek.skip_failing_alternatives.Goals as goal
 

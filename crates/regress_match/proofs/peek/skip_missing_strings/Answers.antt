@@ -2,9 +2,9 @@ use Rattle.std.proofs.Common.{rules, ◌≡◌, ◌∷◌, ◌++◌, ◌∙◌, 
 use Rattle.regress_base.specs.Table.{denotes}
 use Rattle.regress_tree.specs.Reading.{of_bytes}
 use Rattle.regress_tree.specs.References.{all_of, in_order}
-use Rattle.regress_match.specs.Leaves.{put, any_of}
-use Rattle.regress_match.specs.Subject.{subject}
-use Rattle.regress_match.proofs.LeafLemmas.{not_some, any_first}
+use Rattle.regress_leaves.specs.Leaves.{put, any_of}
+use Rattle.regress_leaves.specs.Subject.{subject}
+use Rattle.regress_leaves.proofs.lemmas.Leaves.{not_some, any_first}
 use Rattle.regress_match.proofs.peek.skip_missing_strings.Goals as goal
 
 pub loop-left-preserved : goal.loop-left-preserved

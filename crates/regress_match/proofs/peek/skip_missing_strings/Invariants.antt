@@ -1,8 +1,8 @@
 -- The remaining strings match what all of them match.
 use Rattle.std.proofs.Common.{◌≡◌}
 use Rattle.regress_tree.specs.Steps.{MatchState}
-use Rattle.regress_match.specs.Leaves.{any_of}
-use Rattle.regress_match.specs.Subject.{subject}
+use Rattle.regress_leaves.specs.Leaves.{any_of}
+use Rattle.regress_leaves.specs.Subject.{subject}
 use Rattle.regress_match.proofs.peek.skip_missing_strings.Given as goal
 
 abbrev pub invariant-loop-left : goal.invariant-loop-left

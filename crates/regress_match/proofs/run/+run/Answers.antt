@@ -6,7 +6,7 @@ use Rattle.regress_tree.specs.Tree.{tree}
 use Rattle.regress_unicode.specs.TableOf.{table_of}
 use Rattle.regress_match.specs.Captures.{state, undone}
 use Rattle.regress_match.specs.Machine.{left_ahead}
-use Rattle.regress_match.specs.Subject.{subject}
+use Rattle.regress_leaves.specs.Subject.{subject}
 use Rattle.regress_match.proofs.CaptureLemmas.{Later-refl, undone-nil, undone-all}
 use Rattle.regress_match.proofs.RunLemmas.{begins, goes_on_with, ends_at, look_holds, look_fails, looks_first, looks_none, rewound, rewound_trail}
 use Rattle.regress_match.proofs.run.+run.Goals as goal

@@ -4,7 +4,7 @@ use Rattle.regress_tree.specs.Matching.{steps}
 use Rattle.regress_tree.specs.Tree.{tree}
 use Rattle.regress_match.specs.Captures.{state, undone}
 use Rattle.regress_match.specs.Machine.{Fits, IsMachine, left_ahead}
-use Rattle.regress_match.specs.Subject.{subject}
+use Rattle.regress_leaves.specs.Subject.{subject}
 use Rattle.regress_match.proofs.run.+run.Given as goal
 
 abbrev pub decreases-run : goal.decreases-run

@@ -1,6 +1,6 @@
 use Rattle.std.proofs.Common.{◌≡◌, ◌≤◌, ◌∙◌, ap}
 use Rattle.regress_match.specs.declared.machine.Pending.TheVariants as aheads
-use Rattle.regress_match.specs.Subject.{subject}
+use Rattle.regress_leaves.specs.Subject.{subject}
 use Rattle.regress_match.proofs.DoesLemmas.{ok_map}
 use Rattle.regress_match.proofs.RunLemmas.{node_done, positive, task_done}
 use Rattle.regress_match.proofs.SingleLemmas.{occurs}

@@ -4,7 +4,7 @@ use Rattle.regress_tree.specs.Tree.{Tree, tree}
 use Rattle.regress_tree.specs.declared.ir.node.Node.{Node}
 use Rattle.regress_tree.proofs.lemmas.Nodes.{tree-Alt}
 use Rattle.regress_match.specs.Captures.{state}
-use Rattle.regress_match.specs.Subject.{subject}
+use Rattle.regress_leaves.specs.Subject.{subject}
 use Rattle.regress_match.proofs.DoesLemmas.{does_first, goes_into}
 use Rattle.regress_match.proofs.visits.alt.Goals as goal
 

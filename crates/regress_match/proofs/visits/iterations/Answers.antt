@@ -1,6 +1,6 @@
 use Rattle.std.proofs.Common.{arith, ◌-◌, ◌∙◌, ap, sym, flat_map, append-nil}
 use Rattle.regress_match.specs.Machine.{optional_of, iteration_of, frame_step}
-use Rattle.regress_match.specs.Subject.{subject}
+use Rattle.regress_leaves.specs.Subject.{subject}
 use Rattle.regress_tree.specs.Matching.{steps}
 use Rattle.regress_tree.specs.Repetition.{iterations}
 use Rattle.regress_tree.specs.Steps.{◌then_◌}

@@ -1,7 +1,7 @@
 use Rattle.std.proofs.Common.{arith, ◌-◌, ap}
 use Rattle.regress_match.specs.Machine.{optional_of, iteration_of}
 use Rattle.regress_match.specs.Captures.{state}
-use Rattle.regress_match.specs.Subject.{subject}
+use Rattle.regress_leaves.specs.Subject.{subject}
 use Rattle.regress_tree.specs.Repetition.{up_to, moving}
 use Rattle.regress_tree.specs.Steps.{◌then_◌}
 use Rattle.regress_match.proofs.DoesLemmas.{goes_on, does_or_stay, does_stay_or, ok_map}

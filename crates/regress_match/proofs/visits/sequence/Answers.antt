@@ -1,7 +1,7 @@
 use Rattle.std.proofs.Common.{◌≡◌, ap, refl}
 use Rattle.regress_match.specs.Captures.{state}
 use Rattle.regress_match.specs.Machine.{onward, sequence_of}
-use Rattle.regress_match.specs.Subject.{subject}
+use Rattle.regress_leaves.specs.Subject.{subject}
 use Rattle.regress_match.specs.declared.machine.Machine.{Machine}
 use Rattle.regress_match.proofs.DoesLemmas.{goes_back, does_counted, ok_map}
 use Rattle.regress_match.proofs.SingleLemmas.{does_from}

@@ -1,7 +1,7 @@
 use Rattle.std.proofs.Common.{◌∷◌, [], ◌∙◌, ap, sym}
 use Rattle.regress_match.specs.Captures.{state}
 use Rattle.regress_match.specs.Machine.{frame_step}
-use Rattle.regress_match.specs.Subject.{subject}
+use Rattle.regress_leaves.specs.Subject.{subject}
 use Rattle.regress_match.proofs.DoesLemmas.{does_same, goes_back, goes_changed, ok_map}
 use Rattle.regress_match.proofs.LoopLemmas.{moved_not, moved_on}
 use Rattle.regress_match.proofs.visits.step.Goals as goal

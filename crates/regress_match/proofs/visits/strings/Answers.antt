@@ -4,14 +4,14 @@ use Rattle.regress_base.specs.Table.{denotes}
 use Rattle.regress_tree.specs.Reading.{of_bytes}
 use Rattle.regress_tree.specs.References.{all_of, in_order}
 use Rattle.regress_match.specs.Captures.{state}
-use Rattle.regress_match.specs.Leaves.{any_of}
+use Rattle.regress_leaves.specs.Leaves.{any_of}
 use Rattle.regress_match.specs.Machine.{frame_step}
-use Rattle.regress_match.specs.Subject.{subject}
+use Rattle.regress_leaves.specs.Subject.{subject}
 use Rattle.regress_match.specs.declared.machine.Frame.TheVariants as whats
 use Rattle.regress_match.specs.declared.machine.Machine.{Machine}
 use Rattle.regress_match.proofs.CaptureLemmas.{Later-refl}
 use Rattle.regress_match.proofs.DoesLemmas.{does_counted, goes_back, goes_on, goes_pushed, does_stay_or, nothing_in}
-use Rattle.regress_match.proofs.LeafLemmas.{none_of, any-nil, any_opened}
+use Rattle.regress_leaves.proofs.lemmas.Leaves.{none_of, any-nil, any_opened}
 use Rattle.regress_match.proofs.visits.strings.Goals as goal
 
 pub returns-in_default : goal.returns-in_default

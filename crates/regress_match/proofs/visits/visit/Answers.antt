@@ -5,8 +5,8 @@ use Rattle.regress_tree.specs.Matching.{steps}
 use Rattle.regress_tree.specs.Tree.{tree, wrapped, capture_group, lookaround}
 use Rattle.regress_tree.proofs.lemmas.Nodes.{tree-Cat, tree-CaptureGroup, tree-Loop, tree-Loop1CharBody, tree-LookaroundAssertion}
 use Rattle.regress_match.specs.Captures.{state}
-use Rattle.regress_match.specs.Leaves.{has_one_outcome}
-use Rattle.regress_match.specs.Subject.{subject}
+use Rattle.regress_leaves.specs.Leaves.{has_one_outcome}
+use Rattle.regress_leaves.specs.Subject.{subject}
 use Rattle.regress_match.proofs.DoesLemmas.{does_counted, does_same, ok_map, goes_look, goes_put}
 use Rattle.regress_match.proofs.LoopLemmas.{loop_is}
 use Rattle.regress_match.specs.declared.machine.Looking.{Looking}

@@ -1,0 +1,4 @@
+pub mod lemmas
+pub mod BetweenLemmas
+pub mod ReadingLemmas
+pub mod WordLemmas

@@ -1,0 +1,173 @@
+-- What leaves match, in the form in which the code computes it.
+use Rattle.std.proofs.Common.{◌≡◌, ℕ, zero, suc, ◌+◌, ◌-◌, ◌≤◌, ◌<◌, Bool, true, false, ◌&&◌, List, [], ◌∷◌, ◌++◌, flat_map, length, drop, get_or, Option, Some, None, refl, sym, ap, ap₂, ◌∙◌, arith, append-nil, map, if◌then◌else◌, nat_eq, nat_le}
+use Rattle.std.specs.Box.{boxed_slice_items}
+use Rattle.std.specs.Global.{Global}
+use Rattle.std.specs.List.{starts_with}
+use Rattle.std.specs.Option.{is_some}
+use Rattle.std.specs.declared.boxed.BoxedSlice.{BoxedSlice}
+use Rattle.std.proofs.lemmas.List.{drop_more, length-reverse}
+use Rattle.regress_base.specs.Table.{denotes}
+use Rattle.regress_tree.specs.Reading.{Direction, forwards, backwards, Reading, Read, next_character, of_bytes}
+use Rattle.regress_tree.specs.References.{all_of, in_order, characters_from, back_reference, match_again}
+use Rattle.regress_tree.specs.Strings.{any_string}
+use Rattle.regress_tree.specs.Steps.{MatchState, one_character, moved, these_bytes, hold_at}
+use Rattle.regress_leaves.specs.Leaves.{any_of, put}
+use Rattle.regress_leaves.specs.Subject.{Subject}
+
+module _ (d : Direction) (r : Reading) where
+  -- a test of one character: at the end of the input, a failed test, a passed test
+  pub one_none : (test : ℕ → Bool) (s : MatchState) → next_character d r s.position ≡ None → one_character d r test s ≡ []
+  unfolding one_character
+  one_none test s none = ap (moved test s) none
+
+  pub one_yes : (test : ℕ → Bool) (s : MatchState) (read : Read) → next_character d r s.position ≡ Some read → test read.character ≡ true →
+      one_character d r test s ≡ record s { position = read.position } ∷ []
+  unfolding one_character
+  one_yes test s read some tested = ap (moved test s) some ∙ ap (λ (b : Bool). if b then record s { position = read.position } ∷ [] else []) tested
+
+  pub one_no : (test : ℕ → Bool) (s : MatchState) (read : Read) → next_character d r s.position ≡ Some read → test read.character ≡ false →
+      one_character d r test s ≡ []
+  unfolding one_character
+  one_no test s read some tested = ap (moved test s) some ∙ ap (λ (b : Bool). if b then record s { position = read.position } ∷ [] else []) tested
+
+  module _ (same : ℕ → ℕ → Bool) where
+    -- characters in order: at the end of the input, a mismatch, a match
+    pub all_none : (c : ℕ) (cs : List ℕ) (s : MatchState) → next_character d r s.position ≡ None → all_of d r same (c ∷ cs) s ≡ []
+    all_none c cs s none = ap (flat_map (all_of d r same cs)) (one_none (same c) s none)
+
+    pub all_no : (c : ℕ) (cs : List ℕ) (s : MatchState) (read : Read) → next_character d r s.position ≡ Some read → same c read.character ≡ false →
+        all_of d r same (c ∷ cs) s ≡ []
+    all_no c cs s read some tested = ap (flat_map (all_of d r same cs)) (one_no (same c) s read some tested)
+
+    pub all_yes : (c : ℕ) (cs : List ℕ) (s : MatchState) (read : Read) → next_character d r s.position ≡ Some read → same c read.character ≡ true →
+        all_of d r same (c ∷ cs) s ≡ all_of d r same cs (record s { position = read.position })
+    all_yes c cs s read some tested =
+        ap (flat_map (all_of d r same cs)) (one_yes (same c) s read some tested) ∙ append-nil (all_of d r same cs (record s { position = read.position }))
+
+-- bytes match exactly if the text has them at the position
+pub bytes_forwards : (bytes written : List ℕ) (s : MatchState) (b : Bool) → starts_with nat_eq (drop s.position bytes) written ≡ b →
+    these_bytes forwards bytes written s ≡ (if b then record s { position = s.position + length written } ∷ [] else [])
+unfolding these_bytes
+bytes_forwards bytes written s b is =
+    ap (λ (x : Bool). if x then record s { position = s.position + length written } ∷ [] else []) is
+
+pub bytes_backwards : (bytes written : List ℕ) (s : MatchState) (b : Bool) →
+    (nat_le (length written) s.position && starts_with nat_eq (drop (s.position - length written) bytes) written) ≡ b →
+    these_bytes backwards bytes written s ≡ (if b then record s { position = s.position - length written } ∷ [] else [])
+unfolding these_bytes
+bytes_backwards bytes written s b is =
+    ap (λ (x : Bool). if x then record s { position = s.position - length written } ∷ [] else []) is
+
+pub after_by : (bytes written : List ℕ) (s : MatchState) (k n : ℕ) (b : Bool) → s.position ≡ k → n ≡ length written →
+    starts_with nat_eq (drop k bytes) written ≡ b → (if b then record s { position = k + n } ∷ [] else []) ≡ these_bytes forwards bytes written s
+after_by bytes written s k n b at len occurs =
+    sym (bytes_forwards bytes written s b (ap (λ i. starts_with nat_eq (drop i bytes) written) at ∙ occurs)
+    ∙ ap₂ (λ i j. if b then record s { position = i + j } ∷ [] else []) at (sym len))
+
+short_test : (n k : ℕ) (x : Bool) → k < n → (nat_le n k && x) ≡ false
+short_test n k x lt = ap (λ (b : Bool). b && x) (fails n k lt)
+  where
+    fails : (n k : ℕ) → k < n → nat_le n k ≡ false
+    fails n k lt = grind arith
+
+long_test : (n k : ℕ) (x : Bool) → n ≤ k → (nat_le n k && x) ≡ x
+long_test n k x le = ap (λ (b : Bool). b && x) (holds n k le)
+  where
+    holds : (n k : ℕ) → n ≤ k → nat_le n k ≡ true
+    holds n k le = grind arith
+
+pub before_short : (bytes written : List ℕ) (s : MatchState) (k n : ℕ) → s.position ≡ k → n ≡ length written → k < n →
+    [] ≡ these_bytes backwards bytes written s
+before_short bytes written s k n at len lt =
+    sym (bytes_backwards bytes written s false (short_test (length written) s.position _ (omega (arith, at, len, lt))))
+
+pub before_by : (bytes written : List ℕ) (s : MatchState) (k n : ℕ) (b : Bool) → s.position ≡ k → n ≡ length written → n ≤ k →
+    starts_with nat_eq (drop (k - n) bytes) written ≡ b → (if b then record s { position = k - n } ∷ [] else []) ≡ these_bytes backwards bytes written s
+before_by bytes written s k n b at len le occurs =
+    sym (bytes_backwards bytes written s b
+    (long_test (length written) s.position _ (omega (arith, at, len, le))
+    ∙ ap₂ (λ i j. starts_with nat_eq (drop (i - j) bytes) written) at (sym len) ∙ occurs)
+    ∙ ap₂ (λ i j. if b then record s { position = i - j } ∷ [] else []) at (sym len))
+
+pub length-in_order : (d : Direction) (cs : List ℕ) → length (in_order d cs) ≡ length cs
+length-in_order forwards cs = refl
+length-in_order backwards cs = length-reverse cs
+
+-- Matching the remaining characters, by the next character of the text.
+module _ (d : Direction) (r : Reading) (same : ℕ → ℕ → Bool) (cs : List ℕ) (s : MatchState) (i here : ℕ) (within : i < length cs) where
+  here_of : all_of d r same (drop i cs) (record s { position = here }) ≡ all_of d r same (get_or cs i 0 ∷ drop (i + 1) cs) (record s { position = here })
+  here_of = ap (λ ds. all_of d r same ds (record s { position = here })) (drop_more cs i 0 within)
+
+  pub order_none : next_character d r here ≡ None → all_of d r same (drop i cs) (record s { position = here }) ≡ all_of d r same cs s →
+      all_of d r same cs s ≡ []
+  order_none none so_far = sym so_far ∙ here_of ∙ all_none d r same (get_or cs i 0) (drop (i + 1) cs) (record s { position = here }) none
+
+  pub order_no : (read : Read) → next_character d r here ≡ Some read → same (get_or cs i 0) read.character ≡ false →
+      all_of d r same (drop i cs) (record s { position = here }) ≡ all_of d r same cs s → all_of d r same cs s ≡ []
+  order_no read some tested so_far =
+      sym so_far ∙ here_of ∙ all_no d r same (get_or cs i 0) (drop (i + 1) cs) (record s { position = here }) read some tested
+
+  pub order_yes : (read : Read) → next_character d r here ≡ Some read → same (get_or cs i 0) read.character ≡ true →
+      all_of d r same (drop i cs) (record s { position = here }) ≡ all_of d r same cs s →
+      all_of d r same (drop (i + 1) cs) (record s { position = read.position }) ≡ all_of d r same cs s
+  order_yes read some tested so_far =
+      sym (all_yes d r same (get_or cs i 0) (drop (i + 1) cs) (record s { position = here }) read some tested) ∙ sym here_of ∙ so_far
+
+-- backreferences: to an unset group, and to a set one
+pub back_none : (d : Direction) (r : Reading) (same : ℕ → ℕ → Bool) (id : ℕ) (s : MatchState) → get_or s.captures id None ≡ None →
+    back_reference d r same id s ≡ s ∷ []
+unfolding back_reference
+back_none d r same id s none = ap (λ span. match_again d r same span s) none
+
+pub back_some : (d : Direction) (r : Reading) (same : ℕ → ℕ → Bool) (id start end : ℕ) (s : MatchState) → get_or s.captures id None ≡ Some (start, end) →
+    back_reference d r same id s ≡ all_of d r same (in_order d (characters_from r (end - start) start end)) s
+unfolding back_reference
+back_some d r same id start end s some = ap (λ span. match_again d r same span s) some
+
+-- an element of a list does not depend on the default
+pub get_or_at : {A : Type 0} (xs : List A) (i : ℕ) (v w : A) → get_or xs i v ≡ v → i < length xs → get_or xs i w ≡ v
+get_or_at [] i v w is within = absurd (omega (arith, within))
+get_or_at (x ∷ xs) zero v w is within = is
+get_or_at (x ∷ xs) (suc i) v w is within = get_or_at xs i v w is (omega (arith, within))
+
+pub none_of : {A : Type 0} (o : Option A) → ((x : A) → o ≡ Some x → ⊥) → o ≡ None
+none_of None h = refl
+none_of (Some x) h = absurd (h x refl)
+
+pub not_some : {A : Type 0} (o : Option A) → is_some o ≡ false → o ≡ None
+not_some None h = refl
+not_some (Some x) h = let bad : ⊥ = cc in absurd bad
+
+pub holds_is : (test : ℕ → Bool) (s : MatchState) (b : Bool) → test s.position ≡ b → hold_at test s ≡ (if b then s ∷ [] else [])
+unfolding hold_at
+holds_is test s b is = ap (λ (x : Bool). if x then s ∷ [] else []) is
+
+pub any-nil : (d : Direction) (r : Reading) (same : ℕ → ℕ → Bool) (s : MatchState) → any_string d r same [] s ≡ []
+unfolding any_string
+any-nil d r same s = refl
+
+pub any-cons : (d : Direction) (r : Reading) (same : ℕ → ℕ → Bool) (string : List ℕ) (strings : List (List ℕ)) (s : MatchState) →
+    any_string d r same (string ∷ strings) s ≡ all_of d r same (in_order d string) s ++ any_string d r same strings s
+unfolding any_string
+any-cons d r same string strings s = refl
+
+-- a set of strings is its first string and then the others
+pub any_first : (u : Subject) (icase : Bool) (all rest : List (BoxedSlice ℕ Global)) (first : BoxedSlice ℕ Global) (to : Option ℕ) (s : MatchState) →
+    all ≡ first ∷ rest →
+    put s to ≡ all_of u.direction (of_bytes u.bytes) (denotes u.setting.table icase u.setting.flags.unicode)
+    (in_order u.direction (boxed_slice_items first)) s →
+    any_of u icase all s ≡ put s to ++ any_of u icase rest s
+any_first u icase all rest first to s split found =
+    let same = denotes u.setting.table icase u.setting.flags.unicode in
+    ap (λ (strings : List (BoxedSlice ℕ Global)). any_of u icase strings s) split
+    ∙ any-cons u.direction (of_bytes u.bytes) same (boxed_slice_items first) (map boxed_slice_items rest) s
+    ∙ ap (λ xs. xs ++ any_of u icase rest s) (sym found)
+
+-- the same, where strings that fail are skipped before and after the first
+pub any_opened : (u : Subject) (icase : Bool) (all left rest others : List (BoxedSlice ℕ Global)) (first : BoxedSlice ℕ Global) (to found : Option ℕ)
+    (s : MatchState) → any_of u icase left s ≡ any_of u icase all s → left ≡ first ∷ rest →
+    put s to ≡ all_of u.direction (of_bytes u.bytes) (denotes u.setting.table icase u.setting.flags.unicode)
+    (in_order u.direction (boxed_slice_items first)) s →
+    any_of u icase others s ≡ any_of u icase rest s → to ≡ found → any_of u icase all s ≡ put s found ++ any_of u icase others s
+any_opened u icase all left rest others first to found s opened split occurs after is =
+    sym opened ∙ any_first u icase left rest first to s split occurs ∙ ap₂ (λ (k : Option ℕ) xs. put s k ++ xs) is (sym after)

@@ -1,0 +1,8 @@
+//! What the leaves of a tree match in a text, and the decoding of the text.
+#![tactic(auto)]
+
+pub mod characters;
+pub mod known;
+pub mod leaves;
+pub mod reading;
+pub mod rules;
