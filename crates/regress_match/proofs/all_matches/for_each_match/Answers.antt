@@ -1,6 +1,6 @@
 use Rattle.std.proofs.Common.{rules, of_calls, refl, []}
 use Rattle.std.proofs.lemmas.Fn.{called_at}
-use Rattle.regress_match.proofs.AllMatchesLemmas.{called_on_all, called_on_some, one_more_call}
+use Rattle.regress_match.proofs.AllMatchesLemmas.{called_on_all, one_more_call}
 use Rattle.regress_match.proofs.lemmas.Searched.{remaining-falls}
 use Rattle.regress_match.proofs.all_matches.for_each_match.Goals as goal
 
