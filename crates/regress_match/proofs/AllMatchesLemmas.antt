@@ -69,13 +69,3 @@ module _ {F : Type 0} (g : Mut F (Bor Match × Unit {0}) (Unit {0})) (text : Lis
     calls = so_far.calls;
     none = λ is. none_left text at now so_far.ms so_far.sofar none;
   }
-
-  -- more matches may remain
-  pub called_on_some : (ended : Type 0) → (ended → ⊥) → CalledOnMatches g text at before between ended
-  called_on_some ended off = record {
-    ms = so_far.ms;
-    to = next_from now;
-    found = so_far.sofar.found;
-    calls = so_far.calls;
-    none = λ is. absurd (off is);
-  }
