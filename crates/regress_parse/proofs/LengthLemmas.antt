@@ -1,5 +1,5 @@
 -- How much of the source is left after a part.
-use Rattle.std.proofs.Common.{◌≡◌, ◌∙◌, ℕ, ◌+◌, ◌≤◌, Bool, true, false, cond, ◌∷◌, List, length, drop, Option, Result, Ok, Err, OnOk, refl, sym, ap, arith, length-drop}
+use Rattle.std.proofs.Common.{◌≡◌, ◌∙◌, ℕ, ◌+◌, ◌≤◌, Bool, true, false, cond, ◌∷◌, List, length, drop, Option, Result, Ok, Err, OnOk, sym, ap, arith, length-drop}
 use Rattle.regress_tree.specs.declared.ir.node.Node.{Node}
 use Rattle.regress_tree.specs.Reading.{Direction}
 use Rattle.regress_base.specs.Table.{Table}
