@@ -59,7 +59,7 @@ pub use Rattle.regress_parse.specs.Accepted
 pub use Rattle.regress_parse.specs.Fault
 pub use Rattle.regress_parse.specs.Settled
 pub use Rattle.regress_parse.specs.Spans
+pub use Rattle.regress_parse.specs.Bound
 pub use Rattle.regress_spans.specs.Paired
-pub use Rattle.regress_bound.specs.Bound
 -- Rewriting.
 pub use Rattle.regress_rewrite.specs.Law

@@ -21,9 +21,8 @@ pub mod literal {
 
 /// Parsing: from the text of a pattern to its tree.
 pub mod parse {
-    pub use regress_bound::node_bound;
     pub use regress_parse::{
-        Error, FaultKind, ParseFault, PlacedFault, try_parse, try_parse_with_position,
+        Error, FaultKind, ParseFault, PlacedFault, node_bound, try_parse, try_parse_with_position,
     };
     pub use regress_spans::{Span, SpannedRegex, try_parse_with_spans};
 }

@@ -12,6 +12,7 @@ pub mod BuildLemmas
 pub mod TermLoopInvariant
 pub mod AlternativesLemmas
 pub mod TermLemmas
+mod LengthLemmas
 pub mod ParserLemmas
 pub mod AcceptedLemmas
 pub mod NumbersOnlyRule
@@ -27,3 +28,9 @@ pub mod SpansOfItem
 pub mod SpansOfTerms
 pub mod SpansOfPattern
 pub mod SpansOfWhole
+mod NodesOfLists
+mod BoundOfSource
+mod BoundOfNames
+mod BoundOfHead
+mod BoundOfNodes
+mod BoundLemmas

@@ -7,6 +7,7 @@ pub mod Settled
 pub mod Parsing
 pub mod Spans
 pub mod Recorded
+pub mod Bound
 -- definitions of the crates below that the public contracts cite, exported again so that a caller names one library
 pub use Rattle.regress_base.specs.Table
 pub use Rattle.regress_unicode.specs.TableOf

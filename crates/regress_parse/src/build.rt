@@ -304,7 +304,6 @@ pub(crate) fn make_loop(
 }
 
 /// Returns the node of a group around `contents`. `groups` is the range of the ids of the group and of those inside.
-#[inline(always)]
 pub(crate) fn make_group(
     alloc: Global,
     kind: Group,
@@ -331,7 +330,6 @@ pub(crate) fn make_group(
 }
 
 /// Returns the text of a name, if there is one.
-#[inline(always)]
 fn name_text(alloc: Global, name: Option<Name>) -> Result<Option<String>, AllocError>
     ensures { IfOk result (λ text. option_map string_bytes text ≡ option_map (λ name. encode_utf8_all name.items) name) }
 {

@@ -2,14 +2,18 @@
 #![tactic(auto)]
 
 mod atom;
+mod bound;
 mod build;
 mod fault;
+mod heads;
 mod parser;
 mod pattern;
+mod positions;
 mod productions;
 mod recording;
 mod span;
 
+pub use bound::node_bound;
 pub use fault::{Error, ParseFault, PlacedFault};
 pub use pattern::{SpannedRegex, parse_with_spans, try_parse, try_parse_with_position};
 pub use regress_lexer::FaultKind;

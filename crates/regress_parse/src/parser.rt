@@ -29,8 +29,6 @@ pub(crate) struct PartContext<'a> {
     pub(crate) backwards: bool,
     /// The nesting depth of the part.
     pub(crate) depth: u32,
-    /// Whether the spans of nodes are recorded.
-    pub(crate) records: bool,
     /// The length of the whole pattern, in code points.
     pub(crate) whole: usize,
 }
@@ -49,7 +47,6 @@ impl<'a> PartContext<'a> {
         ensures context { context_in result ≡ context_inside (group_of kind.now) (context_in self.now) }
         ensures direction { direction_of result ≡ direction_of_group (group_of kind.now) (direction_of self.now) }
         ensures depth { result.depth ≡ self.now.depth }
-        ensures records { result.records ≡ self.now.records }
         ensures whole { result.whole ≡ self.now.whole }
     {
         match kind {
@@ -121,11 +118,14 @@ impl Parser<'_> {
     }
 
     /// Appends the spans of the final `Goal` and of the root, if spans are recorded.
-    pub(crate) fn record_end(&mut self, around: &PartContext) -> Result<(), AllocError>
-        ensures { around.now.records ≡ true → OnOk result (self.new.spans.items ≡ self.old.spans.items
+    pub(crate) fn record_end<const RECORDS: bool>(
+        &mut self,
+        around: &PartContext,
+    ) -> Result<(), AllocError>
+        ensures { RECORDS ≡ true → OnOk result (self.new.spans.items ≡ self.old.spans.items
             ++ span_to around.now.whole 0 (text self.old) ∷ span_to around.now.whole around.now.whole (text self.old) ∷ []) }
     {
-        record_if(true, &mut self.spans, around, 0, &self.cursor)?;
-        record_if(true, &mut self.spans, around, around.whole, &self.cursor)
+        record_if::<RECORDS>(true, &mut self.spans, around, 0, &self.cursor)?;
+        record_if::<RECORDS>(true, &mut self.spans, around, around.whole, &self.cursor)
     }
 }

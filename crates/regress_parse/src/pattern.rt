@@ -149,7 +149,7 @@ pub fn try_parse_with_position(
     ensures well_formed { IfOk result (λ r. IsWellFormed (tree r.node)) }
     ensures flags { IfOk result (λ r. r.flags ≡ flags) }
 {
-    match parse(alloc, pattern, flags, tables, false) {
+    match parse::<false>(alloc, pattern, flags, tables) {
         Ok(parsed) => Ok(parsed.regex),
         Err(fault) => Err(position(alloc, fault, pattern.len())),
     }
@@ -192,25 +192,24 @@ pub fn parse_with_spans(
     ensures well_formed { IfOk result (λ r. IsWellFormed (tree r.regex.node)) }
     ensures flags { IfOk result (λ r. r.regex.flags ≡ flags) }
 {
-    match parse(alloc, pattern, flags, tables, true) {
+    match parse::<true>(alloc, pattern, flags, tables) {
         Ok(parsed) => Ok(parsed),
         Err(fault) => Err(position(alloc, fault, pattern.len())),
     }
 }
 
-/// Returns the tree, and the spans of its nodes if `records`, or the kind of the syntax error and the number of code
+/// Returns the tree, and the spans of its nodes if `RECORDS`, or the kind of the syntax error and the number of code
 /// points that remain at its position.
-fn parse(
+fn parse<const RECORDS: bool>(
     alloc: Global,
     pattern: &[u32],
     flags: Flags,
     tables: &Tables,
-    records: bool,
 ) -> Result<SpannedRegex, Fault>
     requires { All IsCodePoint pattern.now }
     ensures accepted { IfOk result (λ r. (p : Pattern)
         × IsAccepted (setting_of flags tables.now) pattern.now p × (tree r.regex.node ≡ tree_of (table_of tables.now) p)) }
-    ensures spans { records ≡ true → IfOk result (λ r. (p : Pattern) (accepted : IsAccepted (setting_of flags tables.now) pattern.now p) →
+    ensures spans { RECORDS ≡ true → IfOk result (λ r. (p : Pattern) (accepted : IsAccepted (setting_of flags tables.now) pattern.now p) →
         r.spans.items ≡ spans_of (setting_of flags tables.now) pattern.now p accepted.derived) }
     ensures reported { FailsBy result (IsTrueOf (setting_of flags tables.now) pattern.now) }
     ensures limits { FailsBy result (MayExceed pattern.now) }
@@ -228,7 +227,7 @@ fn parse(
         tables,
         groups: &found.groups,
     };
-    let body = parse_body(alloc, pattern, &scope, records, found.first_errors)?;
+    let body = parse_body::<RECORDS>(alloc, pattern, &scope, found.first_errors)?;
     let parts = vec![in alloc; body.node, Node::Goal]?;
     Ok(SpannedRegex {
         regex: Regex {
@@ -241,31 +240,34 @@ fn parse(
 
 /// Parses the whole source. A syntax error is reported at the position that the scan has noted for its kind, if there
 /// is one.
-fn parse_body(
+fn parse_body<const RECORDS: bool>(
     alloc: Global,
     pattern: &[u32],
     scope: &Scope,
-    records: bool,
     first_errors: FirstErrors,
 ) -> Result<Body, Fault>
     requires { All IsCodePoint pattern.now }
     ensures value { YieldsWhole (context_of scope.now) pattern.now result }
     ensures reached { FailsBy result (λ kind. Reaches kind nothing_counted 1 pattern.now) }
-    ensures spans { records ≡ true → IfOk result (λ body. HasSpans (context_of scope.now) pattern.now body.spans.items) }
+    ensures spans { RECORDS ≡ true → IfOk result (λ body. HasSpans (context_of scope.now) pattern.now body.spans.items) }
     ensures located { (sets : Bool) → NotesFirst sets pattern.now first_errors → FailsAt result (IsLocated sets pattern.now) }
 {
-    match parse_source(alloc, pattern, scope, records) {
+    match parse_source::<RECORDS>(alloc, pattern, scope) {
         Ok(body) => Ok(body),
         Err(fault) => Err(first_errors.locate(fault)),
     }
 }
 
 /// Parses the whole source. A syntax error is reported at the position where the parser found it.
-fn parse_source(alloc: Global, pattern: &[u32], scope: &Scope, records: bool) -> Result<Body, Fault>
+fn parse_source<const RECORDS: bool>(
+    alloc: Global,
+    pattern: &[u32],
+    scope: &Scope,
+) -> Result<Body, Fault>
     requires { All IsCodePoint pattern.now }
     ensures value { YieldsWhole (context_of scope.now) pattern.now result }
     ensures reached { FailsBy result (λ kind. Reaches kind nothing_counted 1 pattern.now) }
-    ensures spans { records ≡ true → IfOk result (λ body. HasSpans (context_of scope.now) pattern.now body.spans.items) }
+    ensures spans { RECORDS ≡ true → IfOk result (λ body. HasSpans (context_of scope.now) pattern.now body.spans.items) }
 {
     let mut parser = Parser {
         cursor: Cursor {
@@ -280,14 +282,13 @@ fn parse_source(alloc: Global, pattern: &[u32], scope: &Scope, records: bool) ->
         scope: *scope,
         backwards: false,
         depth: 0,
-        records,
         whole: pattern.len(),
     };
-    let node = parser.consume_disjunction(&around)?;
+    let node = parser.consume_disjunction::<RECORDS>(&around)?;
     if !parser.cursor.rest.is_empty() {
         return Err(parser.cursor.reject(FaultKind::UnbalancedParenthesis));
     }
-    parser.record_end(&around)?;
+    parser.record_end::<RECORDS>(&around)?;
     Ok(Body {
         node,
         spans: parser.spans,

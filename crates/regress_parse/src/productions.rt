@@ -13,6 +13,7 @@ ghost use Rattle.regress_parse.specs.declared.span.Span.{Span};
 
 use crate::atom::{begins_anchor, parse_atom, push_simple_term};
 use crate::build::{make_alt, make_cat, make_group, make_literal, make_loop};
+use crate::heads::{parse_head, try_open};
 use crate::parser::{Parser, PartContext};
 use crate::recording::{
     has_node, note_start, push_reversed, record_alternations, record_if, record_nodes, set_apart,
@@ -20,17 +21,20 @@ use crate::recording::{
 use regress_base::types::{CaptureGroupID, MAX_NESTING_DEPTH};
 use regress_lexer::quantifier::may_begin;
 use regress_syntax::fault::FaultKind;
-use regress_syntax::{Fault, Group, parse_group, parse_optional_quantifier};
+use regress_syntax::{Fault, Group, parse_optional_quantifier};
 use regress_tree::ir::Node;
 
 impl Parser<'_> {
     /// Parses alternatives up to a `)` or the end (ECMA-262, Disjunction).
     #[cycle(parser)]
-    pub(crate) fn consume_disjunction(&mut self, around: &PartContext) -> Result<Node, Fault>
+    pub(crate) fn consume_disjunction<const RECORDS: bool>(
+        &mut self,
+        around: &PartContext,
+    ) -> Result<Node, Fault>
         ensures value { Yields (pattern_part (table_in around.now) (names_in_context around.now)) (direction_of around.now) around.now.depth (counted self.old) self.new result
             (pattern_at (context_in around.now) (text self.old)) }
         ensures reached { FailsBy result (λ kind. Reaches kind (counted self.old) (around.now.depth + 1) (text self.old)) }
-        ensures spans { around.now.records ≡ true → OnOk result
+        ensures spans { RECORDS ≡ true → OnOk result
             (RecordsPattern around.now.whole (context_in around.now) (direction_of around.now) (text self.old) self.old.spans.items (text self.new) self.new.spans.items) }
     {
         if around.depth >= MAX_NESTING_DEPTH {
@@ -41,7 +45,7 @@ impl Parser<'_> {
             ..*around
         };
         let mut start = self.cursor.rest.len();
-        let first = self.consume_alternative(&inside);
+        let first = self.consume_alternative::<RECORDS>(&inside);
         if !self.cursor.is_at('|') {
             return first;
         }
@@ -51,9 +55,9 @@ impl Parser<'_> {
         let mut last = first?;
         while self.cursor.try_consume('|') {
             before.push(last)?;
-            note_start(&mut starts, around, start)?;
+            note_start::<RECORDS>(&mut starts, start)?;
             start = self.cursor.rest.len();
-            last = self.consume_alternative(&inside)?;
+            last = self.consume_alternative::<RECORDS>(&inside)?;
         }
         record_alternations(&mut self.spans, starts, around, &self.cursor)?;
         Ok(make_alt(self.cursor.alloc, before, last)?)
@@ -61,35 +65,36 @@ impl Parser<'_> {
 
     /// Parses terms up to the end of the alternative (ECMA-262, Alternative). A single term needs no list.
     #[cycle(parser)]
-    fn consume_alternative(&mut self, around: &PartContext) -> Result<Node, Fault>
+    fn consume_alternative<const RECORDS: bool>(
+        &mut self,
+        around: &PartContext,
+    ) -> Result<Node, Fault>
         requires { around.now.depth ≤ max_nesting_depth }
         ensures value { Yields (terms_part (table_in around.now) (names_in_context around.now)) (direction_of around.now) around.now.depth (counted self.old) self.new result
             (terms_at (context_in around.now) (text self.old)) }
         ensures reached { FailsBy result (λ kind. Reaches kind (counted self.old) around.now.depth (text self.old)) }
-        ensures spans { around.now.records ≡ true → OnOk result
+        ensures spans { RECORDS ≡ true → OnOk result
             (RecordsAlternative around.now.whole (context_in around.now) (direction_of around.now) (text self.old) self.old.spans.items (text self.new) self.new.spans.items) }
     {
-        if around.records {
-            return self.consume_recorded(around);
+        if RECORDS {
+            return self.consume_recorded::<RECORDS>(around);
         }
         if self.cursor.ends_alternative() {
             return Ok(Node::Empty);
         }
-        let first = self.consume_first_term(around);
+        let first = self.consume_first_term::<RECORDS>(around);
         if self.cursor.ends_alternative() {
             return first;
         }
-        self.consume_terms(first?, around)
+        self.consume_terms::<RECORDS>(first?, around)
     }
 
     /// Parses terms up to the end of the alternative as [`Parser::consume_alternative`] does, and records spans. The parts
     /// of a lookbehind are in reverse order in the tree, so there each span is copied.
-    #[cold]
-    #[inline(never)]
     #[cycle(parser)]
-    fn consume_recorded(&mut self, around: &PartContext) -> Result<Node, Fault>
+    fn consume_recorded<const RECORDS: bool>(&mut self, around: &PartContext) -> Result<Node, Fault>
         requires depth { around.now.depth ≤ max_nesting_depth }
-        requires records { around.now.records ≡ true }
+        requires records { RECORDS ≡ true }
         ensures value { Yields (terms_part (table_in around.now) (names_in_context around.now)) (direction_of around.now) around.now.depth (counted self.old) self.new result
             (terms_at (context_in around.now) (text self.old)) }
         ensures reached { FailsBy result (λ kind. Reaches kind (counted self.old) around.now.depth (text self.old)) }
@@ -101,12 +106,12 @@ impl Parser<'_> {
         let mut parts = Vec::new(self.cursor.alloc);
         while !self.cursor.ends_alternative() {
             let begin = self.spans.len();
-            nodes.push(self.consume_term(around)?)?;
+            nodes.push(self.consume_term::<RECORDS>(around)?)?;
             set_apart(&mut parts, &mut self.spans, begin, around.backwards)?;
         }
         push_reversed(&mut self.spans, parts)?;
         // A single term has no further node.
-        record_if(
+        record_if::<RECORDS>(
             nodes.len() != 1,
             &mut self.spans,
             around,
@@ -118,22 +123,30 @@ impl Parser<'_> {
 
     /// Parses the first term. Most often it is a literal character, which needs no test of the other productions.
     #[cycle(parser)]
-    fn consume_first_term(&mut self, around: &PartContext) -> Result<Node, Fault>
+    fn consume_first_term<const RECORDS: bool>(
+        &mut self,
+        around: &PartContext,
+    ) -> Result<Node, Fault>
         requires { around.now.depth ≤ max_nesting_depth }
         ensures value { Yields (term_part (table_in around.now) (names_in_context around.now)) (direction_of around.now) around.now.depth (counted self.old) self.new result
             (term_at (context_in around.now) (text self.old)) }
         ensures reached { FailsBy result (λ kind. Reaches kind (counted self.old) around.now.depth (text self.old)) }
+        ensures shorter { OnOk result (length (text self.new) ≤ length (text self.old)) }
     {
         match self.cursor.next_plain() {
             Some(c) => Ok(make_literal(self.cursor.alloc, c, &around.scope)?),
-            None => self.consume_term(around),
+            None => self.consume_term::<RECORDS>(around),
         }
     }
 
     /// Parses the terms after the first one, up to the end of the alternative. Most of them need no test of the other
     /// productions.
     #[cycle(parser)]
-    fn consume_terms(&mut self, first: Node, around: &PartContext) -> Result<Node, Fault>
+    fn consume_terms<const RECORDS: bool>(
+        &mut self,
+        first: Node,
+        around: &PartContext,
+    ) -> Result<Node, Fault>
         requires { around.now.depth ≤ max_nesting_depth }
         ensures value { (t : Source) (before : Counts) (x : Term) → ends_alternative t ≡ false →
             term_at (context_in around.now) t ≡ Some (x, text self.old) →
@@ -149,40 +162,40 @@ impl Parser<'_> {
             if taken {
                 continue;
             }
-            parts.push(self.consume_term(around)?)?;
+            parts.push(self.consume_term::<RECORDS>(around)?)?;
         }
         Ok(make_cat(parts, around.backwards))
     }
 
     /// Parses an item and the quantifier after it (ECMA-262, Term).
     #[cycle(parser)]
-    fn consume_term(&mut self, around: &PartContext) -> Result<Node, Fault>
+    fn consume_term<const RECORDS: bool>(&mut self, around: &PartContext) -> Result<Node, Fault>
         requires { around.now.depth ≤ max_nesting_depth }
         ensures value { Yields (term_part (table_in around.now) (names_in_context around.now)) (direction_of around.now) around.now.depth (counted self.old) self.new result
             (term_at (context_in around.now) (text self.old)) }
         ensures reached { FailsBy result (λ kind. Reaches kind (counted self.old) around.now.depth (text self.old)) }
-        ensures spans { around.now.records ≡ true → OnOk result
+        ensures spans { RECORDS ≡ true → OnOk result
             (RecordsTerm around.now.whole (context_in around.now) (direction_of around.now) (text self.old) self.old.spans.items (text self.new) self.new.spans.items) }
     {
         let first = self.group_count;
         let opened = self.cursor.rest.len();
-        if self.cursor.try_consume('(') {
-            let kind = parse_group(&mut self.cursor, around.scope.tables)?;
+        if try_open(&mut self.cursor) {
+            let kind = parse_head(&mut self.cursor, &around.scope)?;
             let allowed = kind.allows_quantifier(around.scope.flags.unicode);
-            let item = self.consume_group(kind, opened, around)?;
-            return self.consume_times(item, allowed, first, opened, around);
+            let item = self.consume_group::<RECORDS>(kind, opened, around)?;
+            return self.consume_times::<RECORDS>(item, allowed, first, opened, around);
         }
         let allowed = !begins_anchor(self.cursor.rest);
         let left = MAX_NESTING_DEPTH - around.depth;
         let item = parse_atom(&mut self.cursor, &around.scope, left)?;
-        record_nodes(&item, &mut self.spans, around, opened, &self.cursor)?;
-        self.consume_times(item, allowed, first, opened, around)
+        record_nodes::<RECORDS>(&item, &mut self.spans, around, opened, &self.cursor)?;
+        self.consume_times::<RECORDS>(item, allowed, first, opened, around)
     }
 
     /// Parses the quantifier after an item, if there is one (ECMA-262, Quantifier). `first` is the number of groups
     /// before the item, and `opened` the number of code points that remained there.
     #[inline(always)]
-    fn consume_times(
+    fn consume_times<const RECORDS: bool>(
         &mut self,
         item: Node,
         allowed: bool,
@@ -195,7 +208,7 @@ impl Parser<'_> {
             Yields (term_part (table_in around.now) (names_in_context around.now)) (direction_of around.now) around.now.depth before self.new result
             (with_quantifier (context_in around.now) (Some (x, text self.old))) }
         ensures reached { FailsBy result (λ kind. Reaches kind (counted self.old) around.now.depth (text self.old)) }
-        ensures spans { (t : Source) (before : List Span) → around.now.records ≡ true → opened ≡ length t →
+        ensures spans { (t : Source) (before : List Span) → RECORDS ≡ true → opened ≡ length t →
             RecordsItem around.now.whole (context_in around.now) (direction_of around.now) t before (text self.old) self.old.spans.items allowed →
             OnOk result (RecordsTerm around.now.whole (context_in around.now) (direction_of around.now) t before (text self.new) self.new.spans.items) }
     {
@@ -208,14 +221,14 @@ impl Parser<'_> {
             return Ok(item);
         };
         self.count_loop(left)?;
-        record_if(true, &mut self.spans, around, opened, &self.cursor)?;
+        record_if::<RECORDS>(true, &mut self.spans, around, opened, &self.cursor)?;
         Ok(make_loop(self.cursor.alloc, item, quantifier, first..self.group_count)?)
     }
 
     /// Parses a group, after the code points that open it. `opened` is the number of code points that remained before
     /// them.
     #[cycle(parser)]
-    fn consume_group(
+    fn consume_group<const RECORDS: bool>(
         &mut self,
         kind: Group,
         opened: usize,
@@ -224,16 +237,16 @@ impl Parser<'_> {
         ensures value { Yields (item_part (table_in around.now) (names_in_context around.now)) (direction_of around.now) around.now.depth (counted self.old) self.new result
             (item_after_head pattern_at (context_in around.now) (opens (group_of kind), text self.old)) }
         ensures reached { FailsBy result (λ kind. Reaches kind (counted self.old) around.now.depth (opening ∷ text self.old)) }
-        ensures spans { (t : Source) → around.now.records ≡ true → opened ≡ length t →
+        ensures spans { (t : Source) → RECORDS ≡ true → opened ≡ length t →
             head_at (context_in around.now) t ≡ Some (opens (group_of kind), text self.old) → OnOk result
             (RecordsItem around.now.whole (context_in around.now) (direction_of around.now) t self.old.spans.items (text self.new) self.new.spans.items
             (group_allows around.now.scope.flags.unicode (group_of kind))) }
     {
         let first = self.group_count;
         self.count_group(&kind, opened)?;
-        let contents = self.consume_disjunction(&around.inside(&kind))?;
+        let contents = self.consume_disjunction::<RECORDS>(&around.inside(&kind))?;
         self.cursor.consume_closing(opened)?;
-        record_if(
+        record_if::<RECORDS>(
             has_node(&kind),
             &mut self.spans,
             around,

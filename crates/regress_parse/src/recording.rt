@@ -16,61 +16,43 @@ use std::alloc::AllocError;
 
 /// Appends the span from the position where `left` code points remained to the cursor, if spans are recorded and the
 /// condition is `true`.
-#[inline(always)]
-pub(crate) fn record_if(
+pub(crate) fn record_if<const RECORDS: bool>(
     condition: bool,
     spans: &mut Vec<Span>,
     around: &PartContext,
     left: usize,
     cursor: &Cursor,
 ) -> Result<(), AllocError>
-    ensures { around.now.records ≡ true → OnOk result (spans.new.items ≡
+    ensures { RECORDS ≡ true → OnOk result (spans.new.items ≡
         spans.old.items ++ (if condition then span_to around.now.whole left (source cursor.now) ∷ [] else [])) }
 {
-    if !around.records || !condition {
-        return Ok(());
+    if RECORDS && condition {
+        spans.push(around.span(left, cursor))?;
     }
-    push_span(spans, around, left, cursor)
-}
-
-/// Appends the span from the position where `left` code points remained to the cursor.
-#[cold]
-#[inline(never)]
-fn push_span(
-    spans: &mut Vec<Span>,
-    around: &PartContext,
-    left: usize,
-    cursor: &Cursor,
-) -> Result<(), AllocError>
-    ensures { OnOk result (spans.new.items ≡ spans.old.items ++ span_to around.now.whole left (source cursor.now) ∷ []) }
-{
-    spans.push(around.span(left, cursor))?;
     Ok(())
 }
 
 /// Appends the span from the position where `left` code points remained to the cursor once for each node of an item, if
 /// spans are recorded.
-#[inline(always)]
-pub(crate) fn record_nodes(
+pub(crate) fn record_nodes<const RECORDS: bool>(
     item: &Node,
     spans: &mut Vec<Span>,
     around: &PartContext,
     left: usize,
     cursor: &Cursor,
 ) -> Result<(), AllocError>
-    ensures { around.now.records ≡ true → IsFlat (tree item.now) → OnOk result (spans.new.items ≡
+    ensures { RECORDS ≡ true → IsFlat (tree item.now) → OnOk result (spans.new.items ≡
         spans.old.items ++ replicate (nodes (tree item.now)) (span_to around.now.whole left (source cursor.now))) }
 {
-    if !around.records {
-        return Ok(());
+    if RECORDS {
+        push_nodes(spans, item, around.span(left, cursor))
+    } else {
+        Ok(())
     }
-    push_nodes(spans, item, around.span(left, cursor))
 }
 
 /// Appends the span of an item once for each node of the item: one node, or a chain of `Alt` nodes whose alternatives
 /// are leaves.
-#[cold]
-#[inline(never)]
 fn push_nodes(spans: &mut Vec<Span>, item: &Node, span: Span) -> Result<(), AllocError>
     ensures { IsFlat (tree item.now) → OnOk result (spans.new.items ≡ spans.old.items ++ replicate (nodes (tree item.now)) span) }
 {
@@ -85,27 +67,15 @@ fn push_nodes(spans: &mut Vec<Span>, item: &Node, span: Span) -> Result<(), Allo
 }
 
 /// Appends the start of an alternative to the list, if spans are recorded.
-#[inline(always)]
-pub(crate) fn note_start(
+pub(crate) fn note_start<const RECORDS: bool>(
     starts: &mut Vec<usize>,
-    around: &PartContext,
     left: usize,
 ) -> Result<(), AllocError>
-    ensures { around.now.records ≡ true → OnOk result (starts.new.items ≡ starts.old.items ++ left ∷ []) }
+    ensures { RECORDS ≡ true → OnOk result (starts.new.items ≡ starts.old.items ++ left ∷ []) }
 {
-    if !around.records {
-        return Ok(());
+    if RECORDS {
+        starts.push(left)?;
     }
-    push_start(starts, left)
-}
-
-/// Appends the start of an alternative to the list.
-#[cold]
-#[inline(never)]
-fn push_start(starts: &mut Vec<usize>, left: usize) -> Result<(), AllocError>
-    ensures { OnOk result (starts.new.items ≡ starts.old.items ++ left ∷ []) }
-{
-    starts.push(left)?;
     Ok(())
 }
 

@@ -4,8 +4,9 @@ ghost use Rattle.regress_tree.specs.Tree.{tree};
 ghost use Rattle.regress_tree.specs.WellFormed.{IsWellFormed};
 
 use regress_base::types::Flags;
-use regress_bound::node_bound;
-use regress_parse::{Error, ParseFault, PlacedFault, try_parse, try_parse_with_position};
+use regress_parse::{
+    Error, ParseFault, PlacedFault, node_bound, try_parse, try_parse_with_position,
+};
 use regress_spans::{Span, try_parse_with_spans};
 use regress_tree::ir::Regex;
 use regress_unicode::Tables;

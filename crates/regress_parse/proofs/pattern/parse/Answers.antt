@@ -25,40 +25,40 @@ use Rattle.regress_parse.proofs.WellFormedLemmas.{tree_of-well_formed}
 use Rattle.regress_parse.proofs.pattern.parse.Goals as goal
 
 pub returns-in_err-found-clause-reported : goal.returns-in_err-found-clause-reported
-returns-in_err-found-clause-reported c =
+returns-in_err-found-clause-reported g c =
     let p = err_from_is_err_and c.from_residual.result c.from_residual.ensures.1 in
     rw (p.1, p.2) (on_kind_then c.in_err-found.field-0.0
     (λ kind shown p h. inl (tokens-say (setting_of c.args.flags c.args.tables.now) c.args.pattern.now c.in_err-found.ensures.whole kind shown p h))
     c.in_err-found.ensures.rejected)
 
 pub returns-in_err-found-clause-settled : goal.returns-in_err-found-clause-settled
-returns-in_err-found-clause-settled c =
+returns-in_err-found-clause-settled g c =
     let p = err_from_is_err_and c.from_residual.result c.from_residual.ensures.1 in
     rw (p.1, p.2) (settled (setting_of c.args.flags c.args.tables.now) c.args.pattern.now c.in_err-found.field-0.0
     c.args.tables.now.sound.lawful c.in_err-found.ensures.located)
 
 pub returns-in_err-body-clause-settled : goal.returns-in_err-body-clause-settled
-returns-in_err-body-clause-settled c =
+returns-in_err-body-clause-settled g c =
     let p = err_from_is_err_and c.from_residual-in_err-body.result c.from_residual-in_err-body.ensures.1 in
     rw (p.1, p.2) (settled (setting_of c.args.flags c.args.tables.now) c.args.pattern.now c.in_err-body.field-0.0
     c.args.tables.now.sound.lawful (c.in_err-body.ensures.located c.args.flags.unicode_sets c.in_ok-found.ensures.first_errors))
 
 pub returns-in_err-found-clause-duplicate : goal.returns-in_err-found-clause-duplicate
-returns-in_err-found-clause-duplicate c =
+returns-in_err-found-clause-duplicate g c =
     let p = err_from_is_err_and c.from_residual.result c.from_residual.ensures.1 in
     rw (p.1, p.2) (reported_by_scan (setting_of c.args.flags c.args.tables.now) c.args.pattern.now c.in_err-found.field-0.0 c.in_err-found.ensures.duplicate)
 
 pub returns-in_err-body-clause-duplicate : goal.returns-in_err-body-clause-duplicate
-returns-in_err-body-clause-duplicate c =
+returns-in_err-body-clause-duplicate g c =
     let p = err_from_is_err_and c.from_residual-in_err-body.result c.from_residual-in_err-body.ensures.1 in
     rw (p.1, p.2) (reported_by_parser (setting_of c.args.flags c.args.tables.now) c.args.pattern.now c.in_err-body.field-0.0 c.in_ok-found.ensures.apart)
 
 pub returns-in_err-found-clause-only : goal.returns-in_err-found-clause-only
-returns-in_err-found-clause-only c =
+returns-in_err-found-clause-only g c =
     same_derived (setting_of c.args.flags c.args.tables.now) c.args.pattern.now c.in_err-found.ensures.whole
 
 pub returns-in_err-body-clause-reported : goal.returns-in_err-body-clause-reported
-returns-in_err-body-clause-reported c =
+returns-in_err-body-clause-reported g c =
     let p = err_from_is_err_and c.from_residual-in_err-body.result c.from_residual-in_err-body.ensures.1 in
     let setting = setting_of c.args.flags c.args.tables.now in
     let t = c.args.pattern.now in
@@ -69,27 +69,27 @@ returns-in_err-body-clause-reported c =
     rw (p.1, p.2) (on_kind_then c.in_err-body.field-0.0 (reading-says setting t found.whole found.nesting) yields)
 
 pub returns-in_err-found-clause-limits : goal.returns-in_err-found-clause-limits
-returns-in_err-found-clause-limits c =
+returns-in_err-found-clause-limits g c =
     let p = err_from_is_err_and c.from_residual.result c.from_residual.ensures.1 in
     rw (p.1, p.2) (on_kind_then c.in_err-found.field-0.0
     (tokens_exceed c.args.flags.unicode_sets (table_of c.args.tables.now) c.args.pattern.now) c.in_err-found.ensures.rejected)
 
 pub returns-in_err-body-clause-limits : goal.returns-in_err-body-clause-limits
-returns-in_err-body-clause-limits c =
+returns-in_err-body-clause-limits g c =
     let p = err_from_is_err_and c.from_residual-in_err-body.result c.from_residual-in_err-body.ensures.1 in
     rw (p.1, p.2) (on_kind_then c.in_err-body.field-0.0 (whole_exceeds c.args.pattern.now) c.in_err-body.ensures.reached)
 
 pub returns-in_err-body-clause-only : goal.returns-in_err-body-clause-only
-returns-in_err-body-clause-only c =
+returns-in_err-body-clause-only g c =
     same_derived (setting_of c.args.flags c.args.tables.now) c.args.pattern.now c.in_ok-found.ensures.whole
 
 pub returns-in_err-parts-clause-only : goal.returns-in_err-parts-clause-only
-returns-in_err-parts-clause-only c =
+returns-in_err-parts-clause-only g c =
     same_derived (setting_of c.args.flags c.args.tables.now) c.args.pattern.now c.in_ok-found.ensures.whole
 
 -- The pattern that was parsed, and its tree.
 pub returns-clause-accepted : goal.returns-clause-accepted
-returns-clause-accepted c =
+returns-clause-accepted g c =
     let setting = setting_of c.args.flags c.args.tables.now in
     let t = c.args.pattern.now in
     let found = c.in_ok-found.ensures in
@@ -113,7 +113,7 @@ returns-clause-accepted c =
     )
 
 pub returns-clause-spans : goal.returns-clause-spans
-returns-clause-spans c on p accepted =
+returns-clause-spans g c on p accepted =
     let setting = setting_of c.args.flags c.args.tables.now in
     let t = c.args.pattern.now in
     let found = c.in_ok-found.ensures in
@@ -122,21 +122,21 @@ returns-clause-spans c on p accepted =
     c.in_ok-body.body.spans.items (c.in_ok-body.ensures.spans on)
 
 pub returns-clause-only : goal.returns-clause-only
-returns-clause-only c = same_derived (setting_of c.args.flags c.args.tables.now) c.args.pattern.now c.in_ok-found.ensures.whole
+returns-clause-only g c = same_derived (setting_of c.args.flags c.args.tables.now) c.args.pattern.now c.in_ok-found.ensures.whole
 
 pub returns-clause-meaning : goal.returns-clause-meaning
-returns-clause-meaning c q accepted =
+returns-clause-meaning g c q accepted =
     let setting = setting_of c.args.flags c.args.tables.now in
-    let found = returns-clause-accepted c in
+    let found = returns-clause-accepted g c in
     let one = same_derived setting c.args.pattern.now c.in_ok-found.ensures.whole found.0 q found.1.derived accepted.derived in
     subst (λ (t : Tree). Means setting t q) (sym (found.2 ∙ ap (tree_of setting.table) one)) (tree_of-means setting q)
 
 pub returns-clause-well_formed : goal.returns-clause-well_formed
-returns-clause-well_formed c =
+returns-clause-well_formed g c =
     let setting = setting_of c.args.flags c.args.tables.now in
-    let found = returns-clause-accepted c in
+    let found = returns-clause-accepted g c in
     subst (λ (t : Tree). IsWellFormed t) (sym found.2)
     (tree_of-well_formed setting c.args.pattern.now found.0 c.args.tables.now.sound.lawful c.requires found.1.derived)
 
 pub returns-clause-flags : goal.returns-clause-flags
-returns-clause-flags c = refl
+returns-clause-flags g c = refl

@@ -40,12 +40,12 @@ module _ (ctx : Context) (t : Source) (new : Parser) (node : Node) where
 
 pub returns-clause-value : goal.returns-clause-value
 unfolding Built
-returns-clause-value c =
+returns-clause-value g c =
     whole (context_of c.args.scope.now) c.args.pattern.now c.consume_disjunction.new.self c.in_ok-node.node c.record_end.new.self.spans c.in_ok-node.ensures.value
     (length-none _ (sym c.is_empty.ensures ∙ c.if-not-is_empty.false))
 
 pub returns-clause-spans : goal.returns-clause-spans
-returns-clause-spans c on =
+returns-clause-spans g c on =
     let new = c.consume_disjunction.new.self in
     whole-spans (context_of c.args.scope.now) c.args.pattern.now c.new.result.items (text new) new.spans.items c.record_end.new.self.spans.items
     c.new.ensures.items (c.in_ok-node.ensures.spans on) (length-none _ (sym c.is_empty.ensures ∙ c.if-not-is_empty.false))
@@ -53,7 +53,7 @@ returns-clause-spans c on =
 
 pub returns-then-not-is_empty-clause-value : goal.returns-then-not-is_empty-clause-value
 unfolding Built
-returns-then-not-is_empty-clause-value c =
+returns-then-not-is_empty-clause-value g c =
     rw c.reject.ensures
     (λ p e. absurd (not_whole (context_of c.args.scope.now) c.args.pattern.now c.consume_disjunction.new.self c.in_ok-node.node c.in_ok-node.ensures.value
     (sym c.is_empty.ensures ∙ c.if-not-is_empty.true) p e))

@@ -1,5 +1,5 @@
 -- Each clause follows from a lemma on what was parsed, at the values of the call.
-use Rattle.std.proofs.Common.{◌≡◌, ◌+◌, ◌-◌, ◌<◌, Bool, false, not, cond, ◌==◌, List, [], ◌∷◌, ◌++◌, inr, drop, replicate, Some, None, Ok, Err, length, refl, sym, ap, ◌∙◌, subst, arith, length-drop}
+use Rattle.std.proofs.Common.{◌≡◌, ◌+◌, ◌-◌, ◌<◌, Bool, false, not, cond, ◌==◌, List, [], ◌∷◌, ◌++◌, inr, drop, replicate, Some, None, Ok, Err, length, refl, sym, ap, ◌∙◌, subst, arith, length-drop, ◌≤◌, OnOk}
 use Rattle.std.proofs.lemmas.List.{length_push}
 use Rattle.std.proofs.lemmas.Result.{err_from_is_err_and, on_ok_weaker}
 use Rattle.regress_lexer.specs.declared.fault.FaultKind.TheVariants.{TooDeep}
@@ -32,6 +32,7 @@ use Rattle.regress_parse.proofs.CountLemmas.{added-nothing}
 use Rattle.regress_parse.proofs.ReaderLemmas.{terms_at-shortens, term_at-shortens, term_at-is}
 use Rattle.regress_parse.proofs.TermLoopInvariant.{TermsSoFar, none-fit, terms-start, terms-first, terms-step, terms-end, terms-fail, no_terms-yield, one_term-yields, first_term-fails}
 use Rattle.regress_parse.proofs.AlternativesLemmas.{alternatives-start, alternatives-step, lone-yields, first-fail, alternatives-fail}
+use Rattle.regress_parse.proofs.LengthLemmas.{term-shorter}
 use Rattle.regress_parse.proofs.TermLemmas.{front_is, times-fail, too_deep, plain_yields, no_term, opening_head, opening_item, opened_same, atom_item, atom_yields, atom_allowed}
 use Rattle.regress_parse.proofs.ParserLemmas.{built, built_here, of_built}
 use Rattle.regress_parse.proofs.parser.Parser.+parser.Goals as goal
@@ -41,14 +42,14 @@ bar_spends : (now : Counts) (t rest : Source) → rest ≡ drop 1 t → CountsAt
 bar_spends now t rest same = spends_read now t rest (omega (arith, ap length same, length-drop 1 t))
 
 pub consume_alternative-returns-then-ends_alternative-clause-value : goal.consume_alternative-returns-then-ends_alternative-clause-value
-consume_alternative-returns-then-ends_alternative-clause-value t c =
+consume_alternative-returns-then-ends_alternative-clause-value g t c =
     let around = c.args.around.now in
     let old = c.args.self.now in
     no_terms-yield (table_in around) (names_in_context around) (direction_of around) (context_in around) around.depth old
     (sym c.ends_alternative.ensures ∙ c.if-ends_alternative.true) c.requires
 
 pub consume_alternative-returns-then-ends_alternative-2-clause-value : goal.consume_alternative-returns-then-ends_alternative-2-clause-value
-consume_alternative-returns-then-ends_alternative-2-clause-value t c =
+consume_alternative-returns-then-ends_alternative-2-clause-value g t c =
     let around = c.args.around.now in
     let old = c.args.self.now in
     one_term-yields (table_in around) (names_in_context around) (direction_of around) (context_in around) around.depth old
@@ -57,7 +58,7 @@ consume_alternative-returns-then-ends_alternative-2-clause-value t c =
     (sym c.ends_alternative-2.ensures ∙ c.if-ends_alternative-2.true) c.requires c.consume_first_term-first.ensures.value
 
 pub consume_alternative-returns-in_err-first-clause-value : goal.consume_alternative-returns-in_err-first-clause-value
-consume_alternative-returns-in_err-first-clause-value t c =
+consume_alternative-returns-in_err-first-clause-value g t c =
     let p = err_from_is_err_and c.from_residual.result c.from_residual.ensures.1 in
     let around = c.args.around.now in
     let old = c.args.self.now in
@@ -66,16 +67,8 @@ consume_alternative-returns-in_err-first-clause-value t c =
     (sym c.ends_alternative.ensures ∙ c.if-ends_alternative.false) c.requires)
     c.in_err-first.ensures.value)
 
-pub consume_alternative-consume_terms-requires : goal.consume_alternative-consume_terms-requires
-consume_alternative-consume_terms-requires t c =
-    let around = c.args.around.now in
-    let old = c.args.self.now in
-    let found = built (term_part (table_in around) (names_in_context around)) (direction_of around) around.depth (counted old) c.consume_first_term-first.new.self
-    (term_at (context_in around) (text old)) c.in_ok-first.field-0 c.in_ok-first.ensures.value in
-    omega (arith, c.requires, term_at-shortens (context_in around) (text old) found.0 found.1, ap length found.2.rest)
-
 pub consume_alternative-returns-clause-value : goal.consume_alternative-returns-clause-value
-consume_alternative-returns-clause-value t c =
+consume_alternative-returns-clause-value g t c =
     let around = c.args.around.now in
     let old = c.args.self.now in
     let ctx = context_in around in
@@ -87,28 +80,36 @@ consume_alternative-returns-clause-value t c =
     (record { node = b.node; fits = b.fits; counts = b.counts; rest = refl })
 
 pub consume_first_term-returns-in_ok-make_literal-in-Some-clause-value : goal.consume_first_term-returns-in_ok-make_literal-in-Some-clause-value
-consume_first_term-returns-in_ok-make_literal-in-Some-clause-value t c =
+consume_first_term-returns-in_ok-make_literal-in-Some-clause-value g t c =
     let around = c.args.around.now in
     plain_yields (table_in around) (names_in_context around) (context_in around) (direction_of around) around.depth c.args.self.now _
     c.in_ok-make_literal-in-Some.field-0 c.in-Some.c (source c.next_plain.new.self) c.requires c.in-Some.ensures.some c.in-Some.ensures.plain
     c.in-Some.ensures.alone refl refl c.in_ok-make_literal-in-Some.ensures
 
 pub consume_first_term-returns-in-None-clause-value : goal.consume_first_term-returns-in-None-clause-value
-consume_first_term-returns-in-None-clause-value t c =
+consume_first_term-returns-in-None-clause-value g t c =
     let around = c.args.around.now in
     let here : source c.next_plain.new.self ≡ text c.args.self.now = c.in-None.ensures.none in
     subst (λ (u : Source). Yields (term_part (table_in around) (names_in_context around)) (direction_of around) around.depth (counted c.args.self.now)
     c.consume_term.new.self c.consume_term.result (term_at (context_in around) u)) here c.consume_term.ensures.value
 
 pub consume_first_term-returns-in-None-clause-reached : goal.consume_first_term-returns-in-None-clause-reached
-consume_first_term-returns-in-None-clause-reached t c =
+consume_first_term-returns-in-None-clause-reached g t c =
     let around = c.args.around.now in
     let here : source c.next_plain.new.self ≡ text c.args.self.now = c.in-None.ensures.none in
     subst (λ (u : Source). FailsBy c.consume_term.result (λ kind. Reaches kind (counted c.args.self.now) around.depth u)) here
     c.consume_term.ensures.reached
 
+pub consume_first_term-returns-in-None-clause-shorter : goal.consume_first_term-returns-in-None-clause-shorter
+consume_first_term-returns-in-None-clause-shorter g t c =
+    let around = c.args.around.now in
+    let here : source c.next_plain.new.self ≡ text c.args.self.now = c.in-None.ensures.none in
+    subst (λ (u : Source). OnOk c.consume_term.result (length (text c.consume_term.new.self) ≤ length u)) here
+    (term-shorter (table_in around) (names_in_context around) (context_in around) (direction_of around) around.depth (counted c.args.self.now)
+    c.consume_term.new.self (source c.next_plain.new.self) c.consume_term.result c.consume_term.ensures.value)
+
 pub consume_terms-loop-self-init : goal.consume_terms-loop-self-init
-consume_terms-loop-self-init t c =
+consume_terms-loop-self-init g t c =
     let around = c.args.around.now in
     let old = c.args.self.now in
     rw (c.in_ok-push.ensures.items, c.new-parts.ensures.items) (
@@ -120,7 +121,7 @@ consume_terms-loop-self-init t c =
     )
 
 pub consume_terms-loop-self-preserved-then-taken : goal.consume_terms-loop-self-preserved-then-taken
-consume_terms-loop-self-preserved-then-taken t c =
+consume_terms-loop-self-preserved-then-taken g t c =
     let l = c.loop-self in
     let around = c.args.around.now in
     let ctx = context_in around in
@@ -139,7 +140,7 @@ consume_terms-loop-self-preserved-then-taken t c =
     )
 
 pub consume_terms-returns-in_err-consume_term-clause-value : goal.consume_terms-returns-in_err-consume_term-clause-value
-consume_terms-returns-in_err-consume_term-clause-value t c =
+consume_terms-returns-in_err-consume_term-clause-value g t c =
     let from = c.from_residual-in_err-consume_term in
     let p = err_from_is_err_and from.result from.ensures.1 in
     let l = c.loop-self in
@@ -154,7 +155,7 @@ consume_terms-returns-in_err-consume_term-clause-value t c =
     c.in_err-consume_term.ensures.value)
 
 pub consume_terms-loop-self-smaller : goal.consume_terms-loop-self-smaller
-consume_terms-loop-self-smaller t c =
+consume_terms-loop-self-smaller g t c =
     let around = c.args.around.now in
     let here = source c.push_simple_term.new.cursor in
     let same : here ≡ text c.loop-self.self = (rw c.if-taken.false at c.in_ok-taken.ensures).0 in
@@ -163,13 +164,13 @@ consume_terms-loop-self-smaller t c =
     omega (arith, term_at-shortens (context_in around) here found.0 found.1, ap length found.2.rest, ap length same)
 
 pub consume_terms-loop-self-smaller-then-taken : goal.consume_terms-loop-self-smaller-then-taken
-consume_terms-loop-self-smaller-then-taken t c =
+consume_terms-loop-self-smaller-then-taken g t c =
     let around = c.args.around.now in
     let x = rw c.if-taken.true at c.in_ok-taken.ensures in
     omega (arith, term_at-shortens (context_in around) (text c.loop-self.self) ((atom x.item, None), source c.push_simple_term.new.cursor) x.found)
 
 pub consume_terms-loop-self-preserved : goal.consume_terms-loop-self-preserved
-consume_terms-loop-self-preserved t c =
+consume_terms-loop-self-preserved g t c =
     let l = c.loop-self in
     let around = c.args.around.now in
     let there = source c.push_simple_term.new.cursor in
@@ -191,7 +192,7 @@ consume_terms-loop-self-preserved t c =
     )
 
 pub consume_terms-returns-clause-value : goal.consume_terms-returns-clause-value
-consume_terms-returns-clause-value t c =
+consume_terms-returns-clause-value g t c =
     let l = c.loop-self in
     λ t before x begins first b.
     let h = l.invariant.0 t before x begins first b in
@@ -205,13 +206,13 @@ consume_terms-returns-clause-value t c =
     })
 
 pub consume_disjunction-returns-then-around-ge-MAX_NESTING_DEPTH-clause-value : goal.consume_disjunction-returns-then-around-ge-MAX_NESTING_DEPTH-clause-value
-consume_disjunction-returns-then-around-ge-MAX_NESTING_DEPTH-clause-value t c =
+consume_disjunction-returns-then-around-ge-MAX_NESTING_DEPTH-clause-value g t c =
     let around = c.args.around.now in
     rw c.reject.ensures (too_deep (table_in around) (names_in_context around) (context_in around) TooDeep (counted c.args.self.now) around.depth
     (pattern_at (context_in around) (text c.args.self.now)) c.if-around-ge-MAX_NESTING_DEPTH.true)
 
 pub consume_disjunction-returns-then-not-is_at-clause-value : goal.consume_disjunction-returns-then-not-is_at-clause-value
-consume_disjunction-returns-then-not-is_at-clause-value t c =
+consume_disjunction-returns-then-not-is_at-clause-value g t c =
     let around = c.args.around.now in
     let old = c.args.self.now in
     lone-yields (table_in around) (names_in_context around) (direction_of around) (context_in around) around.depth (text old) (counted old)
@@ -219,7 +220,7 @@ consume_disjunction-returns-then-not-is_at-clause-value t c =
     c.consume_alternative-first.ensures.value
 
 pub consume_disjunction-returns-in_err-last-clause-value : goal.consume_disjunction-returns-in_err-last-clause-value
-consume_disjunction-returns-in_err-last-clause-value t c =
+consume_disjunction-returns-in_err-last-clause-value g t c =
     let p = err_from_is_err_and c.from_residual.result c.from_residual.ensures.1 in
     let around = c.args.around.now in
     rw (p.1, p.2) (on_kind_then c.in_err-last.field-0.0
@@ -227,7 +228,7 @@ consume_disjunction-returns-in_err-last-clause-value t c =
     c.in_err-last.ensures.value)
 
 pub consume_disjunction-loop-self-init : goal.consume_disjunction-loop-self-init
-consume_disjunction-loop-self-init t c =
+consume_disjunction-loop-self-init g t c =
     let around = c.args.around.now in
     let old = c.args.self.now in
     let new = c.consume_alternative-first.new.self in
@@ -244,7 +245,7 @@ consume_disjunction-loop-self-init t c =
     )
 
 pub consume_disjunction-returns-in_err-last-2-clause-value : goal.consume_disjunction-returns-in_err-last-2-clause-value
-consume_disjunction-returns-in_err-last-2-clause-value t c =
+consume_disjunction-returns-in_err-last-2-clause-value g t c =
     let p = err_from_is_err_and c.from_residual-in_err-last-2.result c.from_residual-in_err-last-2.ensures.1 in
     let l = c.loop-self in
     let past = c.loop-self-test.ensures in
@@ -254,7 +255,7 @@ consume_disjunction-returns-in_err-last-2-clause-value t c =
     c.in_err-last-2.ensures.value)
 
 pub consume_disjunction-loop-self-smaller : goal.consume_disjunction-loop-self-smaller
-consume_disjunction-loop-self-smaller t c =
+consume_disjunction-loop-self-smaller g t c =
     let l = c.loop-self in
     let past = c.loop-self-test.ensures in
     let around = c.args.around.now in
@@ -271,7 +272,7 @@ consume_disjunction-loop-self-smaller t c =
     )
 
 pub consume_disjunction-loop-self-preserved : goal.consume_disjunction-loop-self-preserved
-consume_disjunction-loop-self-preserved t c =
+consume_disjunction-loop-self-preserved g t c =
     let l = c.loop-self in
     let past = c.loop-self-test.ensures in
     let around = c.args.around.now in
@@ -293,38 +294,27 @@ consume_disjunction-loop-self-preserved t c =
     )
 
 pub consume_term-returns-in_err-kind-clause-value : goal.consume_term-returns-in_err-kind-clause-value
-consume_term-returns-in_err-kind-clause-value t c =
+consume_term-returns-in_err-kind-clause-value g t c =
     let p = err_from_is_err_and c.from_residual.result c.from_residual.ensures.1 in
     let around = c.args.around.now in
     let old = c.args.self.now in
-    let past = c.if-try_consume.ensures in
-    let here = source c.try_consume.new.self in
+    let past = c.if-try_open.ensures in
+    let here = source c.try_open.new.cursor in
     let front : text old ≡ opening ∷ here = front_is opening (text old) here (sym past.found) past.moves in
     rw (p.1, p.2) (on_each_kind c.in_err-kind.field-0.0
     (λ kind none. rw (no_term (table_in around) (names_in_context around) (context_in around) (text old)
     (ap (head_at (context_in around)) front ∙ opening_head (table_in around) (names_in_context around) (context_in around) here ∙ none)) tt)
     c.in_err-kind.ensures.value)
 
-pub consume_term-consume_group-requires : goal.consume_term-consume_group-requires
-consume_term-consume_group-requires t c =
-    let around = c.args.around.now in
-    let old = c.args.self.now in
-    let past = c.if-try_consume.ensures in
-    let here = source c.try_consume.new.self in
-    let front : text old ≡ opening ∷ here = front_is opening (text old) here (sym past.found) past.moves in
-    let shorter = head_at-shortens (context_in around) (text old) _
-    (ap (head_at (context_in around)) front ∙ opening_head (table_in around) (names_in_context around) (context_in around) here ∙ c.in_ok-kind.ensures.value) in
-    omega (arith, shorter)
-
 pub consume_term-returns-in_err-item-clause-value : goal.consume_term-returns-in_err-item-clause-value
-consume_term-returns-in_err-item-clause-value t c =
+consume_term-returns-in_err-item-clause-value g t c =
     let p = err_from_is_err_and c.from_residual-in_err-item.result c.from_residual-in_err-item.ensures.1 in
     let around = c.args.around.now in
     let ctx = context_in around in
     let old = c.args.self.now in
-    let past = c.if-try_consume.ensures in
-    let here = source c.try_consume.new.self in
-    let there = source c.parse_group.new.cursor in
+    let past = c.if-try_open.ensures in
+    let here = source c.try_open.new.cursor in
+    let there = source c.parse_head.new.cursor in
     let front : text old ≡ opening ∷ here = front_is opening (text old) here (sym past.found) past.moves in
     let same : item_at ctx (text old) ≡ item_after_head pattern_at ctx (opens (group_of c.in_ok-kind.kind), there) =
     ap (item_at ctx) front ∙ opening_item (table_in around) (names_in_context around) ctx here (opens (group_of c.in_ok-kind.kind), there)
@@ -333,15 +323,15 @@ consume_term-returns-in_err-item-clause-value t c =
     (on_kind_then c.in_err-item.field-0.0 (λ kind. times-fail (table_in around) (names_in_context around) ctx kind _ (counted old) around.depth)
     c.in_err-item.ensures.value)
 
-pub consume_term-returns-then-try_consume-clause-value : goal.consume_term-returns-then-try_consume-clause-value
-consume_term-returns-then-try_consume-clause-value t c =
+pub consume_term-returns-then-try_open-clause-value : goal.consume_term-returns-then-try_open-clause-value
+consume_term-returns-then-try_open-clause-value g t c =
     let around = c.args.around.now in
     let ctx = context_in around in
     let old = c.args.self.now in
-    let past = c.if-try_consume.ensures in
-    let here = source c.try_consume.new.self in
+    let past = c.if-try_open.ensures in
+    let here = source c.try_open.new.cursor in
     let kind = group_of c.in_ok-kind.kind in
-    let there = source c.parse_group.new.cursor in
+    let there = source c.parse_head.new.cursor in
     let front : text old ≡ opening ∷ here = front_is opening (text old) here (sym past.found) past.moves in
     let same : item_at ctx (text old) ≡ item_after_head pattern_at ctx (opens kind, there) =
     ap (item_at ctx) front ∙ opening_item (table_in around) (names_in_context around) ctx here (opens kind, there) c.in_ok-kind.ensures.value in
@@ -357,13 +347,13 @@ consume_term-returns-then-try_consume-clause-value t c =
     x.2)
 
 pub consume_term-returns-in_err-item-2-clause-value : goal.consume_term-returns-in_err-item-2-clause-value
-consume_term-returns-in_err-item-2-clause-value t c =
+consume_term-returns-in_err-item-2-clause-value g t c =
     let p = err_from_is_err_and c.from_residual-in_err-item-2.result c.from_residual-in_err-item-2.ensures.1 in
     let around = c.args.around.now in
     let ctx = context_in around in
     let old = c.args.self.now in
-    let past = c.if-try_consume.ensures in
-    let here = source c.try_consume.new.self in
+    let past = c.if-try_open.ensures in
+    let here = source c.try_open.new.cursor in
     let same : here ≡ text old = past.moves in
     let none : is_at opening here ≡ false = ap (is_at opening) same ∙ sym past.found in
     let all : around.depth + (max_nesting_depth - around.depth) ≡ max_nesting_depth = omega (arith, c.requires) in
@@ -377,12 +367,12 @@ consume_term-returns-in_err-item-2-clause-value t c =
     all refl read refl refl))
 
 pub consume_term-returns-clause-value : goal.consume_term-returns-clause-value
-consume_term-returns-clause-value t c =
+consume_term-returns-clause-value g t c =
     let around = c.args.around.now in
     let ctx = context_in around in
     let old = c.args.self.now in
-    let past = c.if-try_consume.ensures in
-    let here = source c.try_consume.new.self in
+    let past = c.if-try_open.ensures in
+    let here = source c.try_open.new.cursor in
     let same : here ≡ text old = past.moves in
     let none : is_at opening here ≡ false = ap (is_at opening) same ∙ sym past.found in
     let all : around.depth + (max_nesting_depth - around.depth) ≡ max_nesting_depth = omega (arith, c.requires) in
@@ -409,7 +399,7 @@ consume_term-returns-clause-value t c =
 -- ---- limits
 
 pub consume_alternative-returns-clause-reached : goal.consume_alternative-returns-clause-reached
-consume_alternative-returns-clause-reached t c =
+consume_alternative-returns-clause-reached g t c =
     let around = c.args.around.now in
     let old = c.args.self.now in
     let new = c.consume_first_term-first.new.self in
@@ -422,7 +412,7 @@ consume_alternative-returns-clause-reached t c =
     c.consume_terms.ensures.reached
 
 pub consume_terms-returns-in_err-consume_term-clause-reached : goal.consume_terms-returns-in_err-consume_term-clause-reached
-consume_terms-returns-in_err-consume_term-clause-reached t c =
+consume_terms-returns-in_err-consume_term-clause-reached g t c =
     let from = c.from_residual-in_err-consume_term in
     let p = err_from_is_err_and from.result from.ensures.1 in
     let l = c.loop-self in
@@ -436,14 +426,14 @@ consume_terms-returns-in_err-consume_term-clause-reached t c =
 
 pub consume_disjunction-returns-then-around-ge-MAX_NESTING_DEPTH-clause-reached :
     goal.consume_disjunction-returns-then-around-ge-MAX_NESTING_DEPTH-clause-reached
-consume_disjunction-returns-then-around-ge-MAX_NESTING_DEPTH-clause-reached t c =
+consume_disjunction-returns-then-around-ge-MAX_NESTING_DEPTH-clause-reached g t c =
     let around = c.args.around.now in
     let old = c.args.self.now in
     rw c.reject.ensures
     (nesting_reach (counted old) (around.depth + 1) (text old) TooDeep (inr (refl, omega (arith, c.if-around-ge-MAX_NESTING_DEPTH.true))))
 
 pub consume_disjunction-returns-in_err-last-2-clause-reached : goal.consume_disjunction-returns-in_err-last-2-clause-reached
-consume_disjunction-returns-in_err-last-2-clause-reached t c =
+consume_disjunction-returns-in_err-last-2-clause-reached g t c =
     let p = err_from_is_err_and c.from_residual-in_err-last-2.result c.from_residual-in_err-last-2.ensures.1 in
     let l = c.loop-self in
     let around = c.args.around.now in
@@ -455,7 +445,7 @@ consume_disjunction-returns-in_err-last-2-clause-reached t c =
     c.in_err-last-2.ensures.reached)
 
 pub consume_term-returns-in_err-kind-clause-reached : goal.consume_term-returns-in_err-kind-clause-reached
-consume_term-returns-in_err-kind-clause-reached t c =
+consume_term-returns-in_err-kind-clause-reached g t c =
     let p = err_from_is_err_and c.from_residual.result c.from_residual.ensures.1 in
     rw (p.1, p.2) (on_kind_then c.in_err-kind.field-0.0
     (no_limit (counted c.args.self.now) c.args.around.now.depth (text c.args.self.now)) c.in_err-kind.ensures.kind)
@@ -467,29 +457,29 @@ opened_shorter ctx t here there kind front found =
     head_at-shortens ctx t (opens kind, there) (ap (head_at ctx) front ∙ opening_head ctx.setting.table ctx.names ctx here ∙ found)
 
 pub consume_term-returns-in_err-item-clause-reached : goal.consume_term-returns-in_err-item-clause-reached
-consume_term-returns-in_err-item-clause-reached t c =
+consume_term-returns-in_err-item-clause-reached g t c =
     let p = err_from_is_err_and c.from_residual-in_err-item.result c.from_residual-in_err-item.ensures.1 in
     let around = c.args.around.now in
     let old = c.args.self.now in
-    let past = c.if-try_consume.ensures in
-    let here = source c.try_consume.new.self in
-    let there = source c.parse_group.new.cursor in
+    let past = c.if-try_open.ensures in
+    let here = source c.try_open.new.cursor in
+    let there = source c.parse_head.new.cursor in
     let shorter = opened_shorter (context_in around) (text old) here there (group_of c.in_ok-kind.kind)
     (front_is opening (text old) here (sym past.found) past.moves) c.in_ok-kind.ensures.value in
     rw (p.1, p.2) (on_kind_then c.in_err-item.field-0.0
     (reaches_before around.depth around.depth (spends_read (counted old) (text old) (opening ∷ there) (omega (arith, shorter))) (omega (arith, shorter)))
     c.in_err-item.ensures.reached)
 
-pub consume_term-returns-then-try_consume-clause-reached : goal.consume_term-returns-then-try_consume-clause-reached
-consume_term-returns-then-try_consume-clause-reached t c =
+pub consume_term-returns-then-try_open-clause-reached : goal.consume_term-returns-then-try_open-clause-reached
+consume_term-returns-then-try_open-clause-reached g t c =
     let around = c.args.around.now in
     let ctx = context_in around in
     let old = c.args.self.now in
     let new = c.consume_group.new.self in
-    let past = c.if-try_consume.ensures in
-    let here = source c.try_consume.new.self in
+    let past = c.if-try_open.ensures in
+    let here = source c.try_open.new.cursor in
     let kind = group_of c.in_ok-kind.kind in
-    let there = source c.parse_group.new.cursor in
+    let there = source c.parse_head.new.cursor in
     let front : text old ≡ opening ∷ here = front_is opening (text old) here (sym past.found) past.moves in
     let same : item_at ctx (text old) ≡ item_after_head pattern_at ctx (opens kind, there) =
     ap (item_at ctx) front ∙ opening_item (table_in around) (names_in_context around) ctx here (opens kind, there) c.in_ok-kind.ensures.value in
@@ -500,25 +490,25 @@ consume_term-returns-then-try_consume-clause-reached t c =
     (reaches_before around.depth around.depth (costs_spends (counted old) x.2.counts cost) (omega (arith, cost.groups))) c.consume_times.ensures.reached
 
 pub consume_term-returns-in_err-item-2-clause-reached : goal.consume_term-returns-in_err-item-2-clause-reached
-consume_term-returns-in_err-item-2-clause-reached t c =
+consume_term-returns-in_err-item-2-clause-reached g t c =
     let p = err_from_is_err_and c.from_residual-in_err-item-2.result c.from_residual-in_err-item-2.ensures.1 in
     let around = c.args.around.now in
     let old = c.args.self.now in
-    let same : source c.try_consume.new.self ≡ text old = c.if-try_consume.ensures.moves in
+    let same : source c.try_open.new.cursor ≡ text old = c.if-try_open.ensures.moves in
     rw (p.1, p.2) (on_kind_then c.in_err-item-2.field-0.0
     (λ kind reported. nesting_reach (counted old) around.depth (text old) kind
     (by_nesting_then (λ few. omega (arith, few, c.requires, ap length same)) kind reported))
     c.in_err-item-2.ensures.kind)
 
 pub consume_term-returns-clause-reached : goal.consume_term-returns-clause-reached
-consume_term-returns-clause-reached t c =
+consume_term-returns-clause-reached g t c =
     let around = c.args.around.now in
     let ctx = context_in around in
     let old = c.args.self.now in
-    let here = source c.try_consume.new.self in
+    let here = source c.try_open.new.cursor in
     let there = source c.parse_atom.new.cursor in
-    let same : here ≡ text old = c.if-try_consume.ensures.moves in
-    let none : is_at opening here ≡ false = ap (is_at opening) same ∙ sym c.if-try_consume.ensures.found in
+    let same : here ≡ text old = c.if-try_open.ensures.moves in
+    let none : is_at opening here ≡ false = ap (is_at opening) same ∙ sym c.if-try_open.ensures.found in
     let found = c.in_ok-item-2.ensures.value in
     let cost = item_at-costs ctx here (atom found.0, there)
     (atom_item (table_in around) (names_in_context around) ctx here none ∙ ap (found_map atom) found.1) in
@@ -528,7 +518,7 @@ consume_term-returns-clause-reached t c =
     c.consume_times-2.ensures.reached
 
 pub consume_group-returns-in_err-count_group-clause-reached : goal.consume_group-returns-in_err-count_group-clause-reached
-consume_group-returns-in_err-count_group-clause-reached t c =
+consume_group-returns-in_err-count_group-clause-reached g t c =
     let p = err_from_is_err_and c.from_residual.result c.from_residual.ensures.1 in
     let around = c.args.around.now in
     let old = c.args.self.now in
@@ -538,7 +528,7 @@ consume_group-returns-in_err-count_group-clause-reached t c =
     c.in_err-count_group.ensures.err)
 
 pub consume_group-returns-in_err-contents-clause-reached : goal.consume_group-returns-in_err-contents-clause-reached
-consume_group-returns-in_err-contents-clause-reached t c =
+consume_group-returns-in_err-contents-clause-reached g t c =
     let p = err_from_is_err_and c.from_residual-in_err-contents.result c.from_residual-in_err-contents.ensures.1 in
     let around = c.args.around.now in
     let old = c.args.self.now in
@@ -555,7 +545,7 @@ consume_group-returns-in_err-contents-clause-reached t c =
     c.inside.ensures.depth c.in_err-contents.ensures.reached))
 
 pub consume_group-returns-in_err-consume_closing-clause-reached : goal.consume_group-returns-in_err-consume_closing-clause-reached
-consume_group-returns-in_err-consume_closing-clause-reached t c =
+consume_group-returns-in_err-consume_closing-clause-reached g t c =
     let p = err_from_is_err_and c.from_residual-in_err-consume_closing.result c.from_residual-in_err-consume_closing.ensures.1 in
     rw (p.1, p.2) (on_kind_then c.in_err-consume_closing.field-0.0
     (no_limit (counted c.args.self.now) c.args.around.now.depth (opening ∷ text c.args.self.now)) c.in_err-consume_closing.ensures.kind)
@@ -563,7 +553,7 @@ consume_group-returns-in_err-consume_closing-clause-reached t c =
 -- ---- an alternative with its spans
 
 pub consume_recorded-loop-self-init : goal.consume_recorded-loop-self-init
-consume_recorded-loop-self-init t c =
+consume_recorded-loop-self-init g t c =
     let around = c.args.around.now in
     let old = c.args.self.now in
     rw (c.new-nodes.ensures.items, c.new-parts.ensures.items) (
@@ -574,7 +564,7 @@ consume_recorded-loop-self-init t c =
     )
 
 pub consume_recorded-returns-in_err-consume_term-clause-value : goal.consume_recorded-returns-in_err-consume_term-clause-value
-consume_recorded-returns-in_err-consume_term-clause-value t c =
+consume_recorded-returns-in_err-consume_term-clause-value g t c =
     let p = err_from_is_err_and c.from_residual.result c.from_residual.ensures.1 in
     let l = c.loop-self in
     rw (p.1, p.2) (on_kind_then c.in_err-consume_term.field-0.0
@@ -583,7 +573,7 @@ consume_recorded-returns-in_err-consume_term-clause-value t c =
     c.in_err-consume_term.ensures.value)
 
 pub consume_recorded-returns-in_err-consume_term-clause-reached : goal.consume_recorded-returns-in_err-consume_term-clause-reached
-consume_recorded-returns-in_err-consume_term-clause-reached t c =
+consume_recorded-returns-in_err-consume_term-clause-reached g t c =
     let p = err_from_is_err_and c.from_residual.result c.from_residual.ensures.1 in
     let l = c.loop-self in
     let around = c.args.around.now in
@@ -592,7 +582,7 @@ consume_recorded-returns-in_err-consume_term-clause-reached t c =
     c.in_err-consume_term.ensures.reached)
 
 pub consume_recorded-loop-self-smaller : goal.consume_recorded-loop-self-smaller
-consume_recorded-loop-self-smaller t c =
+consume_recorded-loop-self-smaller g t c =
     let around = c.args.around.now in
     let l = c.loop-self in
     let found = built (term_part (table_in around) (names_in_context around)) (direction_of around) around.depth (counted l.self) c.consume_term.new.self
@@ -600,7 +590,7 @@ consume_recorded-loop-self-smaller t c =
     omega (arith, term_at-shortens (context_in around) (text l.self) found.0 found.1, ap length found.2.rest)
 
 pub consume_recorded-loop-self-preserved : goal.consume_recorded-loop-self-preserved
-consume_recorded-loop-self-preserved t c =
+consume_recorded-loop-self-preserved g t c =
     let l = c.loop-self in
     let around = c.args.around.now in
     let ctx = context_in around in
@@ -623,7 +613,7 @@ consume_recorded-loop-self-preserved t c =
     )
 
 pub consume_recorded-returns-clause-value : goal.consume_recorded-returns-clause-value
-consume_recorded-returns-clause-value t c =
+consume_recorded-returns-clause-value g t c =
     let l = c.loop-self in
     let h = l.invariant.0 in
     let end = terms-end _ _ _ _ _ _ _ (text l.self) (counted l.self) l.nodes.items h (sym c.ends_alternative.ensures ∙ c.loop-self-test.false) in
@@ -635,7 +625,7 @@ consume_recorded-returns-clause-value t c =
     })
 
 pub consume_recorded-returns-clause-spans : goal.consume_recorded-returns-clause-spans
-consume_recorded-returns-clause-spans t c =
+consume_recorded-returns-clause-spans g t c =
     let l = c.loop-self in
     let around = c.args.around.now in
     let old = c.args.self.now in
@@ -650,7 +640,7 @@ consume_recorded-returns-clause-spans t c =
 -- ---- spans
 
 pub consume_disjunction-returns-then-not-is_at-clause-spans : goal.consume_disjunction-returns-then-not-is_at-clause-spans
-consume_disjunction-returns-then-not-is_at-clause-spans t c on =
+consume_disjunction-returns-then-not-is_at-clause-spans g t c on =
     let around = c.args.around.now in
     let old = c.args.self.now in
     let new = c.consume_alternative-first.new.self in
@@ -660,7 +650,7 @@ consume_disjunction-returns-then-not-is_at-clause-spans t c on =
     (c.consume_alternative-first.ensures.spans on)
 
 pub consume_disjunction-returns-clause-spans : goal.consume_disjunction-returns-clause-spans
-consume_disjunction-returns-clause-spans t c on =
+consume_disjunction-returns-clause-spans g t c on =
     let l = c.loop-self in
     let around = c.args.around.now in
     let old = c.args.self.now in
@@ -669,15 +659,15 @@ consume_disjunction-returns-clause-spans t c on =
     l.self.spans.items c.record_alternations.new.spans.items l.starts.items l.start (l.invariant.2 on) (sym past.found) past.moves
     c.in_ok-record_alternations.ensures
 
-pub consume_term-returns-then-try_consume-clause-spans : goal.consume_term-returns-then-try_consume-clause-spans
-consume_term-returns-then-try_consume-clause-spans t c on =
+pub consume_term-returns-then-try_open-clause-spans : goal.consume_term-returns-then-try_open-clause-spans
+consume_term-returns-then-try_open-clause-spans g t c on =
     let around = c.args.around.now in
     let ctx = context_in around in
     let old = c.args.self.now in
-    let past = c.if-try_consume.ensures in
-    let here = source c.try_consume.new.self in
+    let past = c.if-try_open.ensures in
+    let here = source c.try_open.new.cursor in
     let kind = group_of c.in_ok-kind.kind in
-    let there = source c.parse_group.new.cursor in
+    let there = source c.parse_head.new.cursor in
     let front : text old ≡ opening ∷ here = front_is opening (text old) here (sym past.found) past.moves in
     let head : head_at ctx (text old) ≡ Some (opens kind, there) =
     ap (head_at ctx) front ∙ opening_head (table_in around) (names_in_context around) ctx here ∙ c.in_ok-kind.ensures.value in
@@ -688,13 +678,13 @@ consume_term-returns-then-try_consume-clause-spans t c on =
     (c.in_ok-item.ensures.spans (text old) on refl head))
 
 pub consume_term-returns-clause-spans : goal.consume_term-returns-clause-spans
-consume_term-returns-clause-spans t c on =
+consume_term-returns-clause-spans g t c on =
     let around = c.args.around.now in
     let ctx = context_in around in
     let d = direction_of around in
     let old = c.args.self.now in
-    let past = c.if-try_consume.ensures in
-    let here = source c.try_consume.new.self in
+    let past = c.if-try_open.ensures in
+    let here = source c.try_open.new.cursor in
     let new = source c.parse_atom.new.cursor in
     let same : here ≡ text old = past.moves in
     let none : is_at opening here ≡ false = ap (is_at opening) same ∙ sym past.found in
@@ -710,7 +700,7 @@ consume_term-returns-clause-spans t c on =
     (added ∙ ap (λ n. old.spans.items ++ replicate (nodes (tree node)) (span_to around.whole n new)) (ap length (sym same)))))
 
 pub consume_group-returns-clause-spans : goal.consume_group-returns-clause-spans
-consume_group-returns-clause-spans t c u on opened head =
+consume_group-returns-clause-spans g t c u on opened head =
     let around = c.args.around.now in
     let ctx = context_in around in
     let d = direction_of around in
@@ -721,7 +711,7 @@ consume_group-returns-clause-spans t c u on opened head =
     let new = source c.consume_closing.new.self in
     let same = c.in_ok-count_group.ensures in
     let inner = records_inside around.whole _ (context_inside kind ctx) _ (direction_of_group kind d) _ (text start) start.spans.items (text mid) mid.spans.items
-    c.inside.ensures.whole c.inside.ensures.context c.inside.ensures.direction (c.in_ok-contents.ensures.spans (c.inside.ensures.records ∙ on)) in
+    c.inside.ensures.whole c.inside.ensures.context c.inside.ensures.direction (c.in_ok-contents.ensures.spans on) in
     let reads = subst (λ (v : Source). RecordsPattern around.whole (context_inside kind ctx) (direction_of_group kind d) v old.spans.items
     (text mid) mid.spans.items) same.text
     (subst (λ (ss : List Span). RecordsPattern around.whole (context_inside kind ctx) (direction_of_group kind d) (text start) ss

@@ -19,7 +19,7 @@ use Rattle.regress_parse.proofs.TermLemmas.{alone, times_read, times-too_many}
 use Rattle.regress_parse.proofs.parser.Parser.consume_times.Goals as goal
 
 pub returns-then-not-may_begin-clause-value : goal.returns-then-not-may_begin-clause-value
-returns-then-not-may_begin-clause-value c =
+returns-then-not-may_begin-clause-value g c =
     let around = c.args.around.now in
     let table = table_in around in
     let names = names_in_context around in
@@ -30,7 +30,7 @@ returns-then-not-may_begin-clause-value c =
     (sym c.may_begin.ensures ∙ c.if-not-may_begin.true) b
 
 pub returns-in_err-times-clause-value : goal.returns-in_err-times-clause-value
-returns-in_err-times-clause-value c =
+returns-in_err-times-clause-value g c =
     let p = err_from_is_err_and c.from_residual.result c.from_residual.ensures.1 in
     let around = c.args.around.now in
     let table = table_in around in
@@ -43,7 +43,7 @@ returns-in_err-times-clause-value c =
     (on_rejected c.in_err-times.field-0.0 c.in_err-times.ensures.value))
 
 pub returns-in_default-clause-value : goal.returns-in_default-clause-value
-returns-in_default-clause-value c =
+returns-in_default-clause-value g c =
     let around = c.args.around.now in
     let table = table_in around in
     let names = names_in_context around in
@@ -61,7 +61,7 @@ returns-in_default-clause-value c =
     })
 
 pub returns-in_err-count_loop-clause-value : goal.returns-in_err-count_loop-clause-value
-returns-in_err-count_loop-clause-value c =
+returns-in_err-count_loop-clause-value g c =
     let p = err_from_is_err_and c.from_residual-in_err-count_loop.result c.from_residual-in_err-count_loop.ensures.1 in
     let around = c.args.around.now in
     let table = table_in around in
@@ -78,7 +78,7 @@ returns-in_err-count_loop-clause-value c =
     c.in_err-count_loop.ensures.err)
 
 pub returns-clause-value : goal.returns-clause-value
-returns-clause-value c =
+returns-clause-value g c =
     let around = c.args.around.now in
     let table = table_in around in
     let names = names_in_context around in
@@ -105,13 +105,13 @@ returns-clause-value c =
     })
 
 pub returns-in_err-times-clause-reached : goal.returns-in_err-times-clause-reached
-returns-in_err-times-clause-reached c =
+returns-in_err-times-clause-reached g c =
     let p = err_from_is_err_and c.from_residual.result c.from_residual.ensures.1 in
     rw (p.1, p.2) (on_kind_then c.in_err-times.field-0.0
     (no_limit (counted c.args.self.now) c.args.around.now.depth (text c.args.self.now)) c.in_err-times.ensures.kind)
 
 pub returns-in_err-count_loop-clause-reached : goal.returns-in_err-count_loop-clause-reached
-returns-in_err-count_loop-clause-reached c =
+returns-in_err-count_loop-clause-reached g c =
     let p = err_from_is_err_and c.from_residual-in_err-count_loop.result c.from_residual-in_err-count_loop.ensures.1 in
     let old = c.args.self.now in
     let some = begins_some (text old) (sym c.may_begin.ensures ∙ c.if-not-may_begin.false) in
@@ -121,7 +121,7 @@ returns-in_err-count_loop-clause-reached c =
 -- ---- spans
 
 pub returns-then-not-may_begin-clause-spans : goal.returns-then-not-may_begin-clause-spans
-returns-then-not-may_begin-clause-spans c t before on opened reads =
+returns-then-not-may_begin-clause-spans g c t before on opened reads =
     let around = c.args.around.now in
     let ctx = context_in around in
     let old = c.args.self.now in
@@ -129,7 +129,7 @@ returns-then-not-may_begin-clause-spans c t before on opened reads =
     (no_times ctx c.args.allowed (text old) (sym c.may_begin.ensures ∙ c.if-not-may_begin.true)) (sym (append-nil old.spans.items))
 
 pub returns-in_default-clause-spans : goal.returns-in_default-clause-spans
-returns-in_default-clause-spans c t before on opened reads =
+returns-in_default-clause-spans g c t before on opened reads =
     let around = c.args.around.now in
     let ctx = context_in around in
     let old = c.args.self.now in
@@ -138,7 +138,7 @@ returns-in_default-clause-spans c t before on opened reads =
     (c.in_ok-times.ensures.value ∙ ap (λ q. Some (q, new)) c.in_default.is) (sym (append-nil old.spans.items))
 
 pub returns-clause-spans : goal.returns-clause-spans
-returns-clause-spans c t before on opened reads =
+returns-clause-spans g c t before on opened reads =
     let around = c.args.around.now in
     let ctx = context_in around in
     let old = c.args.self.now in

@@ -7,7 +7,7 @@ use Rattle.regress_parse.specs.Recorded.{span_to}
 use Rattle.regress_parse.proofs.parser.Parser.record_end.Goals as goal
 
 pub returns : goal.returns
-returns c on =
+returns g c on =
     let whole = c.args.around.now.whole in
     let end = text c.args.self.now in
     on_ok_weaker c.record_if-2.result

@@ -9,9 +9,9 @@ use Rattle.regress_syntax.specs.Syntax.{Name, Pattern, names}
 use Rattle.regress_syntax.specs.Meaning.{groups_named}
 use Rattle.regress_parse.specs.TreeOf.{tree_of}
 use Rattle.regress_parse.specs.Accepted.{own_context, IsDerived}
-use Rattle.regress_bound.specs.Bound.{total, positions, opens_name, is_reference, nodes_at, node_bound, HasAtMost}
-use Rattle.regress_bound.proofs.NameLemmas.{groups_named-few, names-pattern}
-use Rattle.regress_bound.proofs.NodeLemmas.{pattern-nodes}
+use Rattle.regress_parse.specs.Bound.{total, positions, opens_name, is_reference, nodes_at, node_bound, HasAtMost}
+use Rattle.regress_parse.proofs.BoundOfNames.{groups_named-few, names-pattern}
+use Rattle.regress_parse.proofs.BoundOfNodes.{pattern-nodes}
 
 tree-nodes : (setting : Setting) (t : Source) (p : Pattern) → IsDerived setting t p →
     nodes (tree_of setting.table p) ≤ node_bound setting.flags.unicode_sets t

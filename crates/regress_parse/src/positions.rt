@@ -1,7 +1,7 @@
 //! Counts the nodes that each code point of a pattern can make.
 ghost use Rattle.std.specs.Prelude.{◌≡◌, ◌-◌, ◌^◌, drop, min};
 ghost use Rattle.regress_lexer.specs.Source.{is_at};
-ghost use Rattle.regress_bound.specs.Bound.{opens_name, is_reference, positions, nodes_at};
+ghost use Rattle.regress_parse.specs.Bound.{opens_name, is_reference, positions, nodes_at};
 
 /// Whether `c` is the code point at index `position`.
 fn occurs(c: char, source: &[u32], position: usize) -> bool

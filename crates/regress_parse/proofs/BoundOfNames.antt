@@ -7,9 +7,9 @@ use Rattle.regress_syntax.specs.Meaning.{groups_named}
 use Rattle.regress_syntax.specs.Productions.{Context, context_inside, single, opens, head_of_item, allows, head_at}
 use Rattle.regress_syntax.specs.Grammar.{IsPattern, AreTerms, IsItem}
 use Rattle.regress_syntax.proofs.lemmas.Productions.{head_at-ends, head_at-shortens, optional_quantifier_at-ends}
-use Rattle.regress_bound.specs.Bound.{positions, opens_name}
-use Rattle.regress_bound.proofs.SourceLemmas.{total-after, after_first}
-use Rattle.regress_bound.proofs.HeadLemmas.{Fits, head_by-fits, any_found}
+use Rattle.regress_parse.specs.Bound.{positions, opens_name}
+use Rattle.regress_parse.proofs.BoundOfSource.{total-after, after_first}
+use Rattle.regress_parse.proofs.BoundOfHead.{Fits, head_by-fits, any_found}
 
 -- the number of groups with a name
 abbrev pub named : List (Option Name) → ℕ

@@ -1,7 +1,7 @@
 use Rattle.std.proofs.Common.{◌≡◌, ◌+◌, min, ap, ◌∙◌, arith}
-use Rattle.regress_bound.specs.Bound.{total, nodes_at, node_bound}
-use Rattle.regress_bound.proofs.BoundLemmas.{bounded, bound-near}
-use Rattle.regress_bound.proofs.bound.node_bound.Goals as goal
+use Rattle.regress_parse.specs.Bound.{total, nodes_at, node_bound}
+use Rattle.regress_parse.proofs.BoundLemmas.{bounded, bound-near}
+use Rattle.regress_parse.proofs.bound.node_bound.Goals as goal
 
 pub returns : goal.returns
 returns c =

@@ -2,7 +2,7 @@
 use Rattle.std.proofs.Common.{◌≡◌, ℕ, zero, suc, ◌+◌, ◌*◌, ◌<◌, ◌≤◌, Bool, true, false, cond, ◌&&◌, [], ◌∷◌, length, drop, ap, arith}
 use Rattle.regress_lexer.specs.Source.{Source, bar, is_at}
 use Rattle.regress_lexer.proofs.lemmas.After.{IsSuffix}
-use Rattle.regress_bound.specs.Bound.{total, is_reference, nodes_at}
+use Rattle.regress_parse.specs.Bound.{total, is_reference, nodes_at}
 
 module _ (count : Source → ℕ) where
   total-drop : (n : ℕ) (t : Source) → total count (drop n t) ≤ total count t

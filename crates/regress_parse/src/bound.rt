@@ -1,6 +1,6 @@
 //! Bounds the number of nodes of a pattern's tree.
 ghost use Rattle.std.specs.Prelude.{◌≡◌, ◌+◌, ◌-◌, ◌*◌, ◌^◌, ◌<◌, ◌≤◌, length, min};
-ghost use Rattle.regress_bound.specs.Bound.{HasAtMost, opens_name, is_reference, positions, total, nodes_at, node_bound};
+ghost use Rattle.regress_parse.specs.Bound.{HasAtMost, opens_name, is_reference, positions, total, nodes_at, node_bound};
 
 use crate::positions::{named_groups, nodes_at};
 use regress_base::types::Flags;

@@ -1,7 +1,7 @@
 use Rattle.std.proofs.Common.{◌≡◌, ℕ, ◌+◌, ◌<◌, ◌≤◌, [], ◌∷◌, length, min, arith}
 use Rattle.regress_lexer.specs.Source.{Source}
-use Rattle.regress_bound.specs.Bound.{total, nodes_at}
-use Rattle.regress_bound.proofs.bound.sum_nodes.Goals as goal
+use Rattle.regress_parse.specs.Bound.{total, nodes_at}
+use Rattle.regress_parse.proofs.bound.sum_nodes.Goals as goal
 
 -- At the end of the source the sum is complete.
 all_summed : (count : Source → ℕ) (rest : Source) (nodes whole most : ℕ) → length rest < 1 → nodes ≤ most →

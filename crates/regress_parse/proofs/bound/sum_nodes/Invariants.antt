@@ -1,7 +1,7 @@
 -- The sum so far and the count of the remaining source are the whole count, saturated.
 use Rattle.std.proofs.Common.{◌≡◌, ◌+◌, ◌-◌, ◌^◌, ◌≤◌, min, length}
-use Rattle.regress_bound.specs.Bound.{total, nodes_at}
-use Rattle.regress_bound.proofs.bound.sum_nodes.Given as goal
+use Rattle.regress_parse.specs.Bound.{total, nodes_at}
+use Rattle.regress_parse.proofs.bound.sum_nodes.Given as goal
 
 abbrev pub invariant-loop-rest : goal.invariant-loop-rest
 invariant-loop-rest l = record {

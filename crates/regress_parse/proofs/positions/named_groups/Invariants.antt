@@ -1,7 +1,7 @@
 -- The number so far and that of the remaining source are the whole number.
 use Rattle.std.proofs.Common.{◌≡◌, ◌+◌, ◌≤◌, length}
-use Rattle.regress_bound.specs.Bound.{positions, opens_name}
-use Rattle.regress_bound.proofs.positions.named_groups.Given as goal
+use Rattle.regress_parse.specs.Bound.{positions, opens_name}
+use Rattle.regress_parse.proofs.positions.named_groups.Given as goal
 
 abbrev pub invariant-loop-rest : goal.invariant-loop-rest
 invariant-loop-rest l = record {

@@ -22,8 +22,8 @@ use Rattle.regress_syntax.specs.Names.{group_name_at}
 use Rattle.regress_syntax.specs.Meaning.{groups_named}
 use Rattle.regress_syntax.specs.Productions.{Context, Head, single, opens, angle_at, after_question_mark_at, group_at, has_names, has_name, character_at, property_atom, property_atom_at, number_reference_at, name_reference_at, escape_productions, escaped_by, escaped_at, brackets_at, atom_productions, atom_by, head_by}
 use Rattle.regress_parse.specs.TreeOf.{references, alternation, strings_or_points, tree_of_atom}
-use Rattle.regress_bound.specs.Bound.{opens_name, nodes_at}
-use Rattle.regress_bound.proofs.SourceLemmas.{nodes_at-some}
+use Rattle.regress_parse.specs.Bound.{opens_name, nodes_at}
+use Rattle.regress_parse.proofs.BoundOfSource.{nodes_at-some}
 
 -- Whatever is found has the trivial property.
 pub any_found : {A : Type 0} (found : Found A) → Finds (λ _. Unit {0}) found

@@ -14,10 +14,10 @@ use Rattle.regress_syntax.specs.Grammar.{IsPattern, AreTerms, IsItem}
 use Rattle.regress_syntax.proofs.lemmas.Productions.{head_at-ends, head_at-shortens, optional_quantifier_at-ends}
 use Rattle.regress_syntax.proofs.lemmas.Lengths.{optional_quantifier_at-takes}
 use Rattle.regress_parse.specs.TreeOf.{concatenation, tree_of_group, tree_of_quantified, tree_of_atom, tree_of_pattern, trees_of_terms, tree_of_item}
-use Rattle.regress_parse.proofs.lemmas.Nodes.{nodes-turned}
-use Rattle.regress_bound.specs.Bound.{total, nodes_at}
-use Rattle.regress_bound.proofs.SourceLemmas.{total-after, after_first, nodes-shorter}
-use Rattle.regress_bound.proofs.HeadLemmas.{head_by-fits, AtMost, atom_by-nodes}
+use Rattle.regress_parse.proofs.NodesOfLists.{nodes-turned}
+use Rattle.regress_parse.specs.Bound.{total, nodes_at}
+use Rattle.regress_parse.proofs.BoundOfSource.{total-after, after_first, nodes-shorter}
+use Rattle.regress_parse.proofs.BoundOfHead.{head_by-fits, AtMost, atom_by-nodes}
 
 -- ---- trees
 

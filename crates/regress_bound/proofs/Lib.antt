@@ -1,5 +1,0 @@
-mod SourceLemmas
-mod NameLemmas
-mod HeadLemmas
-mod NodeLemmas
-mod BoundLemmas
