@@ -1,0 +1,50 @@
+-- Alternations as instructions: the alternatives are compiled first, and then joined from the last to the first.
+use Rattle.std.proofs.Common.{◌≡◌, ℕ, List, [], ◌∷◌, ◌++◌, refl, sym, subst}
+use Rattle.regress_tree.specs.Tree.{Tree}
+use Rattle.regress_program.specs.Compiled.{matching, Code, Grown, Compiled}
+use Rattle.regress_program.specs.Pushed.{Pushed}
+use Rattle.regress_program.specs.Program.{split}
+use Rattle.regress_program.specs.Alternatives.{HasLeft, Waiting}
+use Rattle.regress_program.proofs.CompileLemmas.{compiled_or, compiled_later}
+
+pub waiting_none : (a c : Code) (next : ℕ) (whole : Tree) → Waiting a c next [] whole whole
+unfolding Waiting
+waiting_none a c next whole = refl
+
+pub waiting_push : (a c : Code) (next : ℕ) (entries : List ℕ) (entry : ℕ) (whole rest right : Tree) → Waiting a c next entries whole rest →
+    HasLeft a c next entry rest right → Waiting a c next (entries ++ entry ∷ []) whole right
+unfolding Waiting
+waiting_push a c next [] entry whole rest right same is = (right, (subst (λ t. HasLeft a c next entry t right) (sym same) is, refl))
+waiting_push a c next (e ∷ entries) entry whole rest right waiting is =
+    (waiting.0, (waiting.1.0, waiting_push a c next entries entry waiting.0 rest right waiting.1.1 is))
+
+pub waiting_pop : (a c : Code) (next : ℕ) (entries : List ℕ) (entry : ℕ) (whole rest : Tree) → Waiting a c next (entries ++ entry ∷ []) whole rest →
+    (before : Tree) × (Waiting a c next entries whole before × HasLeft a c next entry before rest)
+unfolding Waiting
+waiting_pop a c next [] entry whole rest waiting =
+    (whole, (refl, subst (λ t. HasLeft a c next entry whole t) waiting.1.1 waiting.1.0))
+waiting_pop a c next (e ∷ entries) entry whole rest waiting =
+    let found = waiting_pop a c next entries entry waiting.0 rest waiting.1.1 in
+    (found.0, ((waiting.0, (waiting.1.0, found.1.0)), found.1.1))
+
+pub left_later : (a b c : Code) (next entry : ℕ) (whole right : Tree) → Grown b c → HasLeft a b next entry whole right → HasLeft a c next entry whole right
+left_later a b c next entry whole right grown is =
+    record { left = is.left; is = is.is; compiled = compiled_later a b c (matching is.left) next entry grown is.compiled }
+
+pub waiting_later : (a b c : Code) (next : ℕ) (entries : List ℕ) (whole rest : Tree) → Grown b c → Waiting a b next entries whole rest →
+    Waiting a c next entries whole rest
+unfolding Waiting
+waiting_later a b c next [] whole rest grown waiting = waiting
+waiting_later a b c next (e ∷ entries) whole rest grown waiting =
+    (waiting.0, (left_later a b c next e whole waiting.0 grown waiting.1.0, waiting_later a b c next entries waiting.0 rest grown waiting.1.1))
+
+pub waiting_done : (a c : Code) (next : ℕ) (whole rest : Tree) → Waiting a c next [] whole rest → whole ≡ rest
+unfolding Waiting
+waiting_done a c next whole rest waiting = waiting
+
+-- an alternation, of which the left side is compiled before
+pub compiled_alternative : (a b c : Code) (next first second at : ℕ) (whole rest : Tree) → HasLeft a b next first whole rest →
+    Compiled a b (matching rest) next second → Pushed b c (split first second) at → Compiled a c (matching whole) next at
+compiled_alternative a b c next first second at whole rest is right pushed =
+    subst (λ t. Compiled a c (matching t) next at) (sym is.is)
+    (compiled_or a b c (matching is.left) (matching rest) next first second at is.compiled right pushed)

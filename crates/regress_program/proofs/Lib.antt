@@ -1,0 +1,20 @@
+pub mod lemmas
+mod AlternativeLemmas
+mod BelowLemmas
+mod BitLemmas
+mod CodeLemmas
+mod CompileLemmas
+mod EvaluateLemmas
+mod FillLemmas
+mod FlowLemmas
+mod KeepLemmas
+mod RepeatLemmas
+mod RoutineLemmas
+mod RunLemmas
+mod SearchLemmas
+mod SoundLemmas
+mod TellsLemmas
+mod TurnLemmas
+mod UnsetLemmas
+mod ViewLemmas
+mod WalkLemmas

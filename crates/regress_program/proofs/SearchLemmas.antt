@@ -1,0 +1,27 @@
+-- A search by tables, and what it finds of a tree.
+use Rattle.std.proofs.Common.{◌≡◌, ℕ, ◌+◌, ◌*◌, ◌≤◌, List, length, Option, Some, None, Result, Ok, Err, IfOk, sym, ◌∙◌, subst, arith}
+use Rattle.regress_tree.specs.Steps.{MatchState}
+use Rattle.regress_program.specs.declared.found.Match.{Match}
+use Rattle.regress_program.specs.Found.{Finds}
+
+-- the steps of a search
+pub all_steps : (n t w all s1 s2 s3 l : ℕ) → all ≡ t + w → s1 ≤ 0 + (n + 1) * (2 * t) → s2 ≤ s1 + l → l ≡ (n + 1) * (2 * w) → s3 ≤ s2 + (n + 1) + l →
+    s3 ≤ (4 * all + 1) * (n + 1)
+all_steps n t w all s1 s2 s3 l is le1 le2 el le3 =
+    let sum : s3 ≤ (4 * (t + w) + 1) * (n + 1) = omega (arith, le1, le2, el, le3) in
+    subst (λ x. s3 ≤ (4 * x + 1) * (n + 1)) (sym is) sum
+
+-- Outcomes that are the same inside the text make no difference.
+pub Finds-same : (text : List ℕ) (at at' : ℕ → List MatchState) (origin : ℕ) (found : Option Match) →
+    ((p : ℕ) → p ≤ length text → at p ≡ at' p) → Finds text at origin found → Finds text at' origin found
+Finds-same text at at' origin None same none = λ p low on. sym (same p on.0) ∙ none p low on
+Finds-same text at at' origin (Some m) same is = record {
+  from = is.from;
+  boundary = is.boundary;
+  first = (is.first.0, sym (same m.start is.boundary.0) ∙ is.first.1);
+  least = λ p low high on. sym (same p on.0) ∙ is.least p low high on;
+}
+
+pub ok_map : {X E : Type 0} (r : Result X E) (P Q : X → Type 0) → ((x : X) → P x → Q x) → IfOk r P → IfOk r Q
+ok_map (Ok x) P Q f is = f x is
+ok_map (Err e) P Q f is = tt

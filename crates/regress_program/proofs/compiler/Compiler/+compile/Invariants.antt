@@ -1,0 +1,49 @@
+use Rattle.std.proofs.Common.{◌≤◌, ◌-◌, length, drop}
+use Rattle.regress_tree.specs.declared.ir.node.Node.{size-Node}
+use Rattle.regress_tree.specs.Tree.{Tree, tree, trees, cat}
+use Rattle.regress_program.specs.Alternatives.{Waiting}
+use Rattle.regress_program.specs.CodeOf.{code_of, iterating}
+use Rattle.regress_program.specs.Compiled.{Matching, matching, extra, after_iterations, Grown, Compiled}
+use Rattle.regress_program.specs.Iterates.{Iterates}
+use Rattle.regress_program.proofs.compiler.Compiler.+compile.Given as goal
+
+-- the iterations so far
+abbrev pub invariant-at_most-loop-i : goal.invariant-at_most-loop-i
+invariant-at_most-loop-i l = record {
+  iterates : Iterates (code_of l.fn.self) (code_of l.self) l.iterations.greedy (iterating l.iterations (matching (tree l.fn.body))) l.next l.start (l._i - 1);
+}
+
+-- the left sides so far
+abbrev pub invariant-node-loop-rest : goal.invariant-node-loop-rest
+invariant-node-loop-rest l = record {
+  grown : Grown (code_of l.fn.self) (code_of l.self);
+  waiting : Waiting (code_of l.fn.self) (code_of l.self) l.next l.entries.items (tree l.fn.node) (tree l.rest);
+  smaller : size-Node l.rest ≤ size-Node l.fn.node;
+}
+
+-- the alternatives that have been joined, from the last one
+abbrev pub invariant-node-loop-first : goal.invariant-node-loop-first
+invariant-node-loop-first l = record {
+  joined : Tree;
+  waiting : Waiting (code_of l.fn.self) (code_of l.self) l.next l.entries.items (tree l.fn.node) joined;
+  compiled : Compiled (code_of l.fn.self) (code_of l.self) (matching joined) l.next l.entry;
+}
+
+abbrev pub decreases-node-loop-first : goal.decreases-node-loop-first
+decreases-node-loop-first l = length l.entries.items
+
+-- the mandatory iterations so far
+abbrev pub invariant-repeat-loop-i : goal.invariant-repeat-loop-i
+invariant-repeat-loop-i l =
+    let f : Matching = iterating l.iterations (matching (tree l.fn.body)) in
+    record { compiled : Compiled (code_of l.fn.self) (code_of l.self) (after_iterations l._i f (extra l.fn.quantifier f)) l.next l.entry }
+
+-- the parts from i on
+abbrev pub invariant-sequence-loop-i : goal.invariant-sequence-loop-i
+invariant-sequence-loop-i l = record {
+  within : l.i ≤ length l.parts;
+  compiled : Compiled (code_of l.fn.self) (code_of l.self) (matching (cat (trees (drop l.i l.parts)))) l.next l.entry;
+}
+
+abbrev pub decreases-sequence-loop-i : goal.decreases-sequence-loop-i
+decreases-sequence-loop-i l = l.i

@@ -1,0 +1,83 @@
+use Rattle.std.proofs.Common.{rules, ◌≡◌, ℕ, ◌<◌, ◌≤◌, [], true, List, length, refl, sym, ◌∙◌, arith}
+use Rattle.std.specs.Str.{IsCharBoundary}
+use Rattle.regress_leaves.specs.Subject.{subject}
+use Rattle.regress_tree.specs.Steps.{MatchState}
+use Rattle.regress_program.specs.declared.walker.Walker.{Walker}
+use Rattle.regress_program.specs.Found.{no_groups}
+use Rattle.regress_program.specs.Program.{matcher_of}
+use Rattle.regress_program.specs.Table.{has_outcome}
+use Rattle.regress_program.specs.Views.{program_of, routine_of}
+use Rattle.regress_program.specs.Walked.{at_of}
+use Rattle.regress_program.proofs.EvaluateLemmas.{full_tells, index-within}
+use Rattle.regress_program.proofs.WalkLemmas.{walk-begins, entry-none, none-more, not-true}
+use Rattle.regress_program.proofs.leftmost.find_leftmost.Goals as goal
+use Rattle.regress_program.proofs.leftmost.find_leftmost.Goals.{else-is_char_boundary-via-then-is_char_boundary+else-cell, else-is_char_boundary-via-else-is_char_boundary}
+
+pub cell-requires-clause-pc : goal.cell-requires-clause-pc
+cell-requires-clause-pc c =
+    let can = c.requires.can in
+    omega (arith, (c.requires.program _ (routine_of c.args.routine.now) can.is).entry, can.of.width)
+
+pub walk-requires-clause-pc : goal.walk-requires-clause-pc
+walk-requires-clause-pc c =
+    let can = c.requires.can in
+    omega (arith, (c.requires.program _ (routine_of c.args.routine.now) can.is).entry, can.of.width)
+
+pub returns-then-cell-clause-finds : goal.returns-then-cell-clause-finds
+returns-then-cell-clause-finds c = λ outs solution right.
+    let u = subject c.args.input.rules c.args.input.text.now in
+    let program = program_of c.args.input.routines.now in
+    let i = length c.args.input.tables.now in
+    let r = routine_of c.args.routine.now in
+    let t = c.args.table.now in
+    let start = c.loop-start.start in
+    let n = c.args.groups in
+    let can = c.requires.can in
+    let lt : r.entry < t.width = omega (arith, (c.requires.program i r can.is).entry, can.of.width) in
+    let le : start ≤ t.length = omega (arith, can.of.text) in
+    let w : Walker = record { pc = r.entry; moved = true; position = start; captures = c.in_ok-unset_groups.field-0; begins = c.new.result } in
+    let begins = walk-begins u.setting u.bytes program outs i n start r w can.is refl refl refl c.in_ok-unset_groups.ensures c.new.ensures.items in
+    let some : has_outcome (outs i (at_of w)) ≡ true =
+    full_tells (outs i) t r.entry true start c.requires.full right lt le (at_of w) refl refl refl ∙ sym c.if-cell.ensures in
+    let ends = c.in_ok-walk.ensures.ends outs solution c.requires.full right some in
+    record {
+      from = c.loop-start.auto.start;
+      boundary = let on : IsCharBoundary c.args.input.text.now start = search rules in on;
+      first = (ends.1.0, begins ∙ ends.1.1);
+      least = c.loop-start.invariant.none outs solution right;
+    }
+
+pub returns-then-cell-clause-steps : goal.returns-then-cell-clause-steps
+returns-then-cell-clause-steps c =
+    let can = c.requires.can in
+    let r = routine_of c.args.routine.now in
+    let t = c.args.table.now in
+    let lt : r.entry < t.width = omega (arith, (c.requires.program _ r can.is).entry, can.of.width) in
+    let inside = index-within t r.entry true c.loop-start.start lt (omega (arith, can.of.text)) in
+    omega (arith, inside, c.in_ok-walk.ensures.steps, c.loop-start.invariant.steps)
+
+pub loop-start-preserved : goal.loop-start-preserved
+loop-start-preserved c =
+    let text = c.args.input.text.now in
+    let u = subject c.args.input.rules text in
+    let program = program_of c.args.input.routines.now in
+    let i = length c.args.input.tables.now in
+    let r = routine_of c.args.routine.now in
+    let t = c.args.table.now in
+    let start = c.loop-start.start in
+    let n = c.args.groups in
+    let can = c.requires.can in
+    let lt : r.entry < t.width = omega (arith, (c.requires.program i r can.is).entry, can.of.width) in
+    let le : start ≤ t.length = omega (arith, can.of.text) in
+    record {
+      steps = omega (arith, c.loop-start.invariant.steps);
+      none = λ outs solution right.
+          let at : ℕ → List MatchState = λ p. matcher_of u.setting u.bytes program outs i (no_groups n p) in
+          let here : IsCharBoundary text start → at start ≡ [] =
+          λ on. elim c.else-is_char_boundary.branch [
+            | else-is_char_boundary-via-then-is_char_boundary+else-cell w ↦
+                entry-none u.setting u.bytes program outs i n start r t can.is right c.requires.full lt le (sym w.cell.ensures ∙ w.if-cell.false)
+            | else-is_char_boundary-via-else-is_char_boundary w ↦ absurd (not-true c.is_char_boundary.result w.if-is_char_boundary.false (c.is_char_boundary.ensures.test.1 on))
+          ] in
+          none-more text at c.args.from start (c.loop-start.invariant.none outs solution right) here;
+    }

@@ -1,0 +1,2 @@
+-- Lemmas about the definitions of this crate, for use by other crates.
+pub mod Onward

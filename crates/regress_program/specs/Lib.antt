@@ -1,0 +1,17 @@
+pub mod Alternatives
+pub mod Below
+pub mod Bits
+pub mod CodeOf
+pub mod Compiled
+pub mod Evaluated
+pub mod Found
+pub mod Iterates
+pub mod Program
+pub mod Pushed
+pub mod Search
+pub mod Shape
+pub mod Sound
+pub mod Stays
+pub mod Table
+pub mod Views
+pub mod Walked

@@ -1,0 +1,54 @@
+-- The shape of programs: which instructions an instruction may name, so that every match ends.
+use Rattle.std.specs.Prelude.{◌≡◌, ℕ, ◌≤◌, ◌<◌, Bool, true, false, List, [], ◌∷◌, All, length, slice_get, Some, take}
+use Rattle.regress_tree.specs.Tree.{Leaf, back_ref, string_set, Tree, leaf}
+use Rattle.regress_program.specs.Program.{Op, accept, fail, part, split, begin_loop, repeat, end_loop, unsets, begin_group, end_group, look, Routine}
+
+-- The leaf has at most one outcome, whatever the captures are.
+abbrev pub IsPartLeaf : Leaf → Type 0
+IsPartLeaf (back_ref group icase) = ⊥
+IsPartLeaf (string_set [] icase) = ⊥
+IsPartLeaf (string_set (string ∷ []) icase) = Unit {0}
+IsPartLeaf (string_set (string ∷ another ∷ strings) icase) = ⊥
+IsPartLeaf l = Unit {0}
+
+abbrev pub IsPart : Tree → Type 0
+IsPart (leaf l) = IsPartLeaf l
+IsPart t = ⊥
+
+-- The instruction changes no capture.
+abbrev pub KeepsCaptures : Op → Type 0
+KeepsCaptures (unsets start end next) = end ≤ start
+KeepsCaptures (end_group id next) = ⊥
+KeepsCaptures op = Unit {0}
+
+-- The routine of that number is one of the earlier ones, and no capture is changed in it unless it is negated.
+abbrev pub IsLook : List Routine → (negate : Bool) → (routine : ℕ) → Type 0
+IsLook earlier true i = i < length earlier
+IsLook earlier false i = (r : Routine) × (slice_get earlier i ≡ Some r) × All KeepsCaptures r.ops
+
+-- The instruction i of `high` names only earlier ones, but for the body of a loop that goes on.
+abbrev pub Fits : List Routine → (high i : ℕ) → Op → Type 0
+Fits earlier high i accept = Unit {0}
+Fits earlier high i fail = Unit {0}
+Fits earlier high i (part t next) = IsPart t × (next < i)
+Fits earlier high i (split first second) = (first < i) × (second < i)
+Fits earlier high i (begin_loop greedy body next) = (body < i) × (next < i)
+Fits earlier high i (repeat greedy body next) = (body < high) × (next < i)
+Fits earlier high i (end_loop next) = next < i
+Fits earlier high i (unsets start end next) = next < i
+Fits earlier high i (begin_group next) = next < i
+Fits earlier high i (end_group id next) = next < i
+Fits earlier high i (look negate routine next) = IsLook earlier negate routine × (next < i)
+
+-- The instructions from `low` on and before `high` fit.
+abbrev pub AllFit : List Routine → List Op → (low high : ℕ) → Type 0
+AllFit earlier ops low high = (i : ℕ) (op : Op) → low ≤ i → i < high → slice_get ops i ≡ Some op → Fits earlier high i op
+
+-- A routine whose lookarounds are earlier routines.
+pub record IsRoutine (earlier : List Routine) (r : Routine) : Type 0 where
+  pub entry : r.entry < length r.ops
+  pub fit : AllFit earlier r.ops 0 (length r.ops)
+
+-- A program: each routine refers to earlier ones only.
+abbrev pub IsProgram : List Routine → Type 0
+IsProgram program = (i : ℕ) (r : Routine) → slice_get program i ≡ Some r → IsRoutine (take i program) r

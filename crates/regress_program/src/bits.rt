@@ -1,0 +1,12 @@
+//! A list of bits.
+ghost use Rattle.std.specs.Prelude.{◌≤◌, ◌*◌, length};
+
+/// A list of bits, 64 in a word.
+#[derive(Drop)]
+pub struct Bits {
+    /// The words. Bit `i` of the list is bit `i % 64` of word `i / 64`.
+    pub(crate) words: Vec<u64>,
+    /// The number of bits.
+    pub(crate) len: usize,
+    ghost room: { len ≤ 64 * length words.items },
+}

@@ -1,0 +1,38 @@
+//! Why a pattern has no program.
+ghost use Rattle.std.specs.Prelude.{◌≡◌, alloc_error};
+ghost use Rattle.regress_program.specs.declared.fault.CompileFault.TheVariants.{Memory};
+
+use std::alloc::{AllocError, AllocFailed};
+
+/// Why a pattern was not compiled.
+#[derive(Debug, Drop, thiserror::Error)]
+pub enum CompileFault {
+    /// An allocation failed.
+    #[error("out of memory")]
+    Memory(AllocError),
+    /// The pattern has a back reference, so what follows depends on the captures.
+    #[error("the pattern has a back reference")]
+    BackReference,
+    /// A lookaround that is not negated contains a capture group, or a loop that resets one.
+    #[error("a lookaround contains a capture group")]
+    CapturingLookaround,
+    /// The program would have more instructions than the limit.
+    #[error("the program is too long")]
+    TooLong,
+}
+
+impl From<AllocError> for CompileFault {
+    ghost from_gives = { λ _ fault. fault ≡ Memory alloc_error };
+
+    fn from(given: AllocError) -> CompileFault {
+        CompileFault::Memory(given)
+    }
+}
+
+impl<T: Drop> From<AllocFailed<T>> for CompileFault {
+    ghost from_gives = { λ _ fault. fault ≡ Memory alloc_error };
+
+    fn from(given: AllocFailed<T>) -> CompileFault {
+        CompileFault::Memory(AllocError::from(given))
+    }
+}

@@ -1,0 +1,25 @@
+//! Patterns compiled into instructions, and matched in time linear in the length of the text.
+#![tactic(auto)]
+
+mod bits;
+mod cells;
+pub mod compile;
+mod compiler;
+mod evaluate;
+pub mod fault;
+mod fill;
+pub mod found;
+pub mod instruction;
+mod keeping;
+mod leftmost;
+mod lookarounds;
+mod loops;
+pub mod program;
+pub mod search;
+mod step;
+mod strings;
+mod table;
+mod tables;
+mod walk;
+mod walker;
+mod words;

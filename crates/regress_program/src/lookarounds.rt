@@ -1,0 +1,55 @@
+//! Compiles lookarounds, and nodes as routines of their own.
+ghost use Rattle.std.specs.Prelude.{◌<◌, IfOk, length};
+ghost use Rattle.regress_tree.specs.Reading.{direction_if};
+ghost use Rattle.regress_tree.specs.Tree.{tree};
+ghost use Rattle.regress_program.specs.CodeOf.{Emits, EmitsRoutine};
+ghost use Rattle.regress_program.specs.Compiled.{matching, looking};
+
+use crate::compiler::Compiler;
+use crate::fault::CompileFault;
+use crate::instruction::{Instruction, Routine};
+use crate::keeping::keep_captures;
+use regress_tree::ir::Node;
+use std::mem;
+
+impl<'a> Compiler<'a> {
+    /// Compiles a lookaround, whose body is a routine of its own.
+    #[cycle(compile)]
+    pub(crate) fn look(
+        &mut self,
+        contents: &'a Node,
+        negate: bool,
+        backwards: bool,
+        next: usize,
+    ) -> Result<usize, CompileFault>
+        requires { next < length self.old.instructions.items }
+        ensures { IfOk result (Emits self.old self.new (looking negate (direction_if backwards) (matching (tree contents.now))) next) }
+    {
+        let routine = self.routine(contents, backwards)?;
+        if !negate && !keep_captures(&self.routines[routine].instructions) {
+            return Err(CompileFault::CapturingLookaround);
+        }
+        self.push(Instruction::Look {
+            negate,
+            routine,
+            next,
+        })
+    }
+
+    /// Compiles a node as a routine, and returns its index.
+    #[cycle(compile)]
+    pub(crate) fn routine(&mut self, node: &'a Node, backwards: bool) -> Result<usize, CompileFault>
+        ensures { IfOk result (EmitsRoutine self.old self.new (matching (tree node.now)) (direction_if backwards)) }
+    {
+        let outer = mem::replace(&mut self.instructions, Vec::new(self.alloc));
+        self.push(Instruction::Accept)?;
+        let entry = self.node(node, 0)?;
+        let instructions = mem::replace(&mut self.instructions, outer);
+        self.routines.push(Routine {
+            instructions,
+            entry,
+            backwards,
+        })?;
+        Ok(self.routines.len() - 1)
+    }
+}

@@ -1,0 +1,126 @@
+//! Compiles loops.
+ghost use Rattle.std.specs.Prelude.{◌≡◌, ◌<◌, IfOk, length};
+ghost use Rattle.regress_tree.specs.Tree.{tree};
+ghost use Rattle.regress_program.specs.CodeOf.{iterating, looping, Emits};
+ghost use Rattle.regress_program.specs.Compiled.{matching, optional, any_number};
+
+use crate::compiler::Compiler;
+use crate::fault::CompileFault;
+use crate::instruction::Instruction;
+use regress_tree::ir::{Node, Quantifier};
+
+/// The iterations of a loop: the half-open range of the ids of the groups inside, and whether the loop is greedy.
+#[derive(Clone, Copy)]
+pub(crate) struct Iterations {
+    pub(crate) start: usize,
+    pub(crate) end: usize,
+    pub(crate) greedy: bool,
+}
+
+impl<'a> Compiler<'a> {
+    /// Compiles a loop: the optional iterations, and before them the mandatory ones.
+    #[cycle(compile)]
+    pub(crate) fn repeat(
+        &mut self,
+        body: &'a Node,
+        iterations: Iterations,
+        quantifier: Quantifier,
+        next: usize,
+    ) -> Result<usize, CompileFault>
+        requires below { next < length self.old.instructions.items }
+        requires greedy { iterations.greedy ≡ quantifier.greedy }
+        ensures { IfOk result (Emits self.old self.new (looping iterations quantifier (matching (tree body.now))) next) }
+    {
+        let mut entry = match quantifier.max {
+            None => self.any_number(body, iterations, next)?,
+            Some(max) => self.at_most(body, iterations, max.saturating_sub(quantifier.min), next)?,
+        };
+        for _i in 0..quantifier.min {
+            entry = self.iteration(body, iterations, entry)?;
+        }
+        Ok(entry)
+    }
+
+    /// Compiles any number of optional iterations. The body is compiled once, and goes on at an instruction before it.
+    #[cycle(compile)]
+    fn any_number(
+        &mut self,
+        body: &'a Node,
+        iterations: Iterations,
+        next: usize,
+    ) -> Result<usize, CompileFault>
+        requires { next < length self.old.instructions.items }
+        ensures { IfOk result (Emits self.old self.new (any_number iterations.greedy (iterating iterations (matching (tree body.now)))) next) }
+    {
+        let greedy = iterations.greedy;
+        // it is replaced when the start of the body is known
+        let turn = self.push(Instruction::Accept)?;
+        let start = self.iteration(body, iterations, turn)?;
+        self.instructions[turn] = Instruction::Repeat {
+            greedy,
+            body: start,
+            next,
+        };
+        self.push(Instruction::BeginLoop {
+            greedy,
+            body: start,
+            next,
+        })
+    }
+
+    /// Compiles at most `count` optional iterations, the last one first.
+    #[cycle(compile)]
+    fn at_most(
+        &mut self,
+        body: &'a Node,
+        iterations: Iterations,
+        count: usize,
+        next: usize,
+    ) -> Result<usize, CompileFault>
+        requires { next < length self.old.instructions.items }
+        ensures { IfOk result (Emits self.old self.new (optional iterations.greedy count (iterating iterations (matching (tree body.now)))) next) }
+    {
+        if count == 0 {
+            return Ok(next);
+        }
+        let greedy = iterations.greedy;
+        let end = self.push(Instruction::EndLoop { next })?;
+        let mut start = self.iteration(body, iterations, end)?;
+        for _i in 1..count {
+            let turn = self.push(Instruction::Repeat {
+                greedy,
+                body: start,
+                next,
+            })?;
+            start = self.iteration(body, iterations, turn)?;
+        }
+        self.push(Instruction::BeginLoop {
+            greedy,
+            body: start,
+            next,
+        })
+    }
+
+    /// Compiles an iteration, with at least one instruction, so that the limit bounds the number of copies.
+    #[cycle(compile)]
+    fn iteration(
+        &mut self,
+        body: &'a Node,
+        iterations: Iterations,
+        next: usize,
+    ) -> Result<usize, CompileFault>
+        requires { next < length self.old.instructions.items }
+        ensures { IfOk result (Emits self.old self.new (iterating iterations (matching (tree body.now))) next) }
+    {
+        let before = self.instructions.len();
+        let contents = self.node(body, next)?;
+        if iterations.start >= iterations.end && self.instructions.len() > before {
+            return Ok(contents);
+        }
+        self.push(Instruction::Unset {
+            start: iterations.start,
+            end: iterations.end,
+            next: contents,
+        })
+    }
+}

@@ -1,0 +1,51 @@
+//! The walk through the instructions of the first outcome.
+ghost use Rattle.std.specs.Prelude.{◌≡◌, ◌+◌, ◌≤◌, ◌<◌, ◌∷◌, ℕ, IfOk, List, length, true};
+ghost use Rattle.regress_leaves.specs.Subject.{subject};
+ghost use Rattle.regress_tree.specs.Steps.{MatchState};
+ghost use Rattle.regress_program.specs.Evaluated.{CanFill};
+ghost use Rattle.regress_program.specs.Program.{IsSolution, Out};
+ghost use Rattle.regress_program.specs.Shape.{IsProgram};
+ghost use Rattle.regress_program.specs.Table.{IsFull, IsRight, has_outcome, index};
+ghost use Rattle.regress_program.specs.Views.{program_of, routine_of};
+ghost use Rattle.regress_program.specs.Walked.{at_of};
+
+use crate::evaluate::Input;
+use crate::instruction::{Instruction, Routine};
+use crate::step::step;
+use crate::table::Table;
+use crate::walker::Walker;
+use std::alloc::AllocError;
+
+/// Walks to the end of the first outcome, and adds the number of steps to `steps`. Returns false if there is no outcome.
+///
+/// # Errors
+/// Returns [`AllocError`] if an allocation fails.
+pub(crate) fn walk(
+    input: Input<'_, '_, '_>,
+    table: &Table,
+    routine: &Routine<'_>,
+    walker: &mut Walker,
+    steps: &mut u64,
+) -> Result<bool, AllocError>
+    requires program { IsProgram (program_of input.routines.now) }
+    requires can { CanFill input (routine_of routine.now) table.now }
+    requires pc { walker.old.pc < table.now.width }
+    requires position { walker.old.position ≤ table.now.length }
+    ensures ends { IfOk result (λ ended. (outs : ℕ → Out) → (let u = subject input.entry.rules input.entry.text.now in
+        let out = outs (length input.entry.tables.now) in
+        IsSolution u.setting u.bytes (program_of input.entry.routines.now) outs → IsFull table.now → IsRight out table.now →
+        has_outcome (out (at_of walker.old)) ≡ true →
+        (ended ≡ true) × ((rest : List MatchState) × (out (at_of walker.old) ≡ (at_of walker.new).state ∷ rest)))) }
+    ensures steps { IfOk result (λ _. steps.new ≤ steps.old + index table.now walker.old.pc walker.old.moved walker.old.position + 1) }
+{
+    'walk: loop {
+        *steps = steps.saturating_add(1);
+        let instruction = routine.instructions[walker.pc];
+        if let Instruction::Accept = instruction {
+            return Ok(true);
+        }
+        if !step(input, table, instruction, walker)? {
+            return Ok(false);
+        }
+    }
+}
