@@ -13,6 +13,7 @@
 #![tactic(auto)]
 
 mod generated;
+mod linear;
 mod matching;
 mod outcome;
 mod parsing;

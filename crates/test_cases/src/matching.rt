@@ -1,5 +1,6 @@
 //! The result of a test case for the matcher.
 
+use crate::linear::response_linear;
 use crate::outcome::{parse_question, response_question};
 use crate::parsing::parse_tree;
 use crate::trees::optimize_watched;
@@ -7,7 +8,19 @@ use regress_unicode::Tables;
 use std::alloc::Global;
 use test_notation::{Call, Fault};
 
-/// Returns the result with the parsed tree or with the optimized one, if it is not the expected one.
+/// How a test case is matched.
+#[derive(Clone, Copy, PartialEq, Eq)]
+enum Way {
+    /// By the parsed tree.
+    Parsed,
+    /// By the optimized tree.
+    Optimized,
+    /// By the program of the parsed tree.
+    Linear,
+}
+
+/// Returns the first result that is not the expected one: with the parsed tree, with the optimized one, or with the
+/// program if the pattern has one.
 pub(crate) fn match_difference(
     alloc: Global,
     line: &str,
@@ -19,18 +32,31 @@ pub(crate) fn match_difference(
     let mut call = Call::new(alloc, expected);
     let expected = read_text(&mut call);
     call.finish()?;
-    let found = response(alloc, fields, tables, false).difference(&expected)?;
+    let found = difference_by(alloc, fields, &expected, tables, Way::Parsed)?;
     if found.is_some() {
         return Ok(found);
     }
-    match response(alloc, fields, tables, true).difference(&expected)? {
-        Some(found) => Ok(Some(format!(in alloc; "{found} by the optimized tree")?)),
+    if let Some(found) = difference_by(alloc, fields, &expected, tables, Way::Optimized)? {
+        return Ok(Some(format!(in alloc; "{found} by the optimized tree")?));
+    }
+    // a program needs no limit
+    if expected.as_str() == "out of steps" {
+        return Ok(None);
+    }
+    match difference_by(alloc, fields, &expected, tables, Way::Linear)? {
+        Some(found) => Ok(Some(format!(in alloc; "{found} by the program")?)),
         None => Ok(None),
     }
 }
 
-/// Returns the call of a test case, with the parsed tree of its pattern or with the optimized one.
-fn response<'a>(alloc: Global, fields: &'a str, tables: &Tables, is_optimized: bool) -> Call<'a> {
+/// Returns the result of a test case if it is not the expected one.
+fn difference_by(
+    alloc: Global,
+    fields: &str,
+    expected: &str,
+    tables: &Tables,
+    way: Way,
+) -> Result<Option<String>, Fault> {
     let mut call = Call::new(alloc, fields);
     let question = parse_question(&mut call);
     let flags = call.flags();
@@ -38,12 +64,17 @@ fn response<'a>(alloc: Global, fields: &'a str, tables: &Tables, is_optimized: b
     let text = read_text(&mut call);
     if let Some(regex) = read {
         let mut regex = regex;
-        if is_optimized {
+        if way == Way::Optimized {
             optimize_watched(&mut call, &mut regex);
         }
-        response_question(&mut call, question, &regex, tables, &text);
+        if way != Way::Linear {
+            response_question(&mut call, question, &regex, tables, &text);
+        } else if !response_linear(&mut call, question, &regex, tables, &text) {
+            call.finish()?;
+            return Ok(None);
+        }
     }
-    call
+    call.difference(expected)
 }
 
 /// Parses the next field as a text.

@@ -105,7 +105,8 @@ fn report_spans(call: &mut Call, text: &str, found: &Match) {
     }
 }
 
-fn report_span(call: &mut Call, text: &str, start: usize, end: usize) {
+/// Appends a span, counted in characters.
+pub(crate) fn report_span(call: &mut Call, text: &str, start: usize, end: usize) {
     call.add(&characters_before(text, start));
     call.say("-");
     call.add(&characters_before(text, end));

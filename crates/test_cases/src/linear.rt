@@ -1,0 +1,80 @@
+//! Searches by a program, for patterns that have one.
+
+use crate::outcome::{Question, report_span};
+use regress_leaves::known::Known;
+use regress_match::groups;
+use regress_program::compile::compile;
+use regress_program::fault::CompileFault;
+use regress_program::found::Match;
+use regress_program::program::Program;
+use regress_tree::ir::Regex;
+use regress_unicode::Tables;
+use test_notation::{Call, Fault};
+
+/// The largest product of the number of instructions and of positions in the text. Larger ones are not tested.
+const MOST: usize = 1_000_000;
+
+/// Appends the outcome of a search by a program, as `response_question` does. Returns false if the pattern has no
+/// program, or if the question asks for no search.
+pub(crate) fn response_linear(
+    call: &mut Call,
+    question: Question,
+    regex: &Regex,
+    tables: &Tables,
+    text: &str,
+) -> bool {
+    let most = match question {
+        Question::First(_) => 1,
+        Question::All => 100,
+        Question::At(_) => return false,
+    };
+    let alloc = call.alloc();
+    let limit = MOST / text.len().saturating_add(1);
+    let routines = match compile(alloc, &regex.node, limit) {
+        Ok(routines) => routines,
+        Err(CompileFault::Memory(_)) => {
+            call.fail(Fault::Memory);
+            return false;
+        }
+        Err(_) => return false,
+    };
+    let count = call.made(groups(alloc, regex), Vec::new(alloc)).len();
+    let known = Known::new(tables, regex.flags);
+    let program = Program::new(routines, regex.flags, known, count);
+    report_matches(call, &program, text, most);
+    true
+}
+
+/// Appends the first matches, separated by ` | `.
+fn report_matches(call: &mut Call, program: &Program<'_, '_>, text: &str, most: u32) {
+    let mut from = 0;
+    for number in 0..most {
+        let Ok(search) = program.find(call.alloc(), text, from) else {
+            call.fail(Fault::Memory);
+            return;
+        };
+        let Some(found) = search.found else {
+            if number == 0 {
+                call.say("none");
+            }
+            return;
+        };
+        if number > 0 {
+            call.say(" | ");
+        }
+        report_match(call, text, &found);
+        from = found.end.max(found.start.saturating_add(1));
+    }
+}
+
+/// Appends the spans of a match and of its groups, counted in characters.
+fn report_match(call: &mut Call, text: &str, found: &Match) {
+    report_span(call, text, found.start, found.end);
+    for group in &found.groups {
+        call.say(" ");
+        match group {
+            Some((start, end)) => report_span(call, text, *start, *end),
+            None => call.say("-"),
+        }
+    }
+}
