@@ -6,7 +6,7 @@ use Rattle.regress_tree.specs.WellFormed.{captures}
 use Rattle.regress_match.specs.Captures.{state}
 use Rattle.regress_match.specs.Fresh.{IsFresh, IfNoOutcome}
 use Rattle.regress_match.specs.Machine.{Answers}
-use Rattle.regress_match.specs.Matched.{no_groups}
+use Rattle.regress_program.specs.Found.{no_groups}
 use Rattle.regress_match.specs.declared.captures.Captures.{Captures}
 use Rattle.regress_match.specs.declared.machine.Response.{Response}
 use Rattle.regress_match.specs.declared.machine.Response.TheVariants as yields

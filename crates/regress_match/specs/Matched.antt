@@ -1,5 +1,5 @@
--- What a match is, and what a search finds.
-use Rattle.std.specs.Prelude.{◌≡◌, ℕ, ◌≤◌, ◌<◌, List, [], ◌∷◌, All, None, length, replicate}
+-- What the result of matching or of a search is.
+use Rattle.std.specs.Prelude.{◌≡◌, ℕ, ◌≤◌, List, [], ◌∷◌, All, length}
 use Rattle.std.specs.Str.{IsCharBoundary}
 use Rattle.regress_tree.specs.Inside.{IsSpanInside, IsCaptureInside}
 use Rattle.regress_tree.specs.Matching.{matches}
@@ -8,25 +8,14 @@ use Rattle.regress_tree.specs.Setting.{Setting}
 use Rattle.regress_tree.specs.Steps.{MatchState}
 use Rattle.regress_tree.specs.Tree.{Tree}
 use Rattle.regress_tree.specs.WellFormed.{captures}
+use Rattle.regress_program.specs.Found.{IsLeftmost, no_groups, start_of, state_of}
+use Rattle.regress_program.specs.declared.found.Match.{Match}
 use Rattle.regress_match.specs.declared.matching.Outcome.{Outcome}
 use Rattle.regress_match.specs.declared.matching.Outcome.TheVariants as outcomes
-use Rattle.regress_match.specs.declared.matching.Match.{Match}
-
--- the state at a position with n groups, all unset
-abbrev pub no_groups : (n position : ℕ) → MatchState
-no_groups n position = record { position = position; captures = replicate n None }
 
 -- the outcomes of a tree from a position with every group unset, as RegExpBuiltinExec starts a match
 abbrev pub outcomes_at : Setting → (text : List ℕ) → Tree → (position : ℕ) → List MatchState
 outcomes_at setting text t position = matches setting text forwards t (no_groups (length (captures t)) position)
-
--- the byte offset at which a match starts
-abbrev pub start_of : Match → ℕ
-start_of m = m.start
-
--- the state (MatchState) that a match reports
-abbrev pub state_of : Match → MatchState
-state_of m = record { position = m.end; captures = m.groups.items }
 
 -- The result is the first outcome, or `NoMatch` if there is none. Out of steps it states nothing.
 abbrev pub IsFirst : List MatchState → Outcome → Type 0
@@ -52,20 +41,8 @@ pub record IsInside (text : List ℕ) (m : Match) : Type 0 where
   pub span : IsSpanInside text (start_of m, (state_of m).position)
   pub groups : All (IsCaptureInside text) (state_of m).captures
 
-module _ (text : List ℕ) (at : ℕ → List MatchState) (origin : ℕ) where
-  -- No character boundary in the half-open range from `origin` to `to` has an outcome.
-  abbrev pub NoneBefore : ℕ → Type 0
-  NoneBefore to = (p : ℕ) → origin ≤ p → p < to → IsCharBoundary text p → at p ≡ []
-
-  -- The match is the first outcome from the least character boundary, from `origin` on, that has one.
-  pub record IsLeftmost (m : Match) : Type 0 where
-    pub from : origin ≤ start_of m
-    pub boundary : IsCharBoundary text (start_of m)
-    pub first : (rest : List MatchState) × (at (start_of m) ≡ state_of m ∷ rest)
-    pub least : NoneBefore (start_of m)
-
-  -- the result of a search: the leftmost match, or `NoMatch` if no character boundary has an outcome
-  abbrev pub Finds : Outcome → Type 0
-  Finds (outcomes.Matched m) = IsLeftmost m
-  Finds outcomes.NoMatch = (p : ℕ) → origin ≤ p → IsCharBoundary text p → at p ≡ []
-  Finds outcomes.OutOfSteps = Unit {0}
+-- the result of a search: the leftmost match, or `NoMatch` if no character boundary has an outcome
+abbrev pub Finds : (text : List ℕ) → (at : ℕ → List MatchState) → (origin : ℕ) → Outcome → Type 0
+Finds text at origin (outcomes.Matched m) = IsLeftmost text at origin m
+Finds text at origin outcomes.NoMatch = (p : ℕ) → origin ≤ p → IsCharBoundary text p → at p ≡ []
+Finds text at origin outcomes.OutOfSteps = Unit {0}

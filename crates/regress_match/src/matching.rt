@@ -1,11 +1,11 @@
 //! Matching at one position.
-ghost use Rattle.std.specs.Prelude.{◌≡◌, ◌+◌, ◌<◌, ◌≤◌, ◌^◌, None, IfOk, IsCharBoundary, length, min, replicate, slice_index_or};
+ghost use Rattle.std.specs.Prelude.{◌≡◌, ◌+◌, ◌<◌, ◌≤◌, ◌^◌, None, IfOk, IsCharBoundary, length, min, replicate};
 ghost use Rattle.regress_tree.specs.Gathered.{own_group};
 ghost use Rattle.regress_tree.specs.Tree.{Tree, tree};
 ghost use Rattle.regress_tree.specs.WellFormed.{IsWellFormed, captures};
 ghost use Rattle.regress_unicode.specs.TableOf.{table_of};
 ghost use Rattle.regress_match.specs.Machine.{Answers};
-ghost use Rattle.regress_match.specs.Matched.{IfMatched, IsFirst, IsInside, StartsAt, outcomes_at, start_of, state_of};
+ghost use Rattle.regress_match.specs.Matched.{IfMatched, IsFirst, IsInside, StartsAt, outcomes_at};
 ghost use Rattle.regress_match.specs.Fresh.{IsFresh, IfNoOutcome};
 
 use crate::captures::Captures;
@@ -13,62 +13,10 @@ use crate::machine::{Response, Scratch};
 use crate::run::run;
 use regress_leaves::known::Known;
 use regress_leaves::rules::MatchContext;
+pub use regress_program::found::Match;
 use regress_tree::ir::{Node, Regex, Walk, walk};
 use regress_unicode::Tables;
 use std::alloc::{AllocError, Global};
-
-/// A match: a span of the text, and the captures of the groups, in byte offsets.
-#[derive(Debug, Drop)]
-pub struct Match {
-    start: usize,
-    end: usize,
-    /// The capture of each group by its id, as a half-open range of byte offsets; `None` if the group is unset.
-    groups: Vec<Option<(usize, usize)>>,
-}
-
-impl Match {
-    pub(crate) fn new(start: usize, end: usize, groups: Vec<Option<(usize, usize)>>) -> Match
-        ensures start { start_of result ≡ start }
-        ensures state { state_of result ≡ record { position = end; captures = groups.items } }
-    {
-        Match { start, end, groups }
-    }
-
-    /// Returns the byte offset at which the match starts.
-    pub fn start(&self) -> usize
-        ensures { result ≡ start_of self.now }
-    {
-        self.start
-    }
-
-    /// Returns the byte offset at which the match ends, which is not part of it.
-    pub fn end(&self) -> usize
-        ensures { result ≡ (state_of self.now).position }
-    {
-        self.end
-    }
-
-    /// Returns the number of capture groups of the pattern.
-    pub fn group_count(&self) -> usize
-        ensures { result ≡ length (state_of self.now).captures }
-    {
-        self.groups.len()
-    }
-
-    /// Returns the span that a group has captured last, as a half-open range of byte offsets.
-    ///
-    /// Ids count from 0, in the order of the opening parentheses; the group that a pattern calls 1 has the id 0. The
-    /// result is `None` if the group is unset, or if the pattern has no group with this id.
-    pub fn group(&self, id: usize) -> Option<(usize, usize)>
-        ensures { result ≡ slice_index_or (state_of self.now).captures id None }
-    {
-        if id < self.groups.len() {
-            self.groups[id]
-        } else {
-            None
-        }
-    }
-}
 
 /// The result of a search.
 #[derive(Debug, Drop)]

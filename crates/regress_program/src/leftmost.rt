@@ -50,11 +50,7 @@ pub(crate) fn find_leftmost(
                 begins: Vec::new(alloc),
             };
             walk(input, table, routine, &mut walker, steps)?;
-            return Ok(Some(Match {
-                start,
-                end: walker.position,
-                groups: walker.captures,
-            }));
+            return Ok(Some(Match::new(start, walker.position, walker.captures)));
         }
     }
     Ok(None)

@@ -1,11 +1,10 @@
 //! Searches by a program, for patterns that have one.
 
-use crate::outcome::{Question, report_span};
+use crate::outcome::{Question, report_spans};
 use regress_leaves::known::Known;
 use regress_match::groups;
 use regress_program::compile::compile;
 use regress_program::fault::CompileFault;
-use regress_program::found::Match;
 use regress_program::program::Program;
 use regress_tree::ir::Regex;
 use regress_unicode::Tables;
@@ -62,19 +61,7 @@ fn report_matches(call: &mut Call, program: &Program<'_, '_>, text: &str, most: 
         if number > 0 {
             call.say(" | ");
         }
-        report_match(call, text, &found);
-        from = found.end.max(found.start.saturating_add(1));
-    }
-}
-
-/// Appends the spans of a match and of its groups, counted in characters.
-fn report_match(call: &mut Call, text: &str, found: &Match) {
-    report_span(call, text, found.start, found.end);
-    for group in &found.groups {
-        call.say(" ");
-        match group {
-            Some((start, end)) => report_span(call, text, *start, *end),
-            None => call.say("-"),
-        }
+        report_spans(call, text, &found);
+        from = found.end().max(found.start().saturating_add(1));
     }
 }

@@ -94,7 +94,7 @@ fn report(call: &mut Call, text: &str, outcome: &Outcome) {
 }
 
 /// Appends the spans of a match and of its groups, counted in characters.
-fn report_spans(call: &mut Call, text: &str, found: &Match) {
+pub(crate) fn report_spans(call: &mut Call, text: &str, found: &Match) {
     report_span(call, text, found.start(), found.end());
     for id in 0..found.group_count() {
         call.say(" ");
@@ -106,7 +106,7 @@ fn report_spans(call: &mut Call, text: &str, found: &Match) {
 }
 
 /// Appends a span, counted in characters.
-pub(crate) fn report_span(call: &mut Call, text: &str, start: usize, end: usize) {
+fn report_span(call: &mut Call, text: &str, start: usize, end: usize) {
     call.add(&characters_before(text, start));
     call.say("-");
     call.add(&characters_before(text, end));

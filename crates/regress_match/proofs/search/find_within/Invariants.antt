@@ -2,7 +2,7 @@
 use Rattle.std.proofs.Common.{length, ◌+◌, ◌-◌, ◌≤◌}
 use Rattle.regress_tree.specs.Tree.{tree}
 use Rattle.regress_match.specs.Fresh.{IsFresh}
-use Rattle.regress_match.specs.Matched.{NoneBefore}
+use Rattle.regress_program.specs.Found.{NoneBefore}
 use Rattle.regress_match.specs.Searched.{outcomes_of}
 use Rattle.regress_match.proofs.search.find_within.Given as goal
 

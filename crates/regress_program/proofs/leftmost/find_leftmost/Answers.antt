@@ -1,14 +1,15 @@
-use Rattle.std.proofs.Common.{rules, ◌≡◌, ℕ, ◌<◌, ◌≤◌, [], true, List, length, refl, sym, ◌∙◌, arith}
+use Rattle.std.proofs.Common.{rules, ◌≡◌, ℕ, ◌<◌, ◌≤◌, [], ◌∷◌, true, List, length, refl, sym, ap, ◌∙◌, arith}
 use Rattle.std.specs.Str.{IsCharBoundary}
 use Rattle.regress_leaves.specs.Subject.{subject}
 use Rattle.regress_tree.specs.Steps.{MatchState}
 use Rattle.regress_program.specs.declared.walker.Walker.{Walker}
-use Rattle.regress_program.specs.Found.{no_groups}
+use Rattle.regress_program.specs.Found.{no_groups, state_of}
 use Rattle.regress_program.specs.Program.{matcher_of}
 use Rattle.regress_program.specs.Table.{has_outcome}
 use Rattle.regress_program.specs.Views.{program_of, routine_of}
 use Rattle.regress_program.specs.Walked.{at_of}
 use Rattle.regress_program.proofs.EvaluateLemmas.{full_tells, index-within}
+use Rattle.regress_program.proofs.SearchLemmas.{leftmost_by}
 use Rattle.regress_program.proofs.WalkLemmas.{walk-begins, entry-none, none-more, not-true}
 use Rattle.regress_program.proofs.leftmost.find_leftmost.Goals as goal
 use Rattle.regress_program.proofs.leftmost.find_leftmost.Goals.{else-is_char_boundary-via-then-is_char_boundary+else-cell, else-is_char_boundary-via-else-is_char_boundary}
@@ -40,12 +41,10 @@ returns-then-cell-clause-finds c = λ outs solution right.
     let some : has_outcome (outs i (at_of w)) ≡ true =
     full_tells (outs i) t r.entry true start c.requires.full right lt le (at_of w) refl refl refl ∙ sym c.if-cell.ensures in
     let ends = c.in_ok-walk.ensures.ends outs solution c.requires.full right some in
-    record {
-      from = c.loop-start.auto.start;
-      boundary = let on : IsCharBoundary c.args.input.text.now start = search rules in on;
-      first = (ends.1.0, begins ∙ ends.1.1);
-      least = c.loop-start.invariant.none outs solution right;
-    }
+    let on : IsCharBoundary c.args.input.text.now start = search rules in
+    let m = c.new-then-cell.result in
+    leftmost_by u.bytes (λ p. matcher_of u.setting u.bytes program outs i (no_groups n p)) c.args.from start (state_of m) m c.new-then-cell.ensures.start refl
+    c.loop-start.auto.start on ends.1.0 (begins ∙ ends.1.1 ∙ ap (λ s. s ∷ ends.1.0) (sym c.new-then-cell.ensures.state)) (c.loop-start.invariant.none outs solution right)
 
 pub returns-then-cell-clause-steps : goal.returns-then-cell-clause-steps
 returns-then-cell-clause-steps c =
