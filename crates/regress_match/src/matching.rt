@@ -1,6 +1,5 @@
 //! Matching at one position.
-ghost use Rattle.std.specs.Prelude.{◌≡◌, ◌+◌, ◌<◌, ◌≤◌, ◌^◌, None, IfOk, IsCharBoundary, length, min, replicate};
-ghost use Rattle.regress_tree.specs.Gathered.{own_group};
+ghost use Rattle.std.specs.Prelude.{◌≡◌, ◌≤◌, IfOk, IsCharBoundary, length, min};
 ghost use Rattle.regress_tree.specs.Tree.{Tree, tree};
 ghost use Rattle.regress_tree.specs.WellFormed.{IsWellFormed, captures};
 ghost use Rattle.regress_unicode.specs.TableOf.{table_of};
@@ -14,7 +13,8 @@ use crate::run::run;
 use regress_leaves::known::Known;
 use regress_leaves::rules::MatchContext;
 pub use regress_program::found::Match;
-use regress_tree::ir::{Node, Regex, Walk, walk};
+use regress_program::groups::{group_count, unset_groups};
+use regress_tree::ir::Regex;
 use regress_unicode::Tables;
 use std::alloc::{AllocError, Global};
 
@@ -152,47 +152,7 @@ pub(crate) fn unset_captures(alloc: Global, groups: usize) -> Result<Captures, A
     ensures { IfOk result (λ fresh. (t : Tree) → groups ≡ min (length (captures t)) usize.MAX → IsFresh t fresh) }
 {
     Ok(Captures {
-        spans: unset_spans(alloc, groups)?,
+        spans: unset_groups(alloc, groups)?,
         trail: Vec::new(alloc),
     })
-}
-
-/// Returns a list of `count` unset groups.
-fn unset_spans(alloc: Global, count: usize) -> Result<Vec<Option<(usize, usize)>>, AllocError>
-    ensures items { IfOk result (λ spans. spans.items ≡ replicate count None) }
-    ensures room { IfOk result (λ _. count < 2 ^ 63) }
-{
-    let mut spans = Vec::new(alloc);
-    while spans.len() < count {
-        spans.push(None)?;
-    }
-    Ok(spans)
-}
-
-/// A counter of capture groups.
-#[derive(Drop)]
-struct Counter {
-    groups: usize,
-}
-
-impl Counter {
-    /// Counts the node if it is a capture group.
-    fn visit(&mut self, node: &Node)
-        ensures { self.new.groups ≡ min (self.old.groups + length (own_group (tree node.now))) usize.MAX }
-    {
-        let groups = self.groups;
-        if let Node::CaptureGroup { .. } = node {
-            self.groups = groups.saturating_add(1);
-        }
-    }
-}
-
-/// Returns the number of capture groups of a tree, at most `usize::MAX`.
-pub(crate) fn group_count(node: &Node) -> usize
-    ensures { result ≡ min (length (captures (tree node.now))) usize.MAX }
-{
-    let mut counter = Counter { groups: 0 };
-    let mut visit = |node: &Node, _: &mut Walk| counter.visit(node);
-    walk(false, false, node, &mut visit);
-    counter.groups
 }

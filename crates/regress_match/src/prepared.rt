@@ -5,9 +5,9 @@ ghost use Rattle.regress_tree.specs.WellFormed.{captures};
 ghost use Rattle.regress_prefilter.specs.Candidates.{AreCandidates};
 ghost use Rattle.regress_match.specs.Prepared.{AreCandidates-prop};
 
-use crate::matching::group_count;
 use regress_leaves::known::Known;
 use regress_prefilter::candidates::{Candidates, candidates_of};
+use regress_program::groups::group_count;
 use regress_tree::ir::Regex;
 use regress_unicode::Tables;
 

@@ -1,17 +1,24 @@
 //! Compiles patterns into programs.
-ghost use Rattle.std.specs.Prelude.{◌≤◌, ◌<◌, IfOk, length};
+ghost use Rattle.std.specs.Prelude.{◌≡◌, ◌≤◌, ◌<◌, IfOk, length, min};
 ghost use Rattle.regress_tree.specs.Tree.{tree, trees, cat};
+ghost use Rattle.regress_tree.specs.WellFormed.{captures};
+ghost use Rattle.regress_unicode.specs.TableOf.{table_of};
 ghost use Rattle.regress_program.specs.CodeOf.{Emits};
 ghost use Rattle.regress_program.specs.Compiled.{matching, IsPattern, total};
+ghost use Rattle.regress_program.specs.Search.{groups_of, instructions_of, routines_of, setting_of};
 ghost use Rattle.regress_program.specs.Shape.{IsProgram};
 ghost use Rattle.regress_program.specs.Views.{program_of};
 
 use crate::compiler::Compiler;
 use crate::fault::CompileFault;
+use crate::groups::group_count;
 use crate::instruction::{Instruction, Routine};
 use crate::loops::Iterations;
+use crate::program::Program;
+use regress_leaves::known::Known;
 use regress_leaves::leaves::is_simple;
-use regress_tree::ir::Node;
+use regress_tree::ir::{Node, Regex};
+use regress_unicode::Tables;
 use std::alloc::Global;
 
 /// Compiles a pattern into a program of at most `limit` instructions. Its last routine matches the pattern forwards,
@@ -42,6 +49,35 @@ pub fn compile<'a>(
     };
     compiler.routine(node, false)?;
     Ok(compiler.routines)
+}
+
+impl<'n, 't> Program<'n, 't> {
+    /// Compiles a pattern into a program of at most `limit` instructions.
+    ///
+    /// # Errors
+    /// Returns a [`CompileFault`] if the pattern has a back reference, if a lookaround that is not negated sets or
+    /// resets captures, if the program would have more than `limit` instructions, or if an allocation fails.
+    ///
+    /// # Complexity
+    /// Linear in the size of the tree, where a body counts as many times as it is copied: for each iteration up to the
+    /// minimum, and up to a maximum. Each copy emits an instruction, so there are at most `limit` copies. The recursion
+    /// is as deep as nodes are nested, where right sides of alternatives do not count.
+    pub fn compile(
+        alloc: Global,
+        regex: &'n Regex,
+        tables: &'t Tables,
+        limit: usize,
+    ) -> Result<Program<'n, 't>, CompileFault>
+        ensures pattern { IfOk result (λ p. IsPattern (routines_of p) (tree regex.now.node)) }
+        ensures setting { IfOk result (λ p. setting_of p ≡ record { flags = regex.now.flags; table = table_of tables.now }) }
+        ensures groups { IfOk result (λ p. groups_of p ≡ min (length (captures (tree regex.now.node))) usize.MAX) }
+        ensures size { IfOk result (λ p. instructions_of p ≤ limit) }
+    {
+        let routines = compile(alloc, &regex.node, limit)?;
+        let known = Known::new(tables, regex.flags);
+        let groups = group_count(&regex.node);
+        Ok(Program::new(routines, regex.flags, known, groups))
+    }
 }
 
 impl<'a> Compiler<'a> {

@@ -1,5 +1,5 @@
 //! The leftmost match, by the tables of a program.
-ghost use Rattle.std.specs.Prelude.{◌≡◌, ◌≤◌, ◌<◌, ◌+◌, ◌^◌, ℕ, IfOk, None, length, replicate};
+ghost use Rattle.std.specs.Prelude.{◌≤◌, ◌+◌, ℕ, IfOk, length};
 ghost use Rattle.regress_leaves.specs.Subject.{subject};
 ghost use Rattle.regress_program.specs.Evaluated.{CanFill};
 ghost use Rattle.regress_program.specs.Found.{Finds, no_groups};
@@ -10,6 +10,7 @@ ghost use Rattle.regress_program.specs.Views.{program_of, routine_of};
 
 use crate::evaluate::Input;
 use crate::found::Match;
+use crate::groups::unset_groups;
 use crate::instruction::Routine;
 use crate::table::Table;
 use crate::walk::walk;
@@ -54,15 +55,4 @@ pub(crate) fn find_leftmost(
         }
     }
     Ok(None)
-}
-
-/// Returns the captures of `count` groups, all unset.
-fn unset_groups(alloc: Global, count: usize) -> Result<Vec<Option<(usize, usize)>>, AllocError>
-    ensures { IfOk result (λ spans. spans.items ≡ replicate count None) }
-{
-    let mut spans = Vec::new(alloc);
-    while spans.len() < count {
-        spans.push(None)?;
-    }
-    Ok(spans)
 }

@@ -9,6 +9,7 @@ mod evaluate;
 pub mod fault;
 mod fill;
 pub mod found;
+pub mod groups;
 pub mod instruction;
 mod keeping;
 mod leftmost;
@@ -23,3 +24,7 @@ mod tables;
 mod walk;
 mod walker;
 mod words;
+
+pub use fault::CompileFault;
+pub use found::{Match, Search};
+pub use program::Program;

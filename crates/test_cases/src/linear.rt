@@ -1,11 +1,7 @@
 //! Searches by a program, for patterns that have one.
 
 use crate::outcome::{Question, report_spans};
-use regress_leaves::known::Known;
-use regress_match::groups;
-use regress_program::compile::compile;
-use regress_program::fault::CompileFault;
-use regress_program::program::Program;
+use regress_program::{CompileFault, Program};
 use regress_tree::ir::Regex;
 use regress_unicode::Tables;
 use test_notation::{Call, Fault};
@@ -29,17 +25,14 @@ pub(crate) fn response_linear(
     };
     let alloc = call.alloc();
     let limit = MOST / text.len().saturating_add(1);
-    let routines = match compile(alloc, &regex.node, limit) {
-        Ok(routines) => routines,
+    let program = match Program::compile(alloc, regex, tables, limit) {
+        Ok(program) => program,
         Err(CompileFault::Memory(_)) => {
             call.fail(Fault::Memory);
             return false;
         }
         Err(_) => return false,
     };
-    let count = call.made(groups(alloc, regex), Vec::new(alloc)).len();
-    let known = Known::new(tables, regex.flags);
-    let program = Program::new(routines, regex.flags, known, count);
     report_matches(call, &program, text, most);
     true
 }

@@ -37,7 +37,7 @@ returns-then-cell-clause-finds c = λ outs solution right.
     let lt : r.entry < t.width = omega (arith, (c.requires.program i r can.is).entry, can.of.width) in
     let le : start ≤ t.length = omega (arith, can.of.text) in
     let w : Walker = record { pc = r.entry; moved = true; position = start; captures = c.in_ok-unset_groups.field-0; begins = c.new.result } in
-    let begins = walk-begins u.setting u.bytes program outs i n start r w can.is refl refl refl c.in_ok-unset_groups.ensures c.new.ensures.items in
+    let begins = walk-begins u.setting u.bytes program outs i n start r w can.is refl refl refl c.in_ok-unset_groups.ensures.items c.new.ensures.items in
     let some : has_outcome (outs i (at_of w)) ≡ true =
     full_tells (outs i) t r.entry true start c.requires.full right lt le (at_of w) refl refl refl ∙ sym c.if-cell.ensures in
     let ends = c.in_ok-walk.ensures.ends outs solution c.requires.full right some in

@@ -2,7 +2,7 @@ use Rattle.std.proofs.Common.{rules, arith, ◌≡◌, [], length, ap}
 use Rattle.regress_tree.specs.declared.ir.node.Node.{the_lemmas}
 use Rattle.regress_tree.specs.Gathered.{own_group}
 use Rattle.regress_tree.specs.Tree.{tree}
-use Rattle.regress_match.proofs.matching.Counter.visit.Goals as goal
+use Rattle.regress_program.proofs.groups.Counter.visit.Goals as goal
 
 pub returns-in_default : goal.returns-in_default
 returns-in_default c =

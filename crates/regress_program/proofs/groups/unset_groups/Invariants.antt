@@ -1,7 +1,7 @@
 -- The list has the expected number of elements so far.
 use Rattle.std.proofs.Common.{◌≡◌, ◌≤◌, ◌-◌, length, None}
 use Rattle.std.specs.Prelude.{replicate}
-use Rattle.regress_match.proofs.matching.unset_spans.Given as goal
+use Rattle.regress_program.proofs.groups.unset_groups.Given as goal
 
 abbrev pub invariant-loop-spans : goal.invariant-loop-spans
 invariant-loop-spans l = record {

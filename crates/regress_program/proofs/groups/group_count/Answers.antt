@@ -4,7 +4,7 @@ use Rattle.regress_tree.specs.Gathered.{own_group}
 use Rattle.regress_tree.specs.Tree.{tree}
 use Rattle.regress_tree.specs.WellFormed.{Capture}
 use Rattle.regress_tree.proofs.lemmas.Gathered.{visited_adds, gathered-groups}
-use Rattle.regress_match.proofs.matching.group_count.Goals as goal
+use Rattle.regress_program.proofs.groups.group_count.Goals as goal
 
 abbrev Counted : ℕ → ℕ → List Capture → Type 0
 Counted a b xs = (n : ℕ) → a ≡ min n 18446744073709551615 → b ≡ min (n + length xs) 18446744073709551615
