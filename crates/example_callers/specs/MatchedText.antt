@@ -1,8 +1,7 @@
 -- The text of a match.
 use Rattle.std.specs.Prelude.{◌≡◌, ℕ, List, slice_range}
 use Rattle.regress_front.specs.Steps.{MatchState}
-use Rattle.regress_program.specs.Found.{IsLeftmost, start_of, state_of}
-use Rattle.regress_program.specs.declared.found.Match.{Match}
+use Rattle.regress_match.specs.Matched.{IsLeftmost, Match, start_of, state_of}
 
 -- The part is the slice of the text from the start to the end of the leftmost match. `at` has the outcomes of the
 -- pattern from each position.

@@ -11,7 +11,7 @@ use Rattle.regress_front.specs.Steps.{IsStateOf, IsCaptureOf, byte_capture, byte
 use Rattle.regress_front.specs.Syntax.{Pattern}
 use Rattle.regress_front.specs.Tree.{Tree}
 use Rattle.regress_front.specs.WellFormed.{captures}
-use Rattle.regress_program.specs.Found.{no_groups}
+use Rattle.regress_match.specs.Matched.{no_groups}
 use Rattle.regex_match.specs.Found.{FindsWhatMeans}
 
 -- unset captures stay unset as byte offsets

@@ -9,11 +9,9 @@ use Rattle.regress_arguments.specs.Output.{Took}
 use Rattle.regress_front.specs.Setting.{Setting}
 use Rattle.regress_front.specs.Tree.{Tree}
 use Rattle.regress_front.specs.WellFormed.{Capture, captures}
-use Rattle.regress_program.specs.Found.{IsLeftmost}
-use Rattle.regress_match.specs.Matched.{Finds, outcomes_at}
+use Rattle.regress_match.specs.Matched.{Finds, IsLeftmost, Match, outcomes_at}
 use Rattle.regress_match.specs.Names.{capture_of}
 use Rattle.regress_match.specs.Searched.{AreMatches, IsSameSearch, next_offset, next_from, searched_outcomes, searched_text}
-use Rattle.regress_program.specs.declared.found.Match.{Match}
 use Rattle.regress_match.specs.declared.matching.Outcome.TheVariants as outcomes
 use Rattle.regress_match.specs.declared.names.Group.{Group}
 use Rattle.regress_match.specs.declared.search.Matches.{Matches}

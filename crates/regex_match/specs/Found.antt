@@ -10,8 +10,7 @@ use Rattle.regress_front.specs.Syntax.{Pattern}
 use Rattle.regress_front.specs.Tree.{Tree}
 use Rattle.regress_front.specs.TreeOf.{tree_of}
 use Rattle.regress_front.specs.WellFormed.{captures}
-use Rattle.regress_program.specs.Found.{no_groups}
-use Rattle.regress_match.specs.Matched.{outcomes_at}
+use Rattle.regress_match.specs.Matched.{no_groups, outcomes_at}
 
 -- From every character boundary of every text, the outcomes of the tree over the UTF-8 are the outcomes of the pattern
 -- over the code points, in the same order, with code-point indices converted to byte offsets.

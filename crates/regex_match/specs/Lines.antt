@@ -3,8 +3,7 @@ use Rattle.std.specs.Prelude.{ℕ, List, [], ◌++◌, flat_map, Option, Some, N
 use Rattle.std.specs.Fmt.{decimal}
 use Rattle.regress_front.specs.Steps.{CaptureSpan}
 use Rattle.regress_front.specs.WellFormed.{Capture}
-use Rattle.regress_program.specs.Found.{start_of, state_of}
-use Rattle.regress_program.specs.declared.found.Match.{Match}
+use Rattle.regress_match.specs.Matched.{Match, start_of, state_of}
 
 -- a half-open span in bytes
 abbrev pub span : CaptureSpan → List ℕ

@@ -8,9 +8,8 @@ use Rattle.regress_front.specs.Setting.{Setting}
 use Rattle.regress_front.specs.Steps.{MatchState}
 use Rattle.regress_front.specs.Tree.{Tree}
 use Rattle.regress_front.specs.WellFormed.{Capture, captures}
-use Rattle.regress_match.specs.Matched.{Finds, outcomes_at}
+use Rattle.regress_match.specs.Matched.{Finds, Match, outcomes_at}
 use Rattle.regress_match.specs.Searched.{AreMatches, next_from, searched_outcomes, searched_text}
-use Rattle.regress_program.specs.declared.found.Match.{Match}
 use Rattle.regress_match.specs.declared.matching.Outcome.TheVariants as outcomes
 use Rattle.regress_match.specs.declared.search.Matches.{Matches}
 use Rattle.regex_match.specs.Accepted.{setting_of_request}

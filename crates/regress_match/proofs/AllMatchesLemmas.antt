@@ -6,9 +6,9 @@ use Rattle.std.specs.Fn.{CalledAt, Mut}
 use Rattle.std.specs.List.{FoldsTo}
 use Rattle.regress_tree.specs.Steps.{MatchState}
 use Rattle.regress_program.specs.Found.{IsLeftmost}
+use Rattle.regress_program.specs.declared.found.Match.{Match}
 use Rattle.regress_match.specs.Matched.{Finds}
 use Rattle.regress_match.specs.Searched.{AreAllMatches, AreMatches, CalledOnMatches, IsSameSearch, next_from, next_offset, searched_outcomes, searched_text}
-use Rattle.regress_program.specs.declared.found.Match.{Match}
 use Rattle.regress_match.specs.declared.matching.Outcome.TheVariants as outcomes
 use Rattle.regress_match.specs.declared.search.Matches.{Matches}
 use Rattle.regress_match.proofs.lemmas.Searched.{AreMatches-more}

@@ -3,10 +3,10 @@ use Rattle.std.proofs.Common.{◌≡◌, ◌∙◌, ℕ, List, length, refl, ap,
 use Rattle.regress_tree.specs.Steps.{MatchState, Matcher, dedup}
 use Rattle.regress_tree.specs.Tree.{Tree}
 use Rattle.regress_tree.specs.WellFormed.{captures}
+use Rattle.regress_program.specs.Found.{no_groups}
 use Rattle.regress_match.specs.Captures.{state}
 use Rattle.regress_match.specs.Fresh.{IsFresh, IfNoOutcome}
 use Rattle.regress_match.specs.Machine.{Answers}
-use Rattle.regress_program.specs.Found.{no_groups}
 use Rattle.regress_match.specs.declared.captures.Captures.{Captures}
 use Rattle.regress_match.specs.declared.machine.Response.{Response}
 use Rattle.regress_match.specs.declared.machine.Response.TheVariants as yields

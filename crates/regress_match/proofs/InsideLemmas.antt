@@ -10,8 +10,8 @@ use Rattle.regress_tree.specs.Tree.{Tree}
 use Rattle.regress_tree.specs.WellFormed.{IsWellFormed, captures}
 use Rattle.regress_tree.proofs.lemmas.Inside.{IsReachedInside, well_formed_stays_inside}
 use Rattle.regress_program.specs.Found.{no_groups, start_of, state_of}
-use Rattle.regress_match.specs.Matched.{IsInside, outcomes_at}
 use Rattle.regress_program.specs.declared.found.Match.{Match}
+use Rattle.regress_match.specs.Matched.{IsInside, outcomes_at}
 
 pub first_inside : (setting : Setting) (text : List ℕ) → IsUtf8 text → (t : Tree) → IsWellFormed t → (position : ℕ) →
     IsCharBoundary text position → (m : Match) (rest : List MatchState) → start_of m ≡ position →

@@ -1,6 +1,5 @@
 pub mod lemmas
 pub mod CaptureLemmas
-pub mod UnsetLemmas
 pub mod MachineLemmas
 pub mod DoesLemmas
 pub mod LoopLemmas

@@ -8,8 +8,8 @@ use Rattle.regress_tree.specs.Setting.{Setting}
 use Rattle.regress_tree.specs.Steps.{MatchState}
 use Rattle.regress_tree.specs.Tree.{Tree}
 use Rattle.regress_tree.specs.WellFormed.{captures}
-use Rattle.regress_program.specs.Found.{IsLeftmost, no_groups, start_of, state_of}
-use Rattle.regress_program.specs.declared.found.Match.{Match}
+pub use Rattle.regress_program.specs.Found.{IsLeftmost, NoneBefore, no_groups, start_of, state_of}
+pub use Rattle.regress_program.specs.declared.found.Match.{Match}
 use Rattle.regress_match.specs.declared.matching.Outcome.{Outcome}
 use Rattle.regress_match.specs.declared.matching.Outcome.TheVariants as outcomes
 

@@ -4,8 +4,8 @@ ghost use Rattle.std.specs.List.Sorted.{IsNonDecreasingBy, IsPermutation};
 ghost use Rattle.regress_tree.specs.Gathered.{own_group};
 ghost use Rattle.regress_tree.specs.Tree.{tree};
 ghost use Rattle.regress_tree.specs.WellFormed.{captures};
-ghost use Rattle.regress_match.specs.Listing.{Lists, Finds};
 ghost use Rattle.regress_program.specs.Found.{state_of};
+ghost use Rattle.regress_match.specs.Listing.{Lists, Finds};
 ghost use Rattle.regress_match.specs.Names.{capture_of, is_named, named_span};
 
 use crate::matching::Match;

@@ -1,5 +1,5 @@
 -- A routine that changes no capture.
-use Rattle.std.proofs.Common.{◌≡◌, ℕ, zero, suc, ◌+◌, ◌-◌, ◌≤◌, ◌<◌, Bool, true, false, ◌&&◌, nat_le, nat_lt, List, [], ◌∷◌, flat_map, length, take, slice_get, Option, Some, None, All, if◌then◌else◌, refl, sym, ap, ap₂, subst, arith, not-suc-le-zero}
+use Rattle.std.proofs.Common.{◌≡◌, ℕ, zero, suc, ◌+◌, ◌-◌, ◌≤◌, ◌<◌, Bool, true, false, List, [], ◌∷◌, flat_map, length, take, slice_get, Option, Some, None, All, if◌then◌else◌, refl, sym, subst, arith, not-suc-le-zero}
 use Rattle.std.proofs.lemmas.List.{length-take}
 use Rattle.std.proofs.lemmas.List.Elements.{All-nil, All-cons, All-head, All-tail, All-append}
 use Rattle.std.proofs.lemmas.Option.{get_or_from_slice_get}
@@ -8,7 +8,6 @@ use Rattle.regress_tree.specs.Lookaround.{looked, lookaround_matcher}
 use Rattle.regress_tree.specs.Matching.{steps}
 use Rattle.regress_tree.specs.Reading.{Direction, forwards, backwards, Reading, Read, next_character, of_bytes}
 use Rattle.regress_tree.specs.References.{all_of, in_order}
-use Rattle.regress_tree.specs.Repetition.{unset_from}
 use Rattle.regress_tree.specs.Setting.{Setting}
 use Rattle.regress_tree.specs.Steps.{CaptureSpan, MatchState, Matcher, moved, one_character, these_bytes, hold_at}
 use Rattle.regress_tree.specs.Strings.{any_string}
@@ -19,6 +18,7 @@ use Rattle.regress_program.specs.Program.{Out, At, Routine, Op, accept, fail, pa
 use Rattle.regress_program.specs.Shape.{IsPart, KeepsCaptures, IsLook, Fits, IsProgram}
 use Rattle.regress_program.specs.Stays.{IsReached}
 use Rattle.regress_program.proofs.lemmas.Onward.{Stays-tree}
+use Rattle.regress_program.proofs.lemmas.Unset.{unset-none}
 use Rattle.regress_program.proofs.BelowLemmas.{IsAt, look-in, looked-stays, below-here, below-enter, below-again, below-reach, reach-moved}
 
 abbrev pub Has : List (Option CaptureSpan) → MatchState → Type 0
@@ -95,14 +95,6 @@ module _ (setting : Setting) (bytes : List ℕ) (d : Direction) where
   part-keeps (wrapped w body) is s = absurd is
 
 -- ---- instructions
-
-unset-none : (k start' end : ℕ) (cs : List (Option CaptureSpan)) → end ≤ start' → unset_from k start' end cs ≡ cs
-unset-none k start' end [] le = refl
-unset-none k start' end (c ∷ cs) le =
-    ap₂ ◌∷◌ (ap (λ (b : Bool). if b then None else c) (never k start' end le)) (unset-none (k + 1) start' end cs le)
-  where
-    never : (k start' end : ℕ) → end ≤ start' → (nat_le start' k && nat_lt k end) ≡ false
-    never k start' end le = grind arith
 
 looked-has : (negate : Bool) (s : MatchState) (states : List MatchState) → (negate ≡ false → All (Has s.captures) states) →
     All (Has s.captures) (looked negate s states)

@@ -15,6 +15,5 @@ mod SearchLemmas
 mod SoundLemmas
 mod TellsLemmas
 mod TurnLemmas
-mod UnsetLemmas
 mod ViewLemmas
 mod WalkLemmas

@@ -1,2 +1,3 @@
 -- Lemmas about the definitions of this crate, for use by other crates.
 pub mod Onward
+pub mod Unset

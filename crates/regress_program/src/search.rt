@@ -48,6 +48,9 @@ impl<'n, 't> Program<'n, 't> {
     }
 
     /// Returns the number of instructions, at most `usize::MAX`.
+    ///
+    /// # Complexity
+    /// Linear in the number of routines: that of the pattern, and one for each copy of a lookaround.
     pub fn instructions(&self) -> usize
         ensures { result ≡ min (instructions_of self.now) usize.MAX }
     {
@@ -60,6 +63,9 @@ impl<'n, 't> Program<'n, 't> {
 
     /// Returns an upper bound for the steps of a search for each character of a text, counting its end as one more; at
     /// most `u64::MAX`.
+    ///
+    /// # Complexity
+    /// Linear in the number of routines: that of the pattern, and one for each copy of a lookaround.
     pub fn steps_per_character(&self) -> u64
         ensures { result ≡ min (per_character self.now) u64.MAX }
     {

@@ -2,8 +2,8 @@
 use Rattle.std.proofs.Common.{◌≡◌, ℕ, ◌+◌, ◌-◌, ◌<◌, List, [], ◌∷◌, ◌++◌, length, refl, subst, ap, arith}
 use Rattle.regress_tree.specs.Steps.{MatchState}
 use Rattle.regress_program.specs.Found.{IsLeftmost}
-use Rattle.regress_match.specs.Searched.{AreMatches, next_from, next_offset, searched_outcomes, searched_text}
 use Rattle.regress_program.specs.declared.found.Match.{Match}
+use Rattle.regress_match.specs.Searched.{AreMatches, next_from, next_offset, searched_outcomes, searched_text}
 use Rattle.regress_match.specs.declared.search.Matches.{Matches}
 
 pub AreMatches-more : (text : List ℕ) (at : ℕ → List MatchState) (from to : ℕ) (ms : List Match) (m : Match) →

@@ -1,8 +1,8 @@
 -- No character boundary before the current position has an outcome.
 use Rattle.std.proofs.Common.{length, ◌+◌, ◌-◌, ◌≤◌}
 use Rattle.regress_tree.specs.Tree.{tree}
-use Rattle.regress_match.specs.Fresh.{IsFresh}
 use Rattle.regress_program.specs.Found.{NoneBefore}
+use Rattle.regress_match.specs.Fresh.{IsFresh}
 use Rattle.regress_match.specs.Searched.{outcomes_of}
 use Rattle.regress_match.proofs.search.find_within.Given as goal
 

@@ -1,7 +1,7 @@
 use Rattle.std.proofs.Common.{rules, arith, ◌≡◌, ◌+◌, min, None, set, refl, sym, ap, ◌∙◌}
 use Rattle.std.proofs.lemmas.List.{length-set}
 use Rattle.regress_tree.specs.Repetition.{unset_from}
-use Rattle.regress_program.proofs.UnsetLemmas.{unset-none, unset-clipped, unset-more}
+use Rattle.regress_program.proofs.lemmas.Unset.{unset-none, unset-clipped, unset-more}
 use Rattle.regress_program.proofs.walker.unset.Goals as goal
 
 pub loop-group-init : goal.loop-group-init

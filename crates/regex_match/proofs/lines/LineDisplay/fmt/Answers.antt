@@ -1,7 +1,7 @@
 use Rattle.std.proofs.Common.{◌∙◌, ◌++◌, take, refl, ap, sym, codes, arith}
 use Rattle.std.proofs.lemmas.List.{take_all}
 use Rattle.std.proofs.Output.{has_written_append, has_written_of_eq}
-use Rattle.regress_program.specs.Found.{start_of, state_of}
+use Rattle.regress_match.specs.Matched.{start_of, state_of}
 use Rattle.regress_match.specs.Names.{capture_of}
 use Rattle.regex_match.specs.Lines.{field, span}
 use Rattle.regex_match.proofs.LineLemmas.{fields, fields-more, fields-all}

@@ -1,7 +1,7 @@
 -- the span of the match, and the fields of the groups so far
 use Rattle.std.proofs.Common.{◌++◌, take}
 use Rattle.std.specs.Fmt.{HasWritten, IsPlainFormatter}
-use Rattle.regress_program.specs.Found.{start_of, state_of}
+use Rattle.regress_match.specs.Matched.{start_of, state_of}
 use Rattle.regex_match.specs.Lines.{span}
 use Rattle.regex_match.proofs.LineLemmas.{fields}
 use Rattle.regex_match.proofs.lines.LineDisplay.fmt.Given as goal

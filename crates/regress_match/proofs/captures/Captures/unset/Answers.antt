@@ -1,9 +1,9 @@
-use Rattle.std.proofs.Common.{rules, arith, ℕ, List, Option, ◌≡◌, ◌+◌, length, min, None, set, refl, sym, ap, ◌∙◌}
-use Rattle.std.proofs.lemmas.List.{length-set}
+use Rattle.std.proofs.Common.{rules, arith, ℕ, List, Option, ◌≡◌, ◌+◌, length, min, None, get_or, set, refl, sym, ap, ◌∙◌}
+use Rattle.std.proofs.lemmas.List.{length-set, set-get_or}
 use Rattle.regress_tree.specs.Repetition.{unset_from}
 use Rattle.regress_tree.specs.Steps.{CaptureSpan}
+use Rattle.regress_program.proofs.lemmas.Unset.{unset-none, unset-clipped, unset-more}
 use Rattle.regress_match.proofs.CaptureLemmas.{Later-refl, Later-trans}
-use Rattle.regress_match.proofs.UnsetLemmas.{unset-none, unset-clipped, unset-more, set-same}
 use Rattle.regress_match.proofs.captures.Captures.unset.Goals as goal
 use Rattle.regress_match.proofs.captures.Captures.unset.Goals.{then-is_some+in_ok-set, else-is_some}
 
@@ -37,12 +37,15 @@ loop-group-preserved c =
       }
       | else-is_some w ↦ record {
         spans = ap (λ v. v.spans.items) w.self-is
-            ∙ sym (set-same c.loop-group.self.spans.items group None (search rules))
+            ∙ sym (unset_already c.loop-group.self.spans.items group (search rules))
             ∙ ap (λ xs. set xs group None) was ∙ sym next;
         kept = ap (λ v. length v.spans.items) w.self-is ∙ so_far.kept;
         later = rw w.self-is so_far.later;
       }
     ]
+  where
+    unset_already : (spans : List (Option CaptureSpan)) (group : ℕ) → None ≡ get_or spans group None → set spans group None ≡ spans
+    unset_already spans group is = ap (set spans group) is ∙ set-get_or spans group None
 
 pub returns-clause-state : goal.returns-clause-state
 returns-clause-state c = λ position.

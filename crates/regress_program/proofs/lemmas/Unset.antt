@@ -1,5 +1,5 @@
 -- Groups unset one by one.
-use Rattle.std.proofs.Common.{◌≡◌, ℕ, zero, suc, ◌+◌, ◌≤◌, ◌<◌, min, Bool, true, false, ◌&&◌, List, [], ◌∷◌, length, Option, None, refl, sym, ap, ap₂, ◌∙◌, arith, nat_le, nat_lt, get_or, set, if◌then◌else◌, ◌⊎◌, inl, inr}
+use Rattle.std.proofs.Common.{◌≡◌, ℕ, zero, suc, ◌+◌, ◌≤◌, ◌<◌, min, Bool, true, false, ◌&&◌, List, [], ◌∷◌, length, Option, None, refl, sym, ap, ap₂, ◌∙◌, arith, nat_le, nat_lt, set, if◌then◌else◌, ◌⊎◌, inl, inr}
 use Rattle.std.proofs.lemmas.Bool.{cases_lt}
 use Rattle.regress_tree.specs.Repetition.{unset_from}
 use Rattle.regress_tree.specs.Steps.{CaptureSpan}
@@ -22,7 +22,7 @@ unset-none k start end (x ∷ xs) le =
     ap₂ (λ (b : Bool) ys. (if b then None else x) ∷ ys) (outside start end k le) (unset-none (k + 1) start end xs le)
 
 -- ids past the last group make no difference
-pub unset-past : (k start end end' : ℕ) (spans : List (Option CaptureSpan)) → k + length spans ≤ end → end ≤ end' →
+unset-past : (k start end end' : ℕ) (spans : List (Option CaptureSpan)) → k + length spans ≤ end → end ≤ end' →
     unset_from k start end spans ≡ unset_from k start end' spans
 unset-past k start end end' [] le le' = refl
 unset-past k start end end' (x ∷ xs) le le' =
@@ -58,11 +58,6 @@ unset-more start group spans le =
     let n : 0 + group ≡ group = omega arith in
     ap (λ m. unset_from 0 start (m + 1) spans) (sym n) ∙ more_at 0 start group spans (omega (arith, le, n))
     ∙ ap (λ m. set (unset_from 0 start m spans) group None) n
-
-pub set-same : {A : Type 0} (xs : List A) (i : ℕ) (v : A) → v ≡ get_or xs i v → set xs i v ≡ xs
-set-same [] i v is = refl
-set-same (x ∷ xs) zero v is = ap (λ y. y ∷ xs) is
-set-same (x ∷ xs) (suc i) v is = ap (λ ys. x ∷ ys) (set-same xs i v is)
 
 clipped_by : (start end after : ℕ) (spans : List (Option CaptureSpan)) → (end < length spans) ⊎ (length spans ≤ end) → after ≡ min end (length spans) →
     unset_from 0 start after spans ≡ unset_from 0 start end spans
