@@ -21,18 +21,9 @@ use regress_tree::ir::{Node, Regex};
 use regress_unicode::Tables;
 use std::alloc::Global;
 
-/// Compiles a pattern into a program of at most `limit` instructions. Its last routine matches the pattern forwards,
-/// and the others are the bodies of its lookarounds.
-///
-/// # Errors
-/// Returns a [`CompileFault`] if the pattern has a back reference, if a lookaround that is not negated sets or resets
-/// captures, if the program would have more than `limit` instructions, or if an allocation fails.
-///
-/// # Complexity
-/// Linear in the size of the tree, where a body counts as many times as it is copied: for each iteration up to the
-/// minimum, and up to a maximum. Each copy emits an instruction, so there are at most `limit` copies. The recursion is
-/// as deep as nodes are nested, where right sides of alternatives do not count.
-pub fn compile<'a>(
+/// Returns the routines of a program of at most `limit` instructions. The last one matches the pattern forwards, and the
+/// others are the bodies of its lookarounds.
+fn compile<'a>(
     alloc: Global,
     node: &'a Node,
     limit: usize,

@@ -3,20 +3,20 @@
 
 mod bits;
 mod cells;
-pub mod compile;
+mod compile;
 mod compiler;
 mod evaluate;
-pub mod fault;
+mod fault;
 mod fill;
 pub mod found;
 pub mod groups;
-pub mod instruction;
+mod instruction;
 mod keeping;
 mod leftmost;
 mod lookarounds;
 mod loops;
-pub mod program;
-pub mod search;
+mod program;
+mod search;
 mod step;
 mod strings;
 mod table;

@@ -27,7 +27,7 @@ impl<'n, 't> Program<'n, 't> {
     ///
     /// # Preconditions
     /// The routines are what compiling a pattern yields.
-    pub fn new(
+    pub(crate) fn new(
         routines: Vec<Routine<'n>>,
         flags: Flags,
         known: Known<'t>,
@@ -83,6 +83,23 @@ impl<'n, 't> Program<'n, 't> {
     ///
     /// # Errors
     /// Returns [`AllocError`] if an allocation fails.
+    ///
+    /// # Examples
+    /// ```
+    /// let tables = Tables::small(alloc)?;
+    /// let points = code_points(alloc, "(a*)*b")?;
+    /// let regex = try_parse(alloc, &points, Flags::default(), &tables)?;
+    /// let program = Program::compile(alloc, &regex, &tables, 1000)?;
+    /// let search = program.find(alloc, "xaaab", 0)?;
+    /// match &search.found {
+    ///     Some(found) => {
+    ///         assert_eq!(rt; found.start(), 1);
+    ///         assert_eq!(rt; found.end(), 5);
+    ///         assert_eq!(rt; found.group(0), Some((1, 4)));
+    ///     }
+    ///     None => assert!(rt; false, "it matches"),
+    /// }
+    /// ```
     pub fn find(&self, alloc: Global, text: &str, from: usize) -> Result<Search, AllocError>
         ensures solved { IfOk result (λ search. (outs : ℕ → Out) → IsSolution (setting_of self.now) text.now (routines_of self.now) outs →
             Finds text.now (outcomes_from self.now text.now outs) from search.found) }
