@@ -1,20 +1,12 @@
 -- What is stated of the kind of a syntax error.
 use Rattle.std.proofs.Common.{length, Result, Ok, Err}
 use Rattle.regress_tree.specs.Setting.{Setting}
-use Rattle.regress_lexer.specs.declared.fault.FaultKind.{FaultKind}
 use Rattle.regress_lexer.specs.Source.{Source}
 use Rattle.regress_parse.specs.declared.fault.PlacedFault.{PlacedFault}
 use Rattle.regress_parse.specs.declared.fault.PlacedFault.TheVariants.{Syntax, Memory}
 use Rattle.regress_parse.specs.Accepted.{IsTrueOf, MayExceed}
-use Rattle.regress_parse.specs.Fault.{ReportsKind, ReportsKindAt, HasTextOfKind, HasPositionWithin, unplaced}
+use Rattle.regress_parse.specs.Fault.{ReportsKindAt, HasPositionWithin}
 use Rattle.regress_parse.specs.Settled.{IsFinal, IsAtFirstDuplicate, IsReported}
-
--- Without its kind, the error still has the text of a kind for which P holds.
-pub unplaced_reports : {X : Type 0} (P : FaultKind → Type 0) (r : Result X PlacedFault) → HasTextOfKind r →
-    ReportsKindAt r (λ kind position. P kind) → ReportsKind (unplaced r) P
-unplaced_reports P (Ok x) text reported = tt
-unplaced_reports P (Err (Syntax kind e position)) text reported = (kind, text, reported)
-unplaced_reports P (Err (Memory e)) text reported = tt
 
 -- All that is known of the error.
 pub all_reported : {X : Type 0} (setting : Setting) (source : Source) (r : Result X PlacedFault) →
