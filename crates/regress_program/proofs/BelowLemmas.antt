@@ -2,7 +2,6 @@
 use Rattle.std.proofs.Common.{◌≡◌, ℕ, ◌≤◌, ◌<◌, ◌==◌, Bool, true, false, not, ◌||◌, List, [], ◌∷◌, ◌++◌, flat_map, length, All, if◌then◌else◌, refl, ap, ap₂, ◌∙◌, inl, inr, arith}
 use Rattle.std.proofs.lemmas.Bool.{cases_eq}
 use Rattle.std.proofs.lemmas.List.Elements.{All-nil, All-cons, All-head, All-tail}
-use Rattle.std.proofs.lemmas.Option.{slice_get_within}
 use Rattle.regress_tree.specs.Lookaround.{looked, lookaround_matcher}
 use Rattle.regress_tree.specs.Matching.{steps}
 use Rattle.regress_tree.specs.Reading.{Direction}
@@ -10,7 +9,7 @@ use Rattle.regress_tree.specs.Setting.{Setting}
 use Rattle.regress_tree.specs.Steps.{MatchState, Matcher}
 use Rattle.regress_program.specs.Below.{Below}
 use Rattle.regress_program.specs.Program.{Out, At, Routine, Op, accept, fail, part, split, begin_loop, repeat, end_loop, unsets, begin_group, end_group, look, goto, enter, reach, either, ended, outcomes_by}
-use Rattle.regress_program.specs.Shape.{Fits, IsLook}
+use Rattle.regress_program.specs.Shape.{Fits}
 use Rattle.regress_program.specs.Stays.{IsReached, IsOnward}
 use Rattle.regress_program.specs.Table.{place}
 use Rattle.regress_program.proofs.lemmas.Onward.{Stays-tree}
@@ -19,10 +18,6 @@ use Rattle.regress_program.proofs.TellsLemmas.{place-earlier, place-begins, plac
 pub flat_map-same : {A B : Type 0} (P : A → Type 0) (f g : A → List B) (xs : List A) → All P xs → ((x : A) → P x → f x ≡ g x) → flat_map f xs ≡ flat_map g xs
 flat_map-same P f g [] all same = refl
 flat_map-same P f g (x ∷ xs) all same = ap₂ ◌++◌ (same x (All-head P x xs all)) (flat_map-same P f g xs (All-tail P x xs all) same)
-
-pub look-in : (earlier : List Routine) (negate : Bool) (i : ℕ) → IsLook earlier negate i → i < length earlier
-look-in earlier true i is = is
-look-in earlier false i is = slice_get_within earlier i is.0 is.1
 
 -- a lookaround stays where it is
 abbrev pub IsAt : ℕ → MatchState → Type 0
@@ -122,4 +117,4 @@ module _ (setting : Setting) (bytes : List ℕ) (d : Direction) (width : ℕ) (e
   outcomes-same (look negate i next) fits =
       flat_map-same (IsAt a.state.position) _ _ (looked negate a.state (b1 i a.state)) (looked-stays negate a.state (b1 i a.state))
       (λ to is. here (reach next a to) fits.1 (reach-moved width (length bytes) d a pc_in within next to is) is)
-      ∙ ap (λ xs. flat_map (λ to. g (reach next a to)) (looked negate a.state xs)) (bodies i (look-in earlier negate i fits.0))
+      ∙ ap (λ xs. flat_map (λ to. g (reach next a to)) (looked negate a.state xs)) (bodies i fits.0)

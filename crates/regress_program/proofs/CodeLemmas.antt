@@ -1,5 +1,5 @@
 -- Lists of instructions and routines that grow.
-use Rattle.std.proofs.Common.{◌≡◌, ◌≢◌, ℕ, zero, suc, ◌+◌, ◌≤◌, ◌<◌, inl, inr, Bool, true, false, List, [], ◌∷◌, ◌++◌, length, set, Some, slice_get, refl, sym, ap, subst, ◌∙◌, arith, not-suc-le-zero, le_of_suc-le-suc}
+use Rattle.std.proofs.Common.{◌≡◌, ◌≢◌, ℕ, zero, suc, ◌+◌, ◌≤◌, ◌<◌, inl, inr, List, [], ◌∷◌, ◌++◌, length, set, Some, slice_get, refl, sym, ap, subst, ◌∙◌, arith, not-suc-le-zero, le_of_suc-le-suc}
 use Rattle.std.proofs.lemmas.Bool.{cases_lt}
 use Rattle.std.proofs.lemmas.List.{length-append}
 use Rattle.std.proofs.lemmas.Option.{slice_get_within, same_Some}
@@ -7,7 +7,7 @@ use Rattle.regress_tree.specs.Reading.{Direction}
 use Rattle.regress_program.specs.Compiled.{Extends, World, Solved, Code, total, Grown}
 use Rattle.regress_program.specs.Pushed.{Pushed}
 use Rattle.regress_program.specs.Program.{Op, accept, fail, part, split, begin_loop, repeat, end_loop, unsets, begin_group, end_group, look, Routine, At, Out, goto, outcomes_by, outcomes_at, matcher_of}
-use Rattle.regress_program.specs.Shape.{IsLook, Fits, AllFit, IsProgram}
+use Rattle.regress_program.specs.Shape.{Fits, AllFit, IsProgram}
 
 module _ {X : Type 0} where
   pub get-append-below : (xs ys : List X) (i : ℕ) → i < length xs → slice_get (xs ++ ys) i ≡ slice_get xs i
@@ -84,10 +84,6 @@ module _ {routines : List Routine} (w : World routines) (d : Direction) (out : O
 
 -- ---- shapes
 
-IsLook-later : (old new : List Routine) → Extends old new → (negate : Bool) (i : ℕ) → IsLook old negate i → IsLook new negate i
-IsLook-later old new ext true i is = omega (arith, is, ext.grown)
-IsLook-later old new ext false i is = (is.0, Extends-get old new i is.0 ext is.1, is.2)
-
 pub Fits-later : (old new : List Routine) → Extends old new → (high high' i : ℕ) → high ≤ high' → (op : Op) → Fits old high i op → Fits new high' i op
 Fits-later old new ext high high' i le accept fits = fits
 Fits-later old new ext high high' i le fail fits = fits
@@ -99,7 +95,7 @@ Fits-later old new ext high high' i le (end_loop next) fits = fits
 Fits-later old new ext high high' i le (unsets start end next) fits = fits
 Fits-later old new ext high high' i le (begin_group next) fits = fits
 Fits-later old new ext high high' i le (end_group id next) fits = fits
-Fits-later old new ext high high' i le (look negate routine next) fits = (IsLook-later old new ext negate routine fits.0, fits.1)
+Fits-later old new ext high high' i le (look negate routine next) fits = (omega (arith, fits.0, ext.grown), fits.1)
 
 AllFit-then : (earlier' later : List Routine) (mid new : List Op) (low : ℕ) → Extends earlier' later → Extends mid new →
     AllFit earlier' mid low (length mid) → AllFit later new (length mid) (length new) → AllFit later new low (length new)

@@ -4,7 +4,6 @@ use Rattle.std.proofs.Math.Bool.{beq}
 use Rattle.std.proofs.lemmas.Bool.{cases_eq}
 use Rattle.std.proofs.lemmas.List.{length-take}
 use Rattle.std.proofs.lemmas.List.Elements.{All-head}
-use Rattle.std.proofs.lemmas.Option.{slice_get_within}
 use Rattle.std.specs.Box.{boxed_slice_items}
 use Rattle.std.specs.Global.{Global}
 use Rattle.std.specs.declared.boxed.BoxedSlice.{BoxedSlice}
@@ -21,7 +20,7 @@ use Rattle.regress_leaves.proofs.lemmas.Leaves.{any-nil, any-cons}
 use Rattle.regress_program.specs.declared.table.Table.{Table}
 use Rattle.regress_program.specs.Evaluated.{reached_cell}
 use Rattle.regress_program.specs.Program.{Out, Routine, Op, part, split, begin_loop, repeat, end_loop, unsets, begin_group, end_group, look, outcomes_by, matcher_of, start}
-use Rattle.regress_program.specs.Shape.{Fits, IsPart, IsLook, IsProgram}
+use Rattle.regress_program.specs.Shape.{Fits, IsPart, IsProgram}
 use Rattle.regress_program.specs.Stays.{IsReached, IsOnward, Stays}
 use Rattle.regress_program.specs.Table.{has_outcome, Tells, TellsOf, row_of, column, place, index, cell, IsRight, IsNext, AreRight, AreTables, IsFull, size}
 use Rattle.regress_program.proofs.lemmas.Onward.{Stays-tree}
@@ -160,9 +159,8 @@ sole_of (string ∷ another ∷ strings) icase is = absurd is
 
 -- ---- lookarounds
 
-pub look-earlier : (program : List Routine) (n i : ℕ) (negate : Bool) → IsLook (take n program) negate i → i < n
-look-earlier program n i true is = omega (arith, is, length-take n program)
-look-earlier program n i false is = omega (arith, slice_get_within (take n program) i is.0 is.1, length-take n program)
+pub look-earlier : (program : List Routine) (n i : ℕ) → i < length (take n program) → i < n
+look-earlier program n i lt = omega (arith, lt, length-take n program)
 
 pub index-within : (t : Table) (pc : ℕ) (moved : Bool) (position : ℕ) → pc < t.width → position ≤ t.length → index t pc moved position < size t
 unfolding place

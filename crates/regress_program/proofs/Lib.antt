@@ -8,11 +8,11 @@ mod EvaluateLemmas
 mod FillLemmas
 mod FlowLemmas
 mod KeepLemmas
+mod LinearLemmas
 mod RepeatLemmas
 mod RoutineLemmas
 mod RunLemmas
 mod SearchLemmas
-mod SoundLemmas
 mod TellsLemmas
 mod TurnLemmas
 mod ViewLemmas

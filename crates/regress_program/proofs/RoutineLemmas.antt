@@ -16,7 +16,7 @@ use Rattle.regress_program.specs.Compiled.{Extends, World, Solved, Matching, mat
 use Rattle.regress_program.specs.Pushed.{Pushed}
 use Rattle.regress_program.specs.Program.{Op, accept, part, split, look, Routine, At, Out, goto, reach, start, outcomes_by, outcomes_at, matcher_of}
 use Rattle.regress_program.specs.Program as programs
-use Rattle.regress_program.specs.Shape.{IsLook, Fits, AllFit, IsRoutine, IsProgram}
+use Rattle.regress_program.specs.Shape.{Fits, AllFit, IsRoutine, IsProgram}
 use Rattle.regress_program.specs.Stays.{IsReached}
 use Rattle.regress_program.proofs.CodeLemmas.{get-append-below, get-append-last, length-push, Extends-same, Extends-then, Extends-push, Extends-get, earlier, solved_at, Grown-then, Grown-push, pushed_at}
 use Rattle.regress_program.proofs.CompileLemmas.{compiled_same, compiled_fail, compiled_or}
@@ -30,11 +30,11 @@ unfolding lookaround_matcher
 same_look negate f g s same = ap (looked negate s) same
 
 pub compiled_look : (a b c : Code) (f : Matching) (negate : Bool) (d' : Direction) (i next at : ℕ) → next < length a.ops → HasRoutine a b f d' i →
-    IsLook b.routines negate i → Pushed b c (look negate i next) at → Compiled a c (looking negate d' f) next at
-compiled_look a b c f negate d' i next at below has is pushed =
+    Pushed b c (look negate i next) at → Compiled a c (looking negate d' f) next at
+compiled_look a b c f negate d' i next at below has pushed =
     let same : length b.ops ≡ length a.ops = ap length has.same in
     let len : length c.ops ≡ length b.ops + 1 = ap length pushed.ops ∙ length-push b.ops (look negate i next) in
-    let grown = Grown-push b c (look negate i next) at pushed (is, omega (arith, below, same)) in
+    let grown = Grown-push b c (look negate i next) at pushed (omega (arith, has.last), omega (arith, below, same)) in
     record {
       grown = Grown-then a b c has.grown grown;
       begins = omega (arith, len, pushed.at_end);

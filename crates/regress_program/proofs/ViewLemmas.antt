@@ -1,20 +1,18 @@
 -- What was compiled, for lists of nodes and strings from an index on.
-use Rattle.std.proofs.Common.{◌≡◌, ℕ, ◌+◌, ◌-◌, ◌≤◌, ◌<◌, Bool, true, false, slice_get, Some, option_map, All, List, [], ◌∷◌, length, drop, get_or, map, refl, sym, ap, subst, ◌∙◌, arith, Global}
+use Rattle.std.proofs.Common.{◌≡◌, ℕ, ◌+◌, ◌-◌, ◌≤◌, ◌<◌, Bool, true, slice_get, List, [], ◌∷◌, length, drop, get_or, map, sym, ap, subst, ◌∙◌, arith, Global}
 use Rattle.std.proofs.lemmas.List.{drop_more, drop_all, nil_from_length, length-map}
 use Rattle.std.specs.Box.{boxed_slice_items}
 use Rattle.std.specs.declared.boxed.BoxedSlice.{BoxedSlice}
 use Rattle.regress_tree.specs.Reading.{forwards}
 use Rattle.regress_tree.specs.Tree.{empty, goal, char, byte_sequence, byte_set, char_set, match_any, match_any_except_line_terminator, anchor, word_boundary, bracket, back_ref, string_set, Tree, leaf, cat, alt, wrapped, tree, trees}
 use Rattle.regress_tree.specs.declared.ir.node.Node.{Node}
-use Rattle.regress_leaves.specs.Leaves.{is_simple}
+use Rattle.regress_leaves.specs.Leaves.{has_one_outcome}
 use Rattle.regress_program.specs.Compiled.{World, matching, strings, Code, Compiled, HasRoutine, IsPattern}
 use Rattle.regress_program.specs.Program.{Op, part, split, Routine, matcher_of}
 use Rattle.regress_program.specs.Program as programs
 use Rattle.regress_program.specs.Pushed.{Pushed}
-use Rattle.regress_program.specs.Shape.{IsPart, KeepsCaptures, IsLook}
-use Rattle.regress_program.specs.Views.{op_of, ops_of, routine_of, program_of}
-use Rattle.regress_program.specs.declared.instruction.Routine as declared
-use Rattle.std.proofs.lemmas.Option.{slice_get_read, slice_get-map}
+use Rattle.regress_program.specs.Shape.{IsPart}
+use Rattle.regress_program.specs.Views.{op_of, ops_of}
 use Rattle.regress_program.specs.declared.instruction.Instruction.{Instruction}
 use Rattle.regress_program.proofs.CodeLemmas.{Extends-same}
 use Rattle.regress_program.proofs.CompileLemmas.{compiled_nothing, compiled_part, compiled_then, compiled_later, compiled_earlier}
@@ -25,23 +23,23 @@ below items next lt = omega (arith, length-map items op_of, lt)
 
 -- ---- leaves
 
-pub part_if_simple : (t : Tree) → is_simple t ≡ true → IsPart t
-part_if_simple (leaf empty) is = tt
-part_if_simple (leaf goal) is = tt
-part_if_simple (leaf (char c)) is = tt
-part_if_simple (leaf (byte_sequence bytes)) is = tt
-part_if_simple (leaf (byte_set members)) is = tt
-part_if_simple (leaf (char_set members)) is = tt
-part_if_simple (leaf match_any) is = tt
-part_if_simple (leaf match_any_except_line_terminator) is = tt
-part_if_simple (leaf (anchor kind multiline)) is = tt
-part_if_simple (leaf (word_boundary invert unicode_icase)) is = tt
-part_if_simple (leaf (bracket invert intervals)) is = tt
-part_if_simple (leaf (back_ref group icase)) is = cc
-part_if_simple (leaf (string_set ss icase)) is = cc
-part_if_simple (cat parts) is = cc
-part_if_simple (alt left right) is = cc
-part_if_simple (wrapped w body) is = cc
+pub part_if_leaf : (t : Tree) → has_one_outcome t ≡ true → IsPart t
+part_if_leaf (leaf empty) is = tt
+part_if_leaf (leaf goal) is = tt
+part_if_leaf (leaf (char c)) is = tt
+part_if_leaf (leaf (byte_sequence bytes)) is = tt
+part_if_leaf (leaf (byte_set members)) is = tt
+part_if_leaf (leaf (char_set members)) is = tt
+part_if_leaf (leaf match_any) is = tt
+part_if_leaf (leaf match_any_except_line_terminator) is = tt
+part_if_leaf (leaf (anchor kind multiline)) is = tt
+part_if_leaf (leaf (word_boundary invert unicode_icase)) is = tt
+part_if_leaf (leaf (bracket invert intervals)) is = tt
+part_if_leaf (leaf (back_ref group icase)) is = tt
+part_if_leaf (leaf (string_set ss icase)) is = cc
+part_if_leaf (cat parts) is = cc
+part_if_leaf (alt left right) is = cc
+part_if_leaf (wrapped w body) is = cc
 
 pub nothing_at_empty : (a : Code) (t : Tree) (next : ℕ) → t ≡ leaf empty → next < length a.ops → Compiled a a (matching t) next next
 nothing_at_empty a t next is lt = subst (λ u. Compiled a a (matching u) next next) (sym is) (compiled_nothing a next lt)
@@ -124,12 +122,3 @@ is_pattern a b t i has =
           } in
           ap (λ k. matcher_of setting bytes b.routines outs k s) last ∙ has.means w s inside;
     }
-
--- ---- lookarounds
-
--- A routine that keeps captures can be looked at.
-pub kept_look : (items : List declared.Routine) (i : ℕ) (r : declared.Routine) → length (program_of items) ≡ i + 1 → r ≡ get_or items i r →
-    All KeepsCaptures (ops_of r.instructions.items) → IsLook (program_of items) false i
-kept_look items i r last is keeps =
-    let read : slice_get items i ≡ Some r = slice_get_read items (length items) i r refl (omega (arith, last, length-map items routine_of)) is in
-    (routine_of r, slice_get-map routine_of items i ∙ ap (option_map routine_of) read, keeps)

@@ -18,13 +18,15 @@ use Rattle.regress_program.specs.declared.walker.Walker.{Walker}
 use Rattle.regress_program.specs.Found.{no_groups, NoneBefore}
 use Rattle.regress_program.specs.Below.{Below}
 use Rattle.regress_program.specs.Program.{Out, At, Routine, Op, accept, look, goto, enter, reach, either, ended, outcomes_by, outcomes_at, matcher_of, start, IsSolution}
-use Rattle.regress_program.specs.Shape.{Fits, IsLook, IsProgram}
+use Rattle.regress_program.specs.Linear.{is_linear, is_linear_op}
+use Rattle.regress_program.specs.Shape.{Fits, IsProgram}
 use Rattle.regress_program.specs.Stays.{IsOnward}
 use Rattle.regress_program.specs.Table.{has_outcome, cell, IsFull, IsRight}
 use Rattle.regress_program.specs.declared.instruction.Instruction.{Instruction}
 use Rattle.regress_program.specs.declared.instruction.Instruction.TheVariants as insts
 use Rattle.regress_program.specs.Views.{op_of, program_of}
 use Rattle.regress_program.specs.Walked.{iterates, chosen, alternative, at_of, CanWalk, Leads}
+use Rattle.regress_program.proofs.LinearLemmas.{linear-at, linear-look}
 use Rattle.regress_program.proofs.lemmas.Onward.{Stays-tree}
 use Rattle.regress_program.proofs.BelowLemmas.{below-here, below-enter, below-again, below-reach, reach-moved}
 use Rattle.regress_program.proofs.KeepLemmas.{look-keeps}
@@ -119,14 +121,16 @@ module _ (out : Out) where
           some'
 
   pub look-goes : (setting : Setting) (bytes : List ℕ) (program : List Routine) (outs : ℕ → Out) (d : Direction) (n width length' : ℕ) (negate : Bool) (j next : ℕ)
-      (a : At) → IsProgram program → IsSolution setting bytes program outs → IsLook (take n program) negate j → a.pc < width → a.state.position ≤ length' →
+      (a : At) → IsProgram program → is_linear program ≡ true → IsSolution setting bytes program outs → j < length (take n program) →
+      is_linear_op program (look negate j next) ≡ true → a.pc < width → a.state.position ≤ length' →
       length' ≡ length bytes →
       has_outcome (outcomes_by setting bytes d (matcher_of setting bytes program outs) out (look negate j next) a) ≡ true →
       Leads (outcomes_by setting bytes d (matcher_of setting bytes program outs) out (look negate j next) a) out (goto next a)
   unfolding lookaround_matcher
-  look-goes setting bytes program outs d n width length' negate j next a is_program solution is_look pc_in within len some =
+  look-goes setting bytes program outs d n width length' negate j next a is_program linear solution earlier linear-here pc_in within len some =
       look-leads negate next a (matcher_of setting bytes program outs j a.state) (reach-moved width length' d a pc_in within next a.state refl)
-      (λ is. look-keeps setting bytes program is_program outs solution n j a.state (subst (λ b. IsLook (take n program) b j) is is_look) (omega (arith, within, len)))
+      (λ is. look-keeps setting bytes program is_program linear outs solution n j a.state earlier (linear-look program negate j next linear-here is)
+      (omega (arith, within, len)))
       some
 
 module _ (out : Out) (t : Table) (full : IsFull t) (right : IsRight out t) (a : At) (pc_in : a.pc < t.width) (within : a.state.position ≤ t.length) where
@@ -185,13 +189,15 @@ solved-by setting bytes program outs i r op d a solution is_r is_op lt is_d with
     solution i r is_r a (omega arith) lt within
     ∙ ap₂ (λ x o. outcomes_at setting bytes x (matcher_of setting bytes program outs) (outs i) o a) is_d is_op
 
-pub can_walk : (input : Input) (r : Routine) (t : Table) (op : Op) (a : At) → IsProgram (program_of input.routines.now) → CanFill input r t → a.pc < t.width →
+pub can_walk : (input : Input) (r : Routine) (t : Table) (op : Op) (a : At) → IsProgram (program_of input.routines.now) → is_linear (program_of input.routines.now) ≡ true →
+    CanFill input r t → a.pc < t.width →
     a.state.position ≤ t.length → slice_get r.ops a.pc ≡ Some op → CanWalk input t op a
-can_walk input r t op a program can pc_in within is = record {
+can_walk input r t op a program linear can pc_in within is = record {
   pc = pc_in;
   position = within;
   fits = subst (λ w. Fits (take (length input.tables.now) (program_of input.routines.now)) w a.pc op) (sym can.of.width)
       ((program _ r can.is).fit a.pc op (omega arith) (omega (arith, pc_in, can.of.width)) is);
+  linear = linear-at (program_of input.routines.now) _ r a.pc op linear can.is is;
   length = can.of.text;
   backwards = can.backwards;
 }

@@ -6,12 +6,13 @@ pub mod Compiled
 pub mod Evaluated
 pub mod Found
 pub mod Iterates
+pub mod Linear
 pub mod Program
 pub mod Pushed
 pub mod Search
 pub mod Shape
-pub mod Sound
 pub mod Stays
 pub mod Table
+pub mod Unique
 pub mod Views
 pub mod Walked

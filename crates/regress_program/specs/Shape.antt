@@ -1,11 +1,10 @@
 -- The shape of programs: which instructions an instruction may name, so that every match ends.
-use Rattle.std.specs.Prelude.{◌≡◌, ℕ, ◌≤◌, ◌<◌, Bool, true, false, List, [], ◌∷◌, All, length, slice_get, Some, take}
-use Rattle.regress_tree.specs.Tree.{Leaf, back_ref, string_set, Tree, leaf}
+use Rattle.std.specs.Prelude.{◌≡◌, ℕ, ◌≤◌, ◌<◌, List, [], ◌∷◌, length, slice_get, Some, take}
+use Rattle.regress_tree.specs.Tree.{Leaf, string_set, Tree, leaf}
 use Rattle.regress_program.specs.Program.{Op, accept, fail, part, split, begin_loop, repeat, end_loop, unsets, begin_group, end_group, look, Routine}
 
--- The leaf has at most one outcome, whatever the captures are.
+-- The leaf has at most one outcome. It sets no group.
 abbrev pub IsPartLeaf : Leaf → Type 0
-IsPartLeaf (back_ref group icase) = ⊥
 IsPartLeaf (string_set [] icase) = ⊥
 IsPartLeaf (string_set (string ∷ []) icase) = Unit {0}
 IsPartLeaf (string_set (string ∷ another ∷ strings) icase) = ⊥
@@ -15,18 +14,8 @@ abbrev pub IsPart : Tree → Type 0
 IsPart (leaf l) = IsPartLeaf l
 IsPart t = ⊥
 
--- The instruction changes no capture.
-abbrev pub KeepsCaptures : Op → Type 0
-KeepsCaptures (unsets start end next) = end ≤ start
-KeepsCaptures (end_group id next) = ⊥
-KeepsCaptures op = Unit {0}
-
--- The routine of that number is one of the earlier ones, and no capture is changed in it unless it is negated.
-abbrev pub IsLook : List Routine → (negate : Bool) → (routine : ℕ) → Type 0
-IsLook earlier true i = i < length earlier
-IsLook earlier false i = (r : Routine) × (slice_get earlier i ≡ Some r) × All KeepsCaptures r.ops
-
--- The instruction i of `high` names only earlier ones, but for the body of a loop that goes on.
+-- The instruction i of `high` names only earlier ones, but for the body of a loop that goes on. A lookaround names an
+-- earlier routine.
 abbrev pub Fits : List Routine → (high i : ℕ) → Op → Type 0
 Fits earlier high i accept = Unit {0}
 Fits earlier high i fail = Unit {0}
@@ -38,7 +27,7 @@ Fits earlier high i (end_loop next) = next < i
 Fits earlier high i (unsets start end next) = next < i
 Fits earlier high i (begin_group next) = next < i
 Fits earlier high i (end_group id next) = next < i
-Fits earlier high i (look negate routine next) = IsLook earlier negate routine × (next < i)
+Fits earlier high i (look negate routine next) = (routine < length earlier) × (next < i)
 
 -- The instructions from `low` on and before `high` fit.
 abbrev pub AllFit : List Routine → List Op → (low high : ℕ) → Type 0

@@ -4,6 +4,7 @@ use Rattle.regress_tree.specs.Steps.{MatchState}
 use Rattle.regress_program.specs.declared.evaluate.Input.{Input}
 use Rattle.regress_program.specs.declared.table.Table.{Table}
 use Rattle.regress_program.specs.declared.walker.Walker.{Walker}
+use Rattle.regress_program.specs.Linear.{is_linear_op}
 use Rattle.regress_program.specs.Program.{Op, At, Out, goto, enter}
 use Rattle.regress_program.specs.Shape.{Fits}
 use Rattle.regress_program.specs.Table.{cell, has_outcome}
@@ -30,11 +31,12 @@ chosen t greedy body next a = if iterates t greedy body next a then enter body a
 abbrev pub alternative : Table → (first second : ℕ) → At → ℕ
 alternative t first second a = if cell t first a.moved a.state.position then first else second
 
--- A walk is at this instruction, of a routine whose table is full.
+-- A walk is at this linear instruction, of a routine whose table is full.
 pub record CanWalk (input : Input) (t : Table) (op : Op) (a : At) : Type 0 where
   pub pc : a.pc < t.width
   pub position : a.state.position ≤ t.length
   pub fits : Fits (take (length input.tables.now) (program_of input.routines.now)) t.width a.pc op
+  pub linear : is_linear_op (program_of input.routines.now) op ≡ true
   pub length : t.length ≡ length input.text.now
   pub backwards : t.backwards ≡ input.rules.backwards
 

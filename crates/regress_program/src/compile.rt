@@ -16,7 +16,6 @@ use crate::instruction::{Instruction, Routine};
 use crate::loops::Iterations;
 use crate::program::Program;
 use regress_leaves::known::Known;
-use regress_leaves::leaves::is_simple;
 use regress_tree::ir::{Node, Regex};
 use regress_unicode::Tables;
 use std::alloc::Global;
@@ -46,8 +45,7 @@ impl<'n, 't> Program<'n, 't> {
     /// Compiles a pattern into a program of at most `limit` instructions.
     ///
     /// # Errors
-    /// Returns a [`CompileFault`] if the pattern has a back reference, if a lookaround that is not negated sets or
-    /// resets captures, if the program would have more than `limit` instructions, or if an allocation fails.
+    /// Returns a [`CompileFault`] if the program would have more than `limit` instructions, or if an allocation fails.
     ///
     /// # Complexity
     /// Linear in the size of the tree, where a body counts as many times as it is copied: for each iteration up to the
@@ -96,7 +94,7 @@ impl<'a> Compiler<'a> {
         Ok(entry)
     }
 
-    /// Compiles a node that is not an `Alt`.
+    /// Compiles a node by its kind. No `Alt` reaches it from `node`, which compiles alternatives in a loop.
     #[cycle(compile)]
     fn other(&mut self, node: &'a Node, next: usize) -> Result<usize, CompileFault>
         requires { next < length self.old.instructions.items }
@@ -141,8 +139,11 @@ impl<'a> Compiler<'a> {
                 alternatives,
                 icase,
             } => self.strings(alternatives, *icase, next),
-            // the only other node is a back reference
-            _ if !is_simple(node) => Err(CompileFault::BackReference),
+            Node::Alt(left, right) => {
+                let second = self.node(right, next)?;
+                let first = self.node(left, next)?;
+                self.push(Instruction::Split { first, second })
+            }
             _ => self.push(Instruction::Leaf { node, next }),
         }
     }

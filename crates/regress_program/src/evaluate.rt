@@ -1,9 +1,10 @@
 //! Evaluating an instruction: whether there is an outcome from a state.
-ghost use Rattle.std.specs.Prelude.{◌≡◌, ℕ, ◌<◌, ◌≤◌, IfSome, length};
+ghost use Rattle.std.specs.Prelude.{◌≡◌, ℕ, ◌<◌, ◌≤◌, IfSome, false, length};
 ghost use Rattle.regress_leaves.specs.Leaves.{GoesTo};
 ghost use Rattle.regress_leaves.specs.Subject.{subject};
 ghost use Rattle.regress_tree.specs.Steps.{MatchState};
 ghost use Rattle.regress_tree.specs.Tree.{tree};
+ghost use Rattle.regress_program.specs.Linear.{is_back_ref};
 ghost use Rattle.regress_program.specs.Program.{Out, matcher_of, outcomes_by};
 ghost use Rattle.regress_program.specs.Shape.{IsPart, IsProgram};
 ghost use Rattle.regress_program.specs.Evaluated.{CanEvaluate, reached_cell};
@@ -81,14 +82,16 @@ pub(crate) fn evaluate(
     }
 }
 
-/// Returns the position at which a leaf ends, or `None` if it fails. A set of strings has only one.
+/// Returns the position at which a leaf ends, or `None` if it fails. It is no back reference, and a set of strings has
+/// only one.
 pub(crate) fn leaf_end(
     text: &str,
     rules: MatchContext<'_>,
     node: &Node,
     position: usize,
 ) -> Option<usize>
-    requires { IsPart (tree node.now) }
+    requires part { IsPart (tree node.now) }
+    requires captures { is_back_ref (tree node.now) ≡ false }
     ensures { GoesTo (subject rules.entry text.now) position (tree node.now) result }
 {
     match node {

@@ -10,12 +10,6 @@ pub enum CompileFault {
     /// An allocation failed.
     #[error("out of memory")]
     Memory(AllocError),
-    /// The pattern has a back reference, so what follows depends on the captures.
-    #[error("the pattern has a back reference")]
-    BackReference,
-    /// A lookaround that is not negated contains a capture group, or a loop that resets one.
-    #[error("a lookaround contains a capture group")]
-    CapturingLookaround,
     /// The program would have more instructions than the limit.
     #[error("the program is too long")]
     TooLong,

@@ -9,7 +9,7 @@ pub enum Instruction<'a> {
     Accept,
     /// Matches nothing.
     Fail,
-    /// Matches a leaf other than a back reference and a set of strings.
+    /// Matches a leaf other than a set of strings.
     Leaf {
         /// The leaf.
         node: &'a Node,

@@ -1,9 +1,10 @@
 //! The leftmost match, by the tables of a program.
-ghost use Rattle.std.specs.Prelude.{◌≤◌, ◌+◌, ℕ, IfOk, length};
+ghost use Rattle.std.specs.Prelude.{◌≡◌, ◌≤◌, ◌+◌, ℕ, IfOk, length, true};
 ghost use Rattle.regress_leaves.specs.Subject.{subject};
 ghost use Rattle.regress_program.specs.Evaluated.{CanFill};
 ghost use Rattle.regress_program.specs.Found.{Finds, no_groups};
 ghost use Rattle.regress_program.specs.Program.{IsSolution, Out, matcher_of};
+ghost use Rattle.regress_program.specs.Linear.{is_linear};
 ghost use Rattle.regress_program.specs.Shape.{IsProgram};
 ghost use Rattle.regress_program.specs.Table.{IsFull, IsRight, size};
 ghost use Rattle.regress_program.specs.Views.{program_of, routine_of};
@@ -31,6 +32,7 @@ pub(crate) fn find_leftmost(
     steps: &mut u64,
 ) -> Result<Option<Match>, AllocError>
     requires program { IsProgram (program_of input.routines.now) }
+    requires linear { is_linear (program_of input.routines.now) ≡ true }
     requires can { CanFill input (routine_of routine.now) table.now }
     requires full { IsFull table.now }
     ensures finds { IfOk result (λ found. (outs : ℕ → Out) → (let u = subject input.entry.rules input.entry.text.now in

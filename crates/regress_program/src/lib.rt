@@ -1,20 +1,24 @@
-//! Patterns compiled into instructions, and matched in time linear in the length of the text.
+//! Patterns compiled into instructions, and matched in time linear in the length of the text if no back reference and
+//! no capture in a lookaround prevents it.
 #![tactic(auto)]
 
 mod bits;
+mod capturing;
 mod cells;
 mod compile;
 mod compiler;
+mod contents;
 mod evaluate;
 mod fault;
 mod fill;
 pub mod found;
 pub mod groups;
-mod instruction;
-mod keeping;
+pub mod instruction;
 mod leftmost;
+mod linear;
 mod lookarounds;
 mod loops;
+mod nonlinear;
 mod program;
 mod search;
 mod step;
@@ -27,4 +31,6 @@ mod words;
 
 pub use fault::CompileFault;
 pub use found::{Match, Search};
+pub use linear::Linear;
+pub use nonlinear::Nonlinear;
 pub use program::Program;

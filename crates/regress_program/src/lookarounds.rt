@@ -8,7 +8,6 @@ ghost use Rattle.regress_program.specs.Compiled.{matching, looking};
 use crate::compiler::Compiler;
 use crate::fault::CompileFault;
 use crate::instruction::{Instruction, Routine};
-use crate::keeping::keep_captures;
 use regress_tree::ir::Node;
 use std::mem;
 
@@ -26,9 +25,6 @@ impl<'a> Compiler<'a> {
         ensures { IfOk result (Emits self.old self.new (looking negate (direction_if backwards) (matching (tree contents.now))) next) }
     {
         let routine = self.routine(contents, backwards)?;
-        if !negate && !keep_captures(&self.routines[routine].instructions) {
-            return Err(CompileFault::CapturingLookaround);
-        }
         self.push(Instruction::Look {
             negate,
             routine,

@@ -1,6 +1,7 @@
 //! Programs.
 ghost use Rattle.std.specs.Prelude.{◌<◌, length};
-ghost use Rattle.regress_program.specs.Sound.{IsSound, IsSound-prop};
+ghost use Rattle.regress_program.specs.Shape.{IsProgram};
+ghost use Rattle.regress_program.specs.Unique.{program-prop};
 ghost use Rattle.regress_program.specs.Views.{program_of};
 
 use crate::instruction::Routine;
@@ -19,5 +20,5 @@ pub struct Program<'n, 't> {
     /// The number of groups.
     pub(crate) groups: usize,
     ghost some: { 0 < length routines.items },
-    ghost sound: { IsSound (program_of routines.items) } by { IsSound-prop (program_of routines.items) },
+    ghost is_program: { IsProgram (program_of routines.items) } by { program-prop (program_of routines.items) },
 }

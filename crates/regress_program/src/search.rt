@@ -1,10 +1,11 @@
 //! Searching with a program.
-ghost use Rattle.std.specs.Prelude.{◌≡◌, ◌≤◌, ◌<◌, ◌+◌, ◌-◌, ◌*◌, ℕ, IfOk, length, min};
+ghost use Rattle.std.specs.Prelude.{◌≡◌, ◌≤◌, ◌<◌, ◌+◌, ◌-◌, ◌*◌, ℕ, IfOk, length, min, true};
 ghost use Rattle.regress_leaves.specs.Subject.{subject};
 ghost use Rattle.regress_tree.specs.Tree.{Tree};
 ghost use Rattle.regress_unicode.specs.TableOf.{table_of};
 ghost use Rattle.regress_program.specs.Compiled.{IsPattern, total};
 ghost use Rattle.regress_program.specs.Found.{Finds, no_groups};
+ghost use Rattle.regress_program.specs.Linear.{is_linear};
 ghost use Rattle.regress_program.specs.Program.{IsSolution, Out, matcher_of};
 ghost use Rattle.regress_program.specs.Search.{groups_of, instructions_of, outcomes_from, per_character, routines_of, setting_of, tree_outcomes_from};
 ghost use Rattle.regress_program.specs.Shape.{IsProgram};
@@ -15,6 +16,7 @@ use crate::fill::fill;
 use crate::found::Search;
 use crate::instruction::Routine;
 use crate::leftmost::find_leftmost;
+use crate::linear::Linear;
 use crate::program::Program;
 use crate::tables::fill_first;
 use regress_base::types::Flags;
@@ -60,16 +62,18 @@ impl<'n, 't> Program<'n, 't> {
         }
         count
     }
+}
 
+impl<'n, 't> Linear<'_, 'n, 't> {
     /// Returns an upper bound for the steps of a search for each character of a text, counting its end as one more; at
     /// most `u64::MAX`.
     ///
     /// # Complexity
     /// Linear in the number of routines: that of the pattern, and one for each copy of a lookaround.
     pub fn steps_per_character(&self) -> u64
-        ensures { result ≡ min (per_character self.now) u64.MAX }
+        ensures { result ≡ min (per_character self.now.program.now) u64.MAX }
     {
-        (self.instructions() as u64)
+        (self.program.instructions() as u64)
             .saturating_mul(4)
             .saturating_add(1)
     }
@@ -77,7 +81,7 @@ impl<'n, 't> Program<'n, 't> {
     /// Returns the leftmost match in `text` that starts at the byte offset `from` or later, on a character boundary.
     ///
     /// # Complexity
-    /// The steps are at most [`Program::steps_per_character`] for each byte of the text, and once more. A step takes
+    /// The steps are at most [`Linear::steps_per_character`] for each byte of the text, and once more. A step takes
     /// constant time, but for literals, sets and the groups that an iteration unsets. The memory is proportional to the
     /// number of instructions and the length of the text.
     ///
@@ -90,7 +94,7 @@ impl<'n, 't> Program<'n, 't> {
     /// let points = code_points(alloc, "(a*)*b")?;
     /// let regex = try_parse(alloc, &points, Flags::default(), &tables)?;
     /// let program = Program::compile(alloc, &regex, &tables, 1000)?;
-    /// let search = program.find(alloc, "xaaab", 0)?;
+    /// let search = program.linear()?.find(alloc, "xaaab", 0)?;
     /// match &search.found {
     ///     Some(found) => {
     ///         assert_eq!(rt; found.start(), 1);
@@ -101,18 +105,19 @@ impl<'n, 't> Program<'n, 't> {
     /// }
     /// ```
     pub fn find(&self, alloc: Global, text: &str, from: usize) -> Result<Search, AllocError>
-        ensures solved { IfOk result (λ search. (outs : ℕ → Out) → IsSolution (setting_of self.now) text.now (routines_of self.now) outs →
-            Finds text.now (outcomes_from self.now text.now outs) from search.found) }
-        ensures finds { IfOk result (λ search. (t : Tree) → IsPattern (routines_of self.now) t →
-            Finds text.now (tree_outcomes_from self.now text.now t) from search.found) }
-        ensures steps { IfOk result (λ search. search.steps ≤ per_character self.now * (length text.now + 1)) }
+        ensures solved { IfOk result (λ search. (outs : ℕ → Out) → IsSolution (setting_of self.now.program.now) text.now (routines_of self.now.program.now) outs →
+            Finds text.now (outcomes_from self.now.program.now text.now outs) from search.found) }
+        ensures finds { IfOk result (λ search. (t : Tree) → IsPattern (routines_of self.now.program.now) t →
+            Finds text.now (tree_outcomes_from self.now.program.now text.now t) from search.found) }
+        ensures steps { IfOk result (λ search. search.steps ≤ per_character self.now.program.now * (length text.now + 1)) }
     {
+        let program = self.program;
         let rules = MatchContext {
-            flags: self.flags,
-            known: self.known,
+            flags: program.flags,
+            known: program.known,
             backwards: false,
         };
-        find_in(alloc, text, rules, &self.routines, self.groups, from)
+        find_in(alloc, text, rules, &program.routines, program.groups, from)
     }
 }
 
@@ -129,6 +134,7 @@ fn find_in(
     from: usize,
 ) -> Result<Search, AllocError>
     requires program { IsProgram (program_of routines.now) }
+    requires linear { is_linear (program_of routines.now) ≡ true }
     requires some { 0 < length routines.now }
     ensures solved { IfOk result (λ search. (outs : ℕ → Out) → (let u = subject rules.entry text.now in
         IsSolution u.setting u.bytes (program_of routines.now) outs → Finds u.bytes

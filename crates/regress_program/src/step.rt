@@ -4,6 +4,7 @@ ghost use Rattle.regress_leaves.specs.Subject.{subject};
 ghost use Rattle.regress_tree.specs.Reading.{direction_if};
 ghost use Rattle.regress_program.specs.Below.{Below};
 ghost use Rattle.regress_program.specs.Program.{IsSolution, Out, accept, matcher_of, outcomes_by};
+ghost use Rattle.regress_program.specs.Linear.{is_linear};
 ghost use Rattle.regress_program.specs.Shape.{IsProgram};
 ghost use Rattle.regress_program.specs.Table.{IsFull, IsRight, has_outcome};
 ghost use Rattle.regress_program.specs.Views.{op_of, program_of};
@@ -27,6 +28,7 @@ pub(crate) fn step(
     walker: &mut Walker,
 ) -> Result<bool, AllocError>
     requires program { IsProgram (program_of input.routines.now) }
+    requires linear { is_linear (program_of input.routines.now) ≡ true }
     requires can { CanWalk input table.now (op_of instruction) (at_of walker.old) }
     ensures below { IfOk result (λ goes. goes ≡ true →
         Below table.now.width table.now.length (direction_if table.now.backwards) (at_of walker.old) (at_of walker.new)) }

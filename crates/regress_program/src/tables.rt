@@ -1,7 +1,8 @@
 //! Filling the tables of the routines of a program in order.
-ghost use Rattle.std.specs.Prelude.{◌≡◌, ◌≤◌, ◌+◌, ◌*◌, ℕ, IfOk, length, take};
+ghost use Rattle.std.specs.Prelude.{◌≡◌, ◌≤◌, ◌+◌, ◌*◌, ℕ, IfOk, length, take, true};
 ghost use Rattle.regress_leaves.specs.Subject.{subject};
 ghost use Rattle.regress_program.specs.Program.{IsSolution, Out};
+ghost use Rattle.regress_program.specs.Linear.{is_linear};
 ghost use Rattle.regress_program.specs.Shape.{IsProgram};
 ghost use Rattle.regress_program.specs.Compiled.{total};
 ghost use Rattle.regress_program.specs.Table.{AreRight, AreTables};
@@ -27,6 +28,7 @@ pub(crate) fn fill_first(
     steps: &mut u64,
 ) -> Result<Vec<Table>, AllocError>
     requires program { IsProgram (program_of routines.now) }
+    requires linear { is_linear (program_of routines.now) ≡ true }
     requires count { count ≤ length routines.now }
     ensures tables { IfOk result (λ tables. AreTables text.now (program_of routines.now) tables.items) }
     ensures count { IfOk result (λ tables. length tables.items ≡ count) }

@@ -4,6 +4,7 @@ ghost use Rattle.regress_leaves.specs.Subject.{subject};
 ghost use Rattle.regress_tree.specs.Steps.{MatchState};
 ghost use Rattle.regress_program.specs.Evaluated.{CanFill};
 ghost use Rattle.regress_program.specs.Program.{IsSolution, Out};
+ghost use Rattle.regress_program.specs.Linear.{is_linear};
 ghost use Rattle.regress_program.specs.Shape.{IsProgram};
 ghost use Rattle.regress_program.specs.Table.{IsFull, IsRight, has_outcome, index};
 ghost use Rattle.regress_program.specs.Views.{program_of, routine_of};
@@ -28,6 +29,7 @@ pub(crate) fn walk(
     steps: &mut u64,
 ) -> Result<bool, AllocError>
     requires program { IsProgram (program_of input.routines.now) }
+    requires linear { is_linear (program_of input.routines.now) ≡ true }
     requires can { CanFill input (routine_of routine.now) table.now }
     requires pc { walker.old.pc < table.now.width }
     requires position { walker.old.position ≤ table.now.length }

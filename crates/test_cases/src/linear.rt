@@ -1,7 +1,7 @@
-//! Searches by a program, for patterns that have one.
+//! Searches by a program, for patterns whose program is linear.
 
 use crate::outcome::{Question, report_spans};
-use regress_program::{CompileFault, Program};
+use regress_program::{CompileFault, Linear, Program};
 use regress_tree::ir::Regex;
 use regress_unicode::Tables;
 use test_notation::{Call, Fault};
@@ -10,7 +10,7 @@ use test_notation::{Call, Fault};
 const MOST: usize = 1_000_000;
 
 /// Appends the outcome of a search by a program, as `response_question` does. Returns false if the pattern has no
-/// program, or if the question asks for no search.
+/// program that is short and linear, or if the question asks for no search.
 pub(crate) fn response_linear(
     call: &mut Call,
     question: Question,
@@ -31,17 +31,20 @@ pub(crate) fn response_linear(
             call.fail(Fault::Memory);
             return false;
         }
-        Err(_) => return false,
+        Err(CompileFault::TooLong) => return false,
     };
-    report_matches(call, &program, text, most);
+    let Ok(linear) = program.linear() else {
+        return false;
+    };
+    report_matches(call, linear, text, most);
     true
 }
 
 /// Appends the first matches, separated by ` | `.
-fn report_matches(call: &mut Call, program: &Program<'_, '_>, text: &str, most: u32) {
+fn report_matches(call: &mut Call, linear: Linear<'_, '_, '_>, text: &str, most: u32) {
     let mut from = 0;
     for number in 0..most {
-        let Ok(search) = program.find(call.alloc(), text, from) else {
+        let Ok(search) = linear.find(call.alloc(), text, from) else {
             call.fail(Fault::Memory);
             return;
         };

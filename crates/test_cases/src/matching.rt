@@ -15,12 +15,12 @@ enum Way {
     Parsed,
     /// By the optimized tree.
     Optimized,
-    /// By the program of the parsed tree.
+    /// By the program of the parsed tree, if it is linear.
     Linear,
 }
 
 /// Returns the first result that is not the expected one: with the parsed tree, with the optimized one, or with the
-/// program if the pattern has one.
+/// program if it is linear.
 pub(crate) fn match_difference(
     alloc: Global,
     line: &str,

@@ -13,7 +13,7 @@ use regress_front::unicode::{
 };
 use regress_front::util::code_points;
 use regress_match::{Match, Matches, Outcome, find, find_all, for_each_match, match_at};
-use regress_program::Program;
+use regress_program::{Nonlinear, Program};
 use regress_ucd::unicode_tables;
 use std::alloc::AllocError;
 use std::test::Fail;
@@ -386,18 +386,29 @@ fn the_examples_of_matching_hold(rt: HostRuntime) -> Result<(), Fail> {
 #[test]
 fn the_example_of_a_program_holds(rt: HostRuntime) -> Result<(), Fail> {
     let alloc = rt.alloc();
-    let tables = Tables::small(alloc)?;
-    let points = code_points(alloc, "(a*)*b")?;
-    let regex = try_parse(alloc, &points, Flags::default(), &tables)?;
-    let program = Program::compile(alloc, &regex, &tables, 1000)?;
-    let search = program.find(alloc, "xaaab", 0)?;
-    match &search.found {
-        Some(found) => {
-            assert_eq!(rt; found.start(), 1);
-            assert_eq!(rt; found.end(), 5);
-            assert_eq!(rt; found.group(0), Some((1, 4)));
+    // a match is found
+    {
+        let tables = Tables::small(alloc)?;
+        let points = code_points(alloc, "(a*)*b")?;
+        let regex = try_parse(alloc, &points, Flags::default(), &tables)?;
+        let program = Program::compile(alloc, &regex, &tables, 1000)?;
+        let search = program.linear()?.find(alloc, "xaaab", 0)?;
+        match &search.found {
+            Some(found) => {
+                assert_eq!(rt; found.start(), 1);
+                assert_eq!(rt; found.end(), 5);
+                assert_eq!(rt; found.group(0), Some((1, 4)));
+            }
+            None => assert!(rt; false, "it matches"),
         }
-        None => assert!(rt; false, "it matches"),
+    }
+    // a program is not linear
+    {
+        let tables = Tables::small(alloc)?;
+        let points = code_points(alloc, "(a)\\1")?;
+        let regex = try_parse(alloc, &points, Flags::default(), &tables)?;
+        let program = Program::compile(alloc, &regex, &tables, 1000)?;
+        assert!(rt; matches!(program.linear(), Err(Nonlinear::BackReference)));
     }
     Ok(())
 }

@@ -1,12 +1,14 @@
-use Rattle.std.proofs.Common.{[], ◌∷◌, ap, subst, arith}
+use Rattle.std.proofs.Common.{◌≡◌, true, [], ◌∷◌, ap, subst, arith}
 use Rattle.regress_leaves.specs.Subject.{subject}
 use Rattle.regress_tree.specs.Matching.{steps}
 use Rattle.regress_tree.specs.Reading.{direction_if}
 use Rattle.regress_tree.specs.Tree.{tree, leaf, string_set}
-use Rattle.regress_program.specs.Program.{matcher_of}
+use Rattle.regress_program.specs.Linear.{is_linear_op}
+use Rattle.regress_program.specs.Program.{matcher_of, part}
 use Rattle.regress_program.specs.Shape.{Fits}
 use Rattle.regress_program.specs.Views.{op_of, program_of}
 use Rattle.regress_program.proofs.EvaluateLemmas.{part_yields, split_yields, begin_yields, repeat_yields, end_yields, unsets_yields, begin_group_yields, end_group_yields, look_yields, reached-within, one_string, look-earlier}
+use Rattle.regress_program.proofs.LinearLemmas.{linear-part}
 use Rattle.regress_program.proofs.lemmas.Onward.{Stays-tree}
 use Rattle.regress_program.proofs.evaluate.evaluate.Goals as goal
 
@@ -29,14 +31,17 @@ reached-requires-in-Text-clause-to c =
 pub leaf_end-to-requires : goal.leaf_end-to-requires
 leaf_end-to-requires c =
     let can = c.requires.can in
+    let program = program_of c.args.input.routines.now in
     let fits = subst (Fits _ _ can.pc) (ap op_of c.in-Leaf.is) can.fits in
-    fits.0
+    let linear : is_linear_op program (part (tree c.in-Leaf.node.now) c.in-Leaf.next) ≡ true =
+    subst (λ op. is_linear_op program op ≡ true) (ap op_of c.in-Leaf.is) can.linear in
+    record { part = fits.0; captures = linear-part program (tree c.in-Leaf.node.now) c.in-Leaf.next linear }
 
 pub looks-requires-clause-earlier : goal.looks-requires-clause-earlier
 looks-requires-clause-earlier c =
     let can = c.requires.can in
     let fits = subst (Fits _ _ can.pc) (ap op_of c.in-Look.is) can.fits in
-    look-earlier _ _ c.in-Look.routine c.in-Look.negate fits.0
+    look-earlier _ _ c.in-Look.routine fits.0
 
 pub returns-in-Leaf : goal.returns-in-Leaf
 returns-in-Leaf c = λ outs tables right.

@@ -13,7 +13,7 @@ pub index-requires : goal.index-requires
 index-requires c =
     let strings = map boxed_slice_items c.in-StringSet.alternatives.items in
     let is : tree c.args.node.now ≡ leaf (string_set strings c.in-StringSet.icase) = search (rules, the_lemmas) in
-    omega (arith, (sole_of c.in-StringSet.alternatives.items c.in-StringSet.icase (subst IsPart is c.requires)).0)
+    omega (arith, (sole_of c.in-StringSet.alternatives.items c.in-StringSet.icase (subst IsPart is c.requires.part)).0)
 
 pub returns-in-StringSet : goal.returns-in-StringSet
 returns-in-StringSet c = λ s at.
@@ -21,7 +21,7 @@ returns-in-StringSet c = λ s at.
     let icase = c.in-StringSet.icase in
     let strings = map boxed_slice_items c.in-StringSet.alternatives.items in
     let is : tree c.args.node.now ≡ leaf (string_set strings icase) = search (rules, the_lemmas) in
-    let sole = sole_of c.in-StringSet.alternatives.items icase (subst IsPart is c.requires) in
+    let sole = sole_of c.in-StringSet.alternatives.items icase (subst IsPart is c.requires.part) in
     let string : boxed_slice_items c.index.result.now ∷ [] ≡ strings =
     ap (λ x. boxed_slice_items x ∷ []) c.index.ensures ∙ sym (sole.1 c.index.result.now) in
     ap (λ t. steps u.setting u.bytes u.direction t s)
@@ -30,5 +30,5 @@ returns-in-StringSet c = λ s at.
 
 pub returns-in_default : goal.returns-in_default
 returns-in_default c =
-    let simple : is_simple (tree c.args.node.now) ≡ true = first_of (search (rules, the_lemmas), grind (arith, the_lemmas, c.requires)) in
+    let simple : is_simple (tree c.args.node.now) ≡ true = first_of (search (rules, the_lemmas), grind (arith, the_lemmas, c.requires.part, c.requires.captures)) in
     c.simple_leaf.ensures simple

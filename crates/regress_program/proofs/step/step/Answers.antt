@@ -6,6 +6,7 @@ use Rattle.regress_tree.specs.Tree.{tree, leaf, string_set}
 use Rattle.regress_program.specs.Below.{Below}
 use Rattle.regress_program.specs.Program.{Op, goto, enter, reach, either, matcher_of, outcomes_by}
 use Rattle.regress_program.specs.declared.instruction.Instruction.TheVariants as insts
+use Rattle.regress_program.specs.Linear.{is_linear_op}
 use Rattle.regress_program.specs.Table.{has_outcome}
 use Rattle.regress_program.specs.Shape.{Fits}
 use Rattle.regress_program.specs.Views.{op_of, program_of}
@@ -192,5 +193,5 @@ returns-in-Look-clause-leads c = λ outs solution full right other some.
       refl,
       subst (λ o. Leads (outcomes (op_of o)) (outs i) (goto c.in-Look.next a)) (sym c.in-Look.is)
           (look-goes (outs i) u.setting u.bytes program outs u.direction i t.width t.length c.in-Look.negate c.in-Look.routine c.in-Look.next a c.requires.program
-          solution fits.0 can.pc can.position can.length (subst (λ o. has_outcome (outcomes (op_of o)) ≡ true) c.in-Look.is some)),
+          c.requires.linear solution fits.0 (subst (λ o. is_linear_op program (op_of o) ≡ true) c.in-Look.is can.linear) can.pc can.position can.length (subst (λ o. has_outcome (outcomes (op_of o)) ≡ true) c.in-Look.is some)),
     )

@@ -45,7 +45,8 @@ step-requires c =
     ∙ ap (option_map op_of) (slice_get_read items _ a.pc _ refl (omega (arith, lt, length-map items op_of)) c.index-instruction.ensures) in
     record {
       program = c.requires.program;
-      can = can_walk c.args.input r c.args.table.now op a c.requires.program can c.walk.invariant.pc c.walk.invariant.position is_op;
+      linear = c.requires.linear;
+      can = can_walk c.args.input r c.args.table.now op a c.requires.program c.requires.linear can c.walk.invariant.pc c.walk.invariant.position is_op;
     }
 
 pub returns-then-not-branch : goal.returns-then-not-branch

@@ -1,28 +1,29 @@
 -- Each kind of node.
-use Rattle.std.proofs.Common.{◌≡◌, ◌+◌, ◌-◌, [], ◌∷◌, ◌++◌, length, refl, sym, ap, ap₂, subst, All, ◌∙◌, le_refl, le_trans, arith}
+use Rattle.std.proofs.Common.{rules, true, ◌≡◌, ◌+◌, ◌-◌, [], ◌∷◌, ◌++◌, length, refl, sym, ap, ap₂, subst, ◌∙◌, le_refl, le_trans, arith}
 use Rattle.std.proofs.lemmas.Result.{IfOk-weaker}
 use Rattle.std.proofs.lemmas.List.{length-map, length_push, map-append, map-set, nil_from_length}
 use Rattle.regress_tree.proofs.lemmas.Nodes.{tree-Empty, tree-Goal, tree-Alt, tree-CaptureGroup, tree-LookaroundAssertion}
 use Rattle.regress_tree.proofs.lemmas.Visits.{right_smaller}
+use Rattle.regress_leaves.specs.Leaves.{has_one_outcome}
+use Rattle.regress_tree.specs.declared.ir.node.Node.{the_lemmas}
 use Rattle.regress_tree.specs.Reading.{direction_if}
 use Rattle.regress_tree.specs.Tree.{tree}
 use Rattle.regress_program.specs.Alternatives.{HasLeft, Waiting}
 use Rattle.regress_program.specs.CodeOf.{code_of, iterating}
 use Rattle.regress_program.specs.Compiled.{matching, optional, any_number, extra, after_iterations, Compiled}
 use Rattle.regress_program.specs.Iterates.{Iterates}
-use Rattle.regress_program.specs.Shape.{KeepsCaptures, IsLook}
 use Rattle.regress_program.specs.Views.{op_of, ops_of, routine_of, program_of}
 use Rattle.regress_program.proofs.AlternativeLemmas.{waiting_none, waiting_push, waiting_pop, waiting_later, waiting_done, compiled_alternative}
 use Rattle.regress_program.proofs.CodeLemmas.{Grown-same, Grown-then, Grown-push}
-use Rattle.regress_program.proofs.CompileLemmas.{compiled_part, compiled_group, compiled_unset, compiled_without_groups, compiled_earlier}
+use Rattle.regress_program.proofs.CompileLemmas.{compiled_part, compiled_group, compiled_unset, compiled_without_groups, compiled_earlier, compiled_later}
 use Rattle.regress_program.proofs.RepeatLemmas.{iterates_last, iterates_more, compiled_optional, compiled_any_number, compiled_mandatory, compiled_no_mandatory, compiled_unbounded, compiled_bounded, compiled_repeated}
 use Rattle.regress_program.proofs.RoutineLemmas.{compiled_look, has_routine}
-use Rattle.regress_program.proofs.ViewLemmas.{below, part_if_simple, nothing_at_empty, nothing_at_goal, sequence_more, kept_look}
+use Rattle.regress_program.proofs.ViewLemmas.{below, part_if_leaf, nothing_at_empty, nothing_at_goal, sequence_more}
 use Rattle.regress_program.proofs.lemmas.Onward.{Stays-iteration, Stays-tree}
 use Rattle.regress_program.specs.declared.instruction.Instruction.TheVariants as insts
 use Rattle.regress_program.specs.declared.instruction.Routine as declared
 use Rattle.std.specs.Vec.{with_item}
-use Rattle.regress_program.proofs.compiler.Compiler.+compile.Goals.{repeat-in-None+in_ok-entry-in-None, repeat-in-Some+in_ok-entry-in-Some, look-else-not-negate-via-then-not-negate+else-not-keep_captures, look-else-not-negate-via-else-not-negate}
+use Rattle.regress_program.proofs.compiler.Compiler.+compile.Goals.{repeat-in-None+in_ok-entry-in-None, repeat-in-Some+in_ok-entry-in-Some}
 use Rattle.regress_program.proofs.compiler.Compiler.+compile.Goals as goal
 
 -- ---- loops
@@ -145,18 +146,10 @@ look-returns t c =
     let b = code_of c.routine.new.self in
     let i = c.in_ok-routine.routine in
     let has = c.in_ok-routine.ensures in
-    let is : IsLook b.routines c.args.negate i =
-    elim c.else-not-negate.branch [
-      | look-else-not-negate-via-then-not-negate+else-not-keep_captures w ↦
-          subst (λ n. IsLook b.routines n i) (sym w.if-not-negate.true)
-          (kept_look c.routine.new.self.routines.items i w.index.result.now has.last w.index.ensures
-          (subst (λ xs. All KeepsCaptures (ops_of xs)) w.deref.ensures.value (w.keep_captures.ensures w.if-not-keep_captures.false)))
-      | look-else-not-negate-via-else-not-negate w ↦ subst (λ n. IsLook b.routines n i) (sym w.if-not-negate.false) (omega (arith, has.last))
-    ] in
     IfOk-weaker c.push.result _ _
     (λ at pushed.
     compiled_look a b (code_of c.push.new.self) (matching (tree c.args.contents.now)) c.args.negate (direction_if c.args.backwards) i c.args.next at
-    (below c.args.self.now.instructions.items c.args.next c.requires) has is pushed)
+    (below c.args.self.now.instructions.items c.args.next c.requires) has pushed)
     c.push.ensures
 
 pub routine-returns : goal.routine-returns
@@ -292,14 +285,38 @@ other-returns-in-LookaroundAssertion t c =
     subst (λ u. Compiled a b (matching u) c.args.next at) (sym is) (rw c.deref-in-LookaroundAssertion.ensures at compiled))
     c.look.ensures
 
-pub other-returns-in_default-2 : goal.other-returns-in_default-2
-other-returns-in_default-2 t c =
-    let simple = part_if_simple (tree c.args.node.now) (sym c.is_simple.ensures ∙ c.if-not-is_simple.false) in
-    IfOk-weaker c.push-in_default-2.result _ _
+pub other-returns-in_ok-first-in-Alt : goal.other-returns-in_ok-first-in-Alt
+other-returns-in_ok-first-in-Alt t c =
+    let a = code_of c.args.self.now in
+    let b = code_of c.node-in-Alt.new.self in
+    let e = code_of c.node-in-Alt-2.new.self in
+    let g = code_of c.push-in-Alt.new.self in
+    let left = tree c.in-Alt.left.value in
+    let right = tree c.in-Alt.right.value in
+    let next = c.args.next in
+    let first = c.in_ok-first-in-Alt.first in
+    let second = c.in_ok-second-in-Alt.second in
+    let rest : Compiled a b (matching right) next second = rw c.deref-in-Alt.ensures at c.in_ok-second-in-Alt.ensures in
+    let one : Compiled b e (matching left) next first = rw c.deref-in-Alt-2.ensures at c.in_ok-first-in-Alt.ensures in
+    let has : HasLeft a e next first (tree c.args.node.now) right = record {
+      left = left;
+      is = ap tree c.in-Alt.is ∙ tree-Alt c.in-Alt.left c.in-Alt.right;
+      compiled = compiled_earlier a b e (matching left) next first rest.grown one;
+    } in
+    IfOk-weaker c.push-in-Alt.result _ _
     (λ at pushed.
-    compiled_part (code_of c.args.self.now) (code_of c.push-in_default-2.new.self) (tree c.args.node.now) c.args.next at simple
+    compiled_alternative a e g next first second at (tree c.args.node.now) right has (compiled_later a b e (matching right) next second one.grown rest)
+    pushed)
+    c.push-in-Alt.ensures
+
+pub other-returns-in_default : goal.other-returns-in_default
+other-returns-in_default t c =
+    let leaf : has_one_outcome (tree c.args.node.now) ≡ true = search (rules, the_lemmas) in
+    IfOk-weaker c.push-in_default.result _ _
+    (λ at pushed.
+    compiled_part (code_of c.args.self.now) (code_of c.push-in_default.new.self) (tree c.args.node.now) c.args.next at (part_if_leaf _ leaf)
     (below c.args.self.now.instructions.items c.args.next c.requires) pushed)
-    c.push-in_default-2.ensures
+    c.push-in_default.ensures
 
 pub other-returns-in-Empty : goal.other-returns-in-Empty
 other-returns-in-Empty t c =

@@ -1,22 +1,24 @@
-use Rattle.std.proofs.Common.{ℕ, ◌-◌, List, length, sym, subst, IfOk}
+use Rattle.std.proofs.Common.{◌≡◌, ℕ, ◌-◌, List, length, true, sym, subst, IfOk}
 use Rattle.regress_program.specs.declared.instruction.Routine.{Routine}
 use Rattle.regress_program.specs.Found.{Finds, no_groups}
+use Rattle.regress_program.specs.Linear.{is_linear}
 use Rattle.regress_program.specs.Program.{matcher_of, IsSolution, Out}
 use Rattle.regress_program.specs.Search.{routines_of, setting_of, groups_of, outcomes_from, tree_outcomes_from}
 use Rattle.regress_program.specs.Shape.{IsProgram}
 use Rattle.regress_program.specs.Views.{program_of}
 use Rattle.regress_program.proofs.RunLemmas.{outcomes, outcomes-solve}
 use Rattle.regress_program.proofs.SearchLemmas.{Finds-same, ok_map}
-use Rattle.regress_program.proofs.SoundLemmas.{sound-program}
-use Rattle.regress_program.proofs.program.Program.find.Goals as goal
+use Rattle.regress_program.proofs.linear.Linear.find.Goals as goal
 
 pub find_in-requires-clause-program : goal.find_in-requires-clause-program
-find_in-requires-clause-program c =
-    subst (λ xs. IsProgram (program_of xs)) (sym c.deref.ensures.value) (sound-program (routines_of c.args.self.now) c.args.self.now.sound)
+find_in-requires-clause-program c = subst (λ xs. IsProgram (program_of xs)) (sym c.deref.ensures.value) c.args.self.now.program.now.is_program
+
+pub find_in-requires-clause-linear : goal.find_in-requires-clause-linear
+find_in-requires-clause-linear c = subst (λ xs. is_linear (program_of xs) ≡ true) (sym c.deref.ensures.value) c.args.self.now.linear
 
 pub returns-clause-solved : goal.returns-clause-solved
 returns-clause-solved c =
-    let p = c.args.self.now in
+    let p = c.args.self.now.program.now in
     let text = c.args.text.now in
     subst
     (λ (xs : List Routine). IfOk c.find_in.result (λ search. (outs : ℕ → Out) → IsSolution (setting_of p) text (program_of xs) outs →
@@ -25,12 +27,11 @@ returns-clause-solved c =
 
 pub returns-clause-finds : goal.returns-clause-finds
 returns-clause-finds c =
-    let p = c.args.self.now in
+    let p = c.args.self.now.program.now in
     let text = c.args.text.now in
     let program = routines_of p in
-    let is_program : IsProgram program = sound-program program p.sound in
-    let outs : ℕ → Out = outcomes (setting_of p) text program is_program in
-    let solution : IsSolution (setting_of p) text program outs = outcomes-solve (setting_of p) text program is_program in
+    let outs : ℕ → Out = outcomes (setting_of p) text program p.is_program in
+    let solution : IsSolution (setting_of p) text program outs = outcomes-solve (setting_of p) text program p.is_program in
     ok_map c.find_in.result _ _
     (λ search found t pattern.
     Finds-same text (outcomes_from p text outs) (tree_outcomes_from p text t) c.args.from search.found

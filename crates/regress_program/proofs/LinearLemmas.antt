@@ -1,0 +1,105 @@
+-- What is known of the instructions of a linear program.
+use Rattle.std.proofs.Common.{◌≡◌, ℕ, zero, suc, Bool, true, false, not, ◌&&◌, ◌||◌, List, [], ◌∷◌, ◌+◌, take, slice_get, Some, refl, sym, ap, subst, ◌∙◌, arith}
+use Rattle.std.specs.List.{list_all, list_any}
+use Rattle.regress_tree.specs.Tree.{Tree}
+use Rattle.regress_program.specs.declared.nonlinear.Nonlinear.{Nonlinear}
+use Rattle.regress_program.specs.declared.nonlinear.Nonlinear.TheVariants.{BackReference, CapturingLookaround}
+use Rattle.regress_program.specs.Linear.{is_back_ref, is_back_reference, is_capturing, is_capturing_lookaround, is_linear_op, is_linear, is_reason, has_reason}
+use Rattle.regress_program.specs.Program.{Op, part, look, Routine}
+
+and_true : (a b : Bool) → (a && b) ≡ true → (a ≡ true) × (b ≡ true)
+and_true true b is = (refl, is)
+and_true false b is = cc
+
+or_false : (a b : Bool) → (a || b) ≡ false → (a ≡ false) × (b ≡ false)
+or_false true b is = cc
+or_false false b is = (refl, is)
+
+list_all-get : {X : Type 0} (p : X → Bool) (xs : List X) (i : ℕ) (x : X) → list_all p xs ≡ true → slice_get xs i ≡ Some x → p x ≡ true
+list_all-get p [] i x all is = cc
+list_all-get p (y ∷ ys) zero x all is = let same : y ≡ x = cc in sym (ap p same) ∙ (and_true (p y) (list_all p ys) all).0
+list_all-get p (y ∷ ys) (suc i) x all is = list_all-get p ys i x (and_true (p y) (list_all p ys) all).1 is
+
+pub list_any-get : {X : Type 0} (p : X → Bool) (xs : List X) (i : ℕ) (x : X) → list_any p xs ≡ false → slice_get xs i ≡ Some x → p x ≡ false
+list_any-get p [] i x none is = cc
+list_any-get p (y ∷ ys) zero x none is = let same : y ≡ x = cc in sym (ap p same) ∙ (or_false (p y) (list_any p ys) none).0
+list_any-get p (y ∷ ys) (suc i) x none is = list_any-get p ys i x (or_false (p y) (list_any p ys) none).1 is
+
+pub linear-at : (program : List Routine) (i : ℕ) (r : Routine) (pc : ℕ) (op : Op) → is_linear program ≡ true → slice_get program i ≡ Some r →
+    slice_get r.ops pc ≡ Some op → is_linear_op program op ≡ true
+linear-at program i r pc op linear is_r is_op =
+    list_all-get (is_linear_op program) r.ops pc op (list_all-get (λ (q : Routine). list_all (is_linear_op program) q.ops) program i r linear is_r) is_op
+
+pub linear-part : (program : List Routine) (t : Tree) (next : ℕ) → is_linear_op program (part t next) ≡ true → is_back_ref t ≡ false
+linear-part program t next linear = by (is_back_ref t) linear
+  where
+    by : (b : Bool) → (not b && true) ≡ true → b ≡ false
+    by true is = cc
+    by false is = refl
+
+pub linear-look : (program : List Routine) (negate : Bool) (i next : ℕ) → is_linear_op program (look negate i next) ≡ true → negate ≡ false →
+    is_capturing (slice_get program i) ≡ false
+linear-look program true i next linear is = cc
+linear-look program false i next linear is = by (is_capturing (slice_get program i)) linear
+  where
+    by : (b : Bool) → not b ≡ true → b ≡ false
+    by true is = cc
+    by false is = refl
+
+-- ---- one more instruction or routine
+
+true_or : (a b : Bool) → b ≡ true → (a || b) ≡ true
+true_or true b is = refl
+true_or false b is = is
+
+any-suc : {X : Type 0} (p : X → Bool) (xs : List X) (i : ℕ) (x : X) → slice_get xs i ≡ Some x → list_any p (take i xs) ≡ false → p x ≡ false →
+    list_any p (take (suc i) xs) ≡ false
+any-suc p [] i x is none here = refl
+any-suc p (y ∷ ys) zero x is none here = let same : y ≡ x = cc in ap (λ b. b || false) (ap p same ∙ here)
+any-suc p (y ∷ ys) (suc i) x is none here =
+    let both = or_false (p y) (list_any p (take i ys)) none in
+    ap (λ b. b || list_any p (take (suc i) ys)) both.0 ∙ any-suc p ys i x is both.1 here
+
+all-suc : {X : Type 0} (p : X → Bool) (xs : List X) (i : ℕ) (x : X) → slice_get xs i ≡ Some x → list_all p (take i xs) ≡ true → p x ≡ true →
+    list_all p (take (suc i) xs) ≡ true
+all-suc p [] i x is all here = refl
+all-suc p (y ∷ ys) zero x is all here = let same : y ≡ x = cc in ap (λ b. b && true) (ap p same ∙ here)
+all-suc p (y ∷ ys) (suc i) x is all here =
+    let both = and_true (p y) (list_all p (take i ys)) all in
+    ap (λ b. b && list_all p (take (suc i) ys)) both.0 ∙ all-suc p ys i x is both.1 here
+
+pub any-more : {X : Type 0} (p : X → Bool) (xs : List X) (i : ℕ) (x : X) → slice_get xs i ≡ Some x → list_any p (take i xs) ≡ false → p x ≡ false →
+    list_any p (take (i + 1) xs) ≡ false
+any-more p xs i x is none here = let e : i + 1 ≡ suc i = omega arith in subst (λ k. list_any p (take k xs) ≡ false) (sym e) (any-suc p xs i x is none here)
+
+pub any-at : {X : Type 0} (p : X → Bool) (xs : List X) (i : ℕ) (x : X) → slice_get xs i ≡ Some x → p x ≡ true → list_any p xs ≡ true
+any-at p [] i x is here = cc
+any-at p (y ∷ ys) zero x is here = let same : y ≡ x = cc in ap (λ b. b || list_any p ys) (ap p same ∙ here)
+any-at p (y ∷ ys) (suc i) x is here = true_or (p y) (list_any p ys) (any-at p ys i x is here)
+
+pub all-more : {X : Type 0} (p : X → Bool) (xs : List X) (i : ℕ) (x : X) → slice_get xs i ≡ Some x → list_all p (take i xs) ≡ true → p x ≡ true →
+    list_all p (take (i + 1) xs) ≡ true
+all-more p xs i x is all here = let e : i + 1 ≡ suc i = omega arith in subst (λ k. list_all p (take k xs) ≡ true) (sym e) (all-suc p xs i x is all here)
+
+-- ---- reasons
+
+and_false : (b : Bool) → (b && false) ≡ false
+and_false true = refl
+and_false false = refl
+
+not-both : (b c bs cs : Bool) → (c ≡ true → b ≡ false) → (cs ≡ true → bs ≡ false) → (c || cs) ≡ true → (b && bs) ≡ false
+not-both b true bs cs first rest some = ap (λ a. a && bs) (first refl)
+not-both b false bs cs first rest some = ap (λ a. b && a) (rest some) ∙ and_false b
+
+not-all : {X : Type 0} (p q : X → Bool) (xs : List X) → ((x : X) → q x ≡ true → p x ≡ false) → list_any q xs ≡ true → list_all p xs ≡ false
+not-all p q [] opposite some = cc
+not-all p q (x ∷ xs) opposite some = not-both (p x) (q x) (list_all p xs) (list_any q xs) (opposite x) (not-all p q xs opposite) some
+
+reason-not : (program : List Routine) (reason : Nonlinear) (op : Op) → is_reason program reason op ≡ true → is_linear_op program op ≡ false
+reason-not program BackReference op is = ap (λ b. not b && not (is_capturing_lookaround program op)) is
+reason-not program CapturingLookaround op is = ap (λ b. not (is_back_reference op) && not b) is ∙ and_false (not (is_back_reference op))
+
+pub reason-nonlinear : (program : List Routine) (reason : Nonlinear) → has_reason program reason ≡ true → is_linear program ≡ false
+reason-nonlinear program reason some =
+    not-all (λ (r : Routine). list_all (is_linear_op program) r.ops) (λ (r : Routine). list_any (is_reason program reason) r.ops) program
+    (λ r some'. not-all (is_linear_op program) (is_reason program reason) r.ops (reason-not program reason) some') some

@@ -1,0 +1,50 @@
+-- Linear programs: those without back references, and in which no lookaround that succeeds changes captures.
+use Rattle.std.specs.Prelude.{Bool, true, false, not, ◌&&◌, List, nat_lt, slice_get, Option, Some, None}
+use Rattle.std.specs.List.{list_all, list_any}
+use Rattle.regress_tree.specs.Tree.{Tree, leaf, back_ref}
+use Rattle.regress_program.specs.declared.nonlinear.Nonlinear.{Nonlinear}
+use Rattle.regress_program.specs.declared.nonlinear.Nonlinear.TheVariants.{BackReference, CapturingLookaround}
+use Rattle.regress_program.specs.Program.{Op, part, unsets, end_group, look, Routine}
+
+-- the tree is a back reference
+abbrev pub is_back_ref : Tree → Bool
+is_back_ref (leaf (back_ref group icase)) = true
+is_back_ref t = false
+
+-- the instruction is a back reference
+abbrev pub is_back_reference : Op → Bool
+is_back_reference (part t next) = is_back_ref t
+is_back_reference op = false
+
+-- the instruction sets or resets a capture
+abbrev pub changes_captures : Op → Bool
+changes_captures (unsets start end next) = nat_lt start end
+changes_captures (end_group id next) = true
+changes_captures op = false
+
+-- an instruction of the routine sets or resets a capture
+abbrev pub is_capturing : Option Routine → Bool
+is_capturing None = false
+is_capturing (Some r) = list_any changes_captures r.ops
+
+-- the instruction is a lookaround that is not negated, and whose routine sets or resets a capture
+abbrev pub is_capturing_lookaround : List Routine → Op → Bool
+is_capturing_lookaround program (look negate routine next) = not negate && is_capturing (slice_get program routine)
+is_capturing_lookaround program op = false
+
+-- The instruction is linear: it is neither of these.
+abbrev pub is_linear_op : List Routine → Op → Bool
+is_linear_op program op = not (is_back_reference op) && not (is_capturing_lookaround program op)
+
+-- The program is linear: each instruction is.
+abbrev pub is_linear : List Routine → Bool
+is_linear program = list_all (λ r. list_all (is_linear_op program) r.ops) program
+
+-- The instruction is of this kind.
+abbrev pub is_reason : List Routine → Nonlinear → Op → Bool
+is_reason program BackReference op = is_back_reference op
+is_reason program CapturingLookaround op = is_capturing_lookaround program op
+
+-- An instruction of the program is of this kind.
+abbrev pub has_reason : List Routine → Nonlinear → Bool
+has_reason program why = list_any (λ r. list_any (is_reason program why) r.ops) program

@@ -1,0 +1,45 @@
+-- IsProgram has at most one proof, so a program can keep it.
+use Rattle.std.specs.Prelude.{ℕ, List, [], ◌∷◌}
+use Rattle.std.proofs.Props.{props}
+use Rattle.regress_tree.specs.Tree.{empty, goal, char, byte_sequence, byte_set, char_set, match_any, match_any_except_line_terminator, anchor, word_boundary, bracket, back_ref, string_set, Tree, leaf, cat, alt, wrapped}
+use Rattle.regress_program.specs.Program.{Op, accept, fail, part, split, begin_loop, repeat, end_loop, unsets, begin_group, end_group, look, Routine}
+use Rattle.regress_program.specs.Shape.{IsPart, Fits, IsRoutine, IsProgram}
+
+pub part-prop : (t : Tree) → IsProp (IsPart t)
+part-prop (leaf empty) = hlevel props
+part-prop (leaf goal) = hlevel props
+part-prop (leaf (char c)) = hlevel props
+part-prop (leaf (byte_sequence bytes)) = hlevel props
+part-prop (leaf (byte_set bytes)) = hlevel props
+part-prop (leaf (char_set characters)) = hlevel props
+part-prop (leaf match_any) = hlevel props
+part-prop (leaf match_any_except_line_terminator) = hlevel props
+part-prop (leaf (anchor kind multiline)) = hlevel props
+part-prop (leaf (word_boundary invert unicode_icase)) = hlevel props
+part-prop (leaf (bracket invert intervals)) = hlevel props
+part-prop (leaf (back_ref group icase)) = hlevel props
+part-prop (leaf (string_set [] icase)) = hlevel props
+part-prop (leaf (string_set (string ∷ []) icase)) = hlevel props
+part-prop (leaf (string_set (string ∷ another ∷ strings) icase)) = hlevel props
+part-prop (cat parts) = hlevel props
+part-prop (alt left right) = hlevel props
+part-prop (wrapped w body) = hlevel props
+
+pub fits-prop : (earlier : List Routine) (high i : ℕ) (op : Op) → IsProp (Fits earlier high i op)
+fits-prop earlier high i accept = hlevel props
+fits-prop earlier high i fail = hlevel props
+fits-prop earlier high i (part t next) = hlevel (props, part-prop)
+fits-prop earlier high i (split first second) = hlevel props
+fits-prop earlier high i (begin_loop greedy body next) = hlevel props
+fits-prop earlier high i (repeat greedy body next) = hlevel props
+fits-prop earlier high i (end_loop next) = hlevel props
+fits-prop earlier high i (unsets start end next) = hlevel props
+fits-prop earlier high i (begin_group next) = hlevel props
+fits-prop earlier high i (end_group id next) = hlevel props
+fits-prop earlier high i (look negate routine next) = hlevel props
+
+pub routine-prop : (earlier : List Routine) (r : Routine) → IsProp (IsRoutine earlier r)
+routine-prop earlier r = hlevel (props, fits-prop)
+
+pub program-prop : (program : List Routine) → IsProp (IsProgram program)
+program-prop program = hlevel (props, routine-prop)
