@@ -13,6 +13,7 @@ mod RoutineLemmas
 mod RunLemmas
 mod SearchLemmas
 mod SoundLemmas
+mod StepLemmas
 mod TellsLemmas
 mod TurnLemmas
 mod ViewLemmas

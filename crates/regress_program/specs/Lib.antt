@@ -4,6 +4,7 @@ pub mod Bits
 pub mod CodeOf
 pub mod Compiled
 pub mod Evaluated
+pub mod Filled
 pub mod Found
 pub mod Iterates
 pub mod Program
@@ -13,5 +14,6 @@ pub mod Shape
 pub mod Sound
 pub mod Stays
 pub mod Table
+pub mod TextSearch
 pub mod Views
 pub mod Walked

@@ -1,6 +1,10 @@
--- What is kept of a program: IsProgram, in a form that has at most one proof.
-use Rattle.std.specs.Prelude.{◌≡◌, ℕ, ◌<◌, Bool, true, false, List, [], ◌∷◌, All, length, slice_get, Some, take}
+-- What is kept of a program, in a form that has at most one proof: IsProgram, and the direction of the last routine.
+use Rattle.std.specs.Prelude.{◌≡◌, ℕ, ◌-◌, ◌<◌, Bool, true, false, List, [], ◌∷◌, All, length, slice_get, Some, take}
+use Rattle.std.proofs.Common.{refl, sym, ap, ◌∙◌}
+use Rattle.std.proofs.Math.Bool.{Bool-set}
 use Rattle.std.proofs.Props.{props}
+use mathlib.Core.HLevel.{collapsible→set}
+use Rattle.regress_tree.specs.Reading.{Direction, forwards, backwards}
 use Rattle.regress_tree.specs.Tree.{empty, goal, char, byte_sequence, byte_set, char_set, match_any, match_any_except_line_terminator, anchor, word_boundary, bracket, back_ref, string_set, Tree, leaf, cat, alt, wrapped}
 use Rattle.regress_program.specs.Program.{Op, accept, fail, part, split, begin_loop, repeat, end_loop, unsets, begin_group, end_group, look, Routine}
 use Rattle.regress_program.specs.Shape.{IsPart, KeepsCaptures}
@@ -30,7 +34,11 @@ pub record IsSound (program : List Routine) : Type 0 where
   pub ops : (i : ℕ) (r : Routine) → slice_get program i ≡ Some r → (pc : ℕ) (op : Op) → slice_get r.ops pc ≡ Some op →
       SoundOp (take i program) (length r.ops) pc op
 
--- ---- It has at most one proof.
+-- The last routine matches forwards.
+abbrev pub IsForwards : List Routine → Type 0
+IsForwards program = (r : Routine) → slice_get program (length program - 1) ≡ Some r → r.direction ≡ forwards
+
+-- ---- Each has at most one proof.
 
 pub keeps-prop : (op : Op) → IsProp (KeepsCaptures op)
 keeps-prop accept = hlevel props
@@ -84,3 +92,25 @@ op-prop earlier high i (look negate routine next) = hlevel (props, look-prop)
 
 pub IsSound-prop : (program : List Routine) → IsProp (IsSound program)
 IsSound-prop program = hlevel (props, op-prop)
+
+is_forwards : Direction → Bool
+is_forwards forwards = true
+is_forwards backwards = false
+
+direction_of : Bool → Direction
+direction_of true = forwards
+direction_of false = backwards
+
+same_direction : (d : Direction) → direction_of (is_forwards d) ≡ d
+unfolding direction_of is_forwards
+same_direction forwards = refl
+same_direction backwards = refl
+
+pub Direction-set : IsSet Direction
+Direction-set = collapsible→set (λ d e same. again d e (ap is_forwards same)) (λ d e p q. ap (again d e) (Bool-set (is_forwards d) (is_forwards e) (ap is_forwards p) (ap is_forwards q)))
+  where
+    again : (d e : Direction) → is_forwards d ≡ is_forwards e → d ≡ e
+    again d e same = sym (same_direction d) ∙ ap direction_of same ∙ same_direction e
+
+pub IsForwards-prop : (program : List Routine) → IsProp (IsForwards program)
+IsForwards-prop program = hlevel (props, Direction-set)

@@ -1,6 +1,6 @@
 //! Programs.
 ghost use Rattle.std.specs.Prelude.{◌<◌, length};
-ghost use Rattle.regress_program.specs.Sound.{IsSound, IsSound-prop};
+ghost use Rattle.regress_program.specs.Sound.{IsForwards, IsForwards-prop, IsSound, IsSound-prop};
 ghost use Rattle.regress_program.specs.Views.{program_of};
 
 use crate::instruction::Routine;
@@ -20,4 +20,5 @@ pub struct Program<'n, 't> {
     pub(crate) groups: usize,
     ghost some: { 0 < length routines.items },
     ghost sound: { IsSound (program_of routines.items) } by { IsSound-prop (program_of routines.items) },
+    ghost forwards: { IsForwards (program_of routines.items) } by { IsForwards-prop (program_of routines.items) },
 }

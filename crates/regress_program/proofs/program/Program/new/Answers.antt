@@ -6,4 +6,5 @@ pub invariant_of-result : goal.invariant_of-result
 invariant_of-result c = record {
   some = c.requires.some;
   sound = program-sound (program_of c.args.routines.items) c.requires.program;
+  forwards = c.requires.forwards;
 }
