@@ -7,7 +7,9 @@ pub mod PeekLemmas
 pub mod RunLemmas
 pub mod FirstLemmas
 pub mod InsideLemmas
+pub mod IterationLemmas
 pub mod CharacterLoopLemmas
 pub mod SingleLemmas
 pub mod NamesLemmas
 pub mod AllMatchesLemmas
+pub mod MatcherLemmas

@@ -11,7 +11,7 @@ use Rattle.regress_tree.specs.declared.ir.node.Node.{Node}
 use Rattle.std.specs.Borrow.{Bor}
 use Rattle.regress_tree.proofs.lemmas.Outcomes.{flat_map-stay}
 use Rattle.regress_match.specs.Captures.{undone, state, Later}
-use Rattle.regress_match.specs.Machine.{frame_step, continuation, backtrack_outcomes, frames_from, known_from, Fits, IsMachine, left_ahead, onward, Does, Continues, Settles, Looks}
+use Rattle.regress_match.specs.Machine.{frame_step, continuation, backtrack_outcomes, frames_from, known_from, Fits, IsMachine, left_ahead, onward, Does, Continues, IsLookSpent, Settles, Looks}
 use Rattle.regress_leaves.specs.Subject.{Subject}
 use Rattle.regress_match.specs.declared.captures.Captures.{Captures}
 use Rattle.regress_match.specs.declared.machine.Pending.{Pending}
@@ -162,3 +162,8 @@ rewound_trail before since all noted split len =
     taken : (xs ys : List Undo) → take (length xs) (xs ++ ys) ≡ xs
     taken [] ys = refl
     taken (x ∷ xs) ys = ap (λ zs. x ∷ zs) (taken xs ys)
+
+-- A lookaround that has a result has not reached the step limit.
+pub holds_spent : (holds : Bool) (looked : Looked) (left : ℕ) → looked ≡ (if holds then lookeds.Holds else lookeds.Fails) → IsLookSpent looked left
+holds_spent true looked left is = subst (λ x. IsLookSpent x left) (sym is) tt
+holds_spent false looked left is = subst (λ x. IsLookSpent x left) (sym is) tt

@@ -1,7 +1,11 @@
 pub mod Captures
+pub mod Compiled
+pub mod Iterated
 pub mod Iterations
+pub mod Kept
 pub mod Machine
 pub mod Matched
+pub mod Matcher
 pub mod Fresh
 pub mod Prepared
 pub mod Searched

@@ -178,3 +178,21 @@ abbrev pub Looks : List MatchState → Captures → ℕ → Looked → Type 0
 Looks outcomes c position lookeds.Holds = outcomes ≡ state c position ∷ []
 Looks outcomes c position lookeds.Fails = outcomes ≡ []
 Looks outcomes c position lookeds.Spent = Unit {0}
+
+-- If the step limit was reached, no steps are left.
+abbrev pub IsSpent : Response → (left : ℕ) → Type 0
+IsSpent (yields.At k) left = Unit {0}
+IsSpent yields.Nowhere left = Unit {0}
+IsSpent yields.OutOfSteps left = left ≡ 0
+
+-- the same of a lookaround
+abbrev pub IsLookSpent : Looked → (left : ℕ) → Type 0
+IsLookSpent lookeds.Holds left = Unit {0}
+IsLookSpent lookeds.Fails left = Unit {0}
+IsLookSpent lookeds.Spent left = left ≡ 0
+
+-- the same once lookarounds are matched
+abbrev pub IsStepSpent : Settled → (left : ℕ) → Type 0
+IsStepSpent (settleds.On position ahead) left = Unit {0}
+IsStepSpent settleds.Off left = Unit {0}
+IsStepSpent settleds.Spent left = left ≡ 0

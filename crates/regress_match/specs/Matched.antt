@@ -35,6 +35,12 @@ IfMatched (outcomes.Matched m) P = P m
 IfMatched outcomes.NoMatch P = Unit {0}
 IfMatched outcomes.OutOfSteps P = Unit {0}
 
+-- If the result is that the steps are used up, P holds.
+abbrev pub IfOutOfSteps : Outcome → Type 0 → Type 0
+IfOutOfSteps (outcomes.Matched m) P = Unit {0}
+IfOutOfSteps outcomes.NoMatch P = Unit {0}
+IfOutOfSteps outcomes.OutOfSteps P = P
+
 -- The span of the match, and that of each group that is set, is inside the text: it starts no later than it ends, and
 -- both are on character boundaries.
 pub record IsInside (text : List ℕ) (m : Match) : Type 0 where

@@ -3,7 +3,7 @@ ghost use Rattle.std.specs.Prelude.{◌≡◌, ◌≤◌, IfOk, IsCharBoundary, 
 ghost use Rattle.regress_tree.specs.Tree.{Tree, tree};
 ghost use Rattle.regress_tree.specs.WellFormed.{IsWellFormed, captures};
 ghost use Rattle.regress_unicode.specs.TableOf.{table_of};
-ghost use Rattle.regress_match.specs.Machine.{Answers};
+ghost use Rattle.regress_match.specs.Machine.{Answers, IsSpent};
 ghost use Rattle.regress_match.specs.Matched.{IfMatched, IsFirst, IsInside, StartsAt, outcomes_at};
 ghost use Rattle.regress_match.specs.Fresh.{IsFresh, IfNoOutcome};
 
@@ -124,6 +124,7 @@ pub(crate) fn first_at<'a>(
         (tree regex.now.node) position) captures.new) }
     ensures fresh { IfOk result (IfNoOutcome (IsFresh (tree regex.now.node) captures.new)) }
     ensures left { IfOk result (λ _. left.new ≤ left.old) }
+    ensures spent { IfOk result (λ response. IsSpent response left.new) }
 {
     let rules = MatchContext {
         flags: regex.flags,

@@ -6,7 +6,7 @@ ghost use Rattle.regress_tree.specs.Matching.{steps};
 ghost use Rattle.regress_tree.specs.Steps.{MatchState};
 ghost use Rattle.regress_tree.specs.Tree.{tree};
 ghost use Rattle.regress_match.specs.Captures.{state, undone, Later};
-ghost use Rattle.regress_match.specs.Machine.{Answers, Continues, Fits, IsMachine, Looks, Settles, left_ahead};
+ghost use Rattle.regress_match.specs.Machine.{Answers, Continues, Fits, IsLookSpent, IsMachine, IsSpent, IsStepSpent, Looks, Settles, left_ahead};
 ghost use Rattle.regress_match.specs.declared.machine.Pending.TheVariants.{Task};
 ghost use Rattle.regress_match.specs.declared.machine.Looked.TheVariants.{Holds, Fails};
 ghost use Rattle.regress_leaves.specs.Subject.{subject};
@@ -54,6 +54,7 @@ pub fn run<'a>(
     ensures yields { IfOk result (let u = subject rules.entry text.now in
         Answers (steps u.setting u.bytes u.direction (tree node.now) (state captures.old start)) captures.new) }
     ensures budget { IfOk result (λ _. budget.new ≤ budget.old) }
+    ensures spent { IfOk result (λ response. IsSpent response budget.new) }
     ensures undo { IfOk result (λ _. undone captures.new.trail.items captures.new.spans.items ≡ captures.old.spans.items) }
 {
     machine.clear();
@@ -137,6 +138,7 @@ fn settle<'a>(
     ensures settles { IfOk result (λ settled. (outcomes : List MatchState) (m : Machine) → (let u = subject rules.entry text.now in
         Continues u outcomes m captures.old next.entry → Settles u outcomes m captures.new settled)) }
     ensures budget { IfOk result (λ _. budget.new ≤ budget.old) }
+    ensures spent { IfOk result (λ settled. IsStepSpent settled budget.new) }
     ensures later { IfOk result (λ _. Later captures.old captures.new) }
 {
     match next {
@@ -170,6 +172,7 @@ fn lookaround_matcher<'a>(
     ensures looks { IfOk result (let u = subject rules.entry text.now in let l = looking.entry in
         Looks (lookaround_matcher l.negate (steps u.setting u.bytes (direction_if l.backwards) (tree l.body.now)) (state captures.old l.position)) captures.new l.position) }
     ensures budget { IfOk result (λ _. budget.new ≤ budget.old) }
+    ensures spent { IfOk result (λ looked. IsLookSpent looked budget.new) }
     ensures later { IfOk result (λ _. Later captures.old captures.new) }
 {
     let inside = MatchContext {

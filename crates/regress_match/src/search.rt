@@ -1,9 +1,9 @@
 //! Searching a text from left to right.
-ghost use Rattle.std.specs.Prelude.{◌≡◌, ◌≤◌, [], true, IfOk, OnErr};
+ghost use Rattle.std.specs.Prelude.{◌≡◌, ◌≤◌, [], true, IfOk, OnErr, length};
 ghost use Rattle.regress_tree.specs.Tree.{tree};
 ghost use Rattle.regress_tree.specs.WellFormed.{IsWellFormed};
 ghost use Rattle.regress_unicode.specs.TableOf.{table_of};
-ghost use Rattle.regress_match.specs.Matched.{Finds, IfMatched, IsInside, outcomes_at};
+ghost use Rattle.regress_match.specs.Matched.{Finds, IfMatched, IfOutOfSteps, IsInside, outcomes_at, start_of};
 ghost use Rattle.regress_match.specs.Searched.{IsSameSearch, offset_after, next_from, outcomes_of, searched_outcomes, searched_text, searched_tree};
 
 use crate::machine::{Response, Scratch};
@@ -82,6 +82,7 @@ pub(crate) fn find_within<'a>(
     ensures finds { IfOk result (Finds text.now (outcomes_of prepared.now text.now) from) }
     ensures inside { IfOk result (λ outcome. IsWellFormed (tree prepared.now.regex.now.node) → IfMatched outcome (IsInside text.now)) }
     ensures left { IfOk result (λ _. left.new ≤ left.old) }
+    ensures spent { IfOk result (λ outcome. IfOutOfSteps outcome (left.new ≡ 0)) }
 {
     let regex = prepared.regex;
     let known = prepared.known;
@@ -205,12 +206,20 @@ impl<'a> Matches<'a> {
             &mut self.left,
         )?;
         self.scratch = Some(scratch);
-        self.from = match &found {
-            Outcome::Matched(found) => found.end().max(found.start() + 1),
-            Outcome::NoMatch => self.text.len() + 1,
-            Outcome::OutOfSteps => self.from,
-        };
+        self.from = offset_after(self.text, self.from, &found);
         Ok(found)
+    }
+}
+
+/// Returns the byte offset from which the next match is searched, after a search from the byte offset `from`.
+pub(crate) fn offset_after(text: &str, from: usize, outcome: &Outcome) -> usize
+    requires { IfMatched outcome.now (λ m. start_of m ≤ length text.now) }
+    ensures { result ≡ offset_after text.now from outcome.now }
+{
+    match outcome {
+        Outcome::Matched(found) => found.end().max(found.start() + 1),
+        Outcome::NoMatch => text.len() + 1,
+        Outcome::OutOfSteps => from,
     }
 }
 

@@ -146,7 +146,7 @@ slice_get-push (z ∷ zs) y x zero is = inl is
 slice_get-push (z ∷ zs) y x (suc i) is =
     elim (slice_get-push zs y x i is) [ inl before ↦ inl before | inr last ↦ inr (omega (arith, last.0), last.1) ]
 
-some-same : {A : Type 0} (o : Option A) (x y : A) → o ≡ Some x → o ≡ Some y → x ≡ y
+pub some-same : {A : Type 0} (o : Option A) (x y : A) → o ≡ Some x → o ≡ Some y → x ≡ y
 some-same o x y ex ey = let e : Some x ≡ Some y = sym ex ∙ ey in cc
 
 module _ (tables : List Table) (t : Table) where

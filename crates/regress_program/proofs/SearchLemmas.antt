@@ -5,13 +5,6 @@ use Rattle.regress_tree.specs.Steps.{MatchState}
 use Rattle.regress_program.specs.declared.found.Match.{Match}
 use Rattle.regress_program.specs.Found.{Finds, IsLeftmost, NoneBefore, start_of, state_of}
 
--- the steps of a search
-pub all_steps : (n t w all s1 s2 s3 l : ℕ) → all ≡ t + w → s1 ≤ 0 + (n + 1) * (2 * t) → s2 ≤ s1 + l → l ≡ (n + 1) * (2 * w) → s3 ≤ s2 + (n + 1) + l →
-    s3 ≤ (4 * all + 1) * (n + 1)
-all_steps n t w all s1 s2 s3 l is le1 le2 el le3 =
-    let sum : s3 ≤ (4 * (t + w) + 1) * (n + 1) = omega (arith, le1, le2, el, le3) in
-    subst (λ x. s3 ≤ (4 * x + 1) * (n + 1)) (sym is) sum
-
 -- Outcomes that are the same inside the text make no difference.
 pub Finds-same : (text : List ℕ) (at at' : ℕ → List MatchState) (origin : ℕ) (found : Option Match) →
     ((p : ℕ) → p ≤ length text → at p ≡ at' p) → Finds text at origin found → Finds text at' origin found

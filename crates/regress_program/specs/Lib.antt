@@ -4,6 +4,7 @@ pub mod Bits
 pub mod CodeOf
 pub mod Compiled
 pub mod Evaluated
+pub mod Filled
 pub mod Found
 pub mod Iterates
 pub mod Linear
@@ -13,6 +14,7 @@ pub mod Search
 pub mod Shape
 pub mod Stays
 pub mod Table
+pub mod TextSearch
 pub mod Unique
 pub mod Views
 pub mod Walked

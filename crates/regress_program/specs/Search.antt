@@ -1,14 +1,15 @@
 -- Searching with a program.
-use Rattle.std.specs.Prelude.{ℕ, ◌+◌, ◌*◌, ◌-◌, List, length}
+use Rattle.std.specs.Prelude.{ℕ, ◌+◌, ◌*◌, ◌-◌, List, length, Option, Some, None}
 use Rattle.regress_tree.specs.Matching.{steps}
 use Rattle.regress_tree.specs.Reading.{forwards}
 use Rattle.regress_tree.specs.Setting.{Setting}
 use Rattle.regress_tree.specs.Steps.{MatchState}
 use Rattle.regress_tree.specs.Tree.{Tree}
 use Rattle.regress_unicode.specs.TableOf.{table_of}
+use Rattle.regress_program.specs.declared.found.Match.{Match}
 use Rattle.regress_program.specs.declared.program.Program.{Program}
 use Rattle.regress_program.specs.Compiled.{total}
-use Rattle.regress_program.specs.Found.{no_groups}
+use Rattle.regress_program.specs.Found.{no_groups, state_of}
 use Rattle.regress_program.specs.Program.{Routine, Out, matcher_of}
 use Rattle.regress_program.specs.Views.{program_of}
 
@@ -32,6 +33,12 @@ instructions_of p = total (routines_of p)
 -- has two bits at a position, and the walk takes at most as many steps as the table of its routine has bits.
 abbrev pub per_character : Program → ℕ
 per_character p = 4 * instructions_of p + 1
+
+-- An upper bound for the steps of a search from `origin` with this number of instructions, where the tables are filled:
+-- the positions that are tried, and for each up to the end of the match the steps of the walk.
+abbrev pub steps_up_to : (instructions : ℕ) (text : List ℕ) (origin : ℕ) → Option Match → ℕ
+steps_up_to instructions text origin (Some m) = (2 * instructions + 1) * ((state_of m).position + 1 - origin)
+steps_up_to instructions text origin None = length text + 1 - origin
 
 -- the outcomes of a program from a position with every group unset, by the outcomes in each routine
 abbrev pub outcomes_from : Program → (text : List ℕ) → (ℕ → Out) → (position : ℕ) → List MatchState

@@ -1,5 +1,6 @@
 -- The shape of programs: which instructions an instruction may name, so that every match ends.
-use Rattle.std.specs.Prelude.{◌≡◌, ℕ, ◌≤◌, ◌<◌, List, [], ◌∷◌, length, slice_get, Some, take}
+use Rattle.std.specs.Prelude.{◌≡◌, ℕ, ◌-◌, ◌≤◌, ◌<◌, List, [], ◌∷◌, length, slice_get, Some, take}
+use Rattle.regress_tree.specs.Reading.{forwards}
 use Rattle.regress_tree.specs.Tree.{Leaf, string_set, Tree, leaf}
 use Rattle.regress_program.specs.Program.{Op, accept, fail, part, split, begin_loop, repeat, end_loop, unsets, begin_group, end_group, look, Routine}
 
@@ -41,3 +42,7 @@ pub record IsRoutine (earlier : List Routine) (r : Routine) : Type 0 where
 -- A program: each routine refers to earlier ones only.
 abbrev pub IsProgram : List Routine → Type 0
 IsProgram program = (i : ℕ) (r : Routine) → slice_get program i ≡ Some r → IsRoutine (take i program) r
+
+-- The last routine matches forwards.
+abbrev pub IsForwards : List Routine → Type 0
+IsForwards program = (r : Routine) → slice_get program (length program - 1) ≡ Some r → r.direction ≡ forwards

@@ -1,9 +1,13 @@
--- IsProgram has at most one proof, so a program can keep it.
-use Rattle.std.specs.Prelude.{ℕ, List, [], ◌∷◌}
+-- IsProgram and IsForwards have at most one proof, so a program can keep them.
+use Rattle.std.specs.Prelude.{◌≡◌, ℕ, Bool, true, false, List, [], ◌∷◌}
+use Rattle.std.proofs.Common.{refl, sym, ap, ◌∙◌}
+use Rattle.std.proofs.Math.Bool.{Bool-set}
 use Rattle.std.proofs.Props.{props}
+use mathlib.Core.HLevel.{collapsible→set}
+use Rattle.regress_tree.specs.Reading.{Direction, forwards, backwards}
 use Rattle.regress_tree.specs.Tree.{empty, goal, char, byte_sequence, byte_set, char_set, match_any, match_any_except_line_terminator, anchor, word_boundary, bracket, back_ref, string_set, Tree, leaf, cat, alt, wrapped}
 use Rattle.regress_program.specs.Program.{Op, accept, fail, part, split, begin_loop, repeat, end_loop, unsets, begin_group, end_group, look, Routine}
-use Rattle.regress_program.specs.Shape.{IsPart, Fits, IsRoutine, IsProgram}
+use Rattle.regress_program.specs.Shape.{IsPart, Fits, IsForwards, IsRoutine, IsProgram}
 
 pub part-prop : (t : Tree) → IsProp (IsPart t)
 part-prop (leaf empty) = hlevel props
@@ -43,3 +47,25 @@ routine-prop earlier r = hlevel (props, fits-prop)
 
 pub program-prop : (program : List Routine) → IsProp (IsProgram program)
 program-prop program = hlevel (props, routine-prop)
+
+is_forwards : Direction → Bool
+is_forwards forwards = true
+is_forwards backwards = false
+
+direction_of : Bool → Direction
+direction_of true = forwards
+direction_of false = backwards
+
+same_direction : (d : Direction) → direction_of (is_forwards d) ≡ d
+unfolding direction_of is_forwards
+same_direction forwards = refl
+same_direction backwards = refl
+
+pub Direction-set : IsSet Direction
+Direction-set = collapsible→set (λ d e same. again d e (ap is_forwards same)) (λ d e p q. ap (again d e) (Bool-set (is_forwards d) (is_forwards e) (ap is_forwards p) (ap is_forwards q)))
+  where
+    again : (d e : Direction) → is_forwards d ≡ is_forwards e → d ≡ e
+    again d e same = sym (same_direction d) ∙ ap direction_of same ∙ same_direction e
+
+pub forwards-prop : (program : List Routine) → IsProp (IsForwards program)
+forwards-prop program = hlevel (props, Direction-set)

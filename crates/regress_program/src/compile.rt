@@ -6,7 +6,7 @@ ghost use Rattle.regress_unicode.specs.TableOf.{table_of};
 ghost use Rattle.regress_program.specs.CodeOf.{Emits};
 ghost use Rattle.regress_program.specs.Compiled.{matching, IsPattern, total};
 ghost use Rattle.regress_program.specs.Search.{groups_of, instructions_of, routines_of, setting_of};
-ghost use Rattle.regress_program.specs.Shape.{IsProgram};
+ghost use Rattle.regress_program.specs.Shape.{IsForwards, IsProgram};
 ghost use Rattle.regress_program.specs.Views.{program_of};
 
 use crate::compiler::Compiler;
@@ -29,6 +29,7 @@ fn compile<'a>(
 ) -> Result<Vec<Routine<'a>>, CompileFault>
     ensures program { IfOk result (λ routines. IsProgram (program_of routines.items)) }
     ensures means { IfOk result (λ routines. IsPattern (program_of routines.items) (tree node.now)) }
+    ensures forwards { IfOk result (λ routines. IsForwards (program_of routines.items)) }
     ensures size { IfOk result (λ routines. total (program_of routines.items) ≤ limit) }
 {
     let mut compiler = Compiler {

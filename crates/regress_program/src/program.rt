@@ -1,7 +1,7 @@
 //! Programs.
 ghost use Rattle.std.specs.Prelude.{◌<◌, length};
-ghost use Rattle.regress_program.specs.Shape.{IsProgram};
-ghost use Rattle.regress_program.specs.Unique.{program-prop};
+ghost use Rattle.regress_program.specs.Shape.{IsForwards, IsProgram};
+ghost use Rattle.regress_program.specs.Unique.{forwards-prop, program-prop};
 ghost use Rattle.regress_program.specs.Views.{program_of};
 
 use crate::instruction::Routine;
@@ -21,4 +21,5 @@ pub struct Program<'n, 't> {
     pub(crate) groups: usize,
     ghost some: { 0 < length routines.items },
     ghost is_program: { IsProgram (program_of routines.items) } by { program-prop (program_of routines.items) },
+    ghost forwards: { IsForwards (program_of routines.items) } by { forwards-prop (program_of routines.items) },
 }

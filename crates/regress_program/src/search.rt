@@ -1,24 +1,21 @@
 //! Searching with a program.
-ghost use Rattle.std.specs.Prelude.{◌≡◌, ◌≤◌, ◌<◌, ◌+◌, ◌-◌, ◌*◌, ℕ, IfOk, length, min, true};
-ghost use Rattle.regress_leaves.specs.Subject.{subject};
+ghost use Rattle.std.specs.Prelude.{◌≡◌, ◌≤◌, ◌<◌, ◌+◌, ◌*◌, ℕ, IfOk, length, min};
 ghost use Rattle.regress_tree.specs.Tree.{Tree};
 ghost use Rattle.regress_unicode.specs.TableOf.{table_of};
-ghost use Rattle.regress_program.specs.Compiled.{IsPattern, total};
-ghost use Rattle.regress_program.specs.Found.{Finds, no_groups};
-ghost use Rattle.regress_program.specs.Linear.{is_linear};
-ghost use Rattle.regress_program.specs.Program.{IsSolution, Out, matcher_of};
+ghost use Rattle.regress_program.specs.Compiled.{IsPattern};
+ghost use Rattle.regress_program.specs.Found.{Finds};
+ghost use Rattle.regress_program.specs.Program.{IsSolution, Out};
 ghost use Rattle.regress_program.specs.Search.{groups_of, instructions_of, outcomes_from, per_character, routines_of, setting_of, tree_outcomes_from};
-ghost use Rattle.regress_program.specs.Shape.{IsProgram};
+ghost use Rattle.regress_program.specs.Shape.{IsForwards, IsProgram};
+ghost use Rattle.regress_program.specs.TextSearch.{searched_program, searched_text};
 ghost use Rattle.regress_program.specs.Views.{program_of};
 
-use crate::evaluate::Input;
-use crate::fill::fill;
 use crate::found::Search;
 use crate::instruction::Routine;
-use crate::leftmost::find_leftmost;
 use crate::linear::Linear;
 use crate::program::Program;
-use crate::tables::fill_first;
+use crate::tables::fill_all;
+use crate::text::TextSearch;
 use regress_base::types::Flags;
 use regress_leaves::known::Known;
 use regress_leaves::rules::MatchContext;
@@ -37,6 +34,7 @@ impl<'n, 't> Program<'n, 't> {
     ) -> Program<'n, 't>
         requires program { IsProgram (program_of routines.items) }
         requires some { 0 < length routines.items }
+        requires forwards { IsForwards (program_of routines.items) }
         ensures routines { routines_of result ≡ program_of routines.entry.items }
         ensures setting { setting_of result ≡ record { flags = flags; table = table_of known.entry.tables.now } }
         ensures groups { groups_of result ≡ groups }
@@ -111,51 +109,61 @@ impl<'n, 't> Linear<'_, 'n, 't> {
             Finds text.now (tree_outcomes_from self.now.program.now text.now t) from search.found) }
         ensures steps { IfOk result (λ search. search.steps ≤ per_character self.now.program.now * (length text.now + 1)) }
     {
+        let linear = *self;
+        let prepared = linear.search(alloc, text)?;
+        let search = prepared.find(alloc, from)?;
+        Ok(Search {
+            found: search.found,
+            steps: search.steps.saturating_add(prepared.steps()),
+        })
+    }
+}
+
+impl<'p> Linear<'p, 'p, 'p> {
+    /// Prepares the search of a text: one that is made once for many calls of [`TextSearch::find`].
+    ///
+    /// # Complexity
+    /// The steps are at most twice the number of instructions for each byte of the text, and once more. The memory is
+    /// proportional to the number of instructions and the length of the text.
+    ///
+    /// # Errors
+    /// Returns [`AllocError`] if an allocation fails.
+    ///
+    /// # Examples
+    /// ```
+    /// let tables = Tables::small(alloc)?;
+    /// let points = code_points(alloc, "a+")?;
+    /// let regex = try_parse(alloc, &points, Flags::default(), &tables)?;
+    /// let program = Program::compile(alloc, &regex, &tables, 1000)?;
+    /// let search = program.linear()?.search(alloc, "aabxa")?;
+    /// let first = search.find(alloc, 0)?;
+    /// match &first.found {
+    ///     Some(found) => assert_eq!(rt; found.end(), 2),
+    ///     None => assert!(rt; false, "it matches"),
+    /// }
+    /// let second = search.find(alloc, 2)?;
+    /// match &second.found {
+    ///     Some(found) => assert_eq!(rt; found.start(), 4),
+    ///     None => assert!(rt; false, "it matches"),
+    /// }
+    /// ```
+    pub fn search(self, alloc: Global, text: &'p str) -> Result<TextSearch<'p>, AllocError>
+        ensures program { IfOk result (λ search. searched_program search ≡ self.program.now) }
+        ensures text { IfOk result (λ search. searched_text search ≡ text.now) }
+    {
         let program = self.program;
         let rules = MatchContext {
             flags: program.flags,
             known: program.known,
             backwards: false,
         };
-        find_in(alloc, text, rules, &program.routines, program.groups, from)
+        let mut steps = 0;
+        let tables = fill_all(alloc, text, rules, &program.routines, &mut steps)?;
+        Ok(TextSearch {
+            program,
+            text,
+            tables,
+            steps,
+        })
     }
-}
-
-/// Returns the leftmost match of a program of these routines that starts at the byte offset `from` or later.
-///
-/// # Errors
-/// Returns [`AllocError`] if an allocation fails.
-fn find_in(
-    alloc: Global,
-    text: &str,
-    rules: MatchContext<'_>,
-    routines: &[Routine<'_>],
-    groups: usize,
-    from: usize,
-) -> Result<Search, AllocError>
-    requires program { IsProgram (program_of routines.now) }
-    requires linear { is_linear (program_of routines.now) ≡ true }
-    requires some { 0 < length routines.now }
-    ensures solved { IfOk result (λ search. (outs : ℕ → Out) → (let u = subject rules.entry text.now in
-        IsSolution u.setting u.bytes (program_of routines.now) outs → Finds u.bytes
-        (λ p. matcher_of u.setting u.bytes (program_of routines.now) outs (length (program_of routines.now) - 1) (no_groups groups p)) from search.found)) }
-    ensures steps { IfOk result (λ search. search.steps ≤ (4 * total (program_of routines.now) + 1) * (length text.now + 1)) }
-{
-    let last = routines.len() - 1;
-    let routine = &routines[last];
-    let mut steps = 0;
-    let tables = fill_first(alloc, text, rules, routines, last, &mut steps)?;
-    let input = Input {
-        text: &*text,
-        rules: MatchContext {
-            backwards: routine.backwards,
-            ..rules
-        },
-        routines: &*routines,
-        tables: &tables,
-    };
-    let table = fill(alloc, input, routine)?;
-    steps = steps.saturating_add(table.bits.len() as u64);
-    let found = find_leftmost(alloc, input, &table, routine, groups, from, &mut steps)?;
-    Ok(Search { found, steps })
 }

@@ -38,7 +38,11 @@ pub(crate) fn walk(
         IsSolution u.setting u.bytes (program_of input.entry.routines.now) outs → IsFull table.now → IsRight out table.now →
         has_outcome (out (at_of walker.old)) ≡ true →
         (ended ≡ true) × ((rest : List MatchState) × (out (at_of walker.old) ≡ (at_of walker.new).state ∷ rest)))) }
-    ensures steps { IfOk result (λ _. steps.new ≤ steps.old + index table.now walker.old.pc walker.old.moved walker.old.position + 1) }
+    ensures inside { IfOk result (λ ended. ended ≡ true → walker.new.position ≤ table.now.length) }
+    ensures falls { IfOk result (λ ended. ended ≡ true → index table.now walker.new.pc walker.new.moved walker.new.position
+        ≤ index table.now walker.old.pc walker.old.moved walker.old.position) }
+    ensures steps { IfOk result (λ ended. ended ≡ true → steps.new + index table.now walker.new.pc walker.new.moved walker.new.position
+        ≤ steps.old + index table.now walker.old.pc walker.old.moved walker.old.position + 1) }
 {
     'walk: loop {
         *steps = steps.saturating_add(1);

@@ -12,7 +12,7 @@ use regress_front::unicode::{
     FoldRange, Tables, add_icase_code_points, expand_code_point, fold, unfold_char, uppercase,
 };
 use regress_front::util::code_points;
-use regress_match::{Match, Matches, Outcome, find, find_all, for_each_match, match_at};
+use regress_match::{Match, Matcher, Matches, Outcome, find, find_all, for_each_match, match_at};
 use regress_program::{Nonlinear, Program};
 use regress_ucd::unicode_tables;
 use std::alloc::AllocError;
@@ -414,6 +414,27 @@ fn the_example_of_a_program_holds(rt: HostRuntime) -> Result<(), Fail> {
 }
 
 #[test]
+fn the_example_of_a_text_search_holds(rt: HostRuntime) -> Result<(), Fail> {
+    let alloc = rt.alloc();
+    let tables = Tables::small(alloc)?;
+    let points = code_points(alloc, "a+")?;
+    let regex = try_parse(alloc, &points, Flags::default(), &tables)?;
+    let program = Program::compile(alloc, &regex, &tables, 1000)?;
+    let search = program.linear()?.search(alloc, "aabxa")?;
+    let first = search.find(alloc, 0)?;
+    match &first.found {
+        Some(found) => assert_eq!(rt; found.end(), 2),
+        None => assert!(rt; false, "it matches"),
+    }
+    let second = search.find(alloc, 2)?;
+    match &second.found {
+        Some(found) => assert_eq!(rt; found.start(), 4),
+        None => assert!(rt; false, "it matches"),
+    }
+    Ok(())
+}
+
+#[test]
 fn the_examples_of_searches_hold(rt: HostRuntime) -> Result<(), Fail> {
     let alloc = rt.alloc();
     // one match after another is found
@@ -462,6 +483,60 @@ fn the_examples_of_searches_hold(rt: HostRuntime) -> Result<(), Fail> {
         )?;
         assert!(rt; all);
         assert_eq!(rt; count, 2);
+    }
+    Ok(())
+}
+
+#[test]
+fn the_examples_of_matchers_hold(rt: HostRuntime) -> Result<(), Fail> {
+    let alloc = rt.alloc();
+    // a search takes linear time
+    {
+        let tables = Tables::small(alloc)?;
+        let points = code_points(alloc, "(a*)*b")?;
+        let regex = try_parse(alloc, &points, Flags::default(), &tables)?;
+        let matcher = Matcher::new(alloc, &regex, &tables, 1000)?;
+        assert!(rt; matcher.is_linear());
+        let found = matcher.find(alloc, "xaaab", 0, 0)?;
+        match &found.outcome {
+            Outcome::Matched(found) => {
+                assert_eq!(rt; found.start(), 1);
+                assert_eq!(rt; found.end(), 5);
+            }
+            _ => assert!(rt; false, "it matches"),
+        }
+    }
+    // one match after another is found
+    {
+        let tables = Tables::small(alloc)?;
+        let points = code_points(alloc, "a+")?;
+        let regex = try_parse(alloc, &points, Flags::default(), &tables)?;
+        let matcher = Matcher::new(alloc, &regex, &tables, 1000)?;
+        let mut matches = matcher.find_iter("aabxa", 0, 0);
+        let mut ends = Vec::new(alloc);
+        for _ in 0..10 {
+            if let Outcome::Matched(found) = matches.next(alloc)? {
+                ends.push(found.end())?;
+            }
+        }
+        assert_eq!(rt; ends.as_slice(), [2, 5].as_slice());
+    }
+    // all matches are listed
+    {
+        let tables = Tables::small(alloc)?;
+        let points = code_points(alloc, "a+")?;
+        let regex = try_parse(alloc, &points, Flags::default(), &tables)?;
+        let matcher = Matcher::new(alloc, &regex, &tables, 1000)?;
+        let mut ends = Vec::new(alloc);
+        match matcher.find_all(alloc, "aabxa", 0)? {
+            Some(all) => {
+                for found in &all {
+                    ends.push(found.end())?;
+                }
+            }
+            None => assert!(rt; false, "it is linear"),
+        }
+        assert_eq!(rt; ends.as_slice(), [2, 5].as_slice());
     }
     Ok(())
 }

@@ -13,4 +13,5 @@ returns-in_default c =
           c.in_ok-response.ensures.yields;
       fresh = if_nowhere _ c.in_ok-response.response c.in_default.not-Nowhere;
       left = c.in_ok-response.ensures.budget;
+      spent = c.in_ok-response.ensures.spent;
     }

@@ -8,7 +8,7 @@ use Rattle.regress_match.specs.Captures.{state, undone}
 use Rattle.regress_match.specs.Machine.{left_ahead}
 use Rattle.regress_leaves.specs.Subject.{subject}
 use Rattle.regress_match.proofs.CaptureLemmas.{Later-refl, undone-nil, undone-all}
-use Rattle.regress_match.proofs.RunLemmas.{begins, goes_on_with, ends_at, look_holds, look_fails, looks_first, looks_none, rewound, rewound_trail}
+use Rattle.regress_match.proofs.RunLemmas.{begins, goes_on_with, ends_at, look_holds, look_fails, holds_spent, looks_first, looks_none, rewound, rewound_trail}
 use Rattle.regress_match.proofs.run.+run.Goals as goal
 
 pub lookaround_matcher-returns-then-cannot_match_at-clause-looks : goal.lookaround_matcher-returns-then-cannot_match_at-clause-looks
@@ -167,3 +167,12 @@ pub settle-returns-in-Fails-clause-settles : goal.settle-returns-in-Fails-clause
 settle-returns-in-Fails-clause-settles t c = λ outcomes m goes.
     look_fails (subject c.args.rules c.args.text.now) outcomes m c.args.captures.now c.lookaround_matcher.new.captures c.in-Look.looking (rw c.in-Look.is at goes)
     c.in_ok-lookaround_matcher-in-Look.ensures.later (rw c.in-Fails.is at c.in_ok-lookaround_matcher-in-Look.ensures.looks)
+
+pub lookaround_matcher-returns-then-cannot_match_at-clause-spent : goal.lookaround_matcher-returns-then-cannot_match_at-clause-spent
+lookaround_matcher-returns-then-cannot_match_at-clause-spent t c = holds_spent _ c.holds_if.result _ c.holds_if.ensures
+
+pub lookaround_matcher-returns-in-At-clause-spent : goal.lookaround_matcher-returns-in-At-clause-spent
+lookaround_matcher-returns-in-At-clause-spent t c = holds_spent _ c.holds_if-in-At.result _ c.holds_if-in-At.ensures
+
+pub lookaround_matcher-returns-clause-spent : goal.lookaround_matcher-returns-clause-spent
+lookaround_matcher-returns-clause-spent t c = holds_spent _ c.holds_if-in-Nowhere.result _ c.holds_if-in-Nowhere.ensures

@@ -73,7 +73,9 @@ returns-then-not-branch c = record {
       (ap has_outcome (sym solved) ∙ so_far.some) in
       let bad : true ≡ false = sym leads.0 ∙ c.if-not-branch.true in
       cc;
-  steps = omega arith;
+  inside = λ ends. let bad : true ≡ false = sym ends ∙ refl in cc;
+  falls = λ ends. let bad : true ≡ false = sym ends ∙ refl in cc;
+  steps = λ ends. let bad : true ≡ false = sym ends ∙ refl in cc;
 }
 
 pub walk-preserved : goal.walk-preserved
@@ -81,6 +83,7 @@ walk-preserved c = record {
   pc = (c.in_ok-step.ensures.below c.if-not-branch.false).pc;
   position = (c.in_ok-step.ensures.below c.if-not-branch.false).position;
   steps = let below = c.in_ok-step.ensures.below c.if-not-branch.false in omega (arith, below.lower);
+  falls = let below = c.in_ok-step.ensures.below c.if-not-branch.false in omega (arith, below.lower, c.walk.invariant.falls);
   leads = λ outs solution full right some.
       let u = subject c.args.input.rules c.args.input.text.now in
       let program = program_of c.args.input.routines.now in

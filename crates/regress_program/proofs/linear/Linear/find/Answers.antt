@@ -1,39 +1,34 @@
-use Rattle.std.proofs.Common.{◌≡◌, ℕ, ◌-◌, List, length, true, sym, subst, IfOk}
-use Rattle.regress_program.specs.declared.instruction.Routine.{Routine}
-use Rattle.regress_program.specs.Found.{Finds, no_groups}
-use Rattle.regress_program.specs.Linear.{is_linear}
-use Rattle.regress_program.specs.Program.{matcher_of, IsSolution, Out}
-use Rattle.regress_program.specs.Search.{routines_of, setting_of, groups_of, outcomes_from, tree_outcomes_from}
-use Rattle.regress_program.specs.Shape.{IsProgram}
-use Rattle.regress_program.specs.Views.{program_of}
-use Rattle.regress_program.proofs.RunLemmas.{outcomes, outcomes-solve}
-use Rattle.regress_program.proofs.SearchLemmas.{Finds-same, ok_map}
+use Rattle.std.proofs.Common.{ℕ, ◌+◌, ◌*◌, ◌≤◌, List, length, subst, IfSome, arith}
+use Rattle.regress_tree.specs.Tree.{Tree}
+use Rattle.regress_program.specs.Compiled.{IsPattern}
+use Rattle.regress_program.specs.Found.{Finds, state_of}
+use Rattle.regress_program.specs.Program.{IsSolution, Out}
+use Rattle.regress_program.specs.Search.{instructions_of, outcomes_from, routines_of, setting_of, steps_up_to, tree_outcomes_from}
+use Rattle.regress_program.specs.TextSearch.{searched_text}
+use Rattle.regress_program.specs.declared.program.Program.{Program}
+use Rattle.regress_program.proofs.StepLemmas.{fill_and_find}
 use Rattle.regress_program.proofs.linear.Linear.find.Goals as goal
 
-pub find_in-requires-clause-program : goal.find_in-requires-clause-program
-find_in-requires-clause-program c = subst (λ xs. IsProgram (program_of xs)) (sym c.deref.ensures.value) c.args.self.now.program.now.is_program
-
-pub find_in-requires-clause-linear : goal.find_in-requires-clause-linear
-find_in-requires-clause-linear c = subst (λ xs. is_linear (program_of xs) ≡ true) (sym c.deref.ensures.value) c.args.self.now.linear
-
-pub returns-clause-solved : goal.returns-clause-solved
-returns-clause-solved c =
+pub returns : goal.returns
+returns c =
     let p = c.args.self.now.program.now in
     let text = c.args.text.now in
-    subst
-    (λ (xs : List Routine). IfOk c.find_in.result (λ search. (outs : ℕ → Out) → IsSolution (setting_of p) text (program_of xs) outs →
-    Finds text (λ k. matcher_of (setting_of p) text (program_of xs) outs (length (program_of xs) - 1) (no_groups (groups_of p) k)) c.args.from search.found))
-    c.deref.ensures.value c.find_in.ensures.solved
-
-pub returns-clause-finds : goal.returns-clause-finds
-returns-clause-finds c =
-    let p = c.args.self.now.program.now in
-    let text = c.args.text.now in
-    let program = routines_of p in
-    let outs : ℕ → Out = outcomes (setting_of p) text program p.is_program in
-    let solution : IsSolution (setting_of p) text program outs = outcomes-solve (setting_of p) text program p.is_program in
-    ok_map c.find_in.result _ _
-    (λ search found t pattern.
-    Finds-same text (outcomes_from p text outs) (tree_outcomes_from p text t) c.args.from search.found
-    (λ k le. pattern.means (setting_of p) text outs solution (no_groups (groups_of p) k) le) (found outs solution))
-    (returns-clause-solved c)
+    let s = c.in_ok-prepared.prepared in
+    let same = c.in_ok-prepared.ensures in
+    let find = c.in_ok-search.ensures in
+    let found = c.in_ok-search.search.found in
+    let origin = c.args.from in
+    let Solved : Program → List ℕ → Type 0 =
+    λ q t. (outs : ℕ → Out) → IsSolution (setting_of q) t (routines_of q) outs → Finds t (outcomes_from q t outs) origin found in
+    let Found : Program → List ℕ → Type 0 = λ q t. (r : Tree) → IsPattern (routines_of q) r → Finds t (tree_outcomes_from q t r) origin found in
+    let Fill : Program → List ℕ → Type 0 = λ q t. c.steps.result ≤ 2 * instructions_of q * (length t + 1) in
+    let Find : Program → List ℕ → Type 0 = λ q t. c.in_ok-search.search.steps ≤ steps_up_to (instructions_of q) t origin found in
+    let Inside : List ℕ → Type 0 = λ t. IfSome found (λ m. (state_of m).position ≤ length t) in
+    let filled = subst (λ t. Fill p t) same.text (subst (λ q. Fill q (searched_text s)) same.program c.steps.ensures) in
+    let searched = subst (λ t. Find p t) same.text (subst (λ q. Find q (searched_text s)) same.program find.steps) in
+    let sum = fill_and_find (instructions_of p) text origin found c.steps.result c.in_ok-search.search.steps filled searched (subst Inside same.text find.inside) in
+    record {
+      solved = subst (λ t. Solved p t) same.text (subst (λ q. Solved q (searched_text s)) same.program find.solved);
+      finds = subst (λ t. Found p t) same.text (subst (λ q. Found q (searched_text s)) same.program find.finds);
+      steps = omega (arith, sum);
+    }

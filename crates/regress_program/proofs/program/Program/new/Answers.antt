@@ -4,4 +4,5 @@ pub invariant_of-result : goal.invariant_of-result
 invariant_of-result c = record {
   some = c.requires.some;
   is_program = c.requires.program;
+  forwards = c.requires.forwards;
 }

@@ -1,4 +1,6 @@
-use Rattle.std.proofs.Common.{List, ◌≡◌, ◌+◌, ◌*◌, ◌<◌, [], ◌∷◌, length, slice_get, take, Some, option_map, refl, sym, ap, ◌∙◌, subst, arith, length-append}
+use Rattle.std.proofs.Common.{List, ◌≡◌, ◌+◌, ◌*◌, [], ◌∷◌, length, slice_get, take, Some, option_map, refl, sym, ap, ◌∙◌, subst, arith, length-append}
+use Rattle.std.proofs.Math.Seq.{take-length}
+use Rattle.std.proofs.lemmas.List.{length-map}
 use Rattle.std.proofs.lemmas.Option.{slice_get-map, slice_get_read}
 use Rattle.regress_program.specs.Bits.{bits_of}
 use Rattle.regress_program.specs.declared.table.Table.{Table}
@@ -6,21 +8,20 @@ use Rattle.regress_program.specs.Compiled.{total}
 use Rattle.regress_program.specs.Table.{IsTableOf, AreTables, AreRight, IsRight}
 use Rattle.regress_program.specs.Views.{program_of, routine_of}
 use Rattle.regress_program.proofs.FillLemmas.{push_tables, push_are_right, more_bits, total-more}
-use Rattle.regress_program.proofs.tables.fill_first.Goals as goal
+use Rattle.regress_program.proofs.tables.fill_all.Goals as goal
 
-pub loop-i-preserved : goal.loop-i-preserved
-loop-i-preserved c =
-    let so_far = c.loop-i.invariant in
+pub loop-routine-preserved : goal.loop-routine-preserved
+loop-routine-preserved c =
+    let so_far = c.loop-routine.invariant in
     let routines = c.args.routines.now in
     let program = program_of routines in
-    let i = c.loop-i.i in
-    let tables = c.loop-i.tables.items in
+    let i = c.loop-routine.routine-index in
+    let tables = c.loop-routine.tables.items in
     let t = c.in_ok-table.table in
     let n = length c.args.text.now in
-    let r = routine_of c.index-routines-i.result in
-    let lt : i < length routines = omega (arith, c.loop-i-test.true, c.requires.count) in
+    let r = routine_of c.routine-item.result in
     let is : slice_get program i ≡ Some r =
-    slice_get-map routine_of routines i ∙ ap (option_map routine_of) (slice_get_read routines _ i _ refl lt c.index-routines-i.is) in
+    slice_get-map routine_of routines i ∙ ap (option_map routine_of) (slice_get_read routines _ i _ refl c.loop-routine-test.true c.routine-item.is) in
     let of : IsTableOf c.args.text.now r t = c.in_ok-table.ensures.of in
     let pushed = c.in_ok-push.ensures.items in
     let last : slice_get program (length tables) ≡ Some r = ap (slice_get program) so_far.count ∙ is in
@@ -33,9 +34,21 @@ loop-i-preserved c =
           (push_are_right tables t outs (so_far.right outs solution)
           (subst (λ (xs : List Table). IsRight (outs (length xs)) t) c.deref.ensures.value
           (c.in_ok-table.ensures.filled outs solution (subst (AreRight outs) (sym c.deref.ensures.value) (so_far.right outs solution)))));
-      steps = more_bits n (length r.ops) (total (take i program)) (total (take (i + 1) program)) (length (bits_of t.bits)) c.loop-i.steps
+      steps = more_bits n (length r.ops) (total (take i program)) (total (take (i + 1) program)) (length (bits_of t.bits)) c.loop-routine.steps
           c.saturating_add.result c.args.steps.now
           (total-more program i r is)
           (c.in_ok-table.ensures.full ∙ ap (λ k. (k + 1) * (2 * t.width)) of.text ∙ ap (λ w. (n + 1) * (2 * w)) of.width)
           so_far.steps (omega arith);
+    }
+
+pub returns : goal.returns
+returns c =
+    let so_far = c.loop-routine.invariant in
+    let routines = c.args.routines.now in
+    let program = program_of routines in
+    let all : c.loop-routine.routine-index ≡ length program = omega (arith, length-map routines routine_of, c.loop-routine-test.false) in
+    let sum : total (take c.loop-routine.routine-index program) ≡ total program = ap (λ k. total (take k program)) all ∙ ap total (take-length program) in
+    record {
+      filled = record { are = so_far.tables; all = so_far.count ∙ all; right = so_far.right };
+      steps = omega (arith, so_far.steps, ap (λ k. (length c.args.text.now + 1) * (2 * k)) sum);
     }

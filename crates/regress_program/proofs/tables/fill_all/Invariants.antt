@@ -4,12 +4,12 @@ use Rattle.regress_program.specs.Program.{IsSolution, Out}
 use Rattle.regress_program.specs.Compiled.{total}
 use Rattle.regress_program.specs.Table.{AreRight, AreTables}
 use Rattle.regress_program.specs.Views.{program_of}
-use Rattle.regress_program.proofs.tables.fill_first.Given as goal
+use Rattle.regress_program.proofs.tables.fill_all.Given as goal
 
-abbrev pub invariant-loop-i : goal.invariant-loop-i
-invariant-loop-i l = record {
-  count : length l.tables.items ≡ l.i;
+abbrev pub invariant-loop-routine : goal.invariant-loop-routine
+invariant-loop-routine l = record {
+  count : length l.tables.items ≡ l.routine-index;
   tables : AreTables l.text (program_of l.routines) l.tables.items;
   right : (outs : ℕ → Out) → IsSolution (subject l.rules l.text).setting l.text (program_of l.routines) outs → AreRight outs l.tables.items;
-  steps : l.steps ≤ l.fn.steps + (length l.text + 1) * (2 * total (take l.i (program_of l.routines)));
+  steps : l.steps ≤ l.fn.steps + (length l.text + 1) * (2 * total (take l.routine-index (program_of l.routines)));
 }

@@ -1,0 +1,50 @@
+-- A search for all matches with a matcher, between two of them.
+use Rattle.std.proofs.Common.{◌≡◌, ◌∙◌, ℕ, ◌+◌, ◌-◌, ◌<◌, List, [], ◌∷◌, ◌++◌, length, ap, subst, sym, arith}
+use Rattle.regress_program.specs.Found.{IsLeftmost}
+use Rattle.regress_program.specs.declared.found.Match.{Match}
+use Rattle.regress_match.specs.Iterated.{IsSameIteration, iterated_from, iterated_matcher, iterated_text}
+use Rattle.regress_match.specs.Matched.{Finds}
+use Rattle.regress_match.specs.Matcher.{matcher_outcomes}
+use Rattle.regress_match.specs.Searched.{AreAllMatches, AreMatches, next_offset}
+use Rattle.regress_match.specs.declared.matcher.Matcher.{Matcher}
+use Rattle.regress_match.specs.declared.matcher_matches.MatcherMatches.{MatcherMatches}
+use Rattle.regress_match.specs.declared.matching.Outcome.{Outcome}
+use Rattle.regress_match.specs.declared.matching.Outcome.TheVariants as outcomes
+use Rattle.regress_match.proofs.lemmas.Searched.{AreMatches-more}
+
+-- the measure of a loop over all matches
+abbrev pub remaining : MatcherMatches → ℕ
+remaining s = length (iterated_text s) + 2 - iterated_from s
+
+pub remaining-falls : (old new : MatcherMatches) (m : Match) →
+    IsLeftmost (iterated_text old) (matcher_outcomes (iterated_matcher old) (iterated_text old)) (iterated_from old) m →
+    iterated_from new ≡ next_offset m → iterated_text new ≡ iterated_text old → remaining new < remaining old
+remaining-falls old new m found next same = omega (arith, found.from, found.boundary.0, next, ap length same)
+
+-- the search has found these matches, and goes on after them
+pub record HasFound (matcher : Matcher) (text : List ℕ) (now : MatcherMatches) (ms : List Match) : Type 0 where
+  pub same_matcher : iterated_matcher now ≡ matcher
+  pub same_text : iterated_text now ≡ text
+  pub found : AreMatches text (matcher_outcomes matcher text) 0 (iterated_from now) ms
+
+module _ (matcher : Matcher) (text : List ℕ) (now : MatcherMatches) (ms : List Match) (sofar : HasFound matcher text now ms) where
+  here : (outcome : Outcome) → Finds (iterated_text now) (matcher_outcomes (iterated_matcher now) (iterated_text now)) (iterated_from now) outcome →
+      Finds text (matcher_outcomes matcher text) (iterated_from now) outcome
+  here outcome finds =
+      subst (λ t. Finds t (matcher_outcomes matcher t) (iterated_from now) outcome) sofar.same_text
+      (subst (λ n. Finds (iterated_text now) (matcher_outcomes n (iterated_text now)) (iterated_from now) outcome) sofar.same_matcher finds)
+
+  pub one_more : (new : MatcherMatches) (m : Match) →
+      Finds (iterated_text now) (matcher_outcomes (iterated_matcher now) (iterated_text now)) (iterated_from now) (outcomes.Matched m) →
+      iterated_from new ≡ next_offset m → IsSameIteration now new → HasFound matcher text new (ms ++ m ∷ [])
+  one_more new m finds next same = record {
+    same_matcher = same.matcher ∙ sofar.same_matcher;
+    same_text = same.text ∙ sofar.same_text;
+    found = subst (λ k. AreMatches text (matcher_outcomes matcher text) 0 k (ms ++ m ∷ [])) (sym next)
+        (AreMatches-more text (matcher_outcomes matcher text) 0 (iterated_from now) ms m sofar.found (here (outcomes.Matched m) finds));
+  }
+
+  -- no match remains
+  pub all_found : Finds (iterated_text now) (matcher_outcomes (iterated_matcher now) (iterated_text now)) (iterated_from now) outcomes.NoMatch →
+      AreAllMatches text (matcher_outcomes matcher text) ms
+  all_found none = record { to = iterated_from now; found = sofar.found; none = here outcomes.NoMatch none }

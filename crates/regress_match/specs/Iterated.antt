@@ -1,0 +1,29 @@
+-- Repeated searches with a pattern that may have a program.
+use Rattle.std.specs.Prelude.{◌≡◌, ℕ, List}
+use Rattle.regress_match.specs.declared.matcher.Matcher.{Matcher}
+use Rattle.regress_match.specs.declared.matcher_matches.MatcherMatches.{MatcherMatches}
+
+-- the matcher
+abbrev pub iterated_matcher : MatcherMatches → Matcher
+iterated_matcher m = m.matcher.now
+
+-- the text that is searched
+abbrev pub iterated_text : MatcherMatches → List ℕ
+iterated_text m = m.text.now
+
+-- the byte offset from which the next match is searched
+abbrev pub iterated_from : MatcherMatches → ℕ
+iterated_from m = m.from
+
+-- the step limit of backtracking, and the number of steps that are left
+abbrev pub step_limit : MatcherMatches → ℕ
+step_limit m = m.limit
+
+abbrev pub steps_left : MatcherMatches → ℕ
+steps_left m = m.left
+
+-- the matcher, the text and the step limit of a repeated search are unchanged
+pub record IsSameIteration (old new : MatcherMatches) : Type 0 where
+  pub matcher : iterated_matcher new ≡ iterated_matcher old
+  pub text : iterated_text new ≡ iterated_text old
+  pub limit : step_limit new ≡ step_limit old

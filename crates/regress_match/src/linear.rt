@@ -1,0 +1,383 @@
+//! Searches that take linear time where the pattern has a program.
+ghost use Rattle.std.specs.Prelude.{◌≡◌, ◌+◌, ◌*◌, ◌≤◌, IfNone, IfOk, IfSome, IsNone, IsSome, OnErr, length, min, option_map, is_some};
+ghost use Rattle.regress_tree.specs.Tree.{tree};
+ghost use Rattle.regress_tree.specs.WellFormed.{IsWellFormed};
+ghost use Rattle.regress_unicode.specs.TableOf.{table_of};
+ghost use Rattle.regress_program.specs.Search.{instructions_of};
+ghost use Rattle.regress_match.specs.Compiled.{IsProgramOf};
+ghost use Rattle.regress_match.specs.Iterated.{IsSameIteration, iterated_from, iterated_matcher, iterated_text, step_limit, steps_left};
+ghost use Rattle.regress_match.specs.Matched.{Finds, IfMatched, IfOutOfSteps, IsInside};
+ghost use Rattle.regress_match.specs.Matcher.{IsLimited, IsLinear, factor, factor_of, matcher_outcomes, matcher_setting, matcher_tree, outcome_if};
+ghost use Rattle.regress_match.specs.Searched.{AreAllMatches, offset_after};
+
+use crate::machine::Scratch;
+use crate::matcher::Matcher;
+use crate::matcher_matches::MatcherMatches;
+use crate::matching::{Match, Outcome};
+use crate::prepared::Prepared;
+use crate::search::{find_within, offset_after};
+use regress_program::{CompileFault, Program};
+use regress_tree::ir::Regex;
+use regress_unicode::Tables;
+use std::alloc::{AllocError, Global};
+
+/// The result of a search, and the number of steps that it took.
+#[derive(Debug, Drop)]
+pub struct Found {
+    /// The result of the search.
+    pub outcome: Outcome,
+    /// The number of steps: those of backtracking, counted as in `find`, those of making tables and of searching in them.
+    pub steps: u64,
+}
+
+impl<'a> Matcher<'a> {
+    /// Prepares a pattern for searches. They take linear time if the pattern has a linear program of at most
+    /// `limit` instructions.
+    ///
+    /// # Errors
+    /// Returns [`AllocError`] if an allocation fails.
+    ///
+    /// # Complexity
+    /// As that of [`Program::compile`].
+    pub fn new(
+        alloc: Global,
+        regex: &'a Regex,
+        tables: &'a Tables,
+        limit: usize,
+    ) -> Result<Matcher<'a>, AllocError>
+        ensures setting { IfOk result (λ m. matcher_setting m ≡ record { flags = regex.now.flags; table = table_of tables.now }) }
+        ensures tree { IfOk result (λ m. matcher_tree m ≡ tree regex.now.node) }
+        ensures factor { IfOk result (λ m. IfSome (factor_of m) (λ n. n ≤ factor limit)) }
+    {
+        let prepared = Prepared::new(regex, tables);
+        let program = compiled(alloc, prepared, limit)?;
+        Ok(Matcher { prepared, program })
+    }
+
+    /// Returns whether searches are known to take linear time: whether the pattern has a linear program
+    /// within the limit.
+    pub fn is_linear(&self) -> bool
+        ensures { result ≡ is_some (factor_of self.now) }
+    {
+        self.program.is_some()
+    }
+
+    /// Returns an upper bound for the steps of a search for each byte of a text, counting its end as one more; at most
+    /// `u64::MAX`. The result is `None` if searches are not known to take linear time.
+    pub fn steps_per_character(&self) -> Option<u64>
+        ensures { result ≡ option_map (λ n. min n u64.MAX) (factor_of self.now) }
+    {
+        match &self.program {
+            Some(program) => Some(factor(program)),
+            None => None,
+        }
+    }
+
+    /// Returns the leftmost match in `text` that starts at the byte offset `from` or later, on a character boundary, as
+    /// `find` does.
+    ///
+    /// # Complexity
+    /// If [`Matcher::is_linear`], the result is never [`Outcome::OutOfSteps`], and the steps are at most
+    /// [`Matcher::steps_per_character`] for each byte of the text, and once more. The search first backtracks within
+    /// some steps for each byte; once they are used up it makes tables, whose memory is proportional to the number of
+    /// instructions and the length of the text.
+    ///
+    /// For any other pattern `steps` is the step limit, as in `find`.
+    ///
+    /// # Errors
+    /// Returns [`AllocError`] if an allocation fails.
+    ///
+    /// # Examples
+    /// ```
+    /// let tables = Tables::small(alloc)?;
+    /// let points = code_points(alloc, "(a*)*b")?;
+    /// let regex = try_parse(alloc, &points, Flags::default(), &tables)?;
+    /// let matcher = Matcher::new(alloc, &regex, &tables, 1000)?;
+    /// assert!(rt; matcher.is_linear());
+    /// let found = matcher.find(alloc, "xaaab", 0, 0)?;
+    /// match &found.outcome {
+    ///     Outcome::Matched(found) => {
+    ///         assert_eq!(rt; found.start(), 1);
+    ///         assert_eq!(rt; found.end(), 5);
+    ///     }
+    ///     _ => assert!(rt; false, "it matches"),
+    /// }
+    /// ```
+    pub fn find(
+        &self,
+        alloc: Global,
+        text: &str,
+        from: usize,
+        steps: u64,
+    ) -> Result<Found, AllocError>
+        ensures finds { IfOk result (λ found. Finds text.now (matcher_outcomes self.now text.now) from found.outcome) }
+        ensures inside { IfOk result (λ found. IsWellFormed (matcher_tree self.now) → IfMatched found.outcome (IsInside text.now)) }
+        ensures linear { IfOk result (λ found. IfSome (factor_of self.now) (λ n. IsLinear n text.now found.outcome found.steps)) }
+        ensures limited { IfOk result (λ found. IfNone (factor_of self.now) (IsLimited steps found.outcome found.steps)) }
+    {
+        let mut matches = self.find_iter(text, from, steps);
+        let outcome = matches.next(alloc)?;
+        Ok(Found {
+            outcome,
+            steps: matches.steps(),
+        })
+    }
+
+    /// Returns a search for the non-overlapping matches that start at the byte offset `from` or later.
+    ///
+    /// If [`Matcher::is_linear`], `steps` has no meaning: the search is never out of steps. For any other pattern it is
+    /// the step limit of all calls of [`MatcherMatches::next`] together.
+    pub fn find_iter<'m>(&'m self, text: &'m str, from: usize, steps: u64) -> MatcherMatches<'m>
+        ensures matcher { iterated_matcher result ≡ self.now }
+        ensures text { iterated_text result ≡ text.now }
+        ensures from { iterated_from result ≡ from }
+        ensures limit { IfNone (factor_of self.now) (step_limit result ≡ steps) }
+    {
+        let limit = self.backtracking_steps(text, steps);
+        MatcherMatches {
+            matcher: self,
+            text,
+            from,
+            limit,
+            left: limit,
+            searched: 0,
+            scratch: None,
+            search: None,
+        }
+    }
+
+    /// Returns all non-overlapping matches in `text`, from left to right, as [`MatcherMatches`] finds them.
+    ///
+    /// The result is `None` only if the search takes more than `steps` steps, and never if [`Matcher::is_linear`].
+    ///
+    /// # Errors
+    /// Returns [`AllocError`] if an allocation fails.
+    ///
+    /// # Examples
+    /// ```
+    /// let tables = Tables::small(alloc)?;
+    /// let points = code_points(alloc, "a+")?;
+    /// let regex = try_parse(alloc, &points, Flags::default(), &tables)?;
+    /// let matcher = Matcher::new(alloc, &regex, &tables, 1000)?;
+    /// let mut ends = Vec::new(alloc);
+    /// match matcher.find_all(alloc, "aabxa", 0)? {
+    ///     Some(all) => {
+    ///         for found in &all {
+    ///             ends.push(found.end())?;
+    ///         }
+    ///     }
+    ///     None => assert!(rt; false, "it is linear"),
+    /// }
+    /// assert_eq!(rt; ends.as_slice(), [2, 5].as_slice());
+    /// ```
+    pub fn find_all(
+        &self,
+        alloc: Global,
+        text: &str,
+        steps: u64,
+    ) -> Result<Option<Vec<Match>>, AllocError>
+        ensures all { IfOk result (λ found. IfSome found (λ all. AreAllMatches text.now (matcher_outcomes self.now text.now) all.items)) }
+        ensures linear { IfOk result (λ found. IfSome (factor_of self.now) (λ _. IsSome found)) }
+    {
+        let mut all = Vec::new(alloc);
+        let mut matches = self.find_iter(text, 0, steps);
+        loop {
+            match matches.next(alloc)? {
+                Outcome::Matched(found) => all.push(found)?,
+                Outcome::NoMatch => return Ok(Some(all)),
+                Outcome::OutOfSteps => return Ok(None),
+            }
+        }
+    }
+
+    /// Returns the step limit of backtracking: that of the caller, or if there is a program some steps for each byte.
+    fn backtracking_steps(&self, text: &str, steps: u64) -> u64
+        ensures linear { IfSome (factor_of self.now) (λ _. result ≤ 64 * (length text.now + 1)) }
+        ensures limited { IfNone (factor_of self.now) (result ≡ steps) }
+    {
+        match self.program {
+            Some(_) => (text.len() as u64 + 1).saturating_mul(64),
+            None => steps,
+        }
+    }
+}
+
+impl<'a> MatcherMatches<'a> {
+    /// Returns the next match, as [`crate::Matches::next`] does.
+    ///
+    /// After an empty match the search goes on one character further. After the last match each call returns
+    /// [`Outcome::NoMatch`]. Only a pattern that has no program can be out of steps.
+    ///
+    /// # Errors
+    /// Returns [`AllocError`] if an allocation fails. The position of the search stays as it is, so that the call may
+    /// be repeated.
+    ///
+    /// # Examples
+    /// ```
+    /// let tables = Tables::small(alloc)?;
+    /// let points = code_points(alloc, "a+")?;
+    /// let regex = try_parse(alloc, &points, Flags::default(), &tables)?;
+    /// let matcher = Matcher::new(alloc, &regex, &tables, 1000)?;
+    /// let mut matches = matcher.find_iter("aabxa", 0, 0);
+    /// let mut ends = Vec::new(alloc);
+    /// for _ in 0..10 {
+    ///     if let Outcome::Matched(found) = matches.next(alloc)? {
+    ///         ends.push(found.end())?;
+    ///     }
+    /// }
+    /// assert_eq!(rt; ends.as_slice(), [2, 5].as_slice());
+    /// ```
+    pub fn next(&mut self, alloc: Global) -> Result<Outcome, AllocError>
+        ensures finds { IfOk result (Finds (iterated_text self.old) (matcher_outcomes (iterated_matcher self.old) (iterated_text self.old)) (iterated_from self.old)) }
+        ensures inside { IfOk result (λ outcome. IsWellFormed (matcher_tree (iterated_matcher self.old)) → IfMatched outcome (IsInside (iterated_text self.old))) }
+        ensures goes_on { IfOk result (λ outcome. iterated_from self.new ≡ offset_after (iterated_text self.old) (iterated_from self.old) outcome) }
+        ensures stays { OnErr result (iterated_from self.new ≡ iterated_from self.old) }
+        ensures same { IsSameIteration self.old self.new }
+        ensures linear { IfOk result (λ outcome. IfSome (factor_of (iterated_matcher self.old)) (λ _. IfOutOfSteps outcome ⊥)) }
+        ensures limited { IfOk result (λ outcome. IfNone (factor_of (iterated_matcher self.old)) (IfOutOfSteps outcome (steps_left self.new ≡ 0))) }
+    {
+        if self.search.is_some() {
+            return self.find_in_tables(alloc);
+        }
+        match self.backtrack(alloc)? {
+            Outcome::OutOfSteps => {
+                self.make_tables(alloc)?;
+                self.find_in_tables(alloc)
+            }
+            outcome => Ok(outcome),
+        }
+    }
+
+    /// Returns the text that is searched.
+    pub fn text(&self) -> &'a str
+        ensures { result.now ≡ iterated_text self.now }
+    {
+        self.text
+    }
+
+    /// Returns the number of steps that all calls of [`MatcherMatches::next`] together took, but for those that
+    /// returned an error.
+    pub fn steps(&self) -> u64
+        ensures linear { IfSome (factor_of (iterated_matcher self.now)) (λ n. result ≤ n * (length (iterated_text self.now) + 1)) }
+        ensures limited { IfNone (factor_of (iterated_matcher self.now)) (result + steps_left self.now ≡ step_limit self.now) }
+    {
+        (self.limit - self.left).saturating_add(self.searched)
+    }
+
+    /// Returns the next match by backtracking, or [`Outcome::OutOfSteps`] if its steps are used up.
+    fn backtrack(&mut self, alloc: Global) -> Result<Outcome, AllocError>
+        requires { IsNone self.old.search }
+        ensures finds { IfOk result (Finds (iterated_text self.old) (matcher_outcomes (iterated_matcher self.old) (iterated_text self.old)) (iterated_from self.old)) }
+        ensures inside { IfOk result (λ outcome. IsWellFormed (matcher_tree (iterated_matcher self.old)) → IfMatched outcome (IsInside (iterated_text self.old))) }
+        ensures goes_on { IfOk result (λ outcome. iterated_from self.new ≡ offset_after (iterated_text self.old) (iterated_from self.old) outcome) }
+        ensures stays { OnErr result (iterated_from self.new ≡ iterated_from self.old) }
+        ensures same { IsSameIteration self.old self.new }
+        ensures spent { IfOk result (λ outcome. IfOutOfSteps outcome (steps_left self.new ≡ 0)) }
+        ensures search { IsNone self.new.search }
+    {
+        let mut scratch = match self.scratch.take() {
+            Some(scratch) => scratch,
+            None => Scratch::new(alloc),
+        };
+        let mut left = self.left;
+        let outcome = find_within(
+            alloc,
+            &self.matcher.prepared,
+            self.text,
+            self.from,
+            &mut scratch,
+            &mut left,
+        )?;
+        self.scratch = Some(scratch);
+        self.left = left;
+        self.from = offset_after(self.text, self.from, &outcome);
+        Ok(outcome)
+    }
+
+    /// Makes the tables of the text, if the pattern has a program.
+    fn make_tables(&mut self, alloc: Global) -> Result<(), AllocError>
+        requires { IsNone self.old.search }
+        ensures from { iterated_from self.new ≡ iterated_from self.old }
+        ensures same { IsSameIteration self.old self.new }
+        ensures left { steps_left self.new ≡ steps_left self.old }
+        ensures made { IfOk result (λ _. IfSome (factor_of (iterated_matcher self.old)) (λ _. IsSome self.new.search)) }
+    {
+        let matcher = self.matcher;
+        if let Some(program) = &matcher.program {
+            if let Ok(linear) = program.linear() {
+                let search = linear.search(alloc, self.text)?;
+                self.searched = search.steps();
+                self.search = Some(search);
+            }
+        }
+        Ok(())
+    }
+
+    /// Returns the next match by the tables, or [`Outcome::OutOfSteps`] if there are none.
+    fn find_in_tables(&mut self, alloc: Global) -> Result<Outcome, AllocError>
+        ensures finds { IfOk result (Finds (iterated_text self.old) (matcher_outcomes (iterated_matcher self.old) (iterated_text self.old)) (iterated_from self.old)) }
+        ensures inside { IfOk result (λ outcome. IsWellFormed (matcher_tree (iterated_matcher self.old)) → IfMatched outcome (IsInside (iterated_text self.old))) }
+        ensures goes_on { IfOk result (λ outcome. iterated_from self.new ≡ offset_after (iterated_text self.old) (iterated_from self.old) outcome) }
+        ensures stays { OnErr result (iterated_from self.new ≡ iterated_from self.old) }
+        ensures same { IsSameIteration self.old self.new }
+        ensures left { steps_left self.new ≡ steps_left self.old }
+        ensures made { IfOk result (λ outcome. IsSome self.old.search → IfOutOfSteps outcome ⊥) }
+    {
+        let text = self.text();
+        let Some(search) = &self.search else {
+            return Ok(Outcome::OutOfSteps);
+        };
+        let found = search.find(alloc, self.from)?;
+        let searched = self.searched.saturating_add(found.steps);
+        let outcome = outcome_of(found.found);
+        let from = offset_after(text, self.from, &outcome);
+        self.searched = searched;
+        self.from = from;
+        Ok(outcome)
+    }
+}
+
+/// Returns the program of a pattern, or `None` if it is not linear or has more than `limit` instructions.
+fn compiled<'a>(
+    alloc: Global,
+    prepared: Prepared<'a>,
+    limit: usize,
+) -> Result<Option<Program<'a, 'a>>, AllocError>
+    ensures means { IfOk result (λ program. IfSome program (IsProgramOf prepared.entry)) }
+    ensures size { IfOk result (λ program. IfSome program (λ p. instructions_of p ≤ limit)) }
+{
+    // the number of groups is exact only below this
+    if prepared.groups == usize::MAX {
+        return Ok(None);
+    }
+    let program = match Program::compile(alloc, prepared.regex, prepared.known.tables, limit) {
+        Ok(program) => program,
+        Err(CompileFault::Memory(fault)) => return Err(fault),
+        Err(CompileFault::TooLong) => return Ok(None),
+    };
+    if program.is_linear() {
+        Ok(Some(program))
+    } else {
+        Ok(None)
+    }
+}
+
+/// Returns an upper bound for the steps for each character, at most `u64::MAX`: those of backtracking, of making the
+/// tables, and of searching in them.
+fn factor(program: &Program<'_, '_>) -> u64
+    ensures { result ≡ min (factor (instructions_of program.now)) u64.MAX }
+{
+    (program.instructions() as u64)
+        .saturating_mul(6)
+        .saturating_add(66)
+}
+
+/// Returns the result of a search by tables.
+fn outcome_of(found: Option<Match>) -> Outcome
+    ensures { result ≡ outcome_if found }
+{
+    match found {
+        Some(found) => Outcome::Matched(found),
+        None => Outcome::NoMatch,
+    }
+}
