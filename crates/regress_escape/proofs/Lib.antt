@@ -1,0 +1,2 @@
+mod SpaceLemmas
+mod EncodingLemmas
