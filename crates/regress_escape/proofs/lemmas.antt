@@ -1,0 +1,3 @@
+-- Lemmas about this crate's definitions, for use in the crates above.
+pub mod Numeric
+pub mod Heads
