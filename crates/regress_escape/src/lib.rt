@@ -2,6 +2,8 @@
 #![tactic(auto)]
 
 mod characters;
+mod law;
 mod pattern;
 
+pub use law::escaped_texts_match_themselves;
 pub use pattern::escape;

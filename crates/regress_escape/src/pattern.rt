@@ -10,7 +10,9 @@ use std::alloc::{AllocError, Global};
 
 /// Returns the pattern that matches exactly `text` (ECMA-262, RegExp.escape).
 ///
-/// A quantifier that follows the pattern applies to its last character only, so put it into a group first.
+/// The pattern is accepted under all flags, also inside a larger pattern, and with the flag i it matches up to case
+/// folding: see [`escaped_texts_match_themselves`](crate::escaped_texts_match_themselves). A quantifier that follows it
+/// applies to its last character only, so put it into a group first.
 ///
 /// # Errors
 /// Returns [`AllocError`] if an allocation fails.
