@@ -6,6 +6,7 @@ use example_callers::caret::pointed_at;
 use example_callers::quickstart::{compile, find_matches};
 use example_callers::slice::{SearchError, first_match};
 use example_callers::underline::underlined_loop;
+use regress_escape::escaped_texts_match_themselves;
 use regress_front::codepointset::canonical_form_is_unique;
 use regress_front::parse::FaultKind;
 use regress_front::types::{Flags, limits_are_as_defined};
@@ -15,6 +16,7 @@ use std::test::Fail;
 #[test]
 fn functions_that_state_theorems_return(_rt: HostRuntime) {
     canonical_form_is_unique();
+    escaped_texts_match_themselves();
     limits_are_as_defined();
 }
 

@@ -1,6 +1,7 @@
 //! The examples of the doc comments: each line of an example is here. Expected values are from ECMA-262, the Unicode
 //! Character Database and docs/ir.md.
 
+use regress_escape::escape;
 use regress_front::bytesearch::{ByteSearcher, Needle};
 use regress_front::codepointset::{CodePointSet, Interval};
 use regress_front::ir::{Node, Regex, Walk, walk, walk_mut};
@@ -31,6 +32,28 @@ fn the_examples_of_texts_and_bytes_hold(rt: HostRuntime) -> Result<(), Fail> {
         let needle = Needle::new(b"na");
         assert_eq!(rt; needle.find_in(b"banana"), Some(2));
         assert_eq!(rt; needle.find_in(b"band"), None);
+    }
+    Ok(())
+}
+
+#[test]
+fn the_examples_of_escaping_hold(rt: HostRuntime) -> Result<(), Fail> {
+    let alloc = rt.alloc();
+    // a text is escaped
+    {
+        let pattern = escape(alloc, "1+1 = 2?")?;
+        assert_eq!(rt; pattern.as_str(), "\\x31\\+1\\x20\\x3d\\x202\\?");
+    }
+    // each kind of escape, as MDN's page on RegExp.escape has them
+    {
+        let line_feed = escape(alloc, "foo\nbar")?;
+        assert_eq!(rt; line_feed.as_str(), "\\x66oo\\nbar");
+        let separator = escape(alloc, "foo\u{2028}bar")?;
+        assert_eq!(rt; separator.as_str(), "\\x66oo\\u2028bar");
+        let emoji = escape(alloc, "foo😀_bar")?;
+        assert_eq!(rt; emoji.as_str(), "\\x66oo😀_bar");
+        let empty = escape(alloc, "")?;
+        assert_eq!(rt; empty.as_str(), "");
     }
     Ok(())
 }

@@ -1,0 +1,2 @@
+pub mod Escape
+pub mod Literals
