@@ -1,3 +1,4 @@
 -- Lemmas about the definitions of this crate, for use by other crates.
 pub mod Onward
+pub mod Solutions
 pub mod Unset
