@@ -20,7 +20,7 @@ use Rattle.regress_program.specs.Search.{groups_of, instructions_of, outcomes_fr
 use Rattle.regress_program.specs.declared.found.Match.{Match}
 use Rattle.regress_program.specs.declared.found.Search.{Search}
 use Rattle.regress_program.specs.declared.program.Program.{Program}
-use Rattle.regress_program.proofs.lemmas.Solution.{solved_finds}
+use Rattle.regress_program.proofs.lemmas.Solutions.{solved_finds}
 use Rattle.regress_match.specs.Compiled.{IsProgramOf, all_outcomes}
 use Rattle.regress_match.specs.Kept.{IfKept, IsKept}
 use Rattle.regress_match.specs.Matched.{Finds, IfMatched, IsInside, outcomes_at}

@@ -1,4 +1,4 @@
 -- Lemmas about the definitions of this crate, for use by other crates.
 pub mod Onward
-pub mod Solution
+pub mod Solutions
 pub mod Unset

@@ -1,20 +1,24 @@
--- What a search finds by tables, it finds of a pattern with the same outcomes.
+-- Every program has a solution, so what a search finds is found of a pattern with the same outcomes.
 use Rattle.std.proofs.Common.{◌≡◌, ℕ, ◌≤◌, List, length, Option}
+use Rattle.regress_tree.specs.Setting.{Setting}
 use Rattle.regress_tree.specs.Steps.{MatchState}
 use Rattle.regress_program.specs.Found.{Finds}
-use Rattle.regress_program.specs.Program.{Out, IsSolution}
+use Rattle.regress_program.specs.Program.{Out, Routine, IsSolution}
 use Rattle.regress_program.specs.Search.{outcomes_from, routines_of, setting_of}
+use Rattle.regress_program.specs.Shape.{IsProgram}
 use Rattle.regress_program.specs.declared.found.Match.{Match}
 use Rattle.regress_program.specs.declared.program.Program.{Program}
 use Rattle.regress_program.proofs.RunLemmas.{outcomes, outcomes-solve}
 use Rattle.regress_program.proofs.SearchLemmas.{Finds-same}
+
+pub solution : (setting : Setting) (bytes : List ℕ) (program : List Routine) → IsProgram program →
+    (outs : ℕ → Out) × IsSolution setting bytes program outs
+solution setting bytes program is = (outcomes setting bytes program is, outcomes-solve setting bytes program is)
 
 pub solved_finds : (p : Program) (text : List ℕ) (at : ℕ → List MatchState) (origin : ℕ) (found : Option Match) →
     ((outs : ℕ → Out) → IsSolution (setting_of p) text (routines_of p) outs → (k : ℕ) → k ≤ length text → outcomes_from p text outs k ≡ at k) →
     ((outs : ℕ → Out) → IsSolution (setting_of p) text (routines_of p) outs → Finds text (outcomes_from p text outs) origin found) →
     Finds text at origin found
 solved_finds p text at origin found same solved =
-    let is_program = p.is_program in
-    let outs : ℕ → Out = outcomes (setting_of p) text (routines_of p) is_program in
-    let solution : IsSolution (setting_of p) text (routines_of p) outs = outcomes-solve (setting_of p) text (routines_of p) is_program in
-    Finds-same text (outcomes_from p text outs) at origin found (same outs solution) (solved outs solution)
+    let some = solution (setting_of p) text (routines_of p) p.is_program in
+    Finds-same text (outcomes_from p text some.0) at origin found (same some.0 some.1) (solved some.0 some.1)

@@ -1,0 +1,5 @@
+pub mod LeafLemmas
+pub mod MachineLemmas
+pub mod StepLemmas
+pub mod RunLemmas
+pub mod SearchLemmas

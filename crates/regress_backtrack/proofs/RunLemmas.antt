@@ -1,0 +1,196 @@
+-- Runs and lookarounds.
+use Rattle.std.proofs.Common.{◌≡◌, ℕ, ◌<◌, ◌≤◌, ◌==◌, Bool, true, false, not, ◌||◌, List, [], ◌∷◌, flat_map, length, take, Option, Some, All, slice_get, option_map, if◌then◌else◌, refl, sym, ap, ap₂, ◌∙◌, subst, append-nil, arith, reverse}
+use Rattle.std.proofs.lemmas.List.{length-map}
+use Rattle.std.proofs.lemmas.List.Elements.{All-nil, All-cons}
+use Rattle.std.proofs.lemmas.Option.{slice_get-map}
+use Rattle.regress_tree.specs.Lookaround.{looked, lookaround_matcher}
+use Rattle.regress_tree.specs.Reading.{Direction}
+use Rattle.regress_tree.specs.Setting.{Setting}
+use Rattle.regress_tree.specs.Steps.{MatchState, Matcher, CaptureSpan}
+use Rattle.regress_program.specs.declared.instruction.Instruction.{Instruction}
+use Rattle.regress_program.specs.Program.{Out, Routine, reach, start, matcher_of, outcomes_by, outcomes_at, IsSolution}
+use Rattle.regress_program.specs.Shape.{Fits, IsProgram}
+use Rattle.regress_program.specs.Views.{op_of, program_of}
+use Rattle.regress_backtrack.specs.declared.input.Input.{Input}
+use Rattle.regress_backtrack.specs.declared.machine.Machine.{Machine}
+use Rattle.regress_backtrack.specs.declared.machine.Place.{Place}
+use Rattle.regress_backtrack.specs.declared.run.Response.{Response}
+use Rattle.regress_backtrack.specs.declared.run.Response.TheVariants as responses
+use Rattle.regress_backtrack.specs.declared.step.Next.{Next}
+use Rattle.regress_backtrack.specs.declared.step.Next.TheVariants as nexts
+use Rattle.regress_backtrack.specs.Machine.{Groups, at, groups_of, points, state}
+use Rattle.regress_backtrack.specs.Next.{CanStep, IsInput, Inside, ahead, Leads}
+use Rattle.regress_backtrack.specs.Run.{Answers, IsAfter}
+use Rattle.regress_program.specs.declared.instruction.Instruction.TheVariants as insts
+use Rattle.regress_backtrack.proofs.MachineLemmas.{points-none}
+use Rattle.regress_backtrack.proofs.StepLemmas.{Goes, goes_on, goes_back, Remains, on_inside, back_inside}
+
+-- ---- one instruction
+
+module _ (input : Input) (is : IsInput input) (p : Place) (i : Instruction) (lt : p.pc < length input.instructions.now)
+    (read : slice_get input.instructions.now p.pc ≡ Some i) where
+  pub op-is : slice_get is.routine.ops p.pc ≡ Some (op_of i)
+  op-is = ap (λ xs. slice_get xs p.pc) (sym is.ops) ∙ slice_get-map op_of input.instructions.now p.pc ∙ ap (option_map op_of) read
+
+  pub width-is : length is.routine.ops ≡ length input.instructions.now
+  width-is = ap length (sym is.ops) ∙ length-map input.instructions.now op_of
+
+  pub can_step : IsProgram (program_of input.routines.now) → p.position ≤ length input.text.now → CanStep input (op_of i) p
+  can_step program le = record {
+    pc = lt;
+    position = le;
+    fits = subst (λ w. Fits (take input.index (program_of input.routines.now)) w p.pc (op_of i)) width-is
+        ((program input.index is.routine is.is).fit p.pc (op_of i) (omega arith) (omega (arith, width-is, lt)) op-is);
+  }
+
+  -- the outcomes at the instruction
+  pub solved : (setting : Setting) (bytes : List ℕ) (outs : ℕ → Out) (d : Direction) (g : Groups) →
+      IsSolution setting bytes (program_of input.routines.now) outs → d ≡ is.routine.direction → p.position ≤ length bytes →
+      outs input.index (at p g) ≡ outcomes_by setting bytes d (matcher_of setting bytes (program_of input.routines.now) outs) (outs input.index) (op_of i)
+      (at p g)
+  solved setting bytes outs d g solution direction le =
+      solution input.index is.routine is.is (at p g) (omega arith) (omega (arith, width-is, lt)) le
+      ∙ ap₂ (λ x o. outcomes_at setting bytes x (matcher_of setting bytes (program_of input.routines.now) outs) (outs input.index) o (at p g))
+      (sym direction) op-is
+
+  -- the outcomes at the instruction lead on
+  pub advanced : (m m' : Machine) (n : Next) (setting : Setting) (bytes : List ℕ) (outs : ℕ → Out) (d : Direction) →
+      IsSolution setting bytes (program_of input.routines.now) outs → d ≡ is.routine.direction → p.position ≤ length bytes →
+      Goes (outs input.index) m m' (outcomes_by setting bytes d (matcher_of setting bytes (program_of input.routines.now) outs) (outs input.index) (op_of i)
+      (at p (groups_of m))) n → Leads (flat_map (outs input.index) (at p (groups_of m) ∷ points m)) (outs input.index) m' n
+  advanced m m' n setting bytes outs d solution direction le goes =
+      subst (λ ss. Goes (outs input.index) m m' ss n) (sym (solved setting bytes outs d (groups_of m) solution direction le)) goes
+
+-- what a lookaround names
+pub look_fits : (input : Input) (i : Instruction) (p : Place) (negate : Bool) (routine next : ℕ) → i ≡ insts.Look negate routine next →
+    CanStep input (op_of i) p →
+    (routine < length (take input.index (program_of input.routines.now))) × (next < length input.instructions.now)
+look_fits input i p negate routine next is can =
+    let fits = subst (Fits (take input.index (program_of input.routines.now)) (length input.instructions.now) p.pc) (ap op_of is) can.fits in
+    (fits.0, omega (arith, fits.1, can.pc))
+
+-- ---- the outcomes that remain
+
+pub on_same : (states : List MatchState) (out : Out) (m : Machine) (n : Next) (p : Place) → n ≡ nexts.On p → Leads states out m n →
+    states ≡ flat_map out (at p (groups_of m) ∷ points m)
+on_same states out m n p is leads = subst (Leads states out m) is leads
+
+pub back_same : (states : List MatchState) (out : Out) (m : Machine) (n : Next) → n ≡ nexts.Back → Leads states out m n → states ≡ flat_map out (points m)
+back_same states out m n is leads = subst (Leads states out m) is leads
+
+pub accept_same : (states : List MatchState) (out : Out) (m : Machine) (n : Next) (k : ℕ) → n ≡ nexts.Accept k → Leads states out m n →
+    (rest : List MatchState) × (states ≡ state m.captures.items k ∷ rest)
+accept_same states out m n k is leads = subst (Leads states out m) is leads
+
+pub on_all : (input : Input) (m : Machine) (n : Next) (p : Place) → n ≡ nexts.On p → All (Inside input) (ahead m n) →
+    All (Inside input) (at p (groups_of m) ∷ points m)
+on_all input m n p is all = subst (λ x. All (Inside input) (ahead m x)) is all
+
+pub back_all : (input : Input) (m : Machine) (n : Next) → n ≡ nexts.Back → All (Inside input) (ahead m n) → All (Inside input) (points m)
+back_all input m n is all = subst (λ x. All (Inside input) (ahead m x)) is all
+
+-- ---- the start of a run
+
+pub begins-inside : (input : Input) (is : IsInput input) (m : Machine) (start' : ℕ) → IsProgram (program_of input.routines.now) →
+    m.stack.entries.items ≡ [] → start' ≤ length input.text.now →
+    All (Inside input) (at (record { pc = input.first; moved = true; position = start' }) (groups_of m) ∷ points m)
+begins-inside input is m start' program clear le =
+    let width : length is.routine.ops ≡ length input.instructions.now = ap length (sym is.ops) ∙ length-map input.instructions.now op_of in
+    let entry = (program input.index is.routine is.is).entry in
+    let p : Place = record { pc = input.first; moved = true; position = start' } in
+    All-cons (Inside input) (at p (groups_of m)) (points m) (record { pc = omega (arith, is.first, entry, width); position = le })
+    (subst (All (Inside input)) (sym (points-none m clear)) (All-nil (Inside input)))
+
+pub begins-same : (input : Input) (is : IsInput input) (m : Machine) (captures : List (Option CaptureSpan)) (start' : ℕ) (setting : Setting) (bytes : List ℕ)
+    (outs : ℕ → Out) → m.stack.entries.items ≡ [] → m.stack.begins.items ≡ [] → m.captures.items ≡ captures →
+    matcher_of setting bytes (program_of input.routines.now) outs input.index (state captures start')
+    ≡ flat_map (outs input.index) (at (record { pc = input.first; moved = true; position = start' }) (groups_of m) ∷ points m)
+begins-same input is m captures start' setting bytes outs clear none same =
+    ap (λ o. outs input.index (start setting bytes o (state captures start'))) is.is
+    ∙ ap (λ k. outs input.index (record { pc = k; moved = true; state = state captures start'; begins = [] })) (sym is.first)
+    ∙ ap₂ (λ cs bs. outs input.index (record { pc = input.first; moved = true; state = state cs start'; begins = reverse bs })) (sym same) (sym none)
+    ∙ sym (append-nil _)
+    ∙ ap (λ ps. flat_map (outs input.index) (at (record { pc = input.first; moved = true; position = start' }) (groups_of m) ∷ ps)) (sym (points-none m clear))
+
+-- the result of a run for an equal input
+pub same_answers : (m : Machine) (r : Response) (outs : ℕ → Out) (k : ℕ) (s s' : Setting) (b b' : List ℕ) (p p' : List Routine) (i i' : ℕ)
+    (cs cs' : List (Option CaptureSpan)) → (IsSolution s' b' p' outs → Answers (matcher_of s' b' p' outs i' (state cs' k)) m r) →
+    s' ≡ s → b' ≡ b → p' ≡ p → i' ≡ i → cs' ≡ cs → IsSolution s b p outs → Answers (matcher_of s b p outs i (state cs k)) m r
+same_answers m r outs k s s' b b' p p' i i' cs cs' answers es eb ep ei ec =
+    subst (λ x. IsSolution x b p outs → Answers (matcher_of x b p outs i (state cs k)) m r) es
+    (subst (λ x. IsSolution s' x p outs → Answers (matcher_of s' x p outs i (state cs k)) m r) eb
+    (subst (λ x. IsSolution s' b' x outs → Answers (matcher_of s' b' x outs i (state cs k)) m r) ep
+    (subst (λ x. IsSolution s' b' p' outs → Answers (matcher_of s' b' p' outs x (state cs k)) m r) ei
+    (subst (λ x. IsSolution s' b' p' outs → Answers (matcher_of s' b' p' outs i' (state x k)) m r) ec answers))))
+
+-- ---- lookarounds
+
+same_here : (k : ℕ) → (k == k) ≡ true
+same_here k = grind arith
+
+or_false : (b : Bool) → (b || false) ≡ b
+or_false true = refl
+or_false false = refl
+
+stays-moved : (b : Bool) (k : ℕ) → (b || not (k == k)) ≡ b
+stays-moved b k = ap (λ x. b || not x) (same_here k) ∙ or_false b
+
+-- the outcomes of a lookaround, by the result of its body
+abbrev after_look : (negate : Bool) → (s t : MatchState) → Response → List MatchState
+after_look negate s t (responses.Matched k) = if negate then [] else t ∷ []
+after_look negate s t responses.NoMatch = if negate then t ∷ [] else []
+after_look negate s t responses.OutOfSteps = []
+
+module _ (out : Out) (m m' : Machine) (same : points m' ≡ points m) (begins : (groups_of m').begins ≡ (groups_of m).begins) (p : Place) (next : ℕ) where
+  after : Place
+  after = record p { pc = next }
+
+  -- on from the lookaround
+  reach-after : (t : MatchState) → t ≡ state m'.captures.items p.position → at (record p { pc = next }) (groups_of m') ≡ reach next (at p (groups_of m)) t
+  reach-after t is =
+      ap₂ (λ x bs. record { pc = next; moved = x; state = state m'.captures.items p.position; begins = bs }) (sym (stays-moved p.moved p.position)) begins
+      ∙ ap (reach next (at p (groups_of m))) (sym is)
+
+  holds : (states : List MatchState) (n : Next) → n ≡ nexts.On (record p { pc = next }) → states ≡ state m'.captures.items p.position ∷ [] →
+      Goes out m m' (flat_map (λ t. out (reach next (at p (groups_of m)) t)) states) n
+  holds states n is found =
+      goes_on out m m' _ n (record p { pc = next }) _ is (reach-after _ refl) same
+      (ap (flat_map (λ t. out (reach next (at p (groups_of m)) t))) found ∙ append-nil _)
+
+  fails : (states : List MatchState) (n : Next) → n ≡ nexts.Back → states ≡ [] →
+      Goes out m m' (flat_map (λ t. out (reach next (at p (groups_of m)) t)) states) n
+  fails states n is none = goes_back out m m' _ n is same (ap (flat_map (λ t. out (reach next (at p (groups_of m)) t))) none)
+
+  pub look_goes : (negate : Bool) (body : Matcher) (inner : Machine) (r : Response) (n : Next) →
+      Answers (body (state m.captures.items p.position)) inner r → m'.captures.items ≡ inner.captures.items →
+      (r ≡ responses.NoMatch → inner.captures.items ≡ m.captures.items) → IsAfter r negate (record p { pc = next }) n →
+      Goes out m m' (flat_map (λ t. out (reach next (at p (groups_of m)) t)) (lookaround_matcher negate body (state m.captures.items p.position))) n
+  unfolding lookaround_matcher
+  look_goes true body inner (responses.Matched k) n answers captures none is =
+      fails _ n is (ap (looked true (state m.captures.items p.position)) answers.1)
+  look_goes false body inner (responses.Matched k) n answers captures none is =
+      holds _ n is (ap (looked false (state m.captures.items p.position)) answers.1 ∙ ap (λ cs. state cs p.position ∷ []) (sym captures))
+  look_goes true body inner responses.NoMatch n answers captures none is =
+      holds _ n is (ap (looked true (state m.captures.items p.position)) answers ∙ ap (λ cs. state cs p.position ∷ []) (sym (captures ∙ none refl)))
+  look_goes false body inner responses.NoMatch n answers captures none is =
+      fails _ n is (ap (looked false (state m.captures.items p.position)) answers)
+  look_goes negate body inner responses.OutOfSteps n answers captures none is =
+      subst (Goes out m m' _) (sym is) tt
+
+-- the points after a lookaround
+pub look_inside : (input : Input) (m m' : Machine) (r : Response) (negate : Bool) (p : Place) (n : Next) → points m' ≡ points m → IsAfter r negate p n →
+    p.pc < length input.instructions.now → p.position ≤ length input.text.now → Remains input m m' n
+look_inside input m m' (responses.Matched k) true p n same is lt le = back_inside input m m' n is same
+look_inside input m m' (responses.Matched k) false p n same is lt le = on_inside input m m' n p is same (record { pc = lt; position = le })
+look_inside input m m' responses.NoMatch true p n same is lt le = on_inside input m m' n p is same (record { pc = lt; position = le })
+look_inside input m m' responses.NoMatch false p n same is lt le = back_inside input m m' n is same
+look_inside input m m' responses.OutOfSteps negate p n same is lt le = λ all.
+    subst (λ x. All (Inside input) (ahead m' x)) (sym is) (All-nil (Inside input))
+
+-- only a run that is out of steps leaves a lookaround out of steps
+pub look_spent : (r : Response) (negate : Bool) (p : Place) (n : Next) → IsAfter r negate p n → n ≡ nexts.OutOfSteps → r ≡ responses.OutOfSteps
+look_spent (responses.Matched k) true p n is out = let bad : nexts.Back ≡ nexts.OutOfSteps = sym is ∙ out in cc
+look_spent (responses.Matched k) false p n is out = let bad : nexts.On p ≡ nexts.OutOfSteps = sym is ∙ out in cc
+look_spent responses.NoMatch true p n is out = let bad : nexts.On p ≡ nexts.OutOfSteps = sym is ∙ out in cc
+look_spent responses.NoMatch false p n is out = let bad : nexts.Back ≡ nexts.OutOfSteps = sym is ∙ out in cc
+look_spent responses.OutOfSteps negate p n is out = refl

@@ -1,0 +1,136 @@
+-- What follows an instruction.
+use Rattle.std.proofs.Common.{◌≡◌, ℕ, ◌≤◌, ◌<◌, ◌==◌, Bool, true, false, not, ◌||◌, List, [], ◌∷◌, ◌++◌, flat_map, length, Option, Some, None, MatchOption, All, Result, Ok, Err, IfOk, refl, sym, ap, ap₂, ◌∙◌, subst, append-nil, append_assoc}
+use Rattle.std.proofs.lemmas.List.Elements.{All-head, All-cons}
+use Rattle.regress_tree.specs.Matching.{steps}
+use Rattle.regress_tree.specs.Reading.{Direction}
+use Rattle.regress_tree.specs.Setting.{Setting}
+use Rattle.regress_tree.specs.Steps.{MatchState}
+use Rattle.regress_tree.specs.Tree.{Tree}
+use Rattle.regress_leaves.specs.Leaves.{put}
+use Rattle.regress_program.specs.declared.instruction.Instruction.{Instruction}
+use Rattle.regress_program.specs.declared.instruction.Instruction.TheVariants as insts
+use Rattle.regress_program.specs.Program.{Out, At, reach, either, ended}
+use Rattle.regress_program.specs.Stays.{IsReached}
+use Rattle.regress_program.specs.Views.{op_of}
+use Rattle.regress_program.proofs.lemmas.Onward.{Stays-tree}
+use Rattle.regress_backtrack.specs.declared.input.Input.{Input}
+use Rattle.regress_backtrack.specs.declared.machine.Machine.{Machine}
+use Rattle.regress_backtrack.specs.declared.machine.Place.{Place}
+use Rattle.regress_backtrack.specs.declared.step.Next.{Next}
+use Rattle.regress_backtrack.specs.declared.step.Next.TheVariants as nexts
+use Rattle.regress_backtrack.specs.Machine.{Groups, at, groups_of, points, state}
+use Rattle.regress_backtrack.specs.Next.{is_look, Inside, ahead, Leads, Forks, Iterates}
+
+-- what the code says of a part that ends at a position
+abbrev pub Reaches : (next : ℕ) → Place → Next → Option ℕ → Type 0
+Reaches next p n to =
+    MatchOption to (n ≡ nexts.Back) (λ q. n ≡ nexts.On (record { pc = next; moved = p.moved || not (q == p.position); position = q }))
+
+pub reaches_on : (next : ℕ) (p : Place) (n : Next) (to : Option ℕ) → Reaches next p n to → n ≡ nexts.OutOfSteps → ⊥
+reaches_on next p n None is out = let bad : nexts.Back ≡ nexts.OutOfSteps = sym is ∙ out in cc
+reaches_on next p n (Some q) is out =
+    let there : Place = record { pc = next; moved = p.moved || not (q == p.position); position = q } in
+    let bad : nexts.On there ≡ nexts.OutOfSteps = sym is ∙ out in cc
+
+module _ (out : Out) (m m' : Machine) where
+  abbrev pub Goes : List MatchState → Next → Type 0
+  Goes states n = Leads (states ++ flat_map out (points m)) out m' n
+
+  pub goes_on : (states : List MatchState) (n : Next) (p : Place) (b : At) → n ≡ nexts.On p → at p (groups_of m') ≡ b → points m' ≡ points m →
+      states ≡ out b → Goes states n
+  goes_on states n p b is here same leads =
+      subst (Goes states) (sym is) (ap₂ ◌++◌ (leads ∙ ap out (sym here)) (ap (flat_map out) (sym same)))
+
+  pub goes_back : (states : List MatchState) (n : Next) → n ≡ nexts.Back → points m' ≡ points m → states ≡ [] → Goes states n
+  goes_back states n is same none = subst (Goes states) (sym is) (ap₂ ◌++◌ none (ap (flat_map out) (sym same)))
+
+  pub goes_first : (states : List MatchState) (n : Next) (first second : Place) → Forks first second m m' n →
+      states ≡ out (at first (groups_of m)) ++ out (at second (groups_of m)) → Goes states n
+  goes_first states n first second forks leads =
+      subst (Goes states) (sym forks.on)
+      (ap (λ xs. xs ++ flat_map out (points m)) leads
+      ∙ append_assoc (out (at first (groups_of m))) (out (at second (groups_of m))) (flat_map out (points m))
+      ∙ sym (ap₂ (λ g ps. out (at first g) ++ flat_map out ps) forks.groups forks.points))
+
+  pub goes_after_part : (setting : Setting) (bytes : List ℕ) (d : Direction) (t : Tree) (next : ℕ) (p : Place) (to : Option ℕ) (n : Next) →
+      steps setting bytes d t (state m.captures.items p.position) ≡ put (state m.captures.items p.position) to → Reaches next p n to →
+      groups_of m' ≡ groups_of m → points m' ≡ points m →
+      Goes (flat_map (λ s. out (reach next (at p (groups_of m)) s)) (steps setting bytes d t (state m.captures.items p.position))) n
+  goes_after_part setting bytes d t next p None n ends is groups same =
+      goes_back _ n is same (ap (flat_map (λ s. out (reach next (at p (groups_of m)) s))) ends)
+  goes_after_part setting bytes d t next p (Some q) n ends is groups same =
+      let there : Place = record { pc = next; moved = p.moved || not (q == p.position); position = q } in
+      goes_on _ n there (at there (groups_of m)) is (ap (at there) groups) same
+      (ap (flat_map (λ s. out (reach next (at p (groups_of m)) s))) ends ∙ append-nil _)
+
+  pub goes_either : (greedy : Bool) (again after : Place) (n : Next) →
+      Iterates greedy again after m m' n →
+      Goes (either out greedy (at again (groups_of m)) (at after (groups_of m))) n
+  goes_either true again after n forks = goes_first _ n again after forks refl
+  goes_either false again after n forks = goes_first _ n after again forks refl
+
+-- ---- inside the routine and the text
+
+module _ (input : Input) (m m' : Machine) where
+  abbrev pub Remains : Next → Type 0
+  Remains n = All (Inside input) (points m) → All (Inside input) (ahead m' n)
+
+  pub on_inside : (n : Next) (p : Place) → n ≡ nexts.On p → points m' ≡ points m → Inside input (at p (groups_of m')) → Remains n
+  on_inside n p is same here all =
+      subst (λ x. All (Inside input) (ahead m' x)) (sym is)
+      (All-cons (Inside input) (at p (groups_of m')) (points m') here (subst (All (Inside input)) (sym same) all))
+
+  pub back_inside : (n : Next) → n ≡ nexts.Back → points m' ≡ points m → Remains n
+  back_inside n is same all = subst (λ x. All (Inside input) (ahead m' x)) (sym is) (subst (All (Inside input)) (sym same) all)
+
+  pub fork_inside : (n : Next) (first second : Place) → Forks first second m m' n → Inside input (at first (groups_of m')) →
+      Inside input (at second (groups_of m)) → Remains n
+  fork_inside n first second forks one two all =
+      subst (λ x. All (Inside input) (ahead m' x)) (sym forks.on)
+      (All-cons (Inside input) (at first (groups_of m')) (points m') one
+      (subst (All (Inside input)) (sym forks.points) (All-cons (Inside input) (at second (groups_of m)) (points m) two all)))
+
+  pub either_inside : (greedy : Bool) (again after : Place) (n : Next) →
+      Iterates greedy again after m m' n → ((g : Groups) → Inside input (at again g)) →
+      ((g : Groups) → Inside input (at after g)) → Remains n
+  either_inside true again after n forks one two = fork_inside n again after forks (one _) (two _)
+  either_inside false again after n forks one two = fork_inside n after again forks (two _) (one _)
+
+  pub part_inside : (setting : Setting) (d : Direction) (t : Tree) (next : ℕ) (p : Place) (to : Option ℕ) (n : Next) →
+      steps setting input.text.now d t (state m.captures.items p.position) ≡ put (state m.captures.items p.position) to → Reaches next p n to →
+      points m' ≡ points m → next < length input.instructions.now → p.position ≤ length input.text.now → Remains n
+  part_inside setting d t next p None n ends is same lt le = back_inside n is same
+  part_inside setting d t next p (Some q) n ends is same lt le =
+      let s = state m.captures.items p.position in
+      let all = subst (All (IsReached input.text.now d s)) ends ((Stays-tree setting input.text.now d t).reached s le) in
+      let there = All-head (IsReached input.text.now d s) (record s { position = q }) [] all in
+      on_inside n (record { pc = next; moved = p.moved || not (q == p.position); position = q }) is same
+      (record { pc = lt; position = there.inside })
+
+-- ---- groups
+
+pub end-goto : (id next : ℕ) (p : Place) (g : Groups) →
+    ended id next (at p g) g.begins ≡ ended id next (at (record p { pc = next }) g) g.begins
+end-goto id next p g = by g.begins
+  where
+    by : (begins : List ℕ) → ended id next (at p g) begins ≡ ended id next (at (record p { pc = next }) g) begins
+    by [] = refl
+    by (from ∷ begins) = refl
+
+pub not_look : (i : Instruction) → ((negate : Bool) (routine next : ℕ) → i ≡ insts.Look negate routine next → ⊥) → is_look (op_of i) ≡ false
+not_look insts.Accept not = refl
+not_look insts.Fail not = refl
+not_look (insts.Leaf node next) not = refl
+not_look (insts.Text characters icase next) not = refl
+not_look (insts.Split first second) not = refl
+not_look (insts.BeginLoop greedy body next) not = refl
+not_look (insts.Repeat greedy body next) not = refl
+not_look (insts.EndLoop next) not = refl
+not_look (insts.Unset start end next) not = refl
+not_look (insts.BeginGroup next) not = refl
+not_look (insts.EndGroup id next) not = refl
+not_look (insts.Look negate routine next) not = absurd (not negate routine next refl)
+
+pub ok_map : {X E : Type 0} (r : Result X E) (P Q : X → Type 0) → ((x : X) → P x → Q x) → IfOk r P → IfOk r Q
+ok_map (Ok x) P Q f is = f x is
+ok_map (Err e) P Q f is = tt

@@ -1,0 +1,51 @@
+use Rattle.std.proofs.Common.{rules, ◌≡◌, ◌-◌, [], ◌∷◌, true, map, subst, sym, ap, ◌∙◌, refl, arith}
+use Rattle.regress_base.specs.Table.{denotes}
+use Rattle.std.specs.Box.{boxed_slice_items}
+use Rattle.regress_leaves.specs.Leaves.{is_simple}
+use Rattle.regress_leaves.specs.Subject.{subject}
+use Rattle.regress_tree.specs.declared.ir.node.Node.{the_lemmas}
+use Rattle.regress_tree.specs.Matching.{steps}
+use Rattle.regress_tree.specs.Tree.{back_ref, tree, leaf, string_set}
+use Rattle.regress_program.specs.Shape.{IsPart}
+use Rattle.regress_backtrack.proofs.LeafLemmas.{back_again, sole_of, one_string}
+use Rattle.regress_backtrack.specs.Machine.{state}
+use Rattle.regress_backtrack.proofs.StepLemmas.{ok_map}
+use Rattle.regress_backtrack.proofs.leaf.leaf_end.Goals as goal
+
+pub returns-in-BackRef-clause-to : goal.returns-in-BackRef-clause-to
+returns-in-BackRef-clause-to c =
+    let s = state c.args.captures.now c.args.position in
+    let u = subject c.args.rules c.args.text.now in
+    let group = c.in-BackRef.group in
+    let icase = c.in-BackRef.icase in
+    let is : tree c.args.node.now ≡ leaf (back_ref group icase) = search (rules, the_lemmas) in
+    ok_map c.match_again.result _ _
+    (λ to ends.
+    ap (λ t. steps u.setting u.bytes u.direction t s) is
+    ∙ back_again u (denotes u.setting.table icase u.setting.flags.unicode) (group - 1) c.capture_of-span.result s to c.capture_of-span.ensures (ends s refl))
+    c.match_again.ensures.to
+
+pub index-requires : goal.index-requires
+index-requires c =
+    let strings = map boxed_slice_items c.in-StringSet.alternatives.items in
+    let is : tree c.args.node.now ≡ leaf (string_set strings c.in-StringSet.icase) = search (rules, the_lemmas) in
+    omega (arith, (sole_of c.in-StringSet.alternatives.items c.in-StringSet.icase (subst IsPart is c.requires)).0)
+
+pub returns-in-StringSet-clause-to : goal.returns-in-StringSet-clause-to
+returns-in-StringSet-clause-to c =
+    let s = state c.args.captures.now c.args.position in
+    let u = subject c.args.rules c.args.text.now in
+    let icase = c.in-StringSet.icase in
+    let strings = map boxed_slice_items c.in-StringSet.alternatives.items in
+    let is : tree c.args.node.now ≡ leaf (string_set strings icase) = search (rules, the_lemmas) in
+    let sole = sole_of c.in-StringSet.alternatives.items icase (subst IsPart is c.requires) in
+    let string : boxed_slice_items c.index.result.now ∷ [] ≡ strings =
+    ap (λ x. boxed_slice_items x ∷ []) c.index.ensures ∙ sym (sole.1 c.index.result.now) in
+    ap (λ t. steps u.setting u.bytes u.direction t s)
+    (is ∙ ap (λ x. leaf (string_set x icase)) (sym string) ∙ ap (λ x. leaf (string_set (x ∷ []) icase)) (sym c.deref.ensures.value))
+    ∙ one_string u icase c.deref.result.now c.all_of.result c.args.position c.all_of.ensures s refl
+
+pub returns-in_default-clause-to : goal.returns-in_default-clause-to
+returns-in_default-clause-to c =
+    let simple : is_simple (tree c.args.node.now) ≡ true = first_of (search (rules, the_lemmas), grind (arith, the_lemmas, c.requires)) in
+    c.simple_leaf.ensures simple (state c.args.captures.now c.args.position) refl

@@ -1,0 +1,10 @@
+-- What has been undone since the last backtrack point.
+use Rattle.std.proofs.Common.{length}
+use Rattle.regress_backtrack.specs.Machine.{Kept}
+use Rattle.regress_backtrack.proofs.machine.Machine.backtrack.Given as goal
+
+abbrev pub invariant-loop-entry : goal.invariant-loop-entry
+invariant-loop-entry l = Kept l.fn.self l.self
+
+abbrev pub decreases-loop-entry : goal.decreases-loop-entry
+decreases-loop-entry l = length l.self.stack.entries.items

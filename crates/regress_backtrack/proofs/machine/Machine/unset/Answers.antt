@@ -1,0 +1,59 @@
+use Rattle.std.proofs.Common.{rules, arith, ℕ, List, Option, ◌≡◌, ◌+◌, length, min, None, get_or, set, refl, sym, ap, ◌∙◌}
+use Rattle.std.proofs.lemmas.List.{length-set, set-get_or}
+use Rattle.regress_tree.specs.Repetition.{unset_from}
+use Rattle.regress_tree.specs.Steps.{CaptureSpan}
+use Rattle.regress_program.proofs.lemmas.Unset.{unset-none, unset-clipped, unset-more}
+use Rattle.regress_backtrack.proofs.MachineLemmas.{Kept-refl, Kept-trans}
+use Rattle.regress_backtrack.proofs.machine.Machine.unset.Goals as goal
+use Rattle.regress_backtrack.proofs.machine.Machine.unset.Goals.{then-is_some+in_ok-set, else-is_some}
+
+pub loop-group-init : goal.loop-group-init
+loop-group-init c = record {
+  captures = sym (unset-none 0 c.args.start (min c.args.start c.min-after.result) c.args.self.now.captures.items (omega arith));
+  begins = refl;
+  count = refl;
+  kept = Kept-refl c.args.self.now c.args.self.now refl refl;
+}
+
+pub index-requires : goal.index-requires
+index-requires c = omega (arith, c.loop-group.invariant.count, c.min-after.ensures, c.len.ensures, c.loop-group-test.true)
+
+pub loop-group-preserved : goal.loop-group-preserved
+loop-group-preserved c =
+    let so_far = c.loop-group.invariant in
+    let captures = c.args.self.now.captures.items in
+    let start = c.args.start in
+    let group = c.loop-group.group in
+    let after = c.min-after.result in
+    let now : min group after ≡ group = omega arith in
+    let then' : min (group + 1) after ≡ group + 1 = omega arith in
+    let was : c.loop-group.self.captures.items ≡ unset_from 0 start group captures = so_far.captures ∙ ap (λ k. unset_from 0 start k captures) now in
+    let next : unset_from 0 start (min (group + 1) after) captures ≡ set (unset_from 0 start group captures) group None =
+    ap (λ k. unset_from 0 start k captures) then' ∙ unset-more start group captures (omega arith) in
+    elim c.if-is_some.branch [
+      | then-is_some+in_ok-set w ↦ record {
+        captures = ap (λ v. v.captures.items) w.self-is ∙ w.in_ok-set.ensures.captures ∙ ap (λ xs. set xs group None) was ∙ sym next;
+        begins = ap (λ v. v.stack.begins.items) w.self-is ∙ w.set.ensures.begins ∙ so_far.begins;
+        count = ap (λ v. length v.captures.items) w.self-is ∙ ap length w.in_ok-set.ensures.captures ∙ length-set _ group None ∙ so_far.count;
+        kept = rw w.self-is (Kept-trans c.args.self.now c.loop-group.self w.set.new.self so_far.kept w.in_ok-set.ensures.kept);
+      }
+      | else-is_some w ↦ record {
+        captures = ap (λ v. v.captures.items) w.self-is
+            ∙ sym (unset_already c.loop-group.self.captures.items group (search rules))
+            ∙ ap (λ xs. set xs group None) was ∙ sym next;
+        begins = ap (λ v. v.stack.begins.items) w.self-is ∙ so_far.begins;
+        count = ap (λ v. length v.captures.items) w.self-is ∙ so_far.count;
+        kept = rw w.self-is so_far.kept;
+      }
+    ]
+  where
+    unset_already : (captures : List (Option CaptureSpan)) (group : ℕ) → None ≡ get_or captures group None → set captures group None ≡ captures
+    unset_already captures group is = ap (set captures group) is ∙ set-get_or captures group None
+
+pub returns-clause-captures : goal.returns-clause-captures
+returns-clause-captures c =
+    let captures = c.args.self.now.captures.items in
+    let start = c.args.start in
+    let after = c.min-after.result in
+    let now : min c.loop-group.group after ≡ after = omega arith in
+    c.loop-group.invariant.captures ∙ ap (λ k. unset_from 0 start k captures) now ∙ unset-clipped start c.args.end after captures (search rules)

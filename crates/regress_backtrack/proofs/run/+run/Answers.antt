@@ -1,0 +1,261 @@
+use Rattle.std.proofs.Common.{◌≡◌, ◌++◌, ◌∷◌, [], All, flat_map, length, reverse, refl, sym, ap, ◌∙◌, subst, arith}
+use Rattle.std.proofs.lemmas.List.{length-take}
+use Rattle.std.proofs.lemmas.List.Elements.{All-head, All-tail}
+use Rattle.regress_leaves.specs.Subject.{subject}
+use Rattle.regress_program.specs.Program.{matcher_of, outcomes_by}
+use Rattle.regress_program.specs.Shape.{IsProgram}
+use Rattle.regress_program.specs.Views.{op_of, program_of}
+use Rattle.regress_backtrack.specs.Machine.{Groups, at, changes_of, groups_of, points, rewound, state}
+use Rattle.regress_backtrack.specs.Next.{Inside}
+use Rattle.regress_backtrack.specs.Run.{Answers}
+use Rattle.regress_backtrack.proofs.MachineLemmas.{left-lookaround, rewound-none}
+use Rattle.regress_backtrack.proofs.StepLemmas.{Goes, not_look, ok_map}
+use Rattle.regress_backtrack.proofs.RunLemmas.{can_step, advanced, look_fits, on_same, back_same, accept_same, on_all, back_all, begins-inside, begins-same, same_answers, look_goes, look_inside}
+use Rattle.regress_backtrack.proofs.run.+run.Goals as goal
+
+-- ---- one instruction
+
+pub advance-look-requires : goal.advance-look-requires
+advance-look-requires t c =
+    let input = c.args.input in
+    let i = c.instruction_at-instruction.result in
+    let read = c.instruction_at-instruction.ensures in
+    let can = can_step input c.requires.input c.args.here i c.requires.inside.pc read c.requires.program c.requires.inside.position in
+    let fits = look_fits input i c.args.here c.in-Look.negate c.in-Look.routine c.in-Look.next c.in-Look.is can in (
+      omega (arith, c.decreases, fits.0, length-take input.index (program_of input.routines.now)),
+      (c.requires.program, (c.requires.input, (fits.0, c.requires.inside))),
+    )
+
+pub advance-step-requires : goal.advance-step-requires
+advance-step-requires t c =
+    let input = c.args.input in
+    let i = c.instruction_at-instruction.result in
+    let read = c.instruction_at-instruction.ensures in
+    record {
+      can = can_step input c.requires.input c.args.here i c.requires.inside.pc read c.requires.program c.requires.inside.position;
+      no_look = not_look i c.in_default.not-Look;
+    }
+
+pub advance-returns-in-Look-clause-leads : goal.advance-returns-in-Look-clause-leads
+advance-returns-in-Look-clause-leads t c =
+    let input = c.args.input in
+    let u = subject input.rules input.text.now in
+    let m = c.args.machine.now in
+    let i = c.instruction_at-instruction.result in
+    let read = c.instruction_at-instruction.ensures in
+    ok_map c.look.result _ _
+    (λ next leads. λ outs solution.
+    advanced input c.requires.input c.args.here i c.requires.inside.pc read m c.look.new.machine next u.setting u.bytes outs u.direction solution
+    c.requires.input.direction c.requires.inside.position
+    (subst (λ o. Goes (outs input.index) m c.look.new.machine
+    (outcomes_by u.setting u.bytes u.direction (matcher_of u.setting u.bytes (program_of input.routines.now) outs)
+    (outs input.index) o (at c.args.here (groups_of m))) next) (sym (ap op_of c.in-Look.is)) (leads outs (outs input.index) solution)))
+    c.look.ensures.leads
+
+pub advance-returns-in-Look-clause-inside : goal.advance-returns-in-Look-clause-inside
+advance-returns-in-Look-clause-inside t c =
+    let input = c.args.input in
+    let i = c.instruction_at-instruction.result in
+    let read = c.instruction_at-instruction.ensures in
+    let can = can_step input c.requires.input c.args.here i c.requires.inside.pc read c.requires.program c.requires.inside.position in
+    let fits = look_fits input i c.args.here c.in-Look.negate c.in-Look.routine c.in-Look.next c.in-Look.is can in
+    ok_map c.look.result _ _ (λ next inside. inside fits.1) c.look.ensures.inside
+
+pub advance-returns-in_default : goal.advance-returns-in_default
+advance-returns-in_default t c =
+    let input = c.args.input in
+    let u = subject input.rules input.text.now in
+    let m = c.args.machine.now in
+    let i = c.instruction_at-instruction.result in
+    let read = c.instruction_at-instruction.ensures in
+    record {
+      leads = ok_map c.step.result _ _
+          (λ next leads. λ outs solution.
+          advanced input c.requires.input c.args.here i c.requires.inside.pc read m c.step.new.machine next u.setting u.bytes outs u.direction solution
+          c.requires.input.direction c.requires.inside.position
+          (leads (matcher_of u.setting u.bytes (program_of input.routines.now) outs) (outs input.index)))
+          c.step.ensures.leads;
+      inside = c.step.ensures.inside;
+      rewound = c.step.ensures.rewound;
+      left = c.step.ensures.left;
+      spent = ok_map c.step.result _ _ (λ next goes. λ out. absurd (goes out)) c.step.ensures.goes;
+    }
+
+-- ---- lookarounds
+
+pub look-run-requires : goal.look-run-requires
+look-run-requires t c =
+    let inside = c.input_for-inside.ensures in (
+      omega (arith, c.decreases, inside.index),
+      (
+        subst (λ rs. IsProgram (program_of rs)) (sym inside.routines) c.requires.program,
+        (
+          inside.input,
+          omega (
+            arith,
+            ap length inside.text,
+            c.requires.inside.position,
+          ),
+        ),
+      ),
+    )
+
+pub look-returns-clause-leads : goal.look-returns-clause-leads
+look-returns-clause-leads t c = λ outs out solution.
+    let input = c.args.input in
+    let u = subject input.rules input.text.now in
+    let m = c.args.machine.now in
+    let inner = c.run.new.machine in
+    let m' = c.leave.new.self in
+    let inside = c.input_for-inside.ensures in
+    let kept = left-lookaround m inner m' (c.in_ok-response.ensures.undo ∙ c.enter-outer.ensures.captures)
+    (c.in_ok-leave.ensures.entries ∙ ap (λ s. s.entries.items ++ changes_of inner.stack.entries.items) c.enter-outer.ensures.stack)
+    (c.in_ok-leave.ensures.begins ∙ ap (λ s. s.begins.items) c.enter-outer.ensures.stack) c.in_ok-leave.ensures.captures in
+    let answers : Answers (matcher_of u.setting u.bytes (program_of input.routines.now) outs c.args.looking.routine
+    (state m.captures.items c.args.here.position)) inner
+    c.in_ok-response.response =
+    same_answers inner c.in_ok-response.response outs c.args.here.position _ _ _ _ _ _ _ _ _ _ (c.in_ok-response.ensures.answers outs) inside.setting
+    inside.text
+    (ap program_of inside.routines) inside.index c.enter-outer.ensures.captures solution in
+    look_goes out m m' kept.points (ap reverse (c.in_ok-leave.ensures.begins ∙ ap (λ s. s.begins.items) c.enter-outer.ensures.stack)) c.args.here
+    c.args.looking.next
+    c.args.looking.negate (matcher_of u.setting u.bytes (program_of input.routines.now) outs c.args.looking.routine) inner c.in_ok-response.response
+    c.next_after.result answers c.in_ok-leave.ensures.captures (λ none. c.in_ok-response.ensures.none none ∙ c.enter-outer.ensures.captures)
+    c.next_after.ensures
+
+pub look-returns-clause-inside : goal.look-returns-clause-inside
+look-returns-clause-inside t c = λ lt.
+    let m = c.args.machine.now in
+    let inner = c.run.new.machine in
+    let m' = c.leave.new.self in
+    let kept = left-lookaround m inner m' (c.in_ok-response.ensures.undo ∙ c.enter-outer.ensures.captures)
+    (c.in_ok-leave.ensures.entries ∙ ap (λ s. s.entries.items ++ changes_of inner.stack.entries.items) c.enter-outer.ensures.stack)
+    (c.in_ok-leave.ensures.begins ∙ ap (λ s. s.begins.items) c.enter-outer.ensures.stack) c.in_ok-leave.ensures.captures in
+    look_inside c.args.input m m' c.in_ok-response.response c.args.looking.negate _ c.next_after.result kept.points c.next_after.ensures lt
+    c.requires.inside.position
+
+pub look-returns-clause-rewound : goal.look-returns-clause-rewound
+look-returns-clause-rewound t c =
+    let m = c.args.machine.now in
+    let inner = c.run.new.machine in
+    let m' = c.leave.new.self in
+    (left-lookaround m inner m' (c.in_ok-response.ensures.undo ∙ c.enter-outer.ensures.captures)
+    (c.in_ok-leave.ensures.entries ∙ ap (λ s. s.entries.items ++ changes_of inner.stack.entries.items) c.enter-outer.ensures.stack)
+    (c.in_ok-leave.ensures.begins ∙ ap (λ s. s.begins.items) c.enter-outer.ensures.stack) c.in_ok-leave.ensures.captures).rewound
+
+-- ---- runs
+
+captures-same : (g h : Groups) → g ≡ h → g.captures ≡ h.captures
+captures-same g h is = ap (λ (x : Groups). x.captures) is
+
+pub run-loop-left-init : goal.run-loop-left-init
+run-loop-left-init t c =
+    record {
+      left = omega arith;
+      undo = captures-same _ _ (rewound-none _ c.clear.ensures.entries);
+      inside = begins-inside c.args.input c.requires.input _ c.args.start c.requires.program c.clear.ensures.entries c.requires.start;
+      same = λ outs solution.
+          begins-same c.args.input c.requires.input _ c.args.machine.now.captures.items c.args.start
+          (subject c.args.input.rules c.args.input.text.now).setting c.args.input.text.now outs c.clear.ensures.entries c.clear.ensures.begins refl;
+    }
+
+pub run-advance-requires : goal.run-advance-requires
+run-advance-requires t c = (
+  omega (arith, c.decreases),
+  (
+    c.requires.program,
+    (
+      c.requires.input,
+      All-head (Inside c.args.input) (at c.loop-left.here (groups_of c.loop-left.machine)) (points c.loop-left.machine) c.loop-left.invariant.inside,
+    ),
+  ),
+)
+
+pub run-loop-left-preserved-in-On : goal.run-loop-left-preserved-in-On
+run-loop-left-preserved-in-On t c =
+    let so_far = c.loop-left.invariant in
+    let input = c.args.input in
+    let m = c.loop-left.machine in
+    let m' = c.advance.new.machine in
+    let a = at c.loop-left.here (groups_of m) in
+    let n = c.in_ok-to.field-0 in
+    record {
+      left = omega (arith, c.in_ok-to.ensures.left, so_far.left);
+      undo = captures-same _ _ c.in_ok-to.ensures.rewound ∙ so_far.undo;
+      inside = on_all input m' n c.in-On.to c.in-On.is (c.in_ok-to.ensures.inside (All-tail (Inside input) a (points m) so_far.inside));
+      same = λ outs solution.
+          so_far.same outs solution
+          ∙ on_same (flat_map (outs input.index) (a ∷ points m)) (outs input.index) m' n c.in-On.to c.in-On.is (c.in_ok-to.ensures.leads outs solution);
+    }
+
+pub run-loop-left-smaller-in-On : goal.run-loop-left-smaller-in-On
+run-loop-left-smaller-in-On t c = omega (arith, c.in_ok-to.ensures.left, c.loop-left-test.true)
+
+pub run-loop-left-smaller : goal.run-loop-left-smaller
+run-loop-left-smaller t c = omega (arith, c.in_ok-to.ensures.left, c.loop-left-test.true)
+
+pub run-loop-left-preserved : goal.run-loop-left-preserved
+run-loop-left-preserved t c =
+    let so_far = c.loop-left.invariant in
+    let input = c.args.input in
+    let m = c.loop-left.machine in
+    let m' = c.advance.new.machine in
+    let a = at c.loop-left.here (groups_of m) in
+    let n = c.in_ok-to.field-0 in
+    let back : points m' ≡ at c.in-Some.to (groups_of c.backtrack.new.self) ∷ points c.backtrack.new.self =
+    rw c.in-Some.is at c.in_ok-to-in-Back.ensures.points in
+    record {
+      left = omega (arith, c.in_ok-to.ensures.left, so_far.left);
+      undo = captures-same _ _ (c.in_ok-to-in-Back.ensures.rewound ∙ c.in_ok-to.ensures.rewound) ∙ so_far.undo;
+      inside = subst (All (Inside input)) back
+          (back_all input m' n c.in-Back.is (c.in_ok-to.ensures.inside (All-tail (Inside input) a (points m) so_far.inside)));
+      same = λ outs solution.
+          so_far.same outs solution
+          ∙ back_same (flat_map (outs input.index) (a ∷ points m)) (outs input.index) m' n c.in-Back.is (c.in_ok-to.ensures.leads outs solution)
+          ∙ ap (flat_map (outs input.index)) back;
+    }
+
+pub run-returns-in-None-clause-answers : goal.run-returns-in-None-clause-answers
+run-returns-in-None-clause-answers t c = λ outs solution.
+    let input = c.args.input in
+    let m = c.loop-left.machine in
+    let m' = c.advance.new.machine in
+    let a = at c.loop-left.here (groups_of m) in
+    let none : points m' ≡ [] = rw c.in-None.is at c.in_ok-to-in-Back.ensures.points in
+    c.loop-left.invariant.same outs solution
+    ∙ back_same (flat_map (outs input.index) (a ∷ points m)) (outs input.index) m' c.in_ok-to.field-0 c.in-Back.is (c.in_ok-to.ensures.leads outs solution)
+    ∙ ap (flat_map (outs input.index)) none
+
+pub run-returns-in-None-clause-undo : goal.run-returns-in-None-clause-undo
+run-returns-in-None-clause-undo t c =
+    captures-same _ _ (c.in_ok-to-in-Back.ensures.rewound ∙ c.in_ok-to.ensures.rewound) ∙ c.loop-left.invariant.undo
+
+pub run-returns-in-None-clause-none : goal.run-returns-in-None-clause-none
+run-returns-in-None-clause-none t c = λ is.
+    let all : groups_of c.backtrack.new.self ≡ rewound c.advance.new.machine = rw c.in-None.is at c.in_ok-to-in-Back.ensures.all in
+    captures-same _ _ (all ∙ c.in_ok-to.ensures.rewound) ∙ c.loop-left.invariant.undo
+
+pub run-returns-in-None-clause-left : goal.run-returns-in-None-clause-left
+run-returns-in-None-clause-left t c = omega (arith, c.in_ok-to.ensures.left, c.loop-left.invariant.left)
+
+pub run-returns-in-Accept-clause-answers : goal.run-returns-in-Accept-clause-answers
+run-returns-in-Accept-clause-answers t c = λ outs solution.
+    let input = c.args.input in
+    let m = c.loop-left.machine in
+    let a = at c.loop-left.here (groups_of m) in
+    let found = accept_same (flat_map (outs input.index) (a ∷ points m)) (outs input.index) c.advance.new.machine c.in_ok-to.field-0 c.in-Accept.end
+    c.in-Accept.is
+    (c.in_ok-to.ensures.leads outs solution) in
+    (found.0, c.loop-left.invariant.same outs solution ∙ found.1)
+
+pub run-returns-in-Accept-clause-undo : goal.run-returns-in-Accept-clause-undo
+run-returns-in-Accept-clause-undo t c = captures-same _ _ c.in_ok-to.ensures.rewound ∙ c.loop-left.invariant.undo
+
+pub run-returns-in-Accept-clause-left : goal.run-returns-in-Accept-clause-left
+run-returns-in-Accept-clause-left t c = omega (arith, c.in_ok-to.ensures.left, c.loop-left.invariant.left)
+
+pub run-returns-in-OutOfSteps-clause-undo : goal.run-returns-in-OutOfSteps-clause-undo
+run-returns-in-OutOfSteps-clause-undo t c = captures-same _ _ c.in_ok-to.ensures.rewound ∙ c.loop-left.invariant.undo
+
+pub run-returns-clause-undo : goal.run-returns-clause-undo
+run-returns-clause-undo t c = c.loop-left.invariant.undo

@@ -1,0 +1,31 @@
+-- The outcomes of the routine are those from the present place, and then those from the backtrack points.
+use Rattle.std.proofs.Common.{◌≡◌, ◌+◌, ◌*◌, ◌≤◌, ◌∷◌, ℕ, All, flat_map}
+use Rattle.regress_leaves.specs.Subject.{subject}
+use Rattle.regress_program.specs.Program.{IsSolution, Out, matcher_of}
+use Rattle.regress_program.specs.Views.{program_of}
+use Rattle.regress_backtrack.specs.Machine.{at, groups_of, points, rewound, state}
+use Rattle.regress_backtrack.specs.Next.{Inside}
+use Rattle.regress_backtrack.proofs.run.+run.Given as goal
+
+abbrev pub decreases-run : goal.decreases-run
+decreases-run l = 3 * l.input.index + 2
+
+abbrev pub decreases-advance : goal.decreases-advance
+decreases-advance l = 3 * l.input.index + 1
+
+abbrev pub decreases-look : goal.decreases-look
+decreases-look l = 3 * l.looking.routine + 3
+
+abbrev pub invariant-run-loop-left : goal.invariant-run-loop-left
+invariant-run-loop-left l = record {
+  left : l.left ≤ l.fn.left;
+  undo : (rewound l.machine).captures ≡ l.fn.machine.captures.items;
+  inside : All (Inside l.input) (at l.here (groups_of l.machine) ∷ points l.machine);
+  same : (outs : ℕ → Out) → IsSolution (subject l.input.rules l.input.text.now).setting l.input.text.now (program_of l.input.routines.now) outs →
+      matcher_of (subject l.input.rules l.input.text.now).setting l.input.text.now (program_of l.input.routines.now) outs l.input.index
+      (state l.fn.machine.captures.items l.start)
+      ≡ flat_map (outs l.input.index) (at l.here (groups_of l.machine) ∷ points l.machine);
+}
+
+abbrev pub decreases-run-loop-left : goal.decreases-run-loop-left
+decreases-run-loop-left l = l.left

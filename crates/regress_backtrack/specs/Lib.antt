@@ -1,0 +1,4 @@
+pub mod Machine
+pub mod Next
+pub mod Run
+pub mod Searched

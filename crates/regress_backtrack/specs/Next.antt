@@ -1,0 +1,66 @@
+-- What an instruction leads to.
+use Rattle.std.specs.Prelude.{◌≡◌, ℕ, ◌≤◌, ◌<◌, Bool, true, false, List, [], ◌∷◌, flat_map, length, slice_get, Some, take}
+use Rattle.regress_tree.specs.Reading.{direction_if}
+use Rattle.regress_tree.specs.Steps.{MatchState}
+use Rattle.regress_program.specs.Program.{At, Op, look, Out, Routine}
+use Rattle.regress_program.specs.Shape.{Fits}
+use Rattle.regress_program.specs.Views.{ops_of, program_of}
+use Rattle.regress_backtrack.specs.declared.input.Input.{Input}
+use Rattle.regress_backtrack.specs.declared.machine.Machine.{Machine}
+use Rattle.regress_backtrack.specs.declared.machine.Place.{Place}
+use Rattle.regress_backtrack.specs.declared.step.Next.{Next}
+use Rattle.regress_backtrack.specs.declared.step.Next.TheVariants as nexts
+use Rattle.regress_backtrack.specs.Machine.{at, groups_of, points, state}
+
+-- The instruction is a lookaround.
+abbrev pub is_look : Op → Bool
+is_look (look negate routine next) = true
+is_look op = false
+
+-- inside a routine of this width, and a text of this length
+pub record Within (width length : ℕ) (a : At) : Type 0 where
+  pub pc : a.pc < width
+  pub position : a.state.position ≤ length
+
+-- inside the routine and the text
+abbrev pub Inside : Input → At → Type 0
+Inside input = Within (length input.instructions.now) (length input.text.now)
+
+-- The input is for the routine with its index.
+pub record IsInput (input : Input) : Type 0 where
+  pub routine : Routine
+  pub is : slice_get (program_of input.routines.now) input.index ≡ Some routine
+  pub ops : ops_of input.instructions.now ≡ routine.ops
+  pub direction : direction_if input.rules.backwards ≡ routine.direction
+  pub first : input.first ≡ routine.entry
+
+-- A run is at this instruction.
+pub record CanStep (input : Input) (op : Op) (p : Place) : Type 0 where
+  pub pc : p.pc < length input.instructions.now
+  pub position : p.position ≤ length input.text.now
+  pub fits : Fits (take input.index (program_of input.routines.now)) (length input.instructions.now) p.pc op
+
+-- the points from which a run goes on, the first one first
+abbrev pub ahead : Machine → Next → List At
+ahead m (nexts.On p) = at p (groups_of m) ∷ points m
+ahead m nexts.Back = points m
+ahead m (nexts.Accept k) = []
+ahead m nexts.OutOfSteps = []
+
+-- The states are the outcomes from these points, or begin with the one that is found.
+abbrev pub Leads : List MatchState → Out → Machine → Next → Type 0
+Leads states out m (nexts.On p) = states ≡ flat_map out (at p (groups_of m) ∷ points m)
+Leads states out m nexts.Back = states ≡ flat_map out (points m)
+Leads states out m (nexts.Accept k) = (rest : List MatchState) × (states ≡ state m.captures.items k ∷ rest)
+Leads states out m nexts.OutOfSteps = Unit {0}
+
+-- The first place is next, and the second one a backtrack point.
+pub record Forks (first second : Place) (old new : Machine) (next : Next) : Type 0 where
+  pub on : next ≡ nexts.On first
+  pub groups : groups_of new ≡ groups_of old
+  pub points : points new ≡ at second (groups_of old) ∷ points old
+
+-- One more iteration is next and the end of the loop a backtrack point, or the reverse.
+abbrev pub Iterates : (greedy : Bool) → (again after : Place) → (old new : Machine) → Next → Type 0
+Iterates true again after old new next = Forks again after old new next
+Iterates false again after old new next = Forks after again old new next

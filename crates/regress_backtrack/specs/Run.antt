@@ -1,0 +1,26 @@
+-- The result of a run.
+use Rattle.std.specs.Prelude.{◌≡◌, Bool, not, List, [], ◌∷◌, if◌then◌else◌}
+use Rattle.regress_tree.specs.Steps.{MatchState}
+use Rattle.regress_backtrack.specs.declared.machine.Machine.{Machine}
+use Rattle.regress_backtrack.specs.declared.run.Response.{Response}
+use Rattle.regress_backtrack.specs.declared.run.Response.TheVariants as responses
+use Rattle.regress_backtrack.specs.declared.machine.Place.{Place}
+use Rattle.regress_backtrack.specs.declared.step.Next.{Next}
+use Rattle.regress_backtrack.specs.declared.step.Next.TheVariants as nexts
+use Rattle.regress_backtrack.specs.Machine.{state}
+
+-- The result is the first of the outcomes, or that there is none. Out of steps it states nothing.
+abbrev pub Answers : List MatchState → Machine → Response → Type 0
+Answers outcomes m (responses.Matched k) = (rest : List MatchState) × (outcomes ≡ state m.captures.items k ∷ rest)
+Answers outcomes m responses.NoMatch = outcomes ≡ []
+Answers outcomes m responses.OutOfSteps = Unit {0}
+
+-- on from this place if a lookaround holds
+abbrev pub on_if : (holds : Bool) → Place → Next
+on_if holds p = if holds then nexts.On p else nexts.Back
+
+-- What follows a lookaround, by the result of its body.
+abbrev pub IsAfter : Response → (negate : Bool) → Place → Next → Type 0
+IsAfter (responses.Matched k) negate p next = next ≡ on_if (not negate) p
+IsAfter responses.NoMatch negate p next = next ≡ on_if negate p
+IsAfter responses.OutOfSteps negate p next = next ≡ nexts.OutOfSteps

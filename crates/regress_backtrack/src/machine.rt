@@ -1,0 +1,276 @@
+//! The captures of a run, and its backtrack stack.
+ghost use Rattle.std.specs.Prelude.{◌≡◌, ◌∷◌, ◌++◌, [], ℕ, IfOk, MatchOption, None, replicate, slice_set};
+ghost use Rattle.regress_tree.specs.Repetition.{unset_from};
+ghost use Rattle.regress_program.specs.Program.{ended, goto};
+ghost use Rattle.regress_backtrack.specs.Machine.{Chosen, Closed, Kept, at, changes_of, groups_of, points, rewound, undone};
+
+use regress_program::groups::unset_groups;
+use std::alloc::{AllocError, Global};
+use std::mem;
+
+/// Where a run is, or where it goes on after a failure.
+#[derive(Clone, Copy)]
+pub struct Place {
+    /// The index of the instruction.
+    pub pc: usize,
+    /// Whether the innermost open iteration has advanced.
+    pub moved: bool,
+    /// The byte offset in the text.
+    pub position: usize,
+}
+
+/// An entry of the backtrack stack: a backtrack point, or a change that backtracking undoes.
+#[derive(Clone, Copy)]
+pub enum Entry {
+    /// A backtrack point.
+    Point(Place),
+    /// A capture was changed.
+    Capture {
+        /// The id of the group.
+        group: usize,
+        /// Its capture before the change.
+        before: Option<(usize, usize)>,
+    },
+    /// A group began.
+    Began,
+    /// A group ended.
+    Ended {
+        /// Where it had begun.
+        from: usize,
+    },
+}
+
+/// What belongs to one run of a routine.
+#[derive(Drop)]
+pub struct Stack {
+    /// Where the open groups began, the innermost last.
+    pub begins: Vec<usize>,
+    /// The backtrack points and the changes since the start of the run, the latest last.
+    pub entries: Vec<Entry>,
+}
+
+impl Stack {
+    /// Returns an empty stack.
+    pub fn new(alloc: Global) -> Stack {
+        Stack {
+            begins: Vec::new(alloc),
+            entries: Vec::new(alloc),
+        }
+    }
+
+    /// Removes everything, and keeps the memory.
+    pub fn clear(&mut self)
+        ensures begins { self.new.begins.items ≡ [] }
+        ensures entries { self.new.entries.items ≡ [] }
+    {
+        self.begins.clear();
+        self.entries.clear();
+    }
+}
+
+/// The captures, and the stack of the present run.
+#[derive(Drop)]
+pub struct Machine {
+    /// The capture of each group by its id.
+    pub captures: Vec<Option<(usize, usize)>>,
+    /// The stack.
+    pub stack: Stack,
+    /// Stacks that are not in use, whose memory is kept.
+    pub idle: Vec<Stack>,
+}
+
+impl Machine {
+    /// Returns a machine in which each of `groups` groups is unset.
+    ///
+    /// # Errors
+    /// Returns [`AllocError`] if an allocation fails.
+    pub fn new(alloc: Global, groups: usize) -> Result<Machine, AllocError>
+        ensures { IfOk result (λ machine. machine.captures.items ≡ replicate groups None) }
+    {
+        Ok(Machine {
+            captures: unset_groups(alloc, groups)?,
+            stack: Stack::new(alloc),
+            idle: Vec::new(alloc),
+        })
+    }
+
+    /// Replaces the stack for the run of a lookaround. Returns the stack of the run around it.
+    pub fn enter(&mut self, alloc: Global) -> Stack
+        ensures stack { result ≡ self.old.stack }
+        ensures captures { self.new.captures.items ≡ self.old.captures.items }
+    {
+        let inner = match self.idle.pop() {
+            Some(stack) => stack,
+            None => Stack::new(alloc),
+        };
+        mem::replace(&mut self.stack, inner)
+    }
+
+    /// Returns to the run around a lookaround. Of what is on the stack of the lookaround, only the changes of captures
+    /// are kept, so that backtracking undoes them.
+    ///
+    /// # Errors
+    /// Returns [`AllocError`] if an allocation fails.
+    pub fn leave(&mut self, outer: Stack) -> Result<(), AllocError>
+        ensures entries { IfOk result (λ _. self.new.stack.entries.items ≡ outer.entries.items ++ changes_of self.old.stack.entries.items) }
+        ensures begins { IfOk result (λ _. self.new.stack.begins.items ≡ outer.begins.items) }
+        ensures captures { IfOk result (λ _. self.new.captures.items ≡ self.old.captures.items) }
+    {
+        let inner = mem::replace(&mut self.stack, outer);
+        append_changes(&inner.entries, &mut self.stack.entries)?;
+        self.idle.push(inner)?;
+        Ok(())
+    }
+
+    /// Adds a backtrack point.
+    ///
+    /// # Errors
+    /// Returns [`AllocError`] if an allocation fails.
+    pub fn choose(&mut self, place: Place) -> Result<(), AllocError>
+        ensures { IfOk result (λ _. Chosen place self.old self.new) }
+    {
+        self.stack.entries.push(Entry::Point(place))?;
+        Ok(())
+    }
+
+    /// Backtracks: undoes the changes since the last backtrack point, removes it, and returns its place. Returns `None`
+    /// if there is none.
+    ///
+    /// # Errors
+    /// Returns [`AllocError`] if an allocation fails.
+    pub fn backtrack(&mut self) -> Result<Option<Place>, AllocError>
+        ensures points { IfOk result (λ to. MatchOption to (points self.old ≡ []) (λ p. points self.old ≡ at p (groups_of self.new) ∷ points self.new)) }
+        ensures rewound { IfOk result (λ _. rewound self.new ≡ rewound self.old) }
+        ensures all { IfOk result (λ to. MatchOption to (groups_of self.new ≡ rewound self.old) (λ _. Unit)) }
+    {
+        while let Some(entry) = self.stack.entries.pop() {
+            match entry {
+                Entry::Point(place) => return Ok(Some(place)),
+                _ => self.undo(entry)?,
+            }
+        }
+        Ok(None)
+    }
+
+    /// Undoes a change.
+    ///
+    /// # Errors
+    /// Returns [`AllocError`] if an allocation fails.
+    fn undo(&mut self, entry: Entry) -> Result<(), AllocError>
+        ensures groups { IfOk result (λ _. groups_of self.new ≡ undone entry (groups_of self.old)) }
+        ensures entries { self.new.stack.entries.items ≡ self.old.stack.entries.items }
+    {
+        match entry {
+            Entry::Point(_) => {}
+            Entry::Capture { group, before } => {
+                if group < self.captures.len() {
+                    self.captures[group] = before;
+                }
+            }
+            Entry::Began => {
+                self.stack.begins.pop();
+            }
+            Entry::Ended { from } => self.stack.begins.push(from)?,
+        }
+        Ok(())
+    }
+
+    /// Sets the capture of a group, or with `None` unsets it. An id with no group changes nothing.
+    ///
+    /// # Errors
+    /// Returns [`AllocError`] if an allocation fails.
+    fn set(&mut self, group: usize, span: Option<(usize, usize)>) -> Result<(), AllocError>
+        ensures captures { IfOk result (λ _. self.new.captures.items ≡ slice_set self.old.captures.items group span) }
+        ensures begins { self.new.stack.begins.items ≡ self.old.stack.begins.items }
+        ensures kept { IfOk result (λ _. Kept self.old self.new) }
+    {
+        if group < self.captures.len() {
+            self.stack.entries.push(Entry::Capture {
+                group,
+                before: self.captures[group],
+            })?;
+            self.captures[group] = span;
+        }
+        Ok(())
+    }
+
+    /// Unsets the groups `start` to `end - 1`.
+    ///
+    /// # Errors
+    /// Returns [`AllocError`] if an allocation fails.
+    pub fn unset(&mut self, start: usize, end: usize) -> Result<(), AllocError>
+        ensures captures { IfOk result (λ _. self.new.captures.items ≡ unset_from 0 start end self.old.captures.items) }
+        ensures begins { self.new.stack.begins.items ≡ self.old.stack.begins.items }
+        ensures kept { IfOk result (λ _. Kept self.old self.new) }
+    {
+        let after = end.min(self.captures.len());
+        for group in start..after {
+            if self.captures[group].is_some() {
+                self.set(group, None)?;
+            }
+        }
+        Ok(())
+    }
+
+    /// Begins a capture group.
+    ///
+    /// # Errors
+    /// Returns [`AllocError`] if an allocation fails.
+    pub fn begin_group(&mut self, position: usize) -> Result<(), AllocError>
+        ensures captures { self.new.captures.items ≡ self.old.captures.items }
+        ensures begins { IfOk result (λ _. self.new.stack.begins.items ≡ self.old.stack.begins.items ++ position ∷ []) }
+        ensures kept { IfOk result (λ _. Kept self.old self.new) }
+    {
+        self.stack.begins.push(position)?;
+        self.stack.entries.push(Entry::Began)?;
+        Ok(())
+    }
+
+    /// Ends the innermost open group, and sets the capture of the group `id`.
+    ///
+    /// # Errors
+    /// Returns [`AllocError`] if an allocation fails.
+    pub fn end_group(&mut self, id: u16, here: Place) -> Result<(), AllocError>
+        ensures groups { IfOk result (λ _. (next : ℕ) →
+            goto next (at here (groups_of self.new)) ≡ ended id next (at here (groups_of self.old)) (groups_of self.old).begins) }
+        ensures kept { IfOk result (λ _. Kept self.old self.new) }
+    {
+        let from = self.close(here.position)?;
+        self.set(
+            usize::from(id),
+            Some((from.min(here.position), from.max(here.position))),
+        )
+    }
+
+    /// Ends the innermost open group. Returns where it began, or `position` if no group is open.
+    ///
+    /// # Errors
+    /// Returns [`AllocError`] if an allocation fails.
+    fn close(&mut self, position: usize) -> Result<usize, AllocError>
+        ensures closed { IfOk result (λ from. Closed position (groups_of self.old) (groups_of self.new) from) }
+        ensures kept { IfOk result (λ _. Kept self.old self.new) }
+    {
+        match self.stack.begins.pop() {
+            Some(from) => {
+                self.stack.entries.push(Entry::Ended { from })?;
+                Ok(from)
+            }
+            None => Ok(position),
+        }
+    }
+}
+
+/// Appends those entries that are changes of captures.
+///
+/// # Errors
+/// Returns [`AllocError`] if an allocation fails.
+fn append_changes(entries: &[Entry], to: &mut Vec<Entry>) -> Result<(), AllocError>
+    ensures { IfOk result (λ _. to.new.items ≡ to.old.items ++ changes_of entries.now) }
+{
+    for entry in entries {
+        if let Entry::Capture { .. } = entry {
+            to.push(*entry)?;
+        }
+    }
+    Ok(())
+}

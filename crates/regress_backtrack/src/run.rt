@@ -1,0 +1,189 @@
+//! Runs of routines, within a step limit.
+ghost use Rattle.std.specs.Prelude.{◌≡◌, ◌≤◌, ◌<◌, ◌∷◌, ◌++◌, ℕ, All, IfOk, flat_map, if◌then◌else◌, length, take};
+ghost use Rattle.regress_leaves.specs.Subject.{subject};
+ghost use Rattle.regress_program.specs.Program.{IsSolution, Out, goto, look, matcher_of, outcomes_by};
+ghost use Rattle.regress_program.specs.Shape.{IsProgram};
+ghost use Rattle.regress_program.specs.Views.{program_of};
+ghost use Rattle.regress_backtrack.specs.Machine.{at, groups_of, points, rewound, state};
+ghost use Rattle.regress_backtrack.specs.Next.{Inside, IsInput, Leads, ahead};
+ghost use Rattle.regress_backtrack.specs.Run.{Answers, IsAfter};
+ghost use Rattle.regress_backtrack.specs.declared.run.Response.TheVariants.{NoMatch, OutOfSteps};
+ghost use Rattle.regress_backtrack.specs.declared.step.Next.TheVariants as nexts;
+
+use crate::input::{Input, input_for, instruction_at};
+use crate::machine::{Machine, Place};
+use crate::step::{Next, step};
+use regress_program::instruction::Instruction;
+use std::alloc::{AllocError, Global};
+
+/// The result of a run.
+#[derive(Clone, Copy)]
+pub enum Response {
+    /// The first outcome ends at this byte offset.
+    Matched(usize),
+    /// There is no outcome.
+    NoMatch,
+    /// The step limit was reached.
+    OutOfSteps,
+}
+
+/// A lookaround.
+#[derive(Clone, Copy)]
+pub struct Looking {
+    /// Whether it is negated.
+    pub negate: bool,
+    /// The index of the routine of its body.
+    pub routine: usize,
+    /// The instruction after it.
+    pub next: usize,
+}
+
+/// Runs a routine from the byte offset `start` to its first outcome, and subtracts the steps from `left`.
+///
+/// The stack of the machine may have any content, which is removed. After an outcome the captures are those of the
+/// outcome, and the stack has their changes.
+///
+/// # Preconditions
+/// The routines are a program, and `start` is inside the text.
+///
+/// # Complexity
+/// Each instruction counts 1, and what `step` counts. Recursion is as deep as lookarounds are nested: each routine is
+/// run by later ones only.
+///
+/// # Errors
+/// Returns [`AllocError`] if an allocation fails.
+#[cycle(run)]
+pub fn run(
+    alloc: Global,
+    input: Input<'_, '_, '_>,
+    start: usize,
+    machine: &mut Machine,
+    left: &mut u64,
+) -> Result<Response, AllocError>
+    requires program { IsProgram (program_of input.routines.now) }
+    requires input { IsInput input }
+    requires start { start ≤ length input.text.now }
+    ensures answers { IfOk result (λ response. (outs : ℕ → Out) → (let u = subject input.entry.rules input.entry.text.now in
+        let program = program_of input.entry.routines.now in
+        IsSolution u.setting u.bytes program outs →
+        Answers (matcher_of u.setting u.bytes program outs input.entry.index (state machine.old.captures.items start)) machine.new response)) }
+    ensures undo { IfOk result (λ _. (rewound machine.new).captures ≡ machine.old.captures.items) }
+    ensures none { IfOk result (λ response. response ≡ NoMatch → machine.new.captures.items ≡ machine.old.captures.items) }
+    ensures left { IfOk result (λ _. left.new ≤ left.old) }
+    ensures spent { IfOk result (λ response. response ≡ OutOfSteps → left.new ≡ 0) }
+{
+    machine.stack.clear();
+    let mut here = Place {
+        pc: input.first,
+        moved: true,
+        position: start,
+    };
+    while *left > 0 {
+        *left -= 1;
+        match advance(alloc, input, here, machine, left)? {
+            Next::On(to) => here = to,
+            Next::Back => match machine.backtrack()? {
+                Some(to) => here = to,
+                None => return Ok(Response::NoMatch),
+            },
+            Next::Accept(end) => return Ok(Response::Matched(end)),
+            Next::OutOfSteps => return Ok(Response::OutOfSteps),
+        }
+    }
+    Ok(Response::OutOfSteps)
+}
+
+/// Runs one instruction.
+#[cycle(run)]
+#[inline(always)]
+fn advance(
+    alloc: Global,
+    input: Input<'_, '_, '_>,
+    here: Place,
+    machine: &mut Machine,
+    left: &mut u64,
+) -> Result<Next, AllocError>
+    requires program { IsProgram (program_of input.routines.now) }
+    requires input { IsInput input }
+    requires inside { Inside input (at here (groups_of machine.old)) }
+    ensures leads { IfOk result (λ next. (outs : ℕ → Out) → (let u = subject input.entry.rules input.entry.text.now in
+        let out = outs input.entry.index in
+        IsSolution u.setting u.bytes (program_of input.entry.routines.now) outs →
+        Leads (flat_map out (at here (groups_of machine.old) ∷ points machine.old)) out machine.new next)) }
+    ensures inside { IfOk result (λ next. All (Inside input.entry) (points machine.old) → All (Inside input.entry) (ahead machine.new next)) }
+    ensures rewound { IfOk result (λ _. rewound machine.new ≡ rewound machine.old) }
+    ensures left { IfOk result (λ _. left.new ≤ left.old) }
+    ensures spent { IfOk result (λ next. next ≡ nexts.OutOfSteps → left.new ≡ 0) }
+{
+    let instruction = instruction_at(input, here.pc);
+    match instruction {
+        Instruction::Look {
+            negate,
+            routine,
+            next,
+        } => {
+            let looking = Looking {
+                negate,
+                routine,
+                next,
+            };
+            look(alloc, input, looking, here, machine, left)
+        }
+        _ => step(alloc, input, instruction, here, machine, left),
+    }
+}
+
+/// Matches a lookaround. The changes of captures inside it are added to the stack.
+#[cycle(run)]
+fn look(
+    alloc: Global,
+    input: Input<'_, '_, '_>,
+    looking: Looking,
+    here: Place,
+    machine: &mut Machine,
+    left: &mut u64,
+) -> Result<Next, AllocError>
+    requires program { IsProgram (program_of input.routines.now) }
+    requires input { IsInput input }
+    requires routine { looking.routine < length (take input.index (program_of input.routines.now)) }
+    requires inside { Inside input (at here (groups_of machine.old)) }
+    ensures leads { IfOk result (λ next. (outs : ℕ → Out) (out : Out) → (let u = subject input.entry.rules input.entry.text.now in
+        let program = program_of input.entry.routines.now in
+        IsSolution u.setting u.bytes program outs →
+        Leads (outcomes_by u.setting u.bytes u.direction (matcher_of u.setting u.bytes program outs) out
+        (look looking.negate looking.routine looking.next) (at here (groups_of machine.old)) ++ flat_map out (points machine.old))
+        out machine.new next)) }
+    ensures inside { IfOk result (λ next. looking.next < length input.entry.instructions.now →
+        All (Inside input.entry) (points machine.old) → All (Inside input.entry) (ahead machine.new next)) }
+    ensures rewound { IfOk result (λ _. rewound machine.new ≡ rewound machine.old) }
+    ensures left { IfOk result (λ _. left.new ≤ left.old) }
+    ensures spent { IfOk result (λ next. next ≡ nexts.OutOfSteps → left.new ≡ 0) }
+{
+    let inside = input_for(input.text, input.rules, input.routines, looking.routine);
+    let outer = machine.enter(alloc);
+    let response = run(alloc, inside, here.position, machine, left)?;
+    machine.leave(outer)?;
+    let after = Place {
+        pc: looking.next,
+        ..here
+    };
+    Ok(next_after(response, looking.negate, after))
+}
+
+/// Returns what follows a lookaround, by the result of its body.
+fn next_after(response: Response, negate: bool, after: Place) -> Next
+    ensures { IsAfter response negate after result }
+{
+    match response {
+        Response::Matched(_) => on_if(!negate, after),
+        Response::NoMatch => on_if(negate, after),
+        Response::OutOfSteps => Next::OutOfSteps,
+    }
+}
+
+/// Goes on if a lookaround holds.
+fn on_if(holds: bool, after: Place) -> Next
+    ensures { result ≡ (if holds then nexts.On after else nexts.Back) }
+{
+    if holds { Next::On(after) } else { Next::Back }
+}

@@ -1,0 +1,185 @@
+//! One instruction.
+ghost use Rattle.std.specs.Prelude.{◌≡◌, ◌≤◌, ◌++◌, ◌||◌, ◌==◌, ℕ, All, IfOk, MatchOption, false, flat_map, length, not};
+ghost use Rattle.regress_leaves.specs.Subject.{subject};
+ghost use Rattle.regress_tree.specs.Steps.{Matcher};
+ghost use Rattle.regress_program.specs.Program.{Out, either, enter, goto, outcomes_by};
+ghost use Rattle.regress_program.specs.Views.{op_of};
+ghost use Rattle.regress_backtrack.specs.Machine.{at, groups_of, points, rewound};
+ghost use Rattle.regress_backtrack.specs.Next.{CanStep, Forks, Inside, Iterates, Leads, ahead, is_look};
+ghost use Rattle.regress_backtrack.specs.declared.step.Next.TheVariants.{Back, On, OutOfSteps};
+
+use crate::input::Input;
+use crate::leaf::leaf_end;
+use crate::machine::{Machine, Place};
+use regress_leaves::leaves::all_of;
+use regress_program::instruction::Instruction;
+use std::alloc::{AllocError, Global};
+
+/// What follows an instruction.
+#[derive(Clone, Copy)]
+pub enum Next {
+    /// The run goes on here.
+    On(Place),
+    /// The run backtracks.
+    Back,
+    /// A match of the routine ends at this byte offset.
+    Accept(usize),
+    /// The step limit was reached.
+    OutOfSteps,
+}
+
+/// Runs an instruction other than a lookaround.
+///
+/// # Preconditions
+/// The instruction is that of `here` in the routine of the input, and no lookaround.
+///
+/// # Complexity
+/// It subtracts from the remaining steps `left` the number of bytes by which it moves the position, and the length of
+/// the capture that a back reference is compared with.
+///
+/// # Errors
+/// Returns [`AllocError`] if an allocation fails.
+#[inline(always)]
+pub fn step(
+    alloc: Global,
+    input: Input<'_, '_, '_>,
+    instruction: Instruction<'_>,
+    here: Place,
+    machine: &mut Machine,
+    left: &mut u64,
+) -> Result<Next, AllocError>
+    requires can { CanStep input (op_of instruction) here }
+    requires no_look { is_look (op_of instruction) ≡ false }
+    ensures leads { IfOk result (λ next. (body_of : ℕ → Matcher) (out : Out) → (let u = subject input.entry.rules input.entry.text.now in
+        Leads (outcomes_by u.setting u.bytes u.direction body_of out (op_of instruction.entry) (at here (groups_of machine.old))
+        ++ flat_map out (points machine.old)) out machine.new next)) }
+    ensures inside { IfOk result (λ next. All (Inside input.entry) (points machine.old) → All (Inside input.entry) (ahead machine.new next)) }
+    ensures rewound { IfOk result (λ _. rewound machine.new ≡ rewound machine.old) }
+    ensures left { IfOk result (λ _. left.new ≤ left.old) }
+    ensures goes { IfOk result (λ next. next ≡ OutOfSteps → ⊥) }
+{
+    match instruction {
+        Instruction::Accept => Ok(Next::Accept(here.position)),
+        Instruction::Fail => Ok(Next::Back),
+        Instruction::Leaf { node, next } => {
+            let captures = &machine.captures;
+            let to = leaf_end(
+                alloc,
+                input.text,
+                input.rules,
+                node,
+                here.position,
+                captures,
+                left,
+            )?;
+            Ok(reach(here, next, to, left))
+        }
+        Instruction::Text {
+            characters,
+            icase,
+            next,
+        } => {
+            let to = all_of(input.text, input.rules, icase, characters, here.position);
+            Ok(reach(here, next, to, left))
+        }
+        Instruction::Split { first, second } => {
+            fork(goto(first, here), goto(second, here), machine)
+        }
+        Instruction::BeginLoop { greedy, body, next } => iterate(greedy, body, next, here, machine),
+        Instruction::Repeat { greedy, body, next } => {
+            if here.moved {
+                iterate(greedy, body, next, here, machine)
+            } else {
+                Ok(Next::Back)
+            }
+        }
+        Instruction::EndLoop { next } => {
+            if here.moved {
+                Ok(Next::On(goto(next, here)))
+            } else {
+                Ok(Next::Back)
+            }
+        }
+        Instruction::Unset { start, end, next } => {
+            machine.unset(start, end)?;
+            Ok(Next::On(goto(next, here)))
+        }
+        Instruction::BeginGroup { next } => {
+            machine.begin_group(here.position)?;
+            Ok(Next::On(goto(next, here)))
+        }
+        Instruction::EndGroup { id, next } => {
+            machine.end_group(id, here)?;
+            Ok(Next::On(goto(next, here)))
+        }
+        // not here
+        Instruction::Look { .. } => Ok(Next::Back),
+    }
+}
+
+/// Returns the place with another instruction.
+fn goto(pc: usize, here: Place) -> Place
+    ensures { result ≡ record here { pc = pc } }
+{
+    Place { pc, ..here }
+}
+
+/// Goes on from where a part ends, and subtracts from the remaining steps the bytes that it has matched. Backtracks if
+/// it fails.
+fn reach(here: Place, next: usize, to: Option<usize>, left: &mut u64) -> Next
+    ensures next { MatchOption to (result ≡ Back)
+        (λ q. result ≡ On (record { pc = next; moved = here.moved || not (q == here.position); position = q })) }
+    ensures left { left.new ≤ left.old }
+{
+    match to {
+        None => Next::Back,
+        Some(position) => {
+            *left = left.saturating_sub(position.abs_diff(here.position) as u64);
+            Next::On(Place {
+                pc: next,
+                moved: here.moved | (position != here.position),
+                position,
+            })
+        }
+    }
+}
+
+/// Goes on at the first place, and at the second one after a failure.
+///
+/// # Errors
+/// Returns [`AllocError`] if an allocation fails.
+fn fork(first: Place, second: Place, machine: &mut Machine) -> Result<Next, AllocError>
+    ensures forks { IfOk result (Forks first second machine.old machine.new) }
+    ensures rewound { IfOk result (λ _. rewound machine.new ≡ rewound machine.old) }
+{
+    machine.choose(second)?;
+    Ok(Next::On(first))
+}
+
+/// Begins an iteration or goes on after the loop, whichever is preferred, and the other after a failure.
+///
+/// # Errors
+/// Returns [`AllocError`] if an allocation fails.
+fn iterate(
+    greedy: bool,
+    body: usize,
+    next: usize,
+    here: Place,
+    machine: &mut Machine,
+) -> Result<Next, AllocError>
+    ensures forks { IfOk result (λ to. let again : Place = record { pc = body; moved = false; position = here.position } in
+        let after : Place = record here { pc = next } in Iterates greedy again after machine.old machine.new to) }
+    ensures rewound { IfOk result (λ _. rewound machine.new ≡ rewound machine.old) }
+{
+    let again = Place {
+        pc: body,
+        moved: false,
+        position: here.position,
+    };
+    let after = goto(next, here);
+    if greedy {
+        fork(again, after, machine)
+    } else {
+        fork(after, again, machine)
+    }
+}
