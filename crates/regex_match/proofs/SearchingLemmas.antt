@@ -1,5 +1,5 @@
 -- A search writes one output line for each match.
-use Rattle.std.proofs.Common.{◌≡◌, ℕ, ◌<◌, Bool, true, false, List, [], ◌∷◌, ◌++◌, Option, Some, None, inl, inr, map, length, not-suc-le-zero, refl, sym, ap, subst, arith, ◌∙◌, flat_map}
+use Rattle.std.proofs.Common.{◌≡◌, ℕ, ◌<◌, Bool, true, false, List, [], ◌∷◌, ◌++◌, Option, Some, None, inl, inr, map, length, not-suc-le-zero, refl, sym, ap, ap₂, subst, arith, ◌∙◌, flat_map}
 use Rattle.std.proofs.lemmas.List.{append-nil, flat_map_more, get_or-map, length-map}
 use Rattle.std.specs.Io.KnownBytes.{Appends, Keeps}
 use Rattle.std.specs.List.Sorted.{IsNonDecreasingBy, IsPermutation}
@@ -9,12 +9,16 @@ use Rattle.regress_arguments.specs.Output.{Took}
 use Rattle.regress_front.specs.Setting.{Setting}
 use Rattle.regress_front.specs.Tree.{Tree}
 use Rattle.regress_front.specs.WellFormed.{Capture, captures}
+use Rattle.regress_match.specs.Iterated.{IsSameIteration, iterated_from, iterated_matcher, iterated_outcomes, iterated_text}
 use Rattle.regress_match.specs.Matched.{Finds, IsLeftmost, Match, outcomes_at}
+use Rattle.regress_match.specs.Matcher.{matcher_outcomes, matcher_setting, matcher_tree}
 use Rattle.regress_match.specs.Names.{capture_of}
-use Rattle.regress_match.specs.Searched.{AreMatches, IsSameSearch, next_offset, next_from, searched_outcomes, searched_text}
+use Rattle.regress_match.specs.Searched.{AreMatches, next_offset}
 use Rattle.regress_match.specs.declared.matching.Outcome.TheVariants as outcomes
 use Rattle.regress_match.specs.declared.names.Group.{Group}
-use Rattle.regress_match.specs.declared.search.Matches.{Matches}
+use Rattle.regress_match.specs.declared.matcher.Matcher.{Matcher}
+use Rattle.regress_match.specs.declared.matcher_matches.MatcherMatches.{MatcherMatches}
+use Rattle.regress_match.proofs.lemmas.Iterated.{same_outcomes}
 use Rattle.regress_match.proofs.lemmas.Searched.{AreMatches-more}
 use Rattle.regex_match.specs.Lines.{line}
 use Rattle.regex_match.specs.Ending.{Leaves}
@@ -23,11 +27,11 @@ use Rattle.regex_match.specs.declared.failure.Failure.{Failure}
 use Rattle.regex_match.specs.declared.failure.Failure.TheVariants.{Usage, Memory, Output, Syntax, OutOfSteps, Input}
 
 -- the matches found and the lines written between two states of a search
-pub record Progress (old new : Matches) (groups : List Capture) (before after : Option (List ℕ)) (any : Bool) : Type 0 where
+pub record Progress (old new : MatcherMatches) (groups : List Capture) (before after : Option (List ℕ)) (any : Bool) : Type 0 where
   pub found : List Match
   pub some : has_some found ≡ any
-  pub same : IsSameSearch old new
-  pub chain : AreMatches (searched_text old) (searched_outcomes old) (next_from old) (next_from new) found
+  pub same : IsSameIteration old new
+  pub chain : AreMatches (iterated_text old) (iterated_outcomes old) (iterated_from old) (iterated_from new) found
   pub written : Appends before after (flat_map (line groups) found)
 
 appends_nothing : (known : Option (List ℕ)) → Appends known known []
@@ -42,11 +46,11 @@ lines-more : (groups : List Capture) (ms : List Match) (m : Match) →
     flat_map (line groups) ms ++ line groups m ≡ flat_map (line groups) (ms ++ m ∷ [])
 lines-more groups ms m = flat_map_more (line groups) [] ms m
 
-pub begins : (m : Matches) (groups : List Capture) (before : Option (List ℕ)) → Progress m m groups before before false
+pub begins : (m : MatcherMatches) (groups : List Capture) (before : Option (List ℕ)) → Progress m m groups before before false
 begins m groups before = record {
   found = [];
   some = refl;
-  same = record { text = refl; outcomes = refl; tree = refl };
+  same = record { matcher = refl; text = refl; limit = refl };
   chain = refl;
   written = appends_nothing before;
 }
@@ -62,68 +66,74 @@ sorted-map (first ∷ groups) sorted = λ i j d up within.
     let two = ap (λ c. c.id) (get_or-map capture_of all j first d in_all) in
     omega (arith, one, two, sorted i j first up in_all)
 
-module _ (old now : Matches) (groups : List Capture) (before between : Option (List ℕ)) (any : Bool)
+module _ (old now : MatcherMatches) (groups : List Capture) (before between : Option (List ℕ)) (any : Bool)
     (sofar : Progress old now groups before between any) where
-  pub goes_on : (new : Matches) (m : Match) (after : Option (List ℕ)) →
-      IsLeftmost (searched_text now) (searched_outcomes now) (next_from now) m → next_from new ≡ next_offset m → IsSameSearch now new →
+  pub goes_on : (new : MatcherMatches) (m : Match) (after : Option (List ℕ)) →
+      IsLeftmost (iterated_text now) (iterated_outcomes now) (iterated_from now) m → iterated_from new ≡ next_offset m → IsSameIteration now new →
       Appends between after (line groups m) → Progress old new groups before after true
   goes_on new m after found next same line_written =
-      let text = searched_text old in
-      let at = searched_outcomes old in
-      let here : IsLeftmost text at (next_from now) m =
-      subst (λ t. IsLeftmost t at (next_from now) m) sofar.same.text
-      (subst (λ f. IsLeftmost (searched_text now) f (next_from now) m) sofar.same.outcomes found) in
+      let text = iterated_text old in
+      let at = iterated_outcomes old in
+      let here : IsLeftmost text at (iterated_from now) m =
+      subst (λ t. IsLeftmost t at (iterated_from now) m) sofar.same.text
+      (subst (λ f. IsLeftmost (iterated_text now) f (iterated_from now) m) (same_outcomes old now sofar.same) found) in
       record {
         found = sofar.found ++ m ∷ [];
         some = has_some-more sofar.found m;
-        same = record { text = same.text ∙ sofar.same.text; outcomes = same.outcomes ∙ sofar.same.outcomes; tree = same.tree ∙ sofar.same.tree };
-        chain = subst (λ k. AreMatches text at (next_from old) k (sofar.found ++ m ∷ [])) (sym next)
-            (AreMatches-more text at (next_from old) (next_from now) sofar.found m sofar.chain here);
+        same = record { matcher = same.matcher ∙ sofar.same.matcher; text = same.text ∙ sofar.same.text; limit = same.limit ∙ sofar.same.limit };
+        chain = subst (λ k. AreMatches text at (iterated_from old) k (sofar.found ++ m ∷ [])) (sym next)
+            (AreMatches-more text at (iterated_from old) (iterated_from now) sofar.found m sofar.chain here);
         written = subst (λ bytes. Appends before after bytes) (lines-more groups sofar.found m)
             (appends_both before between after (flat_map (line groups) sofar.found) (line groups m) sofar.written line_written);
       }
 
-  lines : (ended : Bool) → (ended ≡ true → Finds (searched_text now) (searched_outcomes now) (next_from now) outcomes.NoMatch) →
-      Took before between (AreLines (searched_text old) (searched_outcomes old) (next_from old) groups ended sofar.found)
+  lines : (ended : Bool) → (ended ≡ true → Finds (iterated_text now) (iterated_outcomes now) (iterated_from now) outcomes.NoMatch) →
+      Took before between (AreLines (iterated_text old) (iterated_outcomes old) (iterated_from old) groups ended sofar.found)
   lines ended none = (
     flat_map (line groups) sofar.found,
     record {
-      to = next_from now;
+      to = iterated_from now;
       chain = sofar.chain;
       none = λ is.
-          subst (λ t. Finds t (searched_outcomes old) (next_from now) outcomes.NoMatch) sofar.same.text
-          (subst (λ f. Finds (searched_text now) f (next_from now) outcomes.NoMatch) sofar.same.outcomes (none is));
+          subst (λ t. Finds t (iterated_outcomes old) (iterated_from now) outcomes.NoMatch) sofar.same.text
+          (subst (λ f. Finds (iterated_text now) f (iterated_from now) outcomes.NoMatch) (same_outcomes old now sofar.same) (none is));
       lines = refl;
     },
     sofar.written,
   )
 
   -- no match remains
-  pub all : Finds (searched_text now) (searched_outcomes now) (next_from now) outcomes.NoMatch → WritesRest old groups before between any
+  pub all : Finds (iterated_text now) (iterated_outcomes now) (iterated_from now) outcomes.NoMatch → WritesRest old groups before between any
   all none = (sofar.found, sofar.some, lines true (λ is. none))
 
   -- more matches may remain
   pub first : WritesSome old groups before between
   first = (sofar.found, lines false (λ is. let bad : ⊥ = cc in absurd bad))
 
+-- the outcomes of a search with the matcher of a tree
+pub same_outcomes_of : (m : MatcherMatches) (matcher : Matcher) (setting : Setting) (t : Tree) → iterated_matcher m ≡ matcher →
+    matcher_setting matcher ≡ setting → matcher_tree matcher ≡ t → iterated_outcomes m ≡ outcomes_at setting (iterated_text m) t
+same_outcomes_of m matcher setting t is is_setting is_tree =
+    ap (λ n. matcher_outcomes n (iterated_text m)) is ∙ ap₂ (λ s u. outcomes_at s (iterated_text m) u) is_setting is_tree
+
 -- The lines of a search over a tree and a text are those of the tree.
-module _ (setting : Setting) (t : Tree) (m : Matches) (groups : List Group) (input old between new : Option (List ℕ))
-    (is_outcomes : searched_outcomes m ≡ outcomes_at setting (searched_text m) t) (is_from : next_from m ≡ 0)
-    (read : IfSome input (λ known. searched_text m ≡ known)) (listed : IsPermutation (captures t) (map capture_of groups))
+module _ (setting : Setting) (t : Tree) (m : MatcherMatches) (groups : List Group) (input old between new : Option (List ℕ))
+    (is_outcomes : iterated_outcomes m ≡ outcomes_at setting (iterated_text m) t) (is_from : iterated_from m ≡ 0)
+    (read : IfSome input (λ known. iterated_text m ≡ known)) (listed : IsPermutation (captures t) (map capture_of groups))
     (sorted : IsNonDecreasingBy (λ group. group.id) groups) (kept : Keeps between new) where
   lines_of : (ended : Bool) (found : List Match) →
-      Took old between (AreLines (searched_text m) (searched_outcomes m) (next_from m) (map capture_of groups) ended found) →
+      Took old between (AreLines (iterated_text m) (iterated_outcomes m) (iterated_from m) (map capture_of groups) ended found) →
       Took old new (AreLinesOf setting t input ended found)
   lines_of ended found took = (
     took.0,
     record {
-      text = searched_text m;
+      text = iterated_text m;
       read = read;
       groups = map capture_of groups;
       listed = listed;
       sorted = sorted-map groups sorted;
-      lines = subst (λ k. AreLines (searched_text m) (outcomes_at setting (searched_text m) t) k (map capture_of groups) ended found took.0) is_from
-          (subst (λ f. AreLines (searched_text m) f (next_from m) (map capture_of groups) ended found took.0) is_outcomes took.1);
+      lines = subst (λ k. AreLines (iterated_text m) (outcomes_at setting (iterated_text m) t) k (map capture_of groups) ended found took.0) is_from
+          (subst (λ f. AreLines (iterated_text m) f (iterated_from m) (map capture_of groups) ended found took.0) is_outcomes took.1);
     },
     appends_kept old between new took.0 took.2 kept,
   )

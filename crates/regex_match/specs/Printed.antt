@@ -8,10 +8,11 @@ use Rattle.regress_front.specs.Setting.{Setting}
 use Rattle.regress_front.specs.Steps.{MatchState}
 use Rattle.regress_front.specs.Tree.{Tree}
 use Rattle.regress_front.specs.WellFormed.{Capture, captures}
+use Rattle.regress_match.specs.Iterated.{iterated_from, iterated_outcomes, iterated_text}
 use Rattle.regress_match.specs.Matched.{Finds, Match, outcomes_at}
-use Rattle.regress_match.specs.Searched.{AreMatches, next_from, searched_outcomes, searched_text}
+use Rattle.regress_match.specs.Searched.{AreMatches}
 use Rattle.regress_match.specs.declared.matching.Outcome.TheVariants as outcomes
-use Rattle.regress_match.specs.declared.search.Matches.{Matches}
+use Rattle.regress_match.specs.declared.matcher_matches.MatcherMatches.{MatcherMatches}
 use Rattle.regex_match.specs.Accepted.{setting_of_request}
 use Rattle.regex_match.specs.Asked.{Task, help, matches}
 use Rattle.regex_match.specs.Found.{IsTreeOf}
@@ -69,11 +70,11 @@ abbrev pub WritesFirst : Setting → Tree → (input old new : Option (List ℕ)
 WritesFirst setting t input old new = (found : List Match) × Took old new (AreLinesOf setting t input false found)
 
 -- the lines of all remaining matches of a search were written
-abbrev pub WritesRest : Matches → List Capture → (old new : Option (List ℕ)) → (any : Bool) → Type 0
+abbrev pub WritesRest : MatcherMatches → List Capture → (old new : Option (List ℕ)) → (any : Bool) → Type 0
 WritesRest m groups old new any = (found : List Match) × (has_some found ≡ any)
-    × Took old new (AreLines (searched_text m) (searched_outcomes m) (next_from m) groups true found)
+    × Took old new (AreLines (iterated_text m) (iterated_outcomes m) (iterated_from m) groups true found)
 
 -- the lines of the first remaining matches were written
-abbrev pub WritesSome : Matches → List Capture → (old new : Option (List ℕ)) → Type 0
+abbrev pub WritesSome : MatcherMatches → List Capture → (old new : Option (List ℕ)) → Type 0
 WritesSome m groups old new = (found : List Match)
-    × Took old new (AreLines (searched_text m) (searched_outcomes m) (next_from m) groups false found)
+    × Took old new (AreLines (iterated_text m) (iterated_outcomes m) (iterated_from m) groups false found)

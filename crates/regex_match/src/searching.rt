@@ -21,12 +21,15 @@ use regress_front::parse::try_parse_with_position;
 use regress_front::types::Flags;
 use regress_front::unicode::Tables;
 use regress_front::util::code_points;
-use regress_match::{Group, Match, Matches, Outcome, groups};
+use regress_match::{Group, Match, Matcher, MatcherMatches, Outcome, groups};
 use regress_ucd::unicode_tables;
 use std::alloc::Global;
 use std::io::{self, ErrorKind, Read, Write};
 
-/// The step limit for all matches of a run together, about a minute's worth.
+/// The largest number of instructions with which a pattern is searched in linear time.
+const INSTRUCTIONS: usize = 100_000;
+
+/// The step limit for all matches of any other pattern together, about a minute's worth.
 const STEPS: u64 = 1_000_000_000;
 
 /// Prints the matches of a pattern in the input, and returns whether there is one.
@@ -75,7 +78,8 @@ fn print_found<I: Read + Drop, W: Write>(
 {
     let groups = groups(alloc, regex)?;
     let text = read_text(alloc, input)?;
-    let mut matches = Matches::new(regex, tables, &text, 0, STEPS);
+    let matcher = Matcher::new(alloc, regex, tables, INSTRUCTIONS)?;
+    let mut matches = matcher.find_iter(&text, 0, STEPS);
     let ended = write_all(alloc, &mut matches, &groups, out);
     out.flush().map_err(|_| Failure::Output)?;
     ended
@@ -84,7 +88,7 @@ fn print_found<I: Read + Drop, W: Write>(
 /// Writes a line for each remaining match, and returns whether there is one.
 fn write_all<W: Write>(
     alloc: Global,
-    matches: &mut Matches<'_>,
+    matches: &mut MatcherMatches<'_>,
     groups: &[Group],
     out: &mut W,
 ) -> Result<bool, Failure>

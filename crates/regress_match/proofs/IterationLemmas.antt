@@ -1,6 +1,5 @@
 -- A search for all matches with a matcher, between two of them.
-use Rattle.std.proofs.Common.{◌≡◌, ◌∙◌, ℕ, ◌+◌, ◌-◌, ◌<◌, List, [], ◌∷◌, ◌++◌, length, ap, subst, sym, arith}
-use Rattle.regress_program.specs.Found.{IsLeftmost}
+use Rattle.std.proofs.Common.{◌≡◌, ◌∙◌, ℕ, List, [], ◌∷◌, ◌++◌, subst, sym}
 use Rattle.regress_program.specs.declared.found.Match.{Match}
 use Rattle.regress_match.specs.Iterated.{IsSameIteration, iterated_from, iterated_matcher, iterated_text}
 use Rattle.regress_match.specs.Matched.{Finds}
@@ -11,15 +10,6 @@ use Rattle.regress_match.specs.declared.matcher_matches.MatcherMatches.{MatcherM
 use Rattle.regress_match.specs.declared.matching.Outcome.{Outcome}
 use Rattle.regress_match.specs.declared.matching.Outcome.TheVariants as outcomes
 use Rattle.regress_match.proofs.lemmas.Searched.{AreMatches-more}
-
--- the measure of a loop over all matches
-abbrev pub remaining : MatcherMatches → ℕ
-remaining s = length (iterated_text s) + 2 - iterated_from s
-
-pub remaining-falls : (old new : MatcherMatches) (m : Match) →
-    IsLeftmost (iterated_text old) (matcher_outcomes (iterated_matcher old) (iterated_text old)) (iterated_from old) m →
-    iterated_from new ≡ next_offset m → iterated_text new ≡ iterated_text old → remaining new < remaining old
-remaining-falls old new m found next same = omega (arith, found.from, found.boundary.0, next, ap length same)
 
 -- the search has found these matches, and goes on after them
 pub record HasFound (matcher : Matcher) (text : List ℕ) (now : MatcherMatches) (ms : List Match) : Type 0 where

@@ -1,5 +1,7 @@
 -- Repeated searches with a pattern that may have a program.
 use Rattle.std.specs.Prelude.{◌≡◌, ℕ, List}
+use Rattle.regress_tree.specs.Steps.{MatchState}
+use Rattle.regress_match.specs.Matcher.{matcher_outcomes}
 use Rattle.regress_match.specs.declared.matcher.Matcher.{Matcher}
 use Rattle.regress_match.specs.declared.matcher_matches.MatcherMatches.{MatcherMatches}
 
@@ -14,6 +16,10 @@ iterated_text m = m.text.now
 -- the byte offset from which the next match is searched
 abbrev pub iterated_from : MatcherMatches → ℕ
 iterated_from m = m.from
+
+-- the outcomes among which matches are found
+abbrev pub iterated_outcomes : MatcherMatches → (position : ℕ) → List MatchState
+iterated_outcomes m = matcher_outcomes (iterated_matcher m) (iterated_text m)
 
 -- the step limit of backtracking, and the number of steps that are left
 abbrev pub step_limit : MatcherMatches → ℕ

@@ -21,6 +21,9 @@ use regress_tree::ir::Regex;
 use regress_unicode::Tables;
 use std::alloc::{AllocError, Global};
 
+/// The number of steps of backtracking for each byte of a text, and once more, after which tables are made.
+const BACKTRACKING_STEPS: u64 = 64;
+
 /// The result of a search, and the number of steps that it took.
 #[derive(Debug, Drop)]
 pub struct Found {
@@ -196,7 +199,7 @@ impl<'a> Matcher<'a> {
         ensures limited { IfNone (factor_of self.now) (result ≡ steps) }
     {
         match self.program {
-            Some(_) => (text.len() as u64 + 1).saturating_mul(64),
+            Some(_) => (text.len() as u64 + 1).saturating_mul(BACKTRACKING_STEPS),
             None => steps,
         }
     }
@@ -207,6 +210,10 @@ impl<'a> MatcherMatches<'a> {
     ///
     /// After an empty match the search goes on one character further. After the last match each call returns
     /// [`Outcome::NoMatch`]. Only a pattern that has no program can be out of steps.
+    ///
+    /// # Complexity
+    /// If [`Matcher::is_linear`], all calls together take at most [`Matcher::steps_per_character`] steps for each byte of
+    /// the text, and once more. For any other pattern the step limit is for all calls together.
     ///
     /// # Errors
     /// Returns [`AllocError`] if an allocation fails. The position of the search stays as it is, so that the call may
@@ -255,8 +262,8 @@ impl<'a> MatcherMatches<'a> {
         self.text
     }
 
-    /// Returns the number of steps that all calls of [`MatcherMatches::next`] together took, but for those that
-    /// returned an error.
+    /// Returns the number of steps that all calls of [`MatcherMatches::next`] together took. Of a call that returned an
+    /// error some are not counted.
     pub fn steps(&self) -> u64
         ensures linear { IfSome (factor_of (iterated_matcher self.now)) (λ n. result ≤ n * (length (iterated_text self.now) + 1)) }
         ensures limited { IfNone (factor_of (iterated_matcher self.now)) (result + steps_left self.now ≡ step_limit self.now) }

@@ -148,7 +148,7 @@ impl<'p> Linear<'p, 'p, 'p> {
     /// }
     /// ```
     pub fn search(self, alloc: Global, text: &'p str) -> Result<TextSearch<'p>, AllocError>
-        ensures program { IfOk result (λ search. searched_program search ≡ self.program.now) }
+        ensures program { IfOk result (λ search. searched_program search ≡ self.entry.program.now) }
         ensures text { IfOk result (λ search. searched_text search ≡ text.now) }
     {
         let program = self.program;

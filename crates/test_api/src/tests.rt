@@ -8,6 +8,7 @@ mod calls;
 mod examples;
 mod lengths;
 mod linting;
+mod matchers;
 mod passes;
 mod walks;
 

@@ -1,6 +1,6 @@
 use Rattle.std.proofs.Common.{map}
 use Rattle.regress_match.specs.Names.{capture_of}
-use Rattle.regress_match.proofs.lemmas.Searched.{remaining-falls}
+use Rattle.regress_match.proofs.lemmas.Iterated.{remaining-falls}
 use Rattle.regex_match.proofs.SearchingLemmas.{all, begins, goes_on}
 use Rattle.regex_match.proofs.searching.write_all.Goals as goal
 

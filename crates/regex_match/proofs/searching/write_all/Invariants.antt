@@ -1,7 +1,7 @@
 -- Each match starts further on, and has its line.
 use Rattle.std.proofs.Common.{map}
 use Rattle.regress_match.specs.Names.{capture_of}
-use Rattle.regress_match.proofs.lemmas.Searched.{remaining}
+use Rattle.regress_match.proofs.lemmas.Iterated.{remaining}
 use Rattle.regex_match.proofs.SearchingLemmas.{Progress}
 use Rattle.regex_match.proofs.searching.write_all.Given as goal
 

@@ -1,6 +1,7 @@
 use Rattle.std.proofs.Common.{ℕ, Some, None, IfSome, IsSome, refl, subst}
 use Rattle.regress_match.specs.Matcher.{factor_of}
-use Rattle.regress_match.proofs.IterationLemmas.{all_found, one_more, remaining-falls}
+use Rattle.regress_match.proofs.IterationLemmas.{all_found, one_more}
+use Rattle.regress_match.proofs.lemmas.Iterated.{remaining-falls}
 use Rattle.regress_match.proofs.MatcherLemmas.{if_some, map_some}
 use Rattle.regress_match.proofs.matcher.Matcher.find_all.Goals as goal
 

@@ -1,5 +1,6 @@
 -- The list has the matches that the search has found.
-use Rattle.regress_match.proofs.IterationLemmas.{HasFound, remaining}
+use Rattle.regress_match.proofs.IterationLemmas.{HasFound}
+use Rattle.regress_match.proofs.lemmas.Iterated.{remaining}
 use Rattle.regress_match.proofs.matcher.Matcher.find_all.Given as goal
 
 abbrev pub invariant-loop-matches : goal.invariant-loop-matches
