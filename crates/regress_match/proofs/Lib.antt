@@ -6,7 +6,6 @@ pub mod LoopLemmas
 pub mod PeekLemmas
 pub mod RunLemmas
 pub mod FirstLemmas
-pub mod InsideLemmas
 pub mod IterationLemmas
 pub mod CharacterLoopLemmas
 pub mod SingleLemmas

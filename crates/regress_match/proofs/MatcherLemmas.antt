@@ -28,7 +28,7 @@ use Rattle.regress_match.specs.Matcher.{factor, factor_of, matcher_setting, matc
 use Rattle.regress_match.specs.Searched.{offset_after, outcomes_of}
 use Rattle.regress_match.specs.declared.matcher.Matcher.{Matcher}
 use Rattle.regress_match.specs.declared.prepared.Prepared.{Prepared}
-use Rattle.regress_match.proofs.InsideLemmas.{first_inside}
+use Rattle.regress_match.proofs.lemmas.Inside.{first_inside}
 use Rattle.regress_match.proofs.RunLemmas.{distinct_first, distinct_none}
 
 -- the program of a pattern

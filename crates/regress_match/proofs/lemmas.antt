@@ -1,3 +1,4 @@
 -- Lemmas about this crate's definitions, for the crates that use it.
 pub mod Iterated
 pub mod Searched
+pub mod Inside

@@ -18,6 +18,7 @@ mod matching;
 mod outcome;
 mod parsing;
 mod positions;
+mod replacing;
 mod response;
 mod tables;
 mod tear;

@@ -78,7 +78,7 @@ fn difference_by(
 }
 
 /// Parses the next field as a text.
-fn read_text(call: &mut Call) -> String {
+pub(crate) fn read_text(call: &mut Call) -> String {
     let mut text = String::new(call.alloc());
     for point in &call.pattern() {
         let character = call.read(char::from_u32(*point), ' ');

@@ -3,6 +3,7 @@
 use crate::generated::parts_of_large;
 use crate::matching::match_difference;
 use crate::parsing::{find_fault, report_bound, report_spans};
+use crate::replacing::replace_difference;
 use crate::tear::parse_all_torn;
 use crate::trees::{make_on_tree, report_trees, whole};
 use regress_base::types::Flags;
@@ -14,7 +15,8 @@ use test_notation::{Call, Fault, parse_flags};
 use test_tree_cases::{copy_pieces, lower};
 
 /// Returns the result of a test case over these tables, if it is not the expected one. A test case that begins with
-/// flags is about a pattern's trees, and one that begins with `match` is about the matcher.
+/// flags is about a pattern's trees, one that begins with `match` about the matcher, and one that begins with `replace`,
+/// `replace_all` or `split` about what is made of the matches.
 pub(crate) fn difference_over(
     alloc: Global,
     line: &str,
@@ -26,6 +28,9 @@ pub(crate) fn difference_over(
     match parse_flags(first) {
         Some(flags) => list_difference(alloc, flags, list, tables),
         None if first == "match" => match_difference(alloc, list, tables),
+        None if matches!(first, "replace" | "replace_all" | "split") => {
+            replace_difference(alloc, line, tables)
+        }
         None => call_difference(alloc, line, tables),
     }
 }

@@ -5,7 +5,7 @@ use Rattle.regress_tree.specs.Tree.{tree}
 use Rattle.regress_unicode.specs.TableOf.{table_of}
 use Rattle.regress_match.specs.Captures.{state}
 use Rattle.regress_match.specs.Matched.{outcomes_at}
-use Rattle.regress_match.proofs.InsideLemmas.{first_inside}
+use Rattle.regress_match.proofs.lemmas.Inside.{first_inside}
 use Rattle.regress_match.proofs.matching.match_at.Goals as goal
 
 pub returns-in-At-clause-inside : goal.returns-in-At-clause-inside

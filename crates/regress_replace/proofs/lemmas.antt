@@ -1,0 +1,3 @@
+-- Lemmas about this crate's definitions, for the crates that use it.
+pub mod Order
+pub mod Found

@@ -1,0 +1,11 @@
+//! Replacing the matches of a pattern in a text by a template, and splitting a text at them.
+#![tactic(auto)]
+
+mod context;
+mod names;
+mod reference;
+mod replace;
+mod split;
+
+pub use replace::{expand, replace_matches};
+pub use split::{split_at_matches, split_with_captures};
