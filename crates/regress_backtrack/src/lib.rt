@@ -1,4 +1,4 @@
-//! A backtracking search with compiled patterns, within a step limit.
+//! A backtracking search with the programs of `regress_program`, within a step limit.
 #![tactic(auto)]
 
 mod input;

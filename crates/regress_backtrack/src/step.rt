@@ -112,7 +112,7 @@ pub fn step(
             machine.end_group(id, here)?;
             Ok(Next::On(goto(next, here)))
         }
-        // not here
+        // the precondition excludes it
         Instruction::Look { .. } => Ok(Next::Back),
     }
 }

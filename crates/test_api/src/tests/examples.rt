@@ -44,7 +44,7 @@ fn the_examples_of_escaping_hold(rt: HostRuntime) -> Result<(), Fail> {
         let pattern = escape(alloc, "1+1 = 2?")?;
         assert_eq!(rt; pattern.as_str(), "\\x31\\+1\\x20\\x3d\\x202\\?");
     }
-    // each kind of escape, as MDN's page on RegExp.escape has them
+    // each kind of escape (EncodeForRegExpEscape)
     {
         let line_feed = escape(alloc, "foo\nbar")?;
         assert_eq!(rt; line_feed.as_str(), "\\x66oo\\nbar");
