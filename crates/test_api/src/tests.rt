@@ -9,6 +9,7 @@ mod examples;
 mod lengths;
 mod linting;
 mod passes;
+mod regular_expressions;
 mod walks;
 
 use regress_front::ir::Regex;
