@@ -10,6 +10,7 @@ mod lengths;
 mod linting;
 mod matchers;
 mod passes;
+mod regular_expressions;
 mod walks;
 
 use regress_front::ir::Regex;

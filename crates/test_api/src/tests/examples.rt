@@ -563,3 +563,40 @@ fn the_examples_of_matchers_hold(rt: HostRuntime) -> Result<(), Fail> {
     }
     Ok(())
 }
+
+#[test]
+fn the_examples_of_regular_expressions_hold(rt: HostRuntime) -> Result<(), Fail> {
+    use regress::{Regex, parse_flags};
+    let alloc = rt.alloc();
+    // the leftmost match is found, with its groups
+    {
+        let tables = Tables::small(alloc)?;
+        let regex = Regex::new(alloc, "(?<month>\\d\\d)-(\\d\\d)", &tables)?;
+        match regex.find(alloc, "on 12-31")? {
+            Some(found) => {
+                assert_eq!(rt; found.range(), 3..8);
+                assert_eq!(rt; found.named_group("month"), Some(3..5));
+                assert_eq!(rt; found.group(2), Some(6..8));
+            }
+            None => assert!(rt; false, "it matches"),
+        }
+    }
+    // all matches are found
+    {
+        let tables = Tables::small(alloc)?;
+        let regex = Regex::new(alloc, "a+", &tables)?;
+        let mut ends = Vec::new(alloc);
+        for found in regex.find_iter(alloc, "aabxa") {
+            ends.push(found?.end())?;
+        }
+        assert_eq!(rt; ends.as_slice(), [2, 5].as_slice());
+    }
+    // flags are parsed
+    {
+        let flags = parse_flags("gi")?;
+        assert!(rt; flags.icase);
+        assert!(rt; !flags.unicode);
+        assert!(rt; parse_flags("uv").is_err());
+    }
+    Ok(())
+}

@@ -1,0 +1,94 @@
+-- The tree of an accepted pattern, and the errors of a rejected one.
+use Rattle.std.proofs.Common.{◌≡◌, ◌∙◌, ℕ, ◌<◌, List, [], ◌∷◌, length, map, sym, ap, subst, not-suc-le-zero, arith}
+use Rattle.std.proofs.lemmas.List.{get_or-map, length-map}
+use Rattle.std.specs.List.Sorted.{IsNonDecreasingBy, IsPermutation}
+use Rattle.std.specs.Prelude.{Result, Ok, Err, IfErr, IsErr, IsErrAnd, chars}
+use Rattle.regress_front.specs.Accepted.{IsTrueOf, MayExceed, Means, NoneIsAccepted}
+use Rattle.regress_front.specs.Fault.{HasPositionWithin, HasTextOfKind, RejectedOnlyIf, ReportsKindAt, unplaced}
+use Rattle.regress_front.specs.Reading.{forwards}
+use Rattle.regress_front.specs.Law.{MeansTheSame}
+use Rattle.regress_front.specs.Setting.{Setting}
+use Rattle.regress_front.specs.Settled.{IsAtFirstDuplicate, IsFinal}
+use Rattle.regress_front.specs.SettingOf.{setting_of}
+use Rattle.regress_front.specs.Source.{Source}
+use Rattle.regress_front.specs.Steps.{byte_state}
+use Rattle.regress_front.specs.Syntax.{Pattern}
+use Rattle.regress_front.specs.Tree.{Tree}
+use Rattle.regress_front.specs.WellFormed.{captures}
+use Rattle.regress_front.specs.declared.parse.PlacedFault.{PlacedFault}
+use Rattle.regress_front.specs.declared.parse.PlacedFault.TheVariants as fault
+use Rattle.regress_front.specs.declared.types.Flags.{Flags}
+use Rattle.regress_front.specs.declared.unicode.Tables.{Tables}
+use Rattle.regress_match.specs.Names.{capture_of}
+use Rattle.regress_match.specs.declared.names.Group.{Group}
+use Rattle.regress.specs.Accepted.{IsTreeOf}
+use Rattle.regress.specs.Compiled.{IsCompiled, groups_of, source_of, tree_of}
+use Rattle.regress.specs.Failures.{IsDue, error_of}
+use Rattle.regress.specs.declared.failure.Error.{Error}
+use Rattle.regress.specs.declared.pattern.Regex.{Regex}
+
+-- An optimized tree means what the parsed one does.
+pub means_optimized : (setting : Setting) (old new : Tree) (p : Pattern) → Means setting old p → MeansTheSame forwards old new →
+    Means setting new p
+means_optimized setting old new p means same = λ text s is_text is_state.
+    sym ((same setting text is_text).same (byte_state text s)) ∙ means text s is_text is_state
+
+module _ (setting : Setting) (source : Source) (limit : ℕ) {X : Type 0} where
+  -- An error of the parser is due.
+  pub due : (r : Result X PlacedFault) (f : PlacedFault) → r ≡ Err f → RejectedOnlyIf (unplaced r) (NoneIsAccepted setting source) →
+      HasTextOfKind r → ReportsKindAt r (λ kind position. IsTrueOf setting source kind) →
+      ReportsKindAt r (λ kind position. MayExceed source kind) → HasPositionWithin (length source) r →
+      ReportsKindAt r (IsFinal setting source) → ReportsKindAt r (IsAtFirstDuplicate setting source) →
+      IsDue setting source limit (error_of f)
+  due (Ok x) f is rejected text reported limits within settled duplicate = absurd (cc)
+  due (Err (fault.Syntax kind e position)) (fault.Syntax k g at) is rejected text reported limits within settled duplicate =
+      let one : fault.Syntax kind e position ≡ fault.Syntax k g at = cc in
+      subst (λ f. IsDue setting source limit (error_of f)) one (record {
+        rejected = rejected;
+        text = text;
+        reported = record { reported = reported; limits = limits; within = within; settled = settled; duplicate = duplicate };
+      })
+  due (Err (fault.Memory e)) (fault.Syntax k g at) is rejected text reported limits within settled duplicate = absurd (cc)
+  due r (fault.Memory e) is rejected text reported limits within settled duplicate = tt
+
+-- An error of the parser that is converted is due.
+pub failed : (setting : Setting) (source : Source) {X Y : Type 0} (r : Result X PlacedFault) (f : PlacedFault) (out : Result Y Error) →
+    IsErr out × IsErrAnd out (λ error. error ≡ error_of f) → r ≡ Err f → RejectedOnlyIf (unplaced r) (NoneIsAccepted setting source) →
+    HasTextOfKind r → ReportsKindAt r (λ kind position. IsTrueOf setting source kind) →
+    ReportsKindAt r (λ kind position. MayExceed source kind) → HasPositionWithin (length source) r →
+    ReportsKindAt r (IsFinal setting source) → ReportsKindAt r (IsAtFirstDuplicate setting source) →
+    (limit : ℕ) → IfErr out (IsDue setting source limit)
+failed setting source r f (Ok y) given is rejected text reported limits within settled duplicate limit = tt
+failed setting source r f (Err error) given is rejected text reported limits within settled duplicate limit =
+    subst (IsDue setting source limit) (sym given.1)
+    (due setting source limit r f is rejected text reported limits within settled duplicate)
+
+-- An error that is passed on has the property that it had.
+pub passed_on : (P : Error → Type 0) {X Y : Type 0} (r : Result X Error) (e : Error) (out : Result Y Error) →
+    IsErr out × IsErrAnd out (λ x. x ≡ e) → r ≡ Err e → IfErr r P → IfErr out P
+passed_on P r e (Ok y) given is known = tt
+passed_on P r e (Err x) given is known = subst P (sym given.1) (subst (λ o. IfErr o P) is known)
+
+-- the ids of the listed groups ascend
+sorted-map : (groups : List Group) → IsNonDecreasingBy (λ group. group.id) groups →
+    IsNonDecreasingBy (λ group. group.id) (map capture_of groups)
+sorted-map [] sorted = λ i j d up within. absurd (not-suc-le-zero within)
+sorted-map (first ∷ groups) sorted = λ i j d up within.
+    let all = first ∷ groups in
+    let in_all : j < length all = omega (arith, within, length-map all capture_of) in
+    let one = ap (λ c. c.id) (get_or-map capture_of all i first d (omega (arith, in_all, up))) in
+    let two = ap (λ c. c.id) (get_or-map capture_of all j first d in_all) in
+    omega (arith, one, two, sorted i j first up in_all)
+
+-- A regular expression with the tree and the groups of an accepted pattern is compiled from its text.
+pub compiled : (flags : Flags) (tables : Tables) (text points : List ℕ) (r : Regex) → points ≡ chars text →
+    IsTreeOf (setting_of flags tables) points (tree_of r) → r.compiled.flags ≡ flags → r.tables.now ≡ tables →
+    IsPermutation (captures (tree_of r)) (groups_of r) → IsNonDecreasingBy (λ group. group.id) r.groups.items → source_of r ≡ text →
+    IsCompiled (setting_of flags tables) text r
+compiled flags tables text points r is tree is_flags is_tables groups sorted source = record {
+  tree = subst (λ t. IsTreeOf (setting_of flags tables) t (tree_of r)) is tree;
+  groups = groups;
+  sorted = sorted-map r.groups.items sorted;
+  source = source;
+  setting = ap (λ f. setting_of f r.tables.now) is_flags ∙ ap (λ t. setting_of flags t) is_tables;
+}

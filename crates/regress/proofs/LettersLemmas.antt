@@ -1,0 +1,47 @@
+-- Counting one more letter, and letters that JavaScript rejects.
+use Rattle.std.proofs.Common.{◌≡◌, ◌∙◌, ℕ, ◌+◌, ◌<◌, ◌≤◌, min, Bool, true, false, List, [], ◌∷◌, ◌++◌, cond, get_or, length, refl, ap, subst, sym, arith}
+use Rattle.std.specs.Prelude.{◌==◌}
+use Rattle.std.specs.Int.{from_bool}
+use Rattle.std.proofs.lemmas.List.Sums.{sum_by-append}
+use Rattle.regress.specs.Letters.{AreFlags, count, is_known}
+
+one : (b : Bool) → 0 + cond b 1 0 ≡ from_bool b
+one true = refl
+one false = refl
+
+count_more : (letters : List ℕ) (x c : ℕ) → count (letters ++ x ∷ []) c ≡ count letters c + from_bool (x == c)
+count_more letters x c =
+    sum_by-append (λ d. cond (d == c) 1 0) letters (x ∷ []) ∙ ap (λ n. count letters c + n) (one (x == c))
+
+-- the saturated number of a letter after one more letter
+pub counted_more : (letters : List ℕ) (x c times bit new : ℕ) → times ≡ min (count letters c) 18446744073709551615 →
+    bit ≡ from_bool (x == c) → new ≡ min (times + bit) 18446744073709551615 →
+    new ≡ min (count (letters ++ x ∷ []) c) 18446744073709551615
+counted_more letters x c times bit new so_far is next =
+    saturated (count letters c) bit (count (letters ++ x ∷ []) c) times new so_far next
+    (count_more letters x c ∙ ap (λ n. count letters c + n) (sym is))
+  where
+    saturated : (n bit more times new : ℕ) → times ≡ min n 18446744073709551615 → new ≡ min (times + bit) 18446744073709551615 →
+        more ≡ n + bit → new ≡ min more 18446744073709551615
+    saturated n bit more times new so_far next grown = omega arith
+
+-- A letter at some index is known and occurs once, if JavaScript accepts the letters.
+pub known_at : (letters : List ℕ) (x i : ℕ) → i < length letters → x ≡ get_or letters i x → is_known x ≡ false → AreFlags letters → ⊥
+known_at letters x i within is unknown flags =
+    let known : is_known x ≡ true = subst (λ c. is_known c ≡ true) (sym is) (flags.known i x within) in
+    differ (sym known ∙ unknown)
+  where
+    differ : true ≡ false → ⊥
+    differ e = cc
+
+pub once_at : (letters : List ℕ) (x i times : ℕ) → i < length letters → x ≡ get_or letters i x →
+    times ≡ min (count letters x) 18446744073709551615 → 1 < times → AreFlags letters → ⊥
+once_at letters x i times within is counted twice flags =
+    let once : count letters x ≤ 1 = subst (λ c. count letters c ≤ 1) (sym is) (flags.once i x within) in
+    bounded (count letters x) times counted twice once
+  where
+    bounded : (n times : ℕ) → times ≡ min n 18446744073709551615 → 1 < times → n ≤ 1 → ⊥
+    bounded n times counted twice once = omega arith
+
+pub within_once : (n times : ℕ) → times ≡ min n 18446744073709551615 → times ≤ 1 → n ≤ 1
+within_once n times counted few = omega arith

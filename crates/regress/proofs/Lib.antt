@@ -1,0 +1,3 @@
+mod CompiledLemmas
+mod FoundLemmas
+mod LettersLemmas

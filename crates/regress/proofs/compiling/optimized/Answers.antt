@@ -1,0 +1,25 @@
+use Rattle.std.proofs.Common.{◌∙◌, ap}
+use Rattle.regress_front.specs.SettingOf.{setting_of}
+use Rattle.regress_front.specs.Tree.{tree}
+use Rattle.regress_front.specs.WellFormed.{captures}
+use Rattle.regress.proofs.CompiledLemmas.{failed, means_optimized}
+use Rattle.regress.proofs.compiling.optimized.Goals as goal
+
+pub returns-clause-tree : goal.returns-clause-tree
+returns-clause-tree c =
+    let parsed = c.in_ok-regex.ensures.accepted in
+    record {
+      pattern = parsed.0;
+      accepted = parsed.1;
+      meaning = means_optimized (setting_of c.args.flags c.args.tables.now) (tree c.in_ok-regex.regex.node) (tree c.optimize.new.r.node) parsed.0
+          (c.in_ok-regex.ensures.meaning parsed.0 parsed.1) c.optimize.ensures.meaning;
+      captures = c.optimize.ensures.captures ∙ ap captures parsed.2;
+      well_formed = c.optimize.ensures.well_formed;
+    }
+
+pub returns-in_err-regex-clause-failed : goal.returns-in_err-regex-clause-failed
+returns-in_err-regex-clause-failed c =
+    let parsed = c.try_parse_with_position.ensures in
+    failed (setting_of c.args.flags c.args.tables.now) c.args.points.now c.try_parse_with_position.result c.in_err-regex.field-0.0
+    c.from_residual.result c.from_residual.ensures c.in_err-regex.was parsed.rejected parsed.text parsed.reported parsed.limits
+    parsed.position parsed.settled parsed.duplicate

@@ -1,0 +1,45 @@
+-- A compiled regular expression.
+use Rattle.std.specs.Prelude.{◌≡◌, ℕ, List, map, string_bytes, chars}
+use Rattle.std.specs.List.Sorted.{IsNonDecreasingBy, IsPermutation}
+use Rattle.regress_front.specs.Setting.{Setting}
+use Rattle.regress_front.specs.SettingOf as front
+use Rattle.regress_front.specs.Source.{Source}
+use Rattle.regress_front.specs.Steps.{MatchState}
+use Rattle.regress_front.specs.Tree.{Tree, tree}
+use Rattle.regress_front.specs.WellFormed.{Capture, captures}
+use Rattle.regress_match.specs.Matched.{outcomes_at}
+use Rattle.regress_match.specs.Names.{capture_of}
+use Rattle.regress.specs.Accepted.{IsTreeOf}
+use Rattle.regress.specs.declared.pattern.Regex.{Regex}
+
+-- the text of the pattern, in UTF-8
+abbrev pub source_of : Regex → List ℕ
+source_of r = string_bytes r.source
+
+-- the code points of the pattern
+abbrev pub pattern_of : Regex → Source
+pattern_of r = chars (source_of r)
+
+-- the flags, and the table of Unicode
+abbrev pub setting_of : Regex → Setting
+setting_of r = front.setting_of r.compiled.flags r.tables.now
+
+-- the tree of the pattern
+abbrev pub tree_of : Regex → Tree
+tree_of r = tree r.compiled.node
+
+-- the capture groups of the pattern, in the order of their opening parentheses
+abbrev pub groups_of : Regex → List Capture
+groups_of r = map capture_of r.groups.items
+
+-- the outcomes of the pattern on a text, from each position
+abbrev pub outcomes_of : Regex → (text : List ℕ) → (position : ℕ) → List MatchState
+outcomes_of r text = outcomes_at (setting_of r) text (tree_of r)
+
+-- The regular expression is compiled from this text under this setting.
+pub record IsCompiled (s : Setting) (text : List ℕ) (r : Regex) : Type 0 where
+  pub tree : IsTreeOf s (chars text) (tree_of r)
+  pub groups : IsPermutation (captures (tree_of r)) (groups_of r)
+  pub sorted : IsNonDecreasingBy (λ group. group.id) (groups_of r)
+  pub source : source_of r ≡ text
+  pub setting : setting_of r ≡ s

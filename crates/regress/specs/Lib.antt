@@ -1,0 +1,9 @@
+pub mod Accepted
+pub mod Compiled
+pub mod Failures
+pub mod Found
+pub mod Groups
+pub mod Inside
+pub mod Letters
+pub mod Limits
+pub mod Searched

@@ -1,0 +1,74 @@
+-- Searches for all matches.
+use Rattle.std.specs.Prelude.{◌≡◌, ℕ, Bool, true, false, List, map, Option, Some, None, Result, Ok, Err}
+use Rattle.regress_front.specs.Steps.{MatchState}
+use Rattle.regress_front.specs.WellFormed.{Capture}
+use Rattle.regress_match.specs.Matched.{IsInside}
+use Rattle.regress_program.specs.Found as one
+use Rattle.regress_match.specs.Names.{capture_of}
+use Rattle.regress_match.specs.Searched as matcher
+use Rattle.regress_match.specs.Searched.{next_offset}
+use Rattle.regress.specs.Found.{groups_in, match_of}
+use Rattle.regress.specs.declared.failure.SearchError.{SearchError}
+use Rattle.regress.specs.declared.found.Match.{Match}
+use Rattle.regress.specs.declared.search.Matches.{Matches}
+
+-- the text that is searched
+abbrev pub searched_text : Matches → List ℕ
+searched_text m = matcher.searched_text m.matches
+
+-- the outcomes among which matches are found
+abbrev pub searched_outcomes : Matches → (position : ℕ) → List MatchState
+searched_outcomes m = matcher.searched_outcomes m.matches
+
+-- the byte offset from which the next match is searched
+abbrev pub next_from : Matches → ℕ
+next_from m = matcher.next_from m.matches
+
+-- the capture groups of the pattern
+abbrev pub searched_groups : Matches → List Capture
+searched_groups m = map capture_of m.groups.now
+
+-- an error was returned
+abbrev pub has_failed : Matches → Bool
+has_failed m = m.failed
+
+-- the text, the pattern and its groups are unchanged
+pub record IsSameSearch (old new : Matches) : Type 0 where
+  pub text : searched_text new ≡ searched_text old
+  pub outcomes : searched_outcomes new ≡ searched_outcomes old
+  pub groups : searched_groups new ≡ searched_groups old
+
+-- The next match: the leftmost one from the offset at which the search was, which goes on at its end.
+pub record IsNext (old : Matches) (m : Match) (new : Matches) : Type 0 where
+  pub leftmost : one.IsLeftmost (searched_text old) (searched_outcomes old) (next_from old) (match_of m)
+  pub inside : IsInside (searched_text old) (match_of m)
+  pub groups : groups_in m ≡ searched_groups old
+  pub goes_on : next_from new ≡ next_offset (match_of m)
+
+-- No match remains.
+abbrev pub IsOver : Matches → Type 0
+IsOver m = one.Finds (searched_text m) (searched_outcomes m) (next_from m) None
+
+-- What a search for the next match returns. An error leaves it where it was.
+abbrev pub Returns : Matches → Result (Option Match) SearchError → Matches → Type 0
+Returns old (Ok (Some m)) new = IsNext old m new
+Returns old (Ok None) new = IsOver old
+Returns old (Err e) new = next_from new ≡ next_from old
+
+pub record Proceeds (old : Matches) (r : Result (Option Match) SearchError) (new : Matches) : Type 0 where
+  pub same : IsSameSearch old new
+  pub failed : has_failed new ≡ has_failed old
+  pub returns : Returns old r new
+
+-- What a call of the iterator returns: the next match, an error, or `None`, which states that no match remains if there
+-- was no error before.
+abbrev pub Yields : Matches → Option (Result Match SearchError) → Matches → Type 0
+Yields old (Some (Ok m)) new = IsNext old m new × (has_failed new ≡ false)
+Yields old (Some (Err e)) new = has_failed new ≡ true
+Yields old None new = has_failed old ≡ false → IsOver old
+
+-- A call of the iterator. After an error it returns nothing more.
+pub record Advances (old : Matches) (item : Option (Result Match SearchError)) (new : Matches) : Type 0 where
+  pub same : IsSameSearch old new
+  pub ended : has_failed old ≡ true → item ≡ None
+  pub yields : Yields old item new

@@ -1,0 +1,91 @@
+//! Errors of compiling and of searching.
+ghost use Rattle.std.specs.Prelude.{◌≡◌};
+ghost use Rattle.regress.specs.Failures.{error_of};
+ghost use Rattle.regress.specs.declared.failure.Error.TheVariants.{Memory};
+ghost use Rattle.regress.specs.declared.failure.SearchError.TheVariants.{Memory as SearchMemory};
+
+use regress_front::parse::{FaultKind, PlacedFault};
+use std::alloc::{AllocError, AllocFailed};
+
+/// Why a pattern was not compiled.
+#[derive(Debug, Drop, thiserror::Error)]
+pub enum Error {
+    /// The pattern is rejected: the grammar does not derive it within the limits of the dialect.
+    #[error("{text}, at position {position}")]
+    Syntax {
+        /// What is wrong, as a kind for a program.
+        kind: FaultKind,
+        /// What is wrong, as a message for a person. `docs/errors.md` lists the texts.
+        text: String,
+        /// The position of the error: a code-point index of the pattern, at most its length.
+        position: usize,
+    },
+    /// The tree of the pattern may have more nodes than [`Options`](crate::Options) allow.
+    #[error("the pattern is too large")]
+    TooLarge,
+    /// An allocation failed, whether or not the pattern is valid.
+    #[error("out of memory")]
+    Memory,
+}
+
+impl From<AllocError> for Error {
+    ghost from_gives = { λ _ error. error ≡ Memory };
+
+    fn from(_: AllocError) -> Error {
+        Error::Memory
+    }
+}
+
+impl<T: Drop> From<AllocFailed<T>> for Error {
+    ghost from_gives = { λ _ error. error ≡ Memory };
+
+    fn from(_: AllocFailed<T>) -> Error {
+        Error::Memory
+    }
+}
+
+impl From<PlacedFault> for Error {
+    ghost from_gives = { λ fault error. error ≡ error_of fault };
+
+    fn from(fault: PlacedFault) -> Error {
+        match fault {
+            PlacedFault::Syntax {
+                kind,
+                error,
+                position,
+            } => Error::Syntax {
+                kind,
+                text: error.text,
+                position,
+            },
+            PlacedFault::Memory(_) => Error::Memory,
+        }
+    }
+}
+
+/// Why a search has no result.
+#[derive(Clone, Copy, Debug, PartialEq, Eq, Drop, thiserror::Error)]
+pub enum SearchError {
+    /// An allocation failed.
+    #[error("out of memory")]
+    Memory,
+    /// The search takes more steps than [`Options`](crate::Options) allow.
+    #[error("the search takes too many steps")]
+    OutOfSteps,
+}
+
+impl From<AllocError> for SearchError {
+    ghost from_gives = { λ _ error. error ≡ SearchMemory };
+
+    fn from(_: AllocError) -> SearchError {
+        SearchError::Memory
+    }
+}
+
+impl<T: Drop> From<AllocFailed<T>> for SearchError {
+    ghost from_gives = { λ _ error. error ≡ SearchMemory };
+
+    fn from(_: AllocFailed<T>) -> SearchError {
+        SearchError::Memory
+    }
+}

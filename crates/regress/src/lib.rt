@@ -1,0 +1,26 @@
+//! Regular expressions with the syntax of ECMAScript: a pattern is compiled once, and then searched for in texts.
+//!
+//! The names are those of the Rust crate `regress`. Every call that allocates is passed the allocator, and returns an
+//! error if an allocation fails. A caller makes the tables once, for all patterns, as by `unicode_tables` of
+//! `regress_ucd`.
+#![tactic(auto)]
+
+mod compiling;
+mod failure;
+mod found;
+mod groups;
+mod letters;
+mod limits;
+mod pattern;
+mod search;
+
+pub use failure::{Error, SearchError};
+pub use found::Match;
+pub use groups::{GroupNames, Groups, NamedGroups};
+pub use letters::{FlagsError, parse_flags};
+pub use limits::Options;
+pub use pattern::Regex;
+pub use regress_front::parse::FaultKind;
+pub use regress_front::types::Flags;
+pub use regress_front::unicode::Tables;
+pub use search::Matches;

@@ -1,0 +1,282 @@
+//! Compiled regular expressions.
+ghost use Rattle.regress_front.specs.Tree.{tree};
+ghost use Rattle.regress_front.specs.WellFormed.{IsWellFormed};
+
+use crate::compiling::optimized;
+use crate::failure::{Error, SearchError};
+use crate::found::Match;
+use crate::groups::GroupNames;
+use crate::limits::Options;
+use crate::search::{self, Matches};
+use regress_front::ir;
+use regress_front::parse::node_bound;
+use regress_front::types::Flags;
+use regress_front::unicode::Tables;
+use regress_front::util::code_points;
+use regress_match::{Group, groups};
+use std::alloc::Global;
+use std::fmt::{self, Display, Formatter, Write};
+
+/// A compiled regular expression (ECMA-262, RegExp), for any number of searches.
+///
+/// It keeps its source, its tree in normal form, and a reference to the tables. A search backtracks within a step
+/// limit, so it ends also for untrusted patterns and texts ([`Options`]).
+///
+/// # Examples
+/// ```
+/// let tables = Tables::small(alloc)?;
+/// let regex = Regex::new(alloc, "(?<month>\\d\\d)-(\\d\\d)", &tables)?;
+/// match regex.find(alloc, "on 12-31")? {
+///     Some(found) => {
+///         assert_eq!(rt; found.range(), 3..8);
+///         assert_eq!(rt; found.named_group("month"), Some(3..5));
+///         assert_eq!(rt; found.group(2), Some(6..8));
+///     }
+///     None => assert!(rt; false, "it matches"),
+/// }
+/// ```
+#[derive(Drop)]
+pub struct Regex<'t> {
+    source: String,
+    /// The tree in normal form, and the flags.
+    compiled: ir::Regex,
+    /// The capture groups in the order of their ids.
+    groups: Vec<Group>,
+    tables: &'t Tables,
+    /// The number of steps that a search may take.
+    steps: u64,
+    ghost well_formed: { ∥ IsWellFormed (tree compiled.node) ∥₁ },
+}
+
+impl<'t> Regex<'t> {
+    ghost use Rattle.std.specs.Prelude.{◌≡◌, ◌<◌, ◌↔◌, false, All, IsTrue, IfOk, IfErr, IfSome, chars, length, map, option_map};
+    ghost use Rattle.regress_front.specs.Bound.{HasAtMost};
+    ghost use Rattle.regress_front.specs.SettingOf.{setting_of as setting_under};
+    ghost use Rattle.regress_match.specs.Matched.{IsInside};
+    ghost use Rattle.regress_match.specs.Searched.{AreAllMatches};
+    ghost use Rattle.regress_program.specs.Found.{Finds};
+    ghost use Rattle.regress.specs.Compiled.{IsCompiled, groups_of, outcomes_of, setting_of, source_of};
+    ghost use Rattle.regress.specs.Failures.{IsDue};
+    ghost use Rattle.regress.specs.Found.{MatchesSomewhere, groups_in, match_of};
+    ghost use Rattle.regress.specs.Groups.{names_left};
+    ghost use Rattle.regress.specs.Letters.{no_flags};
+    ghost use Rattle.regress.specs.Limits.{default_options};
+    ghost use Rattle.regress.specs.Searched.{has_failed, next_from, searched_groups, searched_outcomes, searched_text};
+
+    /// Compiles a pattern without flags, within the default [`Options`].
+    ///
+    /// # Errors
+    /// As for [`Regex::with_options`].
+    pub fn new(alloc: Global, pattern: &str, tables: &'t Tables) -> Result<Regex<'t>, Error>
+        ensures compiled { IfOk result (IsCompiled (setting_under no_flags tables.now) pattern.now) }
+        ensures failed { IfErr result (IsDue (setting_under no_flags tables.now) (chars pattern.now) default_options.nodes) }
+    {
+        Regex::with_flags(alloc, pattern, Flags::default(), tables)
+    }
+
+    /// Compiles a pattern with flags, within the default [`Options`]. [`parse_flags`](crate::parse_flags) returns the
+    /// flags of JavaScript's letters.
+    ///
+    /// # Errors
+    /// As for [`Regex::with_options`].
+    pub fn with_flags(
+        alloc: Global,
+        pattern: &str,
+        flags: Flags,
+        tables: &'t Tables,
+    ) -> Result<Regex<'t>, Error>
+        ensures compiled { IfOk result (IsCompiled (setting_under flags tables.now) pattern.now) }
+        ensures failed { IfErr result (IsDue (setting_under flags tables.now) (chars pattern.now) default_options.nodes) }
+    {
+        Regex::with_options(alloc, pattern, flags, Options::default(), tables)
+    }
+
+    /// Compiles a pattern with flags, within limits.
+    ///
+    /// The tables are made once, for all patterns, as by `unicode_tables` of `regress_ucd`.
+    ///
+    /// # Errors
+    /// - [`Error::TooLarge`] if `node_bound` of the pattern exceeds `options.nodes`, whether or not the pattern is
+    ///   valid.
+    /// - [`Error::Syntax`] if the pattern is rejected.
+    /// - [`Error::Memory`] if an allocation fails.
+    ///
+    /// # Complexity
+    /// As for `parse_and_optimize` of `regress_front`. If the pattern is too large, it is not parsed.
+    pub fn with_options(
+        alloc: Global,
+        pattern: &str,
+        flags: Flags,
+        options: Options,
+        tables: &'t Tables,
+    ) -> Result<Regex<'t>, Error>
+        ensures compiled { IfOk result (IsCompiled (setting_under flags tables.now) pattern.now) }
+        ensures failed { IfErr result (IsDue (setting_under flags tables.now) (chars pattern.now) options.nodes) }
+        ensures small { IfOk result (λ _. options.nodes < usize.MAX → HasAtMost flags (chars pattern.now) options.nodes) }
+    {
+        let points = code_points(alloc, pattern)?;
+        let bound = node_bound(&points, flags);
+        if bound > options.nodes {
+            return Err(Error::TooLarge);
+        }
+        let compiled = optimized(alloc, &points, flags, tables)?;
+        let groups = groups(alloc, &compiled)?;
+        let source = String::from_str(alloc, pattern)?;
+        Ok(Regex {
+            source,
+            compiled,
+            groups,
+            tables,
+            steps: options.steps,
+        })
+    }
+
+    /// Returns whether the pattern matches somewhere in `text`.
+    ///
+    /// # Errors
+    /// As for [`Regex::find_from`].
+    pub fn is_match(&self, alloc: Global, text: &str) -> Result<bool, SearchError>
+        ensures { IfOk result (λ is. IsTrue is ↔ MatchesSomewhere text.now (outcomes_of self.now text.now)) }
+    {
+        let found = self.find(alloc, text)?;
+        Ok(found.is_some())
+    }
+
+    /// Returns the leftmost match in `text`, and of those at its position the preferred one; `None` if there is none.
+    ///
+    /// # Errors
+    /// As for [`Regex::find_from`].
+    pub fn find(&self, alloc: Global, text: &str) -> Result<Option<Match<'_>>, SearchError>
+        ensures finds { IfOk result (λ found. Finds text.now (outcomes_of self.now text.now) 0 (option_map match_of found)) }
+        ensures inside { IfOk result (λ found. IfSome found (λ m. IsInside text.now (match_of m))) }
+        ensures groups { IfOk result (λ found. IfSome found (λ m. groups_in m ≡ groups_of self.now)) }
+    {
+        self.find_from(alloc, text, 0)
+    }
+
+    /// Returns the leftmost match in `text` that starts at the byte offset `start` or later, on a character boundary,
+    /// and of those at its position the preferred one; `None` if there is none.
+    ///
+    /// What precedes `start` is text too: `^` does not match there, and a lookbehind may match it. `start` may be off a
+    /// character boundary; past the end of `text` there is no match. The spans of the match and of its groups are
+    /// inside `text`, on character boundaries.
+    ///
+    /// # Errors
+    /// - [`SearchError::OutOfSteps`] if the search takes more than `steps` of [`Options`].
+    /// - [`SearchError::Memory`] if an allocation fails.
+    ///
+    /// # Complexity
+    /// As for `find` of `regress_match`: the time is at most the step limit and the length of `text` together, times a
+    /// factor that depends only on the pattern and the tables.
+    pub fn find_from(
+        &self,
+        alloc: Global,
+        text: &str,
+        start: usize,
+    ) -> Result<Option<Match<'_>>, SearchError>
+        ensures finds { IfOk result (λ found. Finds text.now (outcomes_of self.now text.now) start (option_map match_of found)) }
+        ensures inside { IfOk result (λ found. IfSome found (λ m. IsInside text.now (match_of m))) }
+        ensures groups { IfOk result (λ found. IfSome found (λ m. groups_in m ≡ groups_of self.now)) }
+    {
+        let found = search::find(alloc, &self.compiled, self.tables, text, start, self.steps)?;
+        match found {
+            Some(found) => Ok(Some(Match {
+                found,
+                groups: &self.groups,
+            })),
+            None => Ok(None),
+        }
+    }
+
+    /// Returns an iterator over the non-overlapping matches in `text`, from left to right. The step limit of
+    /// [`Options`] is for all of them together.
+    ///
+    /// # Examples
+    /// ```
+    /// let tables = Tables::small(alloc)?;
+    /// let regex = Regex::new(alloc, "a+", &tables)?;
+    /// let mut ends = Vec::new(alloc);
+    /// for found in regex.find_iter(alloc, "aabxa") {
+    ///     ends.push(found?.end())?;
+    /// }
+    /// assert_eq!(rt; ends.as_slice(), [2, 5].as_slice());
+    /// ```
+    pub fn find_iter<'r>(&'r self, alloc: Global, text: &'r str) -> Matches<'r>
+        ensures from { next_from result ≡ 0 }
+        ensures text { searched_text result ≡ text.now }
+        ensures outcomes { searched_outcomes result ≡ outcomes_of self.now text.now }
+        ensures groups { searched_groups result ≡ groups_of self.now }
+        ensures failed { has_failed result ≡ false }
+    {
+        Matches::new(
+            alloc,
+            &self.compiled,
+            self.tables,
+            &self.groups,
+            text,
+            self.steps,
+        )
+    }
+
+    /// Returns all non-overlapping matches in `text`, from left to right, as [`Regex::find_iter`] finds them.
+    ///
+    /// # Errors
+    /// - [`SearchError::OutOfSteps`] if the matches together take more than `steps` of [`Options`].
+    /// - [`SearchError::Memory`] if an allocation fails.
+    pub fn find_all<'r>(
+        &'r self,
+        alloc: Global,
+        text: &'r str,
+    ) -> Result<Vec<Match<'r>>, SearchError>
+        ensures all { IfOk result (λ all. AreAllMatches text.now (outcomes_of self.now text.now) (map match_of all.items)) }
+        ensures inside { IfOk result (λ all. All (λ m. IsInside text.now (match_of m)) all.items) }
+        ensures groups { IfOk result (λ all. All (λ m. groups_in m ≡ groups_of self.now) all.items) }
+    {
+        let mut all = Vec::new(alloc);
+        for found in self.find_iter(alloc, text) {
+            let found = found?;
+            all.push(found)?;
+        }
+        Ok(all)
+    }
+
+    /// Returns the text of the pattern.
+    pub fn source(&self) -> &str
+        ensures { result.now ≡ source_of self.now }
+    {
+        &self.source
+    }
+
+    /// Returns the flags.
+    pub fn flags(&self) -> Flags
+        ensures { result ≡ (setting_of self.now).flags }
+    {
+        self.compiled.flags
+    }
+
+    /// Returns the number of capture groups, without the whole match.
+    pub fn group_count(&self) -> usize
+        ensures { result ≡ length (groups_of self.now) }
+    {
+        self.groups.len()
+    }
+
+    /// Returns the name of each capture group in the order of the opening parentheses, `None` for a group without one.
+    pub fn group_names(&self) -> GroupNames<'_>
+        ensures { names_left result ≡ map (λ c. c.name) (groups_of self.now) }
+    {
+        GroupNames { rest: &self.groups }
+    }
+}
+
+/// Writes the text of the pattern.
+impl Display for Regex<'_> {
+    ghost use Rattle.std.specs.Prelude.{Some};
+    ghost use Rattle.regress.specs.Compiled.{source_of};
+
+    ghost output = { λ regex. Some (source_of regex) };
+
+    fn fmt<W: Write>(&self, f: &mut Formatter<W>) -> fmt::Result {
+        f.write_str(&self.source)
+    }
+}

@@ -1,0 +1,117 @@
+//! Searches, by backtracking within a step limit.
+ghost use Rattle.std.specs.Prelude.{IfOk, IfSome};
+ghost use Rattle.regress_front.specs.SettingOf.{setting_of};
+ghost use Rattle.regress_front.specs.Tree.{tree};
+ghost use Rattle.regress_front.specs.WellFormed.{IsWellFormed};
+ghost use Rattle.regress_match.specs.Matched.{IsInside, outcomes_at};
+ghost use Rattle.regress_match.specs.Searched.{searched_tree};
+ghost use Rattle.regress_program.specs.Found.{Finds};
+
+use crate::failure::SearchError;
+use crate::found::Match;
+use regress_front::ir::Regex;
+use regress_front::unicode::Tables;
+use regress_match::{Group, Match as Found, Outcome};
+use std::alloc::Global;
+
+/// Returns the leftmost match of a tree that starts at the byte offset `from` or later.
+pub(crate) fn find(
+    alloc: Global,
+    regex: &Regex,
+    tables: &Tables,
+    text: &str,
+    from: usize,
+    steps: u64,
+) -> Result<Option<Found>, SearchError>
+    ensures finds { IfOk result (Finds text.now (outcomes_at (setting_of regex.now.flags tables.now) text.now (tree regex.now.node)) from) }
+    ensures inside { IsWellFormed (tree regex.now.node) → IfOk result (λ found. IfSome found (IsInside text.now)) }
+{
+    match regress_match::find(alloc, regex, tables, text, from, steps)? {
+        Outcome::Matched(found) => Ok(Some(found)),
+        Outcome::NoMatch => Ok(None),
+        Outcome::OutOfSteps => Err(SearchError::OutOfSteps),
+    }
+}
+
+/// The non-overlapping matches in a text, from left to right. [`Regex::find_iter`](crate::Regex::find_iter) returns it.
+///
+/// Each match starts at the end of the one before or later, and after an empty match the search goes on one character
+/// further. An error ends the iteration.
+#[derive(Drop)]
+pub struct Matches<'r> {
+    matches: regress_match::Matches<'r>,
+    groups: &'r [Group],
+    alloc: Global,
+    /// Whether an error was returned.
+    failed: bool,
+    ghost well_formed: { ∥ IsWellFormed (searched_tree matches) ∥₁ },
+}
+
+impl<'r> Matches<'r> {
+    ghost use Rattle.std.specs.Prelude.{◌≡◌, false, map};
+    ghost use Rattle.regress_match.specs.Names.{capture_of};
+    ghost use Rattle.regress.specs.Searched.{Proceeds, has_failed, next_from, searched_groups, searched_outcomes, searched_text};
+
+    pub(crate) fn new(
+        alloc: Global,
+        regex: &'r Regex,
+        tables: &'r Tables,
+        groups: &'r [Group],
+        text: &'r str,
+        steps: u64,
+    ) -> Matches<'r>
+        requires { ∥ IsWellFormed (tree regex.now.node) ∥₁ }
+        ensures from { next_from result ≡ 0 }
+        ensures text { searched_text result ≡ text.now }
+        ensures outcomes { searched_outcomes result ≡ outcomes_at (setting_of regex.now.flags tables.now) text.now (tree regex.now.node) }
+        ensures groups { searched_groups result ≡ map capture_of groups.now }
+        ensures failed { has_failed result ≡ false }
+    {
+        Matches {
+            matches: regress_match::Matches::new(regex, tables, text, 0, steps),
+            groups,
+            alloc,
+            failed: false,
+        }
+    }
+
+    /// Returns the next match.
+    fn find_next(&mut self) -> Result<Option<Match<'r>>, SearchError>
+        ensures { Proceeds self.old result self.new }
+    {
+        match self.matches.next(self.alloc)? {
+            Outcome::Matched(found) => Ok(Some(Match {
+                found,
+                groups: self.groups,
+            })),
+            Outcome::NoMatch => Ok(None),
+            Outcome::OutOfSteps => Err(SearchError::OutOfSteps),
+        }
+    }
+}
+
+impl<'r> Iterator for Matches<'r> {
+    ghost use Rattle.std.specs.Prelude.{◌+◌, ◌-◌, if◌then◌else◌, length};
+    ghost use Rattle.std.specs.Iterator.{at_most};
+    ghost use Rattle.regress.specs.Searched.{Advances, has_failed, next_from, searched_text};
+
+    type Item = Result<Match<'r>, SearchError>;
+
+    ghost next_gives = { Advances };
+
+    ghost remaining = { λ s. at_most (if has_failed s then 0 else 1 + (length (searched_text s) + 1 - next_from s)) };
+
+    fn next(&mut self) -> Option<Result<Match<'r>, SearchError>> {
+        if self.failed {
+            return None;
+        }
+        match self.find_next() {
+            Ok(Some(found)) => Some(Ok(found)),
+            Ok(None) => None,
+            Err(error) => {
+                self.failed = true;
+                Some(Err(error))
+            }
+        }
+    }
+}

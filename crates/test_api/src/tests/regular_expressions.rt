@@ -1,0 +1,102 @@
+//! Tests of the calls of `regress`, each on a pattern whose matches ECMA-262 states.
+
+use regress::{Error, Flags, FlagsError, Options, Regex, SearchError, Tables, parse_flags};
+use std::test::Fail;
+
+#[test]
+fn a_regular_expression_describes_itself(rt: HostRuntime) -> Result<(), Fail> {
+    let alloc = rt.alloc();
+    let tables = Tables::small(alloc)?;
+    let regex = Regex::with_flags(alloc, "(?<x>a)|(?<y>b)|(c)", parse_flags("ig")?, &tables)?;
+    assert_eq!(rt; regex.source(), "(?<x>a)|(?<y>b)|(c)");
+    let text = format!(in alloc; "{regex}")?;
+    assert_eq!(rt; text.as_str(), "(?<x>a)|(?<y>b)|(c)");
+    assert!(rt; regex.flags().icase);
+    assert_eq!(rt; regex.group_count(), 3);
+    let mut names = regex.group_names();
+    assert_eq!(rt; names.next(), Some(Some("x")));
+    assert_eq!(rt; names.next(), Some(Some("y")));
+    assert_eq!(rt; names.next(), Some(None));
+    assert_eq!(rt; names.next(), None);
+    Ok(())
+}
+
+#[test]
+fn a_regular_expression_searches(rt: HostRuntime) -> Result<(), Fail> {
+    let alloc = rt.alloc();
+    let tables = Tables::small(alloc)?;
+    let regex = Regex::with_flags(alloc, "(?<x>a)|(?<y>b)|(c)", parse_flags("i")?, &tables)?;
+    assert!(rt; regex.is_match(alloc, "xB")?);
+    assert!(rt; !regex.is_match(alloc, "x")?);
+    match regex.find_from(alloc, "ab", 1)? {
+        Some(found) => {
+            assert_eq!(rt; found.start(), 1);
+            assert_eq!(rt; found.named_group("y"), Some(1..2));
+            assert_eq!(rt; found.named_group("x"), None);
+            let mut groups = found.groups();
+            assert_eq!(rt; groups.next(), Some(Some(1..2)));
+            assert_eq!(rt; groups.next(), Some(None));
+            assert_eq!(rt; groups.next(), Some(Some(1..2)));
+            assert_eq!(rt; groups.next(), Some(None));
+            assert_eq!(rt; groups.next(), None);
+            let mut named = found.named_groups();
+            assert_eq!(rt; named.next(), Some(("x", None)));
+            assert_eq!(rt; named.next(), Some(("y", Some(1..2))));
+            assert_eq!(rt; named.next(), None);
+        }
+        None => assert!(rt; false, "it matches"),
+    }
+    let all = regex.find_all(alloc, "bxc")?;
+    assert_eq!(rt; all.len(), 2);
+    Ok(())
+}
+
+#[test]
+fn a_regular_expression_has_limits(rt: HostRuntime) -> Result<(), Fail> {
+    let alloc = rt.alloc();
+    let tables = Tables::small(alloc)?;
+    match Regex::new(alloc, "a(", &tables) {
+        Err(Error::Syntax { position, .. }) => assert_eq!(rt; position, 1),
+        _ => assert!(rt; false, "it is rejected"),
+    }
+    let options = Options {
+        steps: 10,
+        nodes: 5,
+    };
+    match Regex::with_options(alloc, "abc", Flags::default(), options, &tables) {
+        Err(Error::TooLarge) => {}
+        _ => assert!(rt; false, "it is too large"),
+    }
+    let options = Options {
+        steps: 10,
+        nodes: 50,
+    };
+    let regex = Regex::with_options(alloc, "(a*)*b", Flags::default(), options, &tables)?;
+    match regex.find(alloc, "aaaaaaaaaaaaaaaaaaaaaa") {
+        Err(SearchError::OutOfSteps) => {}
+        _ => assert!(rt; false, "it takes too many steps"),
+    }
+    let mut matches = regex.find_iter(alloc, "aaaaaaaaaaaaaaaaaaaaaa");
+    match matches.next() {
+        Some(Err(SearchError::OutOfSteps)) => {}
+        _ => assert!(rt; false, "it takes too many steps"),
+    }
+    assert!(rt; matches.next().is_none());
+    Ok(())
+}
+
+#[test]
+fn flags_are_rejected(rt: HostRuntime) -> Result<(), Fail> {
+    match parse_flags("ii") {
+        Err(FlagsError::Repeated(letter)) => assert_eq!(rt; letter, 'i'),
+        _ => assert!(rt; false, "it occurs twice"),
+    }
+    match parse_flags("gx") {
+        Err(FlagsError::Unknown(letter)) => assert_eq!(rt; letter, 'x'),
+        _ => assert!(rt; false, "it is unknown"),
+    }
+    let flags = parse_flags("v")?;
+    assert!(rt; flags.unicode);
+    assert!(rt; flags.unicode_sets);
+    Ok(())
+}
