@@ -3,7 +3,6 @@ use Rattle.std.specs.Prelude.{◌≡◌, ℕ, List, map, string_bytes, chars}
 use Rattle.std.specs.List.Sorted.{IsNonDecreasingBy, IsPermutation}
 use Rattle.regress_front.specs.Setting.{Setting}
 use Rattle.regress_front.specs.SettingOf as front
-use Rattle.regress_front.specs.Source.{Source}
 use Rattle.regress_front.specs.Steps.{MatchState}
 use Rattle.regress_front.specs.Tree.{Tree, tree}
 use Rattle.regress_front.specs.WellFormed.{Capture, captures}
@@ -15,10 +14,6 @@ use Rattle.regress.specs.declared.pattern.Regex.{Regex}
 -- the text of the pattern, in UTF-8
 abbrev pub source_of : Regex → List ℕ
 source_of r = string_bytes r.source
-
--- the code points of the pattern
-abbrev pub pattern_of : Regex → Source
-pattern_of r = chars (source_of r)
 
 -- the flags, and the table of Unicode
 abbrev pub setting_of : Regex → Setting
