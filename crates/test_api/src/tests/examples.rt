@@ -443,7 +443,8 @@ fn the_example_of_a_text_search_holds(rt: HostRuntime) -> Result<(), Fail> {
     let points = code_points(alloc, "a+")?;
     let regex = try_parse(alloc, &points, Flags::default(), &tables)?;
     let program = Program::compile(alloc, &regex, &tables, 1000)?;
-    let search = program.linear()?.search(alloc, "aabxa")?;
+    let linear = program.linear()?;
+    let search = linear.search(alloc, "aabxa")?;
     let first = search.find(alloc, 0)?;
     match &first.found {
         Some(found) => assert_eq!(rt; found.end(), 2),
