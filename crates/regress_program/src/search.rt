@@ -119,7 +119,7 @@ impl<'n, 't> Linear<'_, 'n, 't> {
     }
 }
 
-impl<'p> Linear<'p, 'p, 'p> {
+impl<'p> Linear<'p, '_, '_> {
     /// Prepares the search of a text: one that is made once for many calls of [`TextSearch::find`].
     ///
     /// # Complexity
@@ -128,25 +128,6 @@ impl<'p> Linear<'p, 'p, 'p> {
     ///
     /// # Errors
     /// Returns [`AllocError`] if an allocation fails.
-    ///
-    /// # Examples
-    /// ```
-    /// let tables = Tables::small(alloc)?;
-    /// let points = code_points(alloc, "a+")?;
-    /// let regex = try_parse(alloc, &points, Flags::default(), &tables)?;
-    /// let program = Program::compile(alloc, &regex, &tables, 1000)?;
-    /// let search = program.linear()?.search(alloc, "aabxa")?;
-    /// let first = search.find(alloc, 0)?;
-    /// match &first.found {
-    ///     Some(found) => assert_eq!(rt; found.end(), 2),
-    ///     None => assert!(rt; false, "it matches"),
-    /// }
-    /// let second = search.find(alloc, 2)?;
-    /// match &second.found {
-    ///     Some(found) => assert_eq!(rt; found.start(), 4),
-    ///     None => assert!(rt; false, "it matches"),
-    /// }
-    /// ```
     pub fn search(self, alloc: Global, text: &'p str) -> Result<TextSearch<'p>, AllocError>
         ensures program { IfOk result (λ search. searched_program search ≡ self.entry.program.now) }
         ensures text { IfOk result (λ search. searched_text search ≡ text.now) }

@@ -437,28 +437,6 @@ fn the_example_of_a_program_holds(rt: HostRuntime) -> Result<(), Fail> {
 }
 
 #[test]
-fn the_example_of_a_text_search_holds(rt: HostRuntime) -> Result<(), Fail> {
-    let alloc = rt.alloc();
-    let tables = Tables::small(alloc)?;
-    let points = code_points(alloc, "a+")?;
-    let regex = try_parse(alloc, &points, Flags::default(), &tables)?;
-    let program = Program::compile(alloc, &regex, &tables, 1000)?;
-    let linear = program.linear()?;
-    let search = linear.search(alloc, "aabxa")?;
-    let first = search.find(alloc, 0)?;
-    match &first.found {
-        Some(found) => assert_eq!(rt; found.end(), 2),
-        None => assert!(rt; false, "it matches"),
-    }
-    let second = search.find(alloc, 2)?;
-    match &second.found {
-        Some(found) => assert_eq!(rt; found.start(), 4),
-        None => assert!(rt; false, "it matches"),
-    }
-    Ok(())
-}
-
-#[test]
 fn the_examples_of_searches_hold(rt: HostRuntime) -> Result<(), Fail> {
     let alloc = rt.alloc();
     // one match after another is found
