@@ -1,7 +1,7 @@
 //! Searches by a program, for patterns whose program is linear.
 
 use crate::outcome::{Question, report_spans};
-use regress_program::{CompileFault, Linear, Program};
+use regress_program::{CompileFault, Program, TextSearch};
 use regress_tree::ir::Regex;
 use regress_unicode::Tables;
 use test_notation::{Call, Fault};
@@ -36,19 +36,22 @@ pub(crate) fn response_linear(
     let Ok(linear) = program.linear() else {
         return false;
     };
-    report_matches(call, linear, text, most);
+    match linear.search(alloc, text) {
+        Ok(search) => report_matches(call, &search, text, most),
+        Err(_) => call.fail(Fault::Memory),
+    }
     true
 }
 
 /// Appends the first matches, separated by ` | `.
-fn report_matches(call: &mut Call, linear: Linear<'_, '_, '_>, text: &str, most: u32) {
+fn report_matches(call: &mut Call, search: &TextSearch<'_>, text: &str, most: u32) {
     let mut from = 0;
     for number in 0..most {
-        let Ok(search) = linear.find(call.alloc(), text, from) else {
+        let Ok(result) = search.find(call.alloc(), from) else {
             call.fail(Fault::Memory);
             return;
         };
-        let Some(found) = search.found else {
+        let Some(found) = result.found else {
             if number == 0 {
                 call.say("none");
             }
