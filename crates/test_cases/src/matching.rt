@@ -26,12 +26,7 @@ pub(crate) fn match_difference(
     line: &str,
     tables: &Tables,
 ) -> Result<Option<String>, Fault> {
-    let Some((fields, expected)) = line.rsplit_once('\t') else {
-        return Err(Fault::Line);
-    };
-    let mut call = Call::new(alloc, expected);
-    let expected = read_text(&mut call);
-    call.finish()?;
+    let (fields, expected) = split_expected(alloc, line)?;
     let found = difference_by(alloc, fields, &expected, tables, Way::Parsed)?;
     if found.is_some() {
         return Ok(found);
@@ -75,6 +70,17 @@ fn difference_by(
         }
     }
     call.difference(expected)
+}
+
+/// Splits a line into the fields of a call and the expected result, which is a text.
+pub(crate) fn split_expected(alloc: Global, line: &str) -> Result<(&str, String), Fault> {
+    let Some((fields, expected)) = line.rsplit_once('\t') else {
+        return Err(Fault::Line);
+    };
+    let mut call = Call::new(alloc, expected);
+    let expected = read_text(&mut call);
+    call.finish()?;
+    Ok((fields, expected))
 }
 
 /// Parses the next field as a text.

@@ -7,7 +7,7 @@ use regress_unicode::Tables;
 use test_notation::{Call, Fault, parse_decimal};
 
 /// The step limit of a test case that states none.
-const STEPS: u64 = 10_000_000;
+pub(crate) const STEPS: u64 = 10_000_000;
 
 /// The question about a text.
 #[derive(Clone, Copy)]

@@ -2,7 +2,8 @@
 ghost use Rattle.regress_tree.specs.Tree.{tree};
 ghost use Rattle.regress_tree.specs.WellFormed.{IsWellFormed};
 
-use crate::matching::read_text;
+use crate::matching::{read_text, split_expected};
+use crate::outcome::STEPS;
 use crate::parsing::parse_tree;
 use regress_match::{find_all, groups};
 use regress_replace::{replace_matches, split_with_captures};
@@ -11,21 +12,13 @@ use regress_unicode::Tables;
 use std::alloc::{AllocError, Global};
 use test_notation::{Call, Fault, parse_decimal};
 
-/// The step limit of a search.
-const STEPS: u64 = 10_000_000;
-
 /// Returns the result of a test case if it is not the expected one.
 pub(crate) fn replace_difference(
     alloc: Global,
     line: &str,
     tables: &Tables,
 ) -> Result<Option<String>, Fault> {
-    let Some((fields, expected)) = line.rsplit_once('\t') else {
-        return Err(Fault::Line);
-    };
-    let mut call = Call::new(alloc, expected);
-    let expected = read_text(&mut call);
-    call.finish()?;
+    let (fields, expected) = split_expected(alloc, line)?;
     let mut call = Call::new(alloc, fields);
     make(&mut call, tables);
     call.difference(&expected)
@@ -85,7 +78,10 @@ fn report_parts(call: &mut Call, regex: &Regex, tables: &Tables, text: &str)
         number => Some(call.read(parse_decimal(number), 0) as usize),
     };
     let parts = parts(alloc, regex, tables, text, limit);
-    let parts = call.made(parts, Vec::new(alloc));
+    let Some(parts) = call.made(parts, None) else {
+        call.say("out of steps");
+        return;
+    };
     if parts.is_empty() {
         call.say("none");
     }
@@ -97,17 +93,18 @@ fn report_parts(call: &mut Call, regex: &Regex, tables: &Tables, text: &str)
     }
 }
 
+/// Returns the parts, or `None` if the search takes too many steps.
 fn parts<'a>(
     alloc: Global,
     regex: &Regex,
     tables: &Tables,
     text: &'a str,
     limit: Option<usize>,
-) -> Result<Vec<Option<&'a str>>, AllocError>
+) -> Result<Option<Vec<Option<&'a str>>>, AllocError>
     requires { IsWellFormed (tree regex.now.node) }
 {
     match find_all(alloc, regex, tables, text, STEPS)? {
-        Some(matches) => split_with_captures(alloc, text, &matches, limit),
-        None => Ok(Vec::new(alloc)),
+        Some(matches) => Ok(Some(split_with_captures(alloc, text, &matches, limit)?)),
+        None => Ok(None),
     }
 }
