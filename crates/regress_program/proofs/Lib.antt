@@ -13,6 +13,7 @@ mod RepeatLemmas
 mod RoutineLemmas
 mod RunLemmas
 mod SearchLemmas
+mod SizeLemmas
 mod StepLemmas
 mod TellsLemmas
 mod TurnLemmas

@@ -49,7 +49,7 @@ nothing_at_goal a t next is lt = subst (λ u. Compiled a a (matching u) next nex
 
 -- ---- sequences
 
-from_index : {X : Type 0} (xs : List X) (i j : ℕ) (x : X) → j ≡ i - 1 → 0 < i → i ≤ length xs → x ≡ get_or xs j x → drop j xs ≡ x ∷ drop i xs
+pub from_index : {X : Type 0} (xs : List X) (i j : ℕ) (x : X) → j ≡ i - 1 → 0 < i → i ≤ length xs → x ≡ get_or xs j x → drop j xs ≡ x ∷ drop i xs
 from_index xs i j x at some within is =
     let next : j + 1 ≡ i = omega (arith, at, some) in
     drop_more xs j x (omega (arith, at, some, within)) ∙ ap (λ y. y ∷ drop (j + 1) xs) (sym is) ∙ ap (λ k. x ∷ drop k xs) next

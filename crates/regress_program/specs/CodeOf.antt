@@ -1,11 +1,13 @@
 -- A program that is being compiled, as plain data.
-use Rattle.std.specs.Prelude.{ℕ}
+use Rattle.std.specs.Prelude.{◌≡◌, ℕ, ◌+◌}
 use Rattle.regress_tree.specs.Reading.{Direction}
 use Rattle.regress_base.specs.declared.types.Quantifier.{Quantifier}
 use Rattle.regress_tree.specs.Repetition.{iteration}
+use Rattle.regress_tree.specs.Tree.{Tree}
 use Rattle.regress_program.specs.Compiled.{Matching, repeated, Code, Compiled, HasRoutine}
 use Rattle.regress_program.specs.Program.{Op}
 use Rattle.regress_program.specs.Pushed.{Pushed}
+use Rattle.regress_program.specs.Size.{size, size_of_iteration}
 use Rattle.regress_program.specs.Views.{ops_of, program_of}
 use Rattle.regress_program.specs.declared.loops.Iterations.{Iterations}
 use Rattle.regress_program.specs.declared.compiler.Compiler.{Compiler}
@@ -17,6 +19,10 @@ code_of c = record { routines = program_of c.routines.items; ops = ops_of c.inst
 -- The instructions that have been added match f from `entry` on, and then go on at `next`.
 abbrev pub Emits : (old new : Compiler) → Matching → (next entry : ℕ) → Type 0
 Emits old new = Compiled (code_of old) (code_of new)
+
+-- n instructions have been added, those of finished routines included.
+abbrev pub Spends : (old new : Compiler) → (n : ℕ) → Type 0
+Spends old new n = new.left + n ≡ old.left
 
 -- The instruction at the end has been added.
 abbrev pub EmitsOne : (old new : Compiler) → Op → (at : ℕ) → Type 0
@@ -33,3 +39,7 @@ iterating i f d setting bytes = iteration i.start i.end (f d setting bytes)
 -- a loop over f
 abbrev pub looping : Iterations → Quantifier → Matching → Matching
 looping i q f = repeated q i.start i.end f
+
+-- how many instructions one iteration of a loop over the tree has
+abbrev pub iteration_size : Iterations → Tree → ℕ
+iteration_size i t = size_of_iteration i.start i.end (size t)

@@ -12,6 +12,7 @@ pub mod Program
 pub mod Pushed
 pub mod Search
 pub mod Shape
+pub mod Size
 pub mod Stays
 pub mod Table
 pub mod TextSearch

@@ -1,13 +1,15 @@
 //! Compiles patterns into programs.
-ghost use Rattle.std.specs.Prelude.{◌≡◌, ◌≤◌, ◌<◌, IfOk, length, min};
+ghost use Rattle.std.specs.Prelude.{◌≡◌, ◌≤◌, ◌<◌, Err, IfOk, IfErr, length, min};
 ghost use Rattle.regress_tree.specs.Tree.{tree, trees, cat};
 ghost use Rattle.regress_tree.specs.WellFormed.{captures};
 ghost use Rattle.regress_unicode.specs.TableOf.{table_of};
-ghost use Rattle.regress_program.specs.CodeOf.{Emits};
+ghost use Rattle.regress_program.specs.CodeOf.{Emits, Spends};
 ghost use Rattle.regress_program.specs.Compiled.{matching, IsPattern, total};
 ghost use Rattle.regress_program.specs.Search.{groups_of, instructions_of, routines_of, setting_of};
 ghost use Rattle.regress_program.specs.Shape.{IsForwards, IsProgram};
+ghost use Rattle.regress_program.specs.Size.{program_size, size, size_of_parts};
 ghost use Rattle.regress_program.specs.Views.{program_of};
+ghost use Rattle.regress_program.specs.declared.fault.CompileFault.TheVariants.{TooLong};
 
 use crate::compiler::Compiler;
 use crate::fault::CompileFault;
@@ -30,7 +32,9 @@ fn compile<'a>(
     ensures program { IfOk result (λ routines. IsProgram (program_of routines.items)) }
     ensures means { IfOk result (λ routines. IsPattern (program_of routines.items) (tree node.now)) }
     ensures forwards { IfOk result (λ routines. IsForwards (program_of routines.items)) }
-    ensures size { IfOk result (λ routines. total (program_of routines.items) ≤ limit) }
+    ensures size { IfOk result (λ routines. total (program_of routines.items) ≡ program_size (tree node.now)) }
+    ensures within { IfOk result (λ routines. total (program_of routines.items) ≤ limit) }
+    ensures too_long { IfErr result (λ fault. fault ≡ TooLong → limit < program_size (tree node.now)) }
 {
     let mut compiler = Compiler {
         alloc,
@@ -46,7 +50,8 @@ impl<'n, 't> Program<'n, 't> {
     /// Compiles a pattern into a program of at most `limit` instructions.
     ///
     /// # Errors
-    /// Returns a [`CompileFault`] if the program would have more than `limit` instructions, or if an allocation fails.
+    /// Returns [`CompileFault::TooLong`] only if the program would have more than `limit` instructions, and
+    /// [`CompileFault::Memory`] if an allocation fails.
     ///
     /// # Complexity
     /// Linear in the size of the tree, where a body counts as many times as it is copied: for each iteration up to the
@@ -61,7 +66,9 @@ impl<'n, 't> Program<'n, 't> {
         ensures pattern { IfOk result (λ p. IsPattern (routines_of p) (tree regex.now.node)) }
         ensures setting { IfOk result (λ p. setting_of p ≡ record { flags = regex.now.flags; table = table_of tables.now }) }
         ensures groups { IfOk result (λ p. groups_of p ≡ min (length (captures (tree regex.now.node))) usize.MAX) }
-        ensures size { IfOk result (λ p. instructions_of p ≤ limit) }
+        ensures size { IfOk result (λ p. instructions_of p ≡ program_size (tree regex.now.node)) }
+        ensures within { IfOk result (λ p. instructions_of p ≤ limit) }
+        ensures too_long { result ≡ Err TooLong → limit < program_size (tree regex.now.node) }
     {
         let routines = compile(alloc, &regex.node, limit)?;
         let known = Known::new(tables, regex.flags);
@@ -77,7 +84,9 @@ impl<'a> Compiler<'a> {
     #[cycle(compile)]
     pub(crate) fn node(&mut self, node: &'a Node, next: usize) -> Result<usize, CompileFault>
         requires { next < length self.old.instructions.items }
-        ensures { IfOk result (Emits self.old self.new (matching (tree node.now)) next) }
+        ensures emits { IfOk result (Emits self.old self.new (matching (tree node.now)) next) }
+        ensures spends { IfOk result (λ _. Spends self.old self.new (size (tree node.now))) }
+        ensures too_long { IfErr result (λ fault. fault ≡ TooLong → self.old.left < size (tree node.now)) }
     {
         let mut entries = Vec::new(self.alloc);
         let mut rest = node;
@@ -99,7 +108,9 @@ impl<'a> Compiler<'a> {
     #[cycle(compile)]
     fn other(&mut self, node: &'a Node, next: usize) -> Result<usize, CompileFault>
         requires { next < length self.old.instructions.items }
-        ensures { IfOk result (Emits self.old self.new (matching (tree node.now)) next) }
+        ensures emits { IfOk result (Emits self.old self.new (matching (tree node.now)) next) }
+        ensures spends { IfOk result (λ _. Spends self.old self.new (size (tree node.now))) }
+        ensures too_long { IfErr result (λ fault. fault ≡ TooLong → self.old.left < size (tree node.now)) }
     {
         match node {
             Node::Empty => Ok(next),
@@ -153,7 +164,9 @@ impl<'a> Compiler<'a> {
     #[cycle(compile)]
     fn sequence(&mut self, parts: &'a [Node], next: usize) -> Result<usize, CompileFault>
         requires { next < length self.old.instructions.items }
-        ensures { IfOk result (Emits self.old self.new (matching (cat (trees parts.now))) next) }
+        ensures emits { IfOk result (Emits self.old self.new (matching (cat (trees parts.now))) next) }
+        ensures spends { IfOk result (λ _. Spends self.old self.new (size_of_parts (trees parts.now))) }
+        ensures too_long { IfErr result (λ fault. fault ≡ TooLong → self.old.left < size_of_parts (trees parts.now)) }
     {
         let mut entry = next;
         let mut i = parts.len();

@@ -1,6 +1,7 @@
 //! The program that is being compiled.
-ghost use Rattle.std.specs.Prelude.{IfOk};
+ghost use Rattle.std.specs.Prelude.{◌≡◌, IfOk, IfErr};
 ghost use Rattle.regress_program.specs.CodeOf.{EmitsOne};
+ghost use Rattle.regress_program.specs.declared.fault.CompileFault.TheVariants.{TooLong};
 ghost use Rattle.regress_program.specs.Views.{op_of};
 
 use crate::fault::CompileFault;
@@ -22,7 +23,8 @@ pub(crate) struct Compiler<'a> {
 impl<'a> Compiler<'a> {
     /// Emits an instruction, and returns its index.
     pub(crate) fn push(&mut self, instruction: Instruction<'a>) -> Result<usize, CompileFault>
-        ensures { IfOk result (EmitsOne self.old self.new (op_of instruction.entry)) }
+        ensures emits { IfOk result (EmitsOne self.old self.new (op_of instruction.entry)) }
+        ensures too_long { IfErr result (λ fault. fault ≡ TooLong → self.old.left ≡ 0) }
     {
         if self.left == 0 {
             return Err(CompileFault::TooLong);

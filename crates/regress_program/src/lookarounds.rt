@@ -1,9 +1,11 @@
 //! Compiles lookarounds, and nodes as routines of their own.
-ghost use Rattle.std.specs.Prelude.{◌<◌, IfOk, length};
+ghost use Rattle.std.specs.Prelude.{◌≡◌, ◌<◌, ◌+◌, IfOk, IfErr, length};
 ghost use Rattle.regress_tree.specs.Reading.{direction_if};
 ghost use Rattle.regress_tree.specs.Tree.{tree};
-ghost use Rattle.regress_program.specs.CodeOf.{Emits, EmitsRoutine};
+ghost use Rattle.regress_program.specs.CodeOf.{Emits, EmitsRoutine, Spends};
 ghost use Rattle.regress_program.specs.Compiled.{matching, looking};
+ghost use Rattle.regress_program.specs.Size.{size};
+ghost use Rattle.regress_program.specs.declared.fault.CompileFault.TheVariants.{TooLong};
 
 use crate::compiler::Compiler;
 use crate::fault::CompileFault;
@@ -22,7 +24,9 @@ impl<'a> Compiler<'a> {
         next: usize,
     ) -> Result<usize, CompileFault>
         requires { next < length self.old.instructions.items }
-        ensures { IfOk result (Emits self.old self.new (looking negate (direction_if backwards) (matching (tree contents.now))) next) }
+        ensures emits { IfOk result (Emits self.old self.new (looking negate (direction_if backwards) (matching (tree contents.now))) next) }
+        ensures spends { IfOk result (λ _. Spends self.old self.new (size (tree contents.now) + 2)) }
+        ensures too_long { IfErr result (λ fault. fault ≡ TooLong → self.old.left < size (tree contents.now) + 2) }
     {
         let routine = self.routine(contents, backwards)?;
         self.push(Instruction::Look {
@@ -35,7 +39,9 @@ impl<'a> Compiler<'a> {
     /// Compiles a node as a routine, and returns its index.
     #[cycle(compile)]
     pub(crate) fn routine(&mut self, node: &'a Node, backwards: bool) -> Result<usize, CompileFault>
-        ensures { IfOk result (EmitsRoutine self.old self.new (matching (tree node.now)) (direction_if backwards)) }
+        ensures emits { IfOk result (EmitsRoutine self.old self.new (matching (tree node.now)) (direction_if backwards)) }
+        ensures spends { IfOk result (λ _. Spends self.old self.new (size (tree node.now) + 1)) }
+        ensures too_long { IfErr result (λ fault. fault ≡ TooLong → self.old.left < size (tree node.now) + 1) }
     {
         let outer = mem::replace(&mut self.instructions, Vec::new(self.alloc));
         self.push(Instruction::Accept)?;

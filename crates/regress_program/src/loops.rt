@@ -1,8 +1,10 @@
 //! Compiles loops.
-ghost use Rattle.std.specs.Prelude.{◌≡◌, ◌<◌, IfOk, length};
+ghost use Rattle.std.specs.Prelude.{◌≡◌, ◌<◌, IfOk, IfErr, None, length};
 ghost use Rattle.regress_tree.specs.Tree.{tree};
-ghost use Rattle.regress_program.specs.CodeOf.{iterating, looping, Emits};
+ghost use Rattle.regress_program.specs.CodeOf.{iterating, looping, iteration_size, Emits, Spends};
 ghost use Rattle.regress_program.specs.Compiled.{matching, optional, any_number};
+ghost use Rattle.regress_program.specs.Size.{size_of_optional, size_of_extra, size_of_loop};
+ghost use Rattle.regress_program.specs.declared.fault.CompileFault.TheVariants.{TooLong};
 
 use crate::compiler::Compiler;
 use crate::fault::CompileFault;
@@ -29,7 +31,9 @@ impl<'a> Compiler<'a> {
     ) -> Result<usize, CompileFault>
         requires below { next < length self.old.instructions.items }
         requires greedy { iterations.greedy ≡ quantifier.greedy }
-        ensures { IfOk result (Emits self.old self.new (looping iterations quantifier (matching (tree body.now))) next) }
+        ensures emits { IfOk result (Emits self.old self.new (looping iterations quantifier (matching (tree body.now))) next) }
+        ensures spends { IfOk result (λ _. Spends self.old self.new (size_of_loop quantifier (iteration_size iterations (tree body.now)))) }
+        ensures too_long { IfErr result (λ fault. fault ≡ TooLong → self.old.left < size_of_loop quantifier (iteration_size iterations (tree body.now))) }
     {
         let mut entry = match quantifier.max {
             None => self.any_number(body, iterations, next)?,
@@ -50,7 +54,9 @@ impl<'a> Compiler<'a> {
         next: usize,
     ) -> Result<usize, CompileFault>
         requires { next < length self.old.instructions.items }
-        ensures { IfOk result (Emits self.old self.new (any_number iterations.greedy (iterating iterations (matching (tree body.now)))) next) }
+        ensures emits { IfOk result (Emits self.old self.new (any_number iterations.greedy (iterating iterations (matching (tree body.now)))) next) }
+        ensures spends { IfOk result (λ _. Spends self.old self.new (size_of_extra (iteration_size iterations (tree body.now)) None)) }
+        ensures too_long { IfErr result (λ fault. fault ≡ TooLong → self.old.left < size_of_extra (iteration_size iterations (tree body.now)) None) }
     {
         let greedy = iterations.greedy;
         // it is replaced when the start of the body is known
@@ -78,7 +84,9 @@ impl<'a> Compiler<'a> {
         next: usize,
     ) -> Result<usize, CompileFault>
         requires { next < length self.old.instructions.items }
-        ensures { IfOk result (Emits self.old self.new (optional iterations.greedy count (iterating iterations (matching (tree body.now)))) next) }
+        ensures emits { IfOk result (Emits self.old self.new (optional iterations.greedy count (iterating iterations (matching (tree body.now)))) next) }
+        ensures spends { IfOk result (λ _. Spends self.old self.new (size_of_optional (iteration_size iterations (tree body.now)) count)) }
+        ensures too_long { IfErr result (λ fault. fault ≡ TooLong → self.old.left < size_of_optional (iteration_size iterations (tree body.now)) count) }
     {
         if count == 0 {
             return Ok(next);
@@ -110,11 +118,13 @@ impl<'a> Compiler<'a> {
         next: usize,
     ) -> Result<usize, CompileFault>
         requires { next < length self.old.instructions.items }
-        ensures { IfOk result (Emits self.old self.new (iterating iterations (matching (tree body.now))) next) }
+        ensures emits { IfOk result (Emits self.old self.new (iterating iterations (matching (tree body.now))) next) }
+        ensures spends { IfOk result (λ _. Spends self.old self.new (iteration_size iterations (tree body.now))) }
+        ensures too_long { IfErr result (λ fault. fault ≡ TooLong → self.old.left < iteration_size iterations (tree body.now)) }
     {
-        let before = self.instructions.len();
+        let before = self.left;
         let contents = self.node(body, next)?;
-        if iterations.start >= iterations.end && self.instructions.len() > before {
+        if iterations.start >= iterations.end && self.left < before {
             return Ok(contents);
         }
         self.push(Instruction::Unset {

@@ -1,8 +1,10 @@
 //! Compiles sets of strings.
-ghost use Rattle.std.specs.Prelude.{◌≡◌, ◌<◌, IfOk, length, map};
+ghost use Rattle.std.specs.Prelude.{◌≡◌, ◌<◌, IfOk, IfErr, length, map};
 ghost use Rattle.std.specs.Box.{boxed_slice_items};
-ghost use Rattle.regress_program.specs.CodeOf.{Emits};
+ghost use Rattle.regress_program.specs.CodeOf.{Emits, Spends};
 ghost use Rattle.regress_program.specs.Compiled.{matching, strings};
+ghost use Rattle.regress_program.specs.Size.{size};
+ghost use Rattle.regress_program.specs.declared.fault.CompileFault.TheVariants.{TooLong};
 
 use crate::compiler::Compiler;
 use crate::fault::CompileFault;
@@ -18,7 +20,9 @@ impl<'a> Compiler<'a> {
         next: usize,
     ) -> Result<usize, CompileFault>
         requires { next < length self.old.instructions.items }
-        ensures { IfOk result (Emits self.old self.new (matching (strings (map boxed_slice_items alternatives.now) icase)) next) }
+        ensures emits { IfOk result (Emits self.old self.new (matching (strings (map boxed_slice_items alternatives.now) icase)) next) }
+        ensures spends { IfOk result (λ _. Spends self.old self.new (size (strings (map boxed_slice_items alternatives.now) icase))) }
+        ensures too_long { IfErr result (λ fault. fault ≡ TooLong → self.old.left < size (strings (map boxed_slice_items alternatives.now) icase)) }
     {
         let mut i = alternatives.len();
         if i == 0 {

@@ -8,10 +8,10 @@ use Rattle.regress_program.proofs.compile.compile.Goals as goal
 
 pub returns-clause-forwards : goal.returns-clause-forwards
 returns-clause-forwards c = λ r is.
-    let pattern = is_pattern _ (code_of c.routine.new.self) (tree c.args.node.now) c.in_ok-routine.field-0 c.in_ok-routine.ensures in
+    let pattern = is_pattern _ (code_of c.routine.new.self) (tree c.args.node.now) c.in_ok-routine.field-0 c.in_ok-routine.ensures.emits in
     let same : pattern.routine ≡ r = some-same _ _ _ pattern.last is in
     sym (ap (λ (x : Routine). x.direction) same) ∙ pattern.direction
 
 pub returns-clause-means : goal.returns-clause-means
 returns-clause-means c =
-    is_pattern _ (code_of c.routine.new.self) (tree c.args.node.now) c.in_ok-routine.field-0 c.in_ok-routine.ensures
+    is_pattern _ (code_of c.routine.new.self) (tree c.args.node.now) c.in_ok-routine.field-0 c.in_ok-routine.ensures.emits

@@ -1,5 +1,5 @@
 -- Each kind of node.
-use Rattle.std.proofs.Common.{rules, true, ◌≡◌, ◌+◌, ◌-◌, [], ◌∷◌, ◌++◌, length, refl, sym, ap, ap₂, subst, ◌∙◌, le_refl, le_trans, arith}
+use Rattle.std.proofs.Common.{rules, true, ◌≡◌, ℕ, ◌+◌, ◌-◌, ◌*◌, [], ◌∷◌, ◌++◌, length, refl, sym, ap, ap₂, subst, ◌∙◌, le_refl, le_trans, arith}
 use Rattle.std.proofs.lemmas.Result.{IfOk-weaker}
 use Rattle.std.proofs.lemmas.List.{length-map, length_push, map-append, map-set, nil_from_length}
 use Rattle.regress_tree.proofs.lemmas.Nodes.{tree-Empty, tree-Goal, tree-Alt, tree-CaptureGroup, tree-LookaroundAssertion}
@@ -9,15 +9,17 @@ use Rattle.regress_tree.specs.declared.ir.node.Node.{the_lemmas}
 use Rattle.regress_tree.specs.Reading.{direction_if}
 use Rattle.regress_tree.specs.Tree.{tree}
 use Rattle.regress_program.specs.Alternatives.{HasLeft, Waiting}
-use Rattle.regress_program.specs.CodeOf.{code_of, iterating}
+use Rattle.regress_program.specs.CodeOf.{code_of, iterating, iteration_size, Spends}
 use Rattle.regress_program.specs.Compiled.{matching, optional, any_number, extra, after_iterations, Compiled}
 use Rattle.regress_program.specs.Iterates.{Iterates}
+use Rattle.regress_program.specs.Size.{size, size_of_optional, size_of_loop}
 use Rattle.regress_program.specs.Views.{op_of, ops_of, routine_of, program_of}
 use Rattle.regress_program.proofs.AlternativeLemmas.{waiting_none, waiting_push, waiting_pop, waiting_later, waiting_done, compiled_alternative}
 use Rattle.regress_program.proofs.CodeLemmas.{Grown-same, Grown-then, Grown-push}
 use Rattle.regress_program.proofs.CompileLemmas.{compiled_part, compiled_group, compiled_unset, compiled_without_groups, compiled_earlier, compiled_later}
 use Rattle.regress_program.proofs.RepeatLemmas.{iterates_last, iterates_more, compiled_optional, compiled_any_number, compiled_mandatory, compiled_no_mandatory, compiled_unbounded, compiled_bounded, compiled_repeated}
 use Rattle.regress_program.proofs.RoutineLemmas.{compiled_look, has_routine}
+use Rattle.regress_program.proofs.SizeLemmas.{too_long, copies-more, loop-unbounded, loop-bounded, parts-more, parts-within}
 use Rattle.regress_program.proofs.ViewLemmas.{below, part_if_leaf, nothing_at_empty, nothing_at_goal, sequence_more}
 use Rattle.regress_program.proofs.lemmas.Onward.{Stays-iteration, Stays-tree}
 use Rattle.regress_program.specs.declared.instruction.Instruction.TheVariants as insts
@@ -28,8 +30,8 @@ use Rattle.regress_program.proofs.compiler.Compiler.+compile.Goals as goal
 
 -- ---- loops
 
-pub any_number-returns : goal.any_number-returns
-any_number-returns t c =
+pub any_number-returns-clause-emits : goal.any_number-returns-clause-emits
+any_number-returns-clause-emits t c =
     let f = iterating c.args.iterations (matching (tree c.args.body.now)) in
     let again = insts.Repeat c.args.iterations.greedy c.in_ok-start.start c.args.next in
     let before = c.iteration.new.self in
@@ -38,16 +40,17 @@ any_number-returns t c =
     (λ at pushed.
     compiled_any_number (code_of c.args.self.now) (code_of c.push.new.self) (code_of before) (code_of after) (code_of c.push-2.new.self)
     c.args.iterations.greedy f c.args.next c.in_ok-turn.turn c.in_ok-start.start at (below c.args.self.now.instructions.items c.args.next c.requires)
-    c.in_ok-turn.ensures c.in_ok-start.ensures
+    c.in_ok-turn.ensures.emits c.in_ok-start.ensures.emits
     (record { routines = refl; ops = map-set op_of before.instructions.items c.in_ok-turn.turn again; left = refl }) pushed)
-    c.push-2.ensures
+    c.push-2.ensures.emits
 
 pub at_most-loop-i-init : goal.at_most-loop-i-init
 at_most-loop-i-init t c = record {
   iterates =
       iterates_last (code_of c.args.self.now) (code_of c.push.new.self) (code_of c.iteration.new.self) c.args.iterations.greedy
       (iterating c.args.iterations (matching (tree c.args.body.now))) c.args.next c.in_ok-end.end c.in_ok-start.start
-      (below c.args.self.now.instructions.items c.args.next c.requires) c.in_ok-end.ensures c.in_ok-start.ensures;
+      (below c.args.self.now.instructions.items c.args.next c.requires) c.in_ok-end.ensures.emits c.in_ok-start.ensures.emits;
+  spent = omega (arith, c.in_ok-end.ensures.emits.left, c.in_ok-start.ensures.spends);
 }
 
 pub at_most-loop-i-preserved : goal.at_most-loop-i-preserved
@@ -61,11 +64,14 @@ at_most-loop-i-preserved t c =
           (λ k. Iterates (code_of c.args.self.now) (code_of c.iteration-in-loop-i.new.self) c.args.iterations.greedy f c.args.next c.in_ok-start-2.start k) number
           (iterates_more (code_of c.args.self.now) (code_of l.self) (code_of c.push-in-loop-i.new.self) (code_of c.iteration-in-loop-i.new.self)
           c.args.iterations.greedy f c.args.next l.start c.in_ok-turn.turn c.in_ok-start-2.start (l._i - 1)
-          (below c.args.self.now.instructions.items c.args.next c.requires) l.invariant.iterates c.in_ok-turn.ensures c.in_ok-start-2.ensures);
+          (below c.args.self.now.instructions.items c.args.next c.requires) l.invariant.iterates c.in_ok-turn.ensures.emits c.in_ok-start-2.ensures.emits);
+      spent =
+          let n = iteration_size c.args.iterations (tree c.args.body.now) in
+          omega (arith, l.invariant.spent, c.in_ok-turn.ensures.emits.left, c.in_ok-start-2.ensures.spends, copies-more (n + 1) l._i);
     }
 
-pub at_most-returns : goal.at_most-returns
-at_most-returns t c =
+pub at_most-returns-clause-emits : goal.at_most-returns-clause-emits
+at_most-returns-clause-emits t c =
     let l = c.loop-i in
     let f = iterating c.args.iterations (matching (tree c.args.body.now)) in
     let number : l._i - 1 + 1 ≡ c.args.count = omega (arith, l.auto._i, l.auto._i-end, c.loop-i-test.false, c.if-count-eq0.false) in
@@ -74,20 +80,20 @@ at_most-returns t c =
     subst (λ k. Compiled (code_of c.args.self.now) (code_of c.push-2.new.self) (optional c.args.iterations.greedy k f) c.args.next at) number
     (compiled_optional (code_of c.args.self.now) (code_of l.self) (code_of c.push-2.new.self) c.args.iterations.greedy f c.args.next l.start at (l._i - 1)
     (below c.args.self.now.instructions.items c.args.next c.requires) l.invariant.iterates pushed))
-    c.push-2.ensures
+    c.push-2.ensures.emits
 
-pub iteration-returns-then-len-before : goal.iteration-returns-then-len-before
-iteration-returns-then-len-before t c =
+pub iteration-returns-then-self-before-clause-emits : goal.iteration-returns-then-self-before-clause-emits
+iteration-returns-then-self-before-clause-emits t c =
     compiled_without_groups (code_of c.args.self.now) (code_of c.node.new.self) (matching (tree c.args.body.now)) c.args.iterations.start
-    c.args.iterations.end c.args.next c.in_ok-contents.contents c.if-iterations.true c.in_ok-contents.ensures
+    c.args.iterations.end c.args.next c.in_ok-contents.contents c.if-iterations.true c.in_ok-contents.ensures.emits
 
-pub iteration-returns : goal.iteration-returns
-iteration-returns t c =
+pub iteration-returns-clause-emits : goal.iteration-returns-clause-emits
+iteration-returns-clause-emits t c =
     IfOk-weaker c.push.result _ _
     (λ at pushed.
     compiled_unset (code_of c.args.self.now) (code_of c.node.new.self) (code_of c.push.new.self) (matching (tree c.args.body.now))
-    c.args.iterations.start c.args.iterations.end c.args.next c.in_ok-contents.contents at c.in_ok-contents.ensures pushed)
-    c.push.ensures
+    c.args.iterations.start c.args.iterations.end c.args.next c.in_ok-contents.contents at c.in_ok-contents.ensures.emits pushed)
+    c.push.ensures.emits
 
 pub repeat-loop-i-init : goal.repeat-loop-i-init
 repeat-loop-i-init t c =
@@ -103,7 +109,7 @@ repeat-loop-i-init t c =
           subst (λ s. Compiled a (code_of s) (extra q f) c.args.next c.match-quantifier.entry) (sym w.self-is)
           (subst (λ k. Compiled a e (extra q f) c.args.next k) (sym w.entry-is)
           (compiled_unbounded a e q f c.args.next n w.in-None.is
-          (subst (λ g. Compiled a e (any_number g f) c.args.next n) c.requires.greedy w.in_ok-entry-in-None.ensures))))
+          (subst (λ g. Compiled a e (any_number g f) c.args.next n) c.requires.greedy w.in_ok-entry-in-None.ensures.emits))))
       | repeat-in-Some+in_ok-entry-in-Some w ↦
           (let e = code_of w.at_most.new.self in
           let n = w.in_ok-entry-in-Some.entry in
@@ -114,9 +120,25 @@ repeat-loop-i-init t c =
           Stays-iteration bytes d (matching (tree c.args.body.now) d setting bytes) (Stays-tree setting bytes d (tree c.args.body.now))
           c.args.iterations.start c.args.iterations.end)
           (subst (λ k. Compiled a e (optional q.greedy k f) c.args.next n) w.saturating_sub.ensures
-          (subst (λ g. Compiled a e (optional g w.saturating_sub.result f) c.args.next n) c.requires.greedy w.in_ok-entry-in-Some.ensures)))))
+          (subst (λ g. Compiled a e (optional g w.saturating_sub.result f) c.args.next n) c.requires.greedy w.in_ok-entry-in-Some.ensures.emits)))))
     ] in
-    record { compiled = compiled_no_mandatory a b f (extra q f) c.args.next c.match-quantifier.entry optional_part }
+    let n : ℕ = iteration_size c.args.iterations (tree c.args.body.now) in
+    let spent : c.match-quantifier.self.left + size_of_loop q n ≡ c.args.self.now.left + n * q.min =
+    elim c.match-quantifier.branch [
+      | repeat-in-None+in_ok-entry-in-None w ↦
+          (let left : c.match-quantifier.self.left ≡ w.any_number.new.self.left = ap (λ s. s.left) w.self-is in
+          let spends : w.any_number.new.self.left + (n + 2) ≡ c.args.self.now.left = w.in_ok-entry-in-None.ensures.spends in
+          omega (arith, left, spends, loop-unbounded q n w.in-None.is))
+      | repeat-in-Some+in_ok-entry-in-Some w ↦
+          (let left : c.match-quantifier.self.left ≡ w.at_most.new.self.left = ap (λ s. s.left) w.self-is in
+          let spends : w.at_most.new.self.left + size_of_optional n (w.in-Some.max - q.min) ≡ c.args.self.now.left =
+          subst (λ k. w.at_most.new.self.left + size_of_optional n k ≡ c.args.self.now.left) w.saturating_sub.ensures w.in_ok-entry-in-Some.ensures.spends in
+          omega (arith, left, spends, loop-bounded q n w.in-Some.max w.in-Some.is))
+    ] in
+    record {
+      compiled = compiled_no_mandatory a b f (extra q f) c.args.next c.match-quantifier.entry optional_part;
+      spent = omega (arith, spent);
+    }
 
 pub repeat-loop-i-preserved : goal.repeat-loop-i-preserved
 repeat-loop-i-preserved t c =
@@ -125,11 +147,14 @@ repeat-loop-i-preserved t c =
     record {
       compiled =
           compiled_mandatory (code_of c.args.self.now) (code_of l.self) (code_of c.iteration.new.self) f (extra c.args.quantifier f) c.args.next l.entry
-          c.in_ok-entry.entry l._i l.invariant.compiled c.in_ok-entry.ensures;
+          c.in_ok-entry.entry l._i l.invariant.compiled c.in_ok-entry.ensures.emits;
+      spent =
+          let n = iteration_size c.args.iterations (tree c.args.body.now) in
+          omega (arith, l.invariant.spent, c.in_ok-entry.ensures.spends, copies-more n l._i);
     }
 
-pub repeat-returns : goal.repeat-returns
-repeat-returns t c =
+pub repeat-returns-clause-emits : goal.repeat-returns-clause-emits
+repeat-returns-clause-emits t c =
     let l = c.loop-i in
     let f = iterating c.args.iterations (matching (tree c.args.body.now)) in
     let all : l._i ≡ c.args.quantifier.min = omega (arith, l.auto._i-end, c.loop-i-test.false) in
@@ -140,20 +165,20 @@ repeat-returns t c =
 
 -- ---- lookarounds
 
-pub look-returns : goal.look-returns
-look-returns t c =
+pub look-returns-clause-emits : goal.look-returns-clause-emits
+look-returns-clause-emits t c =
     let a = code_of c.args.self.now in
     let b = code_of c.routine.new.self in
     let i = c.in_ok-routine.routine in
-    let has = c.in_ok-routine.ensures in
+    let has = c.in_ok-routine.ensures.emits in
     IfOk-weaker c.push.result _ _
     (λ at pushed.
     compiled_look a b (code_of c.push.new.self) (matching (tree c.args.contents.now)) c.args.negate (direction_if c.args.backwards) i c.args.next at
     (below c.args.self.now.instructions.items c.args.next c.requires) has pushed)
-    c.push.ensures
+    c.push.ensures.emits
 
-pub routine-returns : goal.routine-returns
-routine-returns t c =
+pub routine-returns-clause-emits : goal.routine-returns-clause-emits
+routine-returns-clause-emits t c =
     let a = code_of c.args.self.now in
     let emptied = record c.args.self.now { instructions = c.replace-outer.new.dest } in
     let body = c.node.new.self in
@@ -172,7 +197,7 @@ routine-returns t c =
     ap (λ v. ops_of v.items) (c.replace-instructions.ensures.after ∙ c.replace-outer.ensures.value) in
     let long : length c.push-2.new.self.items ≡ length body.routines.items + 1 = ap length pushed ∙ length_push body.routines.items r in
     has_routine a (code_of emptied) (code_of c.push.new.self) (code_of body) (code_of new) (matching (tree c.args.node.now)) d entry c.in_ok-push.field-0
-    (c.len.result - 1) cleared c.in_ok-push.ensures c.in_ok-entry.ensures
+    (c.len.result - 1) cleared c.in_ok-push.ensures.emits c.in_ok-entry.ensures.emits
     (ap₂ (λ rs os. record { routines = rs; ops = os; left = body.left }) routines ops)
     (omega (arith, c.len.ensures, c.push-2.new.self.ok, long, length-map body.routines.items routine_of))
 
@@ -188,6 +213,7 @@ node-loop-rest-init t c =
           subst (λ es. Waiting a a c.args.next es (tree c.args.node.now) (tree c.args.node.now)) (sym none)
           (waiting_none a a c.args.next (tree c.args.node.now));
       smaller = le_refl _;
+      spent = omega (arith, ap length none);
     }
 
 pub node-loop-rest-preserved : goal.node-loop-rest-preserved
@@ -198,8 +224,11 @@ node-loop-rest-preserved t c =
     let e = code_of c.node.new.self in
     let left = c.in-Alt.left.value in
     let right = c.in-Alt.right.value in
-    let node : Compiled b e (matching (tree left)) c.args.next c.in_ok-node.field-0 = rw c.deref.ensures at c.in_ok-node.ensures in
+    let node : Compiled b e (matching (tree left)) c.args.next c.in_ok-node.field-0 = rw c.deref.ensures at c.in_ok-node.ensures.emits in
     let items : c.push.new.self.items ≡ l.entries.items ++ c.in_ok-node.field-0 ∷ [] = c.in_ok-push.ensures.items in
+    let sizes : size (tree l.rest.now) ≡ size (tree left) + size (tree right) + 1 =
+    ap size (ap tree c.in-Alt.is ∙ tree-Alt c.in-Alt.left c.in-Alt.right) in
+    let spends : Spends l.self c.node.new.self (size (tree left)) = rw c.deref.ensures at c.in_ok-node.ensures.spends in
     let is : HasLeft a e c.args.next c.in_ok-node.field-0 (tree l.rest.now) (tree right) = record {
       left = tree left;
       is = ap tree c.in-Alt.is ∙ tree-Alt c.in-Alt.left c.in-Alt.right;
@@ -212,6 +241,7 @@ node-loop-rest-preserved t c =
           (waiting_push a e c.args.next l.entries.items c.in_ok-node.field-0 (tree c.args.node.now) (tree l.rest.now) (tree right)
           (waiting_later a b e c.args.next l.entries.items (tree c.args.node.now) (tree l.rest.now) node.grown l.invariant.waiting) is);
       smaller = le_trans (right_smaller _ _ _ c.in-Alt.is) l.invariant.smaller;
+      spent = omega (arith, l.invariant.spent, sizes, spends, ap length items, length_push l.entries.items c.in_ok-node.field-0);
     })
 
 pub node-loop-first-init : goal.node-loop-first-init
@@ -220,11 +250,12 @@ node-loop-first-init t c =
     let a = code_of c.args.self.now in
     let b = code_of l.self in
     let e = code_of c.other.new.self in
-    let last : Compiled b e (matching (tree l.rest.now)) c.args.next c.in_ok-entry.entry = c.in_ok-entry.ensures in
+    let last : Compiled b e (matching (tree l.rest.now)) c.args.next c.in_ok-entry.entry = c.in_ok-entry.ensures.emits in
     record {
       joined = tree l.rest.now;
       waiting = waiting_later a b e c.args.next l.entries.items (tree c.args.node.now) (tree l.rest.now) last.grown l.invariant.waiting;
       compiled = compiled_earlier a b e (matching (tree l.rest.now)) c.args.next c.in_ok-entry.entry l.invariant.grown last;
+      spent = omega (arith, l.invariant.spent, c.in_ok-entry.ensures.spends);
     }
 
 pub node-loop-first-preserved : goal.node-loop-first-preserved
@@ -238,16 +269,18 @@ node-loop-first-preserved t c =
     let popped = waiting_pop a b c.args.next c.pop.new.self.items c.in-Some.first whole l.invariant.joined
     (subst (λ es. Waiting a b c.args.next es whole l.invariant.joined) items l.invariant.waiting) in
     let is = compiled_alternative a b e c.args.next c.in-Some.first l.entry c.in_ok-entry-2.entry popped.0 l.invariant.joined popped.1.1
-    l.invariant.compiled c.in_ok-entry-2.ensures in
-    let grown = Grown-push b e _ c.in_ok-entry-2.entry c.in_ok-entry-2.ensures (popped.1.1.compiled.begins, l.invariant.compiled.begins) in
+    l.invariant.compiled c.in_ok-entry-2.ensures.emits in
+    let grown = Grown-push b e _ c.in_ok-entry-2.entry c.in_ok-entry-2.ensures.emits (popped.1.1.compiled.begins, l.invariant.compiled.begins) in
     record {
       joined = popped.0;
       waiting = waiting_later a b e c.args.next c.pop.new.self.items whole popped.0 grown popped.1.0;
       compiled = is;
+      spent =
+          omega (arith, l.invariant.spent, c.in_ok-entry-2.ensures.emits.left, ap length items, length_push c.pop.new.self.items c.in-Some.first);
     }
 
-pub node-returns : goal.node-returns
-node-returns t c =
+pub node-returns-clause-emits : goal.node-returns-clause-emits
+node-returns-clause-emits t c =
     let l = c.loop-first in
     let a = code_of c.args.self.now in
     let b = code_of l.self in
@@ -259,8 +292,8 @@ node-returns t c =
 
 -- ---- other nodes
 
-pub other-returns-in_ok-contents-in-CaptureGroup : goal.other-returns-in_ok-contents-in-CaptureGroup
-other-returns-in_ok-contents-in-CaptureGroup t c =
+pub other-returns-in_ok-contents-in-CaptureGroup-clause-emits : goal.other-returns-in_ok-contents-in-CaptureGroup-clause-emits
+other-returns-in_ok-contents-in-CaptureGroup-clause-emits t c =
     let id = c.in-CaptureGroup.id in
     let body = tree c.in-CaptureGroup.contents.value in
     let a = code_of c.args.self.now in
@@ -270,12 +303,12 @@ other-returns-in_ok-contents-in-CaptureGroup t c =
     (λ at pushed.
     subst (λ u. Compiled a g (matching u) c.args.next at) (sym is)
     (compiled_group a (code_of c.push.new.self) (code_of c.node.new.self) g (matching body) id c.args.next c.in_ok-end-in-CaptureGroup.end
-    c.in_ok-contents-in-CaptureGroup.contents at (below c.args.self.now.instructions.items c.args.next c.requires) c.in_ok-end-in-CaptureGroup.ensures
-    (rw c.deref-in-CaptureGroup.ensures at c.in_ok-contents-in-CaptureGroup.ensures) pushed))
-    c.push-in-CaptureGroup.ensures
+    c.in_ok-contents-in-CaptureGroup.contents at (below c.args.self.now.instructions.items c.args.next c.requires) c.in_ok-end-in-CaptureGroup.ensures.emits
+    (rw c.deref-in-CaptureGroup.ensures at c.in_ok-contents-in-CaptureGroup.ensures.emits) pushed))
+    c.push-in-CaptureGroup.ensures.emits
 
-pub other-returns-in-LookaroundAssertion : goal.other-returns-in-LookaroundAssertion
-other-returns-in-LookaroundAssertion t c =
+pub other-returns-in-LookaroundAssertion-clause-emits : goal.other-returns-in-LookaroundAssertion-clause-emits
+other-returns-in-LookaroundAssertion-clause-emits t c =
     let a = code_of c.args.self.now in
     let b = code_of c.look.new.self in
     let w = c.in-LookaroundAssertion in
@@ -283,10 +316,10 @@ other-returns-in-LookaroundAssertion t c =
     IfOk-weaker c.look.result _ _
     (λ at compiled.
     subst (λ u. Compiled a b (matching u) c.args.next at) (sym is) (rw c.deref-in-LookaroundAssertion.ensures at compiled))
-    c.look.ensures
+    c.look.ensures.emits
 
-pub other-returns-in_ok-first-in-Alt : goal.other-returns-in_ok-first-in-Alt
-other-returns-in_ok-first-in-Alt t c =
+pub other-returns-in_ok-first-in-Alt-clause-emits : goal.other-returns-in_ok-first-in-Alt-clause-emits
+other-returns-in_ok-first-in-Alt-clause-emits t c =
     let a = code_of c.args.self.now in
     let b = code_of c.node-in-Alt.new.self in
     let e = code_of c.node-in-Alt-2.new.self in
@@ -296,8 +329,8 @@ other-returns-in_ok-first-in-Alt t c =
     let next = c.args.next in
     let first = c.in_ok-first-in-Alt.first in
     let second = c.in_ok-second-in-Alt.second in
-    let rest : Compiled a b (matching right) next second = rw c.deref-in-Alt.ensures at c.in_ok-second-in-Alt.ensures in
-    let one : Compiled b e (matching left) next first = rw c.deref-in-Alt-2.ensures at c.in_ok-first-in-Alt.ensures in
+    let rest : Compiled a b (matching right) next second = rw c.deref-in-Alt.ensures at c.in_ok-second-in-Alt.ensures.emits in
+    let one : Compiled b e (matching left) next first = rw c.deref-in-Alt-2.ensures at c.in_ok-first-in-Alt.ensures.emits in
     let has : HasLeft a e next first (tree c.args.node.now) right = record {
       left = left;
       is = ap tree c.in-Alt.is ∙ tree-Alt c.in-Alt.left c.in-Alt.right;
@@ -307,24 +340,24 @@ other-returns-in_ok-first-in-Alt t c =
     (λ at pushed.
     compiled_alternative a e g next first second at (tree c.args.node.now) right has (compiled_later a b e (matching right) next second one.grown rest)
     pushed)
-    c.push-in-Alt.ensures
+    c.push-in-Alt.ensures.emits
 
-pub other-returns-in_default : goal.other-returns-in_default
-other-returns-in_default t c =
+pub other-returns-in_default-clause-emits : goal.other-returns-in_default-clause-emits
+other-returns-in_default-clause-emits t c =
     let leaf : has_one_outcome (tree c.args.node.now) ≡ true = search (rules, the_lemmas) in
     IfOk-weaker c.push-in_default.result _ _
     (λ at pushed.
     compiled_part (code_of c.args.self.now) (code_of c.push-in_default.new.self) (tree c.args.node.now) c.args.next at (part_if_leaf _ leaf)
     (below c.args.self.now.instructions.items c.args.next c.requires) pushed)
-    c.push-in_default.ensures
+    c.push-in_default.ensures.emits
 
-pub other-returns-in-Empty : goal.other-returns-in-Empty
-other-returns-in-Empty t c =
+pub other-returns-in-Empty-clause-emits : goal.other-returns-in-Empty-clause-emits
+other-returns-in-Empty-clause-emits t c =
     nothing_at_empty (code_of c.args.self.now) (tree c.args.node.now) c.args.next (ap tree c.in-Empty.is ∙ tree-Empty)
     (below c.args.self.now.instructions.items c.args.next c.requires)
 
-pub other-returns-in-Goal : goal.other-returns-in-Goal
-other-returns-in-Goal t c =
+pub other-returns-in-Goal-clause-emits : goal.other-returns-in-Goal-clause-emits
+other-returns-in-Goal-clause-emits t c =
     nothing_at_goal (code_of c.args.self.now) (tree c.args.node.now) c.args.next (ap tree c.in-Goal.is ∙ tree-Goal)
     (below c.args.self.now.instructions.items c.args.next c.requires)
 
@@ -335,5 +368,25 @@ sequence-loop-i-preserved t c =
       within = omega (arith, l.invariant.within);
       compiled =
           sequence_more (code_of c.args.self.now) (code_of l.self) (code_of c.node.new.self) c.args.parts.now l.i (l.i - 1) c.index-parts-i.result
-          c.args.next l.entry c.in_ok-entry.entry refl c.loop-i-test.true l.invariant.within c.index-parts-i.is l.invariant.compiled c.in_ok-entry.ensures;
+          c.args.next l.entry c.in_ok-entry.entry refl c.loop-i-test.true l.invariant.within c.index-parts-i.is l.invariant.compiled c.in_ok-entry.ensures.emits;
+      spent =
+          omega (
+            arith,
+            l.invariant.spent,
+            c.in_ok-entry.ensures.spends,
+            parts-more c.args.parts.now l.i (l.i - 1) c.index-parts-i.result refl c.loop-i-test.true l.invariant.within c.index-parts-i.is,
+          );
     }
+
+pub sequence-returns-in_err-entry-clause-too_long : goal.sequence-returns-in_err-entry-clause-too_long
+sequence-returns-in_err-entry-clause-too_long t c =
+    let l = c.loop-i in
+    too_long c.from_residual.result _ _ c.from_residual.ensures.1
+    (λ is.
+    omega (
+      arith,
+      c.in_err-entry.ensures.too_long is,
+      l.invariant.spent,
+      parts-within c.args.parts.now (l.i - 1),
+      parts-more c.args.parts.now l.i (l.i - 1) c.index-parts-i.result refl c.loop-i-test.true l.invariant.within c.index-parts-i.is,
+    ))

@@ -1,16 +1,18 @@
-use Rattle.std.proofs.Common.{◌≤◌, ◌-◌, length, drop}
+use Rattle.std.proofs.Common.{◌≡◌, ℕ, ◌+◌, ◌-◌, ◌*◌, ◌≤◌, length, drop}
 use Rattle.regress_tree.specs.declared.ir.node.Node.{size-Node}
 use Rattle.regress_tree.specs.Tree.{Tree, tree, trees, cat}
 use Rattle.regress_program.specs.Alternatives.{Waiting}
-use Rattle.regress_program.specs.CodeOf.{code_of, iterating}
+use Rattle.regress_program.specs.CodeOf.{code_of, iterating, iteration_size, Spends}
 use Rattle.regress_program.specs.Compiled.{Matching, matching, extra, after_iterations, Grown, Compiled}
 use Rattle.regress_program.specs.Iterates.{Iterates}
+use Rattle.regress_program.specs.Size.{size, size_of_loop, size_of_parts}
 use Rattle.regress_program.proofs.compiler.Compiler.+compile.Given as goal
 
 -- the iterations so far
 abbrev pub invariant-at_most-loop-i : goal.invariant-at_most-loop-i
 invariant-at_most-loop-i l = record {
   iterates : Iterates (code_of l.fn.self) (code_of l.self) l.iterations.greedy (iterating l.iterations (matching (tree l.fn.body))) l.next l.start (l._i - 1);
+  spent : Spends l.fn.self l.self ((iteration_size l.iterations (tree l.fn.body) + 1) * l._i);
 }
 
 -- the left sides so far
@@ -19,6 +21,7 @@ invariant-node-loop-rest l = record {
   grown : Grown (code_of l.fn.self) (code_of l.self);
   waiting : Waiting (code_of l.fn.self) (code_of l.self) l.next l.entries.items (tree l.fn.node) (tree l.rest);
   smaller : size-Node l.rest ≤ size-Node l.fn.node;
+  spent : l.self.left + size (tree l.fn.node) ≡ l.fn.self.left + size (tree l.rest) + length l.entries.items;
 }
 
 -- the alternatives that have been joined, from the last one
@@ -27,6 +30,7 @@ invariant-node-loop-first l = record {
   joined : Tree;
   waiting : Waiting (code_of l.fn.self) (code_of l.self) l.next l.entries.items (tree l.fn.node) joined;
   compiled : Compiled (code_of l.fn.self) (code_of l.self) (matching joined) l.next l.entry;
+  spent : l.self.left + size (tree l.fn.node) ≡ l.fn.self.left + length l.entries.items;
 }
 
 abbrev pub decreases-node-loop-first : goal.decreases-node-loop-first
@@ -36,13 +40,18 @@ decreases-node-loop-first l = length l.entries.items
 abbrev pub invariant-repeat-loop-i : goal.invariant-repeat-loop-i
 invariant-repeat-loop-i l =
     let f : Matching = iterating l.iterations (matching (tree l.fn.body)) in
-    record { compiled : Compiled (code_of l.fn.self) (code_of l.self) (after_iterations l._i f (extra l.fn.quantifier f)) l.next l.entry }
+    let n : ℕ = iteration_size l.iterations (tree l.fn.body) in
+    record {
+      compiled : Compiled (code_of l.fn.self) (code_of l.self) (after_iterations l._i f (extra l.fn.quantifier f)) l.next l.entry;
+      spent : l.self.left + size_of_loop l.fn.quantifier n + n * l._i ≡ l.fn.self.left + n * l.fn.quantifier.min;
+    }
 
 -- the parts from i on
 abbrev pub invariant-sequence-loop-i : goal.invariant-sequence-loop-i
 invariant-sequence-loop-i l = record {
   within : l.i ≤ length l.parts;
   compiled : Compiled (code_of l.fn.self) (code_of l.self) (matching (cat (trees (drop l.i l.parts)))) l.next l.entry;
+  spent : Spends l.fn.self l.self (size_of_parts (trees (drop l.i l.parts)));
 }
 
 abbrev pub decreases-sequence-loop-i : goal.decreases-sequence-loop-i

@@ -1,0 +1,53 @@
+-- How many instructions a tree compiles to.
+use Rattle.std.specs.Prelude.{ℕ, zero, suc, ◌+◌, ◌-◌, ◌*◌, max, nat_lt, if◌then◌else◌, ◌∷◌, length, Option, Some, None, option_map}
+use Rattle.regress_base.specs.declared.types.Quantifier.{Quantifier}
+use Rattle.regress_tree.specs.Tree.{Leaf, empty, goal, string_set, Wrapper, capture_group, loop, loop_one, lookaround, Tree, Trees, leaf, cat, alt, wrapped, no_trees, more_trees}
+
+-- a leaf: one instruction, but none for a node that matches the empty string, and for strings one each and one to join
+-- each with those after it
+abbrev pub size_of_leaf : Leaf → ℕ
+size_of_leaf empty = 0
+size_of_leaf goal = 0
+size_of_leaf (string_set (string ∷ strings) icase) = 1 + 2 * length strings
+size_of_leaf l = 1
+
+-- an iteration of a body of this size: with groups inside, one more to unset them, and otherwise at least one
+abbrev pub size_of_iteration : (start end body : ℕ) → ℕ
+size_of_iteration start end body = if nat_lt start end then body + 1 else max body 1
+
+-- at most this many optional iterations: one to begin them, and each with one to end it
+abbrev pub size_of_optional : (iteration count : ℕ) → ℕ
+size_of_optional iteration zero = 0
+size_of_optional iteration (suc n) = 1 + (iteration + 1) * suc n
+
+-- the optional iterations: without a maximum, one that is repeated
+abbrev pub size_of_extra : (iteration : ℕ) → Option ℕ → ℕ
+size_of_extra iteration None = iteration + 2
+size_of_extra iteration (Some count) = size_of_optional iteration count
+
+-- a loop: the mandatory iterations, and the optional ones
+abbrev pub size_of_loop : Quantifier → (iteration : ℕ) → ℕ
+size_of_loop q iteration = iteration * q.min + size_of_extra iteration (option_map (λ most. most - q.min) q.max)
+
+-- a node with a body of this size; the routine of a lookaround has one to accept
+abbrev pub size_of_wrapper : Wrapper → (body : ℕ) → ℕ
+size_of_wrapper (capture_group id name) body = body + 2
+size_of_wrapper (loop q start end) body = size_of_loop q (size_of_iteration start end body)
+size_of_wrapper (loop_one q) body = size_of_loop q (size_of_iteration 0 0 body)
+size_of_wrapper (lookaround negate backwards start end) body = body + 2
+
+abbrev mutual
+  -- the number of instructions of a tree, with those of its lookarounds
+  pub size : Tree → ℕ
+  size (leaf l) = size_of_leaf l
+  size (cat parts) = size_of_parts parts
+  size (alt left right) = size left + size right + 1
+  size (wrapped w body) = size_of_wrapper w (size body)
+
+  pub size_of_parts : Trees → ℕ
+  size_of_parts no_trees = 0
+  size_of_parts (more_trees t ts) = size t + size_of_parts ts
+
+-- the number of instructions of a program for the tree: those of the tree, and one to accept
+abbrev pub program_size : Tree → ℕ
+program_size t = size t + 1
