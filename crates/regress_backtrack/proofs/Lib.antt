@@ -1,3 +1,4 @@
+pub mod OwnedLemmas
 pub mod LeafLemmas
 pub mod MachineLemmas
 pub mod StepLemmas

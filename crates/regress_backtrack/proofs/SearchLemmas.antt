@@ -1,52 +1,101 @@
 -- Searches.
-use Rattle.std.proofs.Common.{◌≡◌, ℕ, ◌+◌, ◌≤◌, Bool, true, false, List, [], ◌∷◌, length, inl, inr, sym, ap, ◌∙◌, subst, arith}
+use Rattle.std.proofs.Common.{◌≡◌, ℕ, ◌+◌, ◌≤◌, ◌-◌, Bool, true, false, List, [], ◌∷◌, length, replicate, Option, None, inl, inr, sym, ap, ◌∙◌, subst, arith}
 use Rattle.std.proofs.lemmas.Bool.{cases_eq}
 use Rattle.std.specs.Bool.{IsTrue}
 use Rattle.std.specs.Str.{IsCharBoundary}
-use Rattle.regress_tree.specs.Steps.{MatchState}
+use Rattle.regress_tree.specs.Steps.{CaptureSpan, MatchState}
+use Rattle.regress_leaves.specs.Subject.{subject}
 use Rattle.regress_tree.specs.Tree.{Tree}
-use Rattle.regress_program.specs.declared.program.Program.{Program}
+use Rattle.regress_unicode.specs.declared.Tables.{Tables}
 use Rattle.regress_program.specs.Compiled.{IsPattern}
 use Rattle.regress_program.specs.declared.found.Match.{Match}
 use Rattle.regress_program.specs.Found.{IsLeftmost, NoneBefore, no_groups, start_of, state_of}
-use Rattle.regress_program.specs.Program.{Out, IsSolution}
-use Rattle.regress_program.specs.Search.{groups_of, outcomes_from, routines_of, setting_of, tree_outcomes_from}
-use Rattle.regress_program.specs.Shape.{IsProgram}
+use Rattle.regress_program.specs.Program.{Out, IsSolution, matcher_of}
 use Rattle.regress_program.proofs.lemmas.Solutions.{solution}
+use Rattle.regress_backtrack.specs.declared.backtracker.Backtracker.{Backtracker}
+use Rattle.regress_backtrack.specs.declared.code.Code.{Code}
+use Rattle.regress_backtrack.specs.declared.input.Input.{Input}
 use Rattle.regress_backtrack.specs.declared.machine.Machine.{Machine}
+use Rattle.regress_backtrack.specs.declared.outcome.Outcome.TheVariants as outcomes
 use Rattle.regress_backtrack.specs.declared.run.Response.{Response}
 use Rattle.regress_backtrack.specs.declared.run.Response.TheVariants as responses
+use Rattle.regress_backtrack.specs.Backtracker.{AreOutcomes, SameRuns, outcomes_at, run_code, run_tables, run_text, tree_outcomes_at}
+use Rattle.regress_backtrack.specs.Code.{code_groups, code_routines, outcomes_from, setting_with, tree_outcomes_from}
 use Rattle.regress_backtrack.specs.Machine.{state}
 use Rattle.regress_backtrack.specs.Run.{Answers}
+use Rattle.regress_backtrack.specs.Searched.{IsFirst, IsFor}
+use Rattle.regress_backtrack.proofs.RunLemmas.{same_answers}
 
 -- what is so for each solution is so for each tree of the program
-pub of_tree : (p : Program) (text : List ℕ) → IsProgram (routines_of p) → (k : ℕ) → k ≤ length text → (P : List MatchState → Type 0) →
-    ((outs : ℕ → Out) → IsSolution (setting_of p) text (routines_of p) outs → P (outcomes_from p text outs k)) →
-    (t : Tree) → IsPattern (routines_of p) t → P (tree_outcomes_from p text t k)
-of_tree p text program k le P all t pattern =
-    let some = solution (setting_of p) text (routines_of p) program in
-    subst P (pattern.means (setting_of p) text some.0 some.1 (no_groups (groups_of p) k) le) (all some.0 some.1)
+pub of_tree : (code : Code) (tables : Tables) (text : List ℕ) (k : ℕ) → k ≤ length text → (P : List MatchState → Type 0) →
+    ((outs : ℕ → Out) → IsSolution (setting_with code tables) text (code_routines code) outs → P (outcomes_from code tables text outs k)) →
+    (t : Tree) → IsPattern (code_routines code) t → P (tree_outcomes_from code tables text t k)
+of_tree code tables text k le P all t pattern =
+    let some = solution (setting_with code tables) text (code_routines code) code.is_program in
+    subst P (pattern.means (setting_with code tables) text some.0 some.1 (no_groups (code_groups code) k) le) (all some.0 some.1)
 
--- the outcomes in an equal text
-pub text_solved : (p : Program) (text text' : List ℕ) → text' ≡ text → (outs : ℕ → Out) (k : ℕ) (m : Machine) (r : Response) →
-    (IsSolution (setting_of p) text' (routines_of p) outs → Answers (outcomes_from p text' outs k) m r) →
-    IsSolution (setting_of p) text (routines_of p) outs → Answers (outcomes_from p text outs k) m r
-text_solved p text text' same outs k m r answers =
-    subst (λ x. IsSolution (setting_of p) x (routines_of p) outs → Answers (outcomes_from p x outs k) m r) same answers
+-- the result of a run, for another run of the same program in the same text
+pub same_solved : (a b : Backtracker) (P : List MatchState → Type 0) (k : ℕ) → SameRuns a b →
+    ((outs : ℕ → Out) → AreOutcomes b outs → P (outcomes_at b outs k)) → (outs : ℕ → Out) → AreOutcomes a outs → P (outcomes_at a outs k)
+same_solved a b P k same holds outs =
+    subst (λ x. IsSolution (setting_with x (run_tables a)) (run_text a) (code_routines x) outs → P (outcomes_from x (run_tables a) (run_text a) outs k)) same.code
+    (subst (λ x. IsSolution (setting_with (run_code b) x) (run_text a) (code_routines (run_code b)) outs → P (outcomes_from (run_code b) x (run_text a) outs k))
+    same.tables
+    (subst (λ x. IsSolution (setting_with (run_code b) (run_tables b)) x (code_routines (run_code b)) outs →
+    P (outcomes_from (run_code b) (run_tables b) x outs k)) same.text (holds outs)))
 
-pub text_finds : (p : Program) (text text' : List ℕ) → text' ≡ text → (t : Tree) (k : ℕ) (m : Machine) (r : Response) →
-    Answers (tree_outcomes_from p text' t k) m r → Answers (tree_outcomes_from p text t k) m r
-text_finds p text text' same t k m r answers = subst (λ x. Answers (tree_outcomes_from p x t k) m r) same answers
+pub same_first : (a b : Backtracker) (P : List MatchState → Type 0) (k : ℕ) → SameRuns a b →
+    ((t : Tree) → IsPattern (code_routines (run_code b)) t → P (tree_outcomes_at b t k)) → (t : Tree) → IsPattern (code_routines (run_code a)) t →
+    P (tree_outcomes_at a t k)
+same_first a b P k same holds t =
+    subst (λ x. IsPattern (code_routines x) t → P (tree_outcomes_from x (run_tables a) (run_text a) t k)) same.code
+    (subst (λ x. IsPattern (code_routines (run_code b)) t → P (tree_outcomes_from (run_code b) x (run_text a) t k)) same.tables
+    (subst (λ x. IsPattern (code_routines (run_code b)) t → P (tree_outcomes_from (run_code b) (run_tables b) x t k)) same.text (holds t)))
 
--- the match that a run finds, if no earlier position has an outcome
-pub found_leftmost : (text : List ℕ) (at : ℕ → List MatchState) (origin k end : ℕ) (m : Machine) (found : Match) → start_of found ≡ k →
-    state_of found ≡ state m.captures.items end → origin ≤ k → IsCharBoundary text k → Answers (at k) m (responses.Matched end) →
-    NoneBefore text at origin k → IsLeftmost text at origin found
-found_leftmost text at origin k end m found starts has low on answers none = record {
-  from = subst (λ i. origin ≤ i) (sym starts) low;
-  boundary = subst (IsCharBoundary text) (sym starts) on;
-  first = (answers.0, ap at starts ∙ answers.1 ∙ ap (λ s. s ∷ answers.0) (sym has));
-  least = subst (NoneBefore text at origin) (sym starts) none;
+-- the result of a run, for its program, case mappings and text
+pub for_solution : (b : Backtracker) (code : Code) (tables : Tables) (text : List ℕ) (P : List ℕ → (ℕ → List MatchState) → Type 0) →
+    run_code b ≡ code → run_tables b ≡ tables → run_text b ≡ text → ((outs : ℕ → Out) → AreOutcomes b outs → P (run_text b) (outcomes_at b outs)) →
+    (outs : ℕ → Out) → IsSolution (setting_with code tables) text (code_routines code) outs → P text (outcomes_from code tables text outs)
+for_solution b code tables text P ec et ex holds outs =
+    subst (λ x. IsSolution (setting_with x tables) text (code_routines x) outs → P text (outcomes_from x tables text outs)) ec
+    (subst (λ x. IsSolution (setting_with (run_code b) x) text (code_routines (run_code b)) outs → P text (outcomes_from (run_code b) x text outs)) et
+    (subst (λ x. IsSolution (setting_with (run_code b) (run_tables b)) x (code_routines (run_code b)) outs →
+    P x (outcomes_from (run_code b) (run_tables b) x outs)) ex (holds outs)))
+
+pub for_tree : (b : Backtracker) (code : Code) (tables : Tables) (text : List ℕ) (P : List ℕ → (ℕ → List MatchState) → Type 0) →
+    run_code b ≡ code → run_tables b ≡ tables → run_text b ≡ text →
+    ((t : Tree) → IsPattern (code_routines (run_code b)) t → P (run_text b) (tree_outcomes_at b t)) →
+    (t : Tree) → IsPattern (code_routines code) t → P text (tree_outcomes_from code tables text t)
+for_tree b code tables text P ec et ex holds t =
+    subst (λ x. IsPattern (code_routines x) t → P text (tree_outcomes_from x tables text t)) ec
+    (subst (λ x. IsPattern (code_routines (run_code b)) t → P text (tree_outcomes_from (run_code b) x text t)) et
+    (subst (λ x. IsPattern (code_routines (run_code b)) t → P x (tree_outcomes_from (run_code b) (run_tables b) x t)) ex (holds t)))
+
+pub SameRuns-trans : (a b c : Backtracker) → SameRuns a b → SameRuns b c → SameRuns a c
+SameRuns-trans a b c one two = record {
+  code = two.code ∙ one.code;
+  tables = two.tables ∙ one.tables;
+  text = two.text ∙ one.text;
+}
+
+-- a run from the input for the pattern, with every group unset
+pub run_solved : (b : Backtracker) (input : Input) (captures : List (Option CaptureSpan)) (k : ℕ) (m : Machine) (r : Response) →
+    IsFor (run_code b) (run_tables b) (run_text b) input → captures ≡ replicate (code_groups (run_code b)) None →
+    ((outs : ℕ → Out) → IsSolution (subject input.rules input.text.now).setting input.text.now (code_routines input.code.now) outs →
+    Answers (matcher_of (subject input.rules input.text.now).setting input.text.now (code_routines input.code.now) outs input.index (state captures k)) m r) →
+    (outs : ℕ → Out) → AreOutcomes b outs → Answers (outcomes_at b outs k) m r
+run_solved b input captures k m r is unset answers outs =
+    same_answers m r outs k (setting_with (run_code b) (run_tables b)) _ (run_text b) _ (code_routines (run_code b)) _ (length (code_routines (run_code b)) - 1) _
+    (replicate (code_groups (run_code b)) None) _ (answers outs) is.setting is.same_text (ap code_routines is.code) is.index unset
+
+-- the match that is found at a position, if no earlier position has an outcome
+pub found_leftmost : (text : List ℕ) (at : ℕ → List MatchState) (origin k : ℕ) (found : Match) → origin ≤ k → IsCharBoundary text k →
+    IsFirst k (at k) (outcomes.Matched found) → NoneBefore text at origin k → IsLeftmost text at origin found
+found_leftmost text at origin k found low on first none = record {
+  from = subst (λ i. origin ≤ i) (sym first.0) low;
+  boundary = subst (IsCharBoundary text) (sym first.0) on;
+  first = (first.1.0, ap at first.0 ∙ first.1.1);
+  least = subst (NoneBefore text at origin) (sym first.0) none;
 }
 
 -- one more position without an outcome

@@ -1,17 +1,19 @@
 -- What follows an instruction.
-use Rattle.std.proofs.Common.{◌≡◌, ℕ, ◌≤◌, ◌<◌, ◌==◌, Bool, true, false, not, ◌||◌, List, [], ◌∷◌, ◌++◌, flat_map, length, Option, Some, None, MatchOption, All, Result, Ok, Err, IfOk, refl, sym, ap, ap₂, ◌∙◌, subst, append-nil, append_assoc}
+use Rattle.std.proofs.Common.{◌≡◌, ℕ, ◌≤◌, ◌<◌, ◌==◌, Bool, true, false, not, ◌||◌, List, [], ◌∷◌, ◌++◌, flat_map, length, slice_get, Option, Some, None, MatchOption, All, Result, Ok, Err, IfOk, refl, sym, ap, ap₂, ◌∙◌, subst, append-nil, append_assoc, take, arith}
 use Rattle.std.proofs.lemmas.List.Elements.{All-head, All-cons}
 use Rattle.regress_tree.specs.Matching.{steps}
 use Rattle.regress_tree.specs.Reading.{Direction}
 use Rattle.regress_tree.specs.Setting.{Setting}
-use Rattle.regress_tree.specs.Steps.{MatchState}
-use Rattle.regress_tree.specs.Tree.{Tree}
+use Rattle.regress_tree.specs.Steps.{MatchState, Matcher}
+use Rattle.regress_tree.specs.Tree.{Tree, tree}
 use Rattle.regress_leaves.specs.Leaves.{put}
-use Rattle.regress_program.specs.declared.instruction.Instruction.{Instruction}
-use Rattle.regress_program.specs.declared.instruction.Instruction.TheVariants as insts
-use Rattle.regress_program.specs.Program.{Out, At, reach, either, ended}
+use Rattle.regress_backtrack.specs.declared.instruction.Instruction.{Instruction}
+use Rattle.regress_backtrack.specs.declared.instruction.Instruction.TheVariants as insts
+use Rattle.regress_backtrack.specs.declared.test.Test.{Test}
+use Rattle.regress_program.specs.Program.{Out, At, reach, either, ended, outcomes_by}
+use Rattle.regress_program.specs.Shape.{Fits, IsPart}
 use Rattle.regress_program.specs.Stays.{IsReached}
-use Rattle.regress_program.specs.Views.{op_of}
+use Rattle.regress_backtrack.specs.Views.{op_in, part_of}
 use Rattle.regress_program.proofs.lemmas.Onward.{Stays-tree}
 use Rattle.regress_backtrack.specs.declared.input.Input.{Input}
 use Rattle.regress_backtrack.specs.declared.machine.Machine.{Machine}
@@ -19,7 +21,8 @@ use Rattle.regress_backtrack.specs.declared.machine.Place.{Place}
 use Rattle.regress_backtrack.specs.declared.step.Next.{Next}
 use Rattle.regress_backtrack.specs.declared.step.Next.TheVariants as nexts
 use Rattle.regress_backtrack.specs.Machine.{Groups, at, groups_of, points, state}
-use Rattle.regress_backtrack.specs.Next.{is_look, Inside, ahead, Leads, Forks, Iterates}
+use Rattle.regress_backtrack.specs.Code.{code_routines}
+use Rattle.regress_backtrack.specs.Next.{CanStep, is_look, Inside, ahead, Leads, Forks, Iterates}
 
 -- what the code says of a part that ends at a position
 abbrev pub Reaches : (next : ℕ) → Place → Next → Option ℕ → Type 0
@@ -107,6 +110,34 @@ module _ (input : Input) (m m' : Machine) where
       on_inside n (record { pc = next; moved = p.moved || not (q == p.position); position = q }) is same
       (record { pc = lt; position = there.inside })
 
+-- ---- leaves
+
+module _ (input : Input) (m : Machine) (o : Option Test) (next : ℕ) (p : Place) (n : Next) where
+  -- an instruction with no leaf fails
+  pub no_leaf_goes : (setting : Setting) (bytes : List ℕ) (d : Direction) (body_of : ℕ → Matcher) (out : Out) → o ≡ None → n ≡ nexts.Back →
+      Goes out m m (outcomes_by setting bytes d body_of out (part_of o next) (at p (groups_of m))) n
+  no_leaf_goes setting bytes d body_of out none is =
+      goes_back out m m _ n is refl (ap (λ x. outcomes_by setting bytes d body_of out (part_of x next) (at p (groups_of m))) none)
+
+  pub leaf_goes : (t : Test) (to : Option ℕ) (setting : Setting) (bytes : List ℕ) (d : Direction) (body_of : ℕ → Matcher) (out : Out) → o ≡ Some t →
+      steps setting bytes d (tree t.node) (state m.captures.items p.position) ≡ put (state m.captures.items p.position) to → Reaches next p n to →
+      Goes out m m (outcomes_by setting bytes d body_of out (part_of o next) (at p (groups_of m))) n
+  leaf_goes t to setting bytes d body_of out some ends is =
+      subst (λ x. Goes out m m (outcomes_by setting bytes d body_of out (part_of x next) (at p (groups_of m))) n) (sym some)
+      (goes_after_part out m m setting bytes d (tree t.node) next p to n ends is refl refl)
+
+  pub leaf_inside : (t : Test) (to : Option ℕ) (setting : Setting) (d : Direction) → o ≡ Some t → CanStep input (part_of o next) p →
+      steps setting input.text.now d (tree t.node) (state m.captures.items p.position) ≡ put (state m.captures.items p.position) to → Reaches next p n to →
+      Remains input m m n
+  leaf_inside t to setting d some can ends is =
+      let fits = subst (λ x. Fits (take input.index (code_routines input.code.now)) (length input.instructions.now) p.pc (part_of x next)) some can.fits in
+      let lt : next < length input.instructions.now = omega (arith, fits.1, can.pc) in
+      part_inside input m m setting d (tree t.node) next p to n ends is refl lt can.position
+
+  pub leaf_part : (t : Test) → o ≡ Some t → CanStep input (part_of o next) p → IsPart (tree t.node)
+  leaf_part t some can =
+      (subst (λ x. Fits (take input.index (code_routines input.code.now)) (length input.instructions.now) p.pc (part_of x next)) some can.fits).0
+
 -- ---- groups
 
 pub end-goto : (id next : ℕ) (p : Place) (g : Groups) →
@@ -117,19 +148,24 @@ end-goto id next p g = by g.begins
     by [] = refl
     by (from ∷ begins) = refl
 
-pub not_look : (i : Instruction) → ((negate : Bool) (routine next : ℕ) → i ≡ insts.Look negate routine next → ⊥) → is_look (op_of i) ≡ false
-not_look insts.Accept not = refl
-not_look insts.Fail not = refl
-not_look (insts.Leaf node next) not = refl
-not_look (insts.Text characters icase next) not = refl
-not_look (insts.Split first second) not = refl
-not_look (insts.BeginLoop greedy body next) not = refl
-not_look (insts.Repeat greedy body next) not = refl
-not_look (insts.EndLoop next) not = refl
-not_look (insts.Unset start end next) not = refl
-not_look (insts.BeginGroup next) not = refl
-not_look (insts.EndGroup id next) not = refl
-not_look (insts.Look negate routine next) not = absurd (not negate routine next refl)
+-- an instruction with a leaf is no lookaround
+part_no_look : (t : Option Test) (next : ℕ) → is_look (part_of t next) ≡ false
+part_no_look None next = refl
+part_no_look (Some t) next = refl
+
+pub not_look : (tests : List Test) (i : Instruction) → ((negate : Bool) (routine next : ℕ) → i ≡ insts.Look negate routine next → ⊥) →
+    is_look (op_in tests i) ≡ false
+not_look tests insts.Accept not = refl
+not_look tests insts.Fail not = refl
+not_look tests (insts.Leaf leaf next) not = part_no_look (slice_get tests leaf) next
+not_look tests (insts.Split first second) not = refl
+not_look tests (insts.BeginLoop greedy body next) not = refl
+not_look tests (insts.Repeat greedy body next) not = refl
+not_look tests (insts.EndLoop next) not = refl
+not_look tests (insts.Unset start end next) not = refl
+not_look tests (insts.BeginGroup next) not = refl
+not_look tests (insts.EndGroup id next) not = refl
+not_look tests (insts.Look negate routine next) not = absurd (not negate routine next refl)
 
 pub ok_map : {X E : Type 0} (r : Result X E) (P Q : X → Type 0) → ((x : X) → P x → Q x) → IfOk r P → IfOk r Q
 ok_map (Ok x) P Q f is = f x is

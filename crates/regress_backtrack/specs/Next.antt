@@ -4,7 +4,8 @@ use Rattle.regress_tree.specs.Reading.{direction_if}
 use Rattle.regress_tree.specs.Steps.{MatchState}
 use Rattle.regress_program.specs.Program.{At, Op, look, Out, Routine}
 use Rattle.regress_program.specs.Shape.{Fits}
-use Rattle.regress_program.specs.Views.{ops_of, program_of}
+use Rattle.regress_backtrack.specs.Code.{code_routines}
+use Rattle.regress_backtrack.specs.Views.{ops_in}
 use Rattle.regress_backtrack.specs.declared.input.Input.{Input}
 use Rattle.regress_backtrack.specs.declared.machine.Machine.{Machine}
 use Rattle.regress_backtrack.specs.declared.machine.Place.{Place}
@@ -29,8 +30,8 @@ Inside input = Within (length input.instructions.now) (length input.text.now)
 -- The input is for the routine with its index.
 pub record IsInput (input : Input) : Type 0 where
   pub routine : Routine
-  pub is : slice_get (program_of input.routines.now) input.index ≡ Some routine
-  pub ops : ops_of input.instructions.now ≡ routine.ops
+  pub is : slice_get (code_routines input.code.now) input.index ≡ Some routine
+  pub ops : ops_in input.code.now.tests.items input.instructions.now ≡ routine.ops
   pub direction : direction_if input.rules.backwards ≡ routine.direction
   pub first : input.first ≡ routine.entry
 
@@ -38,7 +39,7 @@ pub record IsInput (input : Input) : Type 0 where
 pub record CanStep (input : Input) (op : Op) (p : Place) : Type 0 where
   pub pc : p.pc < length input.instructions.now
   pub position : p.position ≤ length input.text.now
-  pub fits : Fits (take input.index (program_of input.routines.now)) (length input.instructions.now) p.pc op
+  pub fits : Fits (take input.index (code_routines input.code.now)) (length input.instructions.now) p.pc op
 
 -- the points from which a run goes on, the first one first
 abbrev pub ahead : Machine → Next → List At

@@ -2,13 +2,12 @@
 use Rattle.std.specs.Prelude.{◌≡◌, ℕ, ◌-◌, List, [], ◌∷◌, Some, None, length}
 use Rattle.regress_leaves.specs.Subject.{subject}
 use Rattle.regress_tree.specs.Steps.{MatchState}
-use Rattle.regress_program.specs.declared.program.Program.{Program}
+use Rattle.regress_unicode.specs.declared.Tables.{Tables}
 use Rattle.regress_program.specs.Found as found
 use Rattle.regress_program.specs.Found.{start_of, state_of}
-use Rattle.regress_program.specs.Search.{routines_of, setting_of}
-use Rattle.regress_program.specs.Shape.{IsProgram}
-use Rattle.regress_program.specs.Views.{program_of}
+use Rattle.regress_backtrack.specs.declared.code.Code.{Code}
 use Rattle.regress_backtrack.specs.declared.input.Input.{Input}
+use Rattle.regress_backtrack.specs.Code.{code_routines, setting_with}
 use Rattle.regress_backtrack.specs.Next.{IsInput}
 use Rattle.regress_backtrack.specs.declared.outcome.Outcome.{Outcome}
 use Rattle.regress_backtrack.specs.declared.outcome.Outcome.TheVariants as outcomes
@@ -28,10 +27,9 @@ IsFirst position states outcomes.NoMatch = states ≡ []
 IsFirst position states outcomes.OutOfSteps = Unit {0}
 
 -- The input is for the pattern of a program.
-pub record IsFor (p : Program) (text : List ℕ) (input : Input) : Type 0 where
+pub record IsFor (c : Code) (tables : Tables) (text : List ℕ) (input : Input) : Type 0 where
   pub is : IsInput input
   pub same_text : input.text.now ≡ text
-  pub setting : (subject input.rules text).setting ≡ setting_of p
-  pub routines : program_of input.routines.now ≡ routines_of p
-  pub program : IsProgram (routines_of p)
-  pub index : input.index ≡ length (routines_of p) - 1
+  pub setting : (subject input.rules text).setting ≡ setting_with c tables
+  pub code : input.code.now ≡ c
+  pub index : input.index ≡ length (code_routines c) - 1

@@ -1,24 +1,27 @@
 //! What a run of a routine reads.
-ghost use Rattle.std.specs.Prelude.{◌≡◌, ◌<◌, Some, length, slice_get};
+ghost use Rattle.std.specs.Prelude.{◌≡◌, ◌<◌, MatchOption, None, Some, length, slice_get};
 ghost use Rattle.regress_leaves.specs.Subject.{subject};
+ghost use Rattle.regress_backtrack.specs.Code.{code_routines};
 ghost use Rattle.regress_backtrack.specs.Next.{IsInput};
 
+use crate::code::Code;
+use crate::instruction::Instruction;
+use crate::test::Test;
 use regress_leaves::rules::MatchContext;
-use regress_program::instruction::{Instruction, Routine};
 
 /// The text, the program, and the routine that is run.
 #[derive(Clone, Copy)]
-pub struct Input<'k, 'n, 't> {
+pub struct Input<'c, 'x> {
     /// The text.
-    pub text: &'t str,
+    pub text: &'x str,
     /// The flags and case mappings, with the direction of the routine.
-    pub rules: MatchContext<'k>,
-    /// The routines of the program.
-    pub routines: &'t [Routine<'n>],
+    pub rules: MatchContext<'x>,
+    /// The program.
+    pub code: &'c Code,
     /// The index of the routine.
     pub index: usize,
     /// The instructions of the routine.
-    pub instructions: &'t [Instruction<'n>],
+    pub instructions: &'c [Instruction],
     /// The index of the instruction at which a match starts.
     pub first: usize,
 }
@@ -27,27 +30,27 @@ pub struct Input<'k, 'n, 't> {
 ///
 /// # Preconditions
 /// There is a routine with this index.
-pub fn input_for<'k, 'n, 't>(
-    text: &'t str,
-    rules: MatchContext<'k>,
-    routines: &'t [Routine<'n>],
+pub fn input_for<'c, 'x>(
+    text: &'x str,
+    rules: MatchContext<'x>,
+    code: &'c Code,
     index: usize,
-) -> Input<'k, 'n, 't>
-    requires { index < length routines.now }
+) -> Input<'c, 'x>
+    requires { index < length (code_routines code.now) }
     ensures input { IsInput result }
     ensures text { result.text.now ≡ text.now }
     ensures setting { (subject result.rules text.now).setting ≡ (subject rules.entry text.now).setting }
-    ensures routines { result.routines.now ≡ routines.now }
+    ensures code { result.code.now ≡ code.now }
     ensures index { result.index ≡ index }
 {
-    let routine = &routines[index];
+    let routine = &code.routines[index];
     Input {
         text,
         rules: MatchContext {
             backwards: routine.backwards,
             ..rules
         },
-        routines,
+        code,
         index,
         instructions: &routine.instructions,
         first: routine.entry,
@@ -59,9 +62,23 @@ pub fn input_for<'k, 'n, 't>(
 /// # Preconditions
 /// There is an instruction with this index.
 #[inline(always)]
-pub fn instruction_at<'n>(input: Input<'_, 'n, '_>, pc: usize) -> Instruction<'n>
+pub fn instruction_at(input: Input<'_, '_>, pc: usize) -> Instruction
     requires { pc < length input.instructions.now }
     ensures { slice_get input.entry.instructions.now pc ≡ Some result }
 {
     input.instructions[pc]
+}
+
+/// Returns a leaf of the program, or `None` if it has none with this index.
+#[inline(always)]
+pub fn test_at<'c>(input: Input<'c, '_>, leaf: usize) -> Option<&'c Test>
+    ensures { MatchOption result (slice_get input.entry.code.now.tests.items leaf ≡ None)
+        (λ test. slice_get input.entry.code.now.tests.items leaf ≡ Some test.now) }
+{
+    let tests = &input.code.tests;
+    if leaf < tests.len() {
+        Some(&tests[leaf])
+    } else {
+        None
+    }
 }

@@ -1,13 +1,20 @@
 //! A backtracking search with the programs of `regress_program`, within a step limit.
 #![tactic(auto)]
 
+mod backtracker;
+mod code;
 mod input;
+mod instruction;
 mod leaf;
+mod lent;
 mod machine;
 mod outcome;
+mod owned;
 mod run;
 mod search;
 mod step;
+mod test;
 
+pub use backtracker::Backtracker;
+pub use code::Code;
 pub use outcome::{Found, Outcome};
-pub use search::{find, match_at};

@@ -3,7 +3,7 @@ ghost use Rattle.std.specs.Prelude.{◌≡◌, ◌≤◌, ◌<◌, ◌∷◌, �
 ghost use Rattle.regress_leaves.specs.Subject.{subject};
 ghost use Rattle.regress_program.specs.Program.{IsSolution, Out, goto, look, matcher_of, outcomes_by};
 ghost use Rattle.regress_program.specs.Shape.{IsProgram};
-ghost use Rattle.regress_program.specs.Views.{program_of};
+ghost use Rattle.regress_backtrack.specs.Code.{code_routines};
 ghost use Rattle.regress_backtrack.specs.Machine.{at, groups_of, points, rewound, state};
 ghost use Rattle.regress_backtrack.specs.Next.{Inside, IsInput, Leads, ahead};
 ghost use Rattle.regress_backtrack.specs.Run.{Answers, IsAfter};
@@ -11,9 +11,9 @@ ghost use Rattle.regress_backtrack.specs.declared.run.Response.TheVariants.{NoMa
 ghost use Rattle.regress_backtrack.specs.declared.step.Next.TheVariants as nexts;
 
 use crate::input::{Input, input_for, instruction_at};
+use crate::instruction::Instruction;
 use crate::machine::{Machine, Place};
 use crate::step::{Next, step};
-use regress_program::instruction::Instruction;
 use std::alloc::{AllocError, Global};
 
 /// The result of a run.
@@ -55,16 +55,16 @@ pub struct Looking {
 #[cycle(run)]
 pub fn run(
     alloc: Global,
-    input: Input<'_, '_, '_>,
+    input: Input<'_, '_>,
     start: usize,
     machine: &mut Machine,
     left: &mut u64,
 ) -> Result<Response, AllocError>
-    requires program { IsProgram (program_of input.routines.now) }
+    requires program { IsProgram (code_routines input.code.now) }
     requires input { IsInput input }
     requires start { start ≤ length input.text.now }
     ensures answers { IfOk result (λ response. (outs : ℕ → Out) → (let u = subject input.entry.rules input.entry.text.now in
-        let program = program_of input.entry.routines.now in
+        let program = code_routines input.entry.code.now in
         IsSolution u.setting u.bytes program outs →
         Answers (matcher_of u.setting u.bytes program outs input.entry.index (state machine.old.captures.items start)) machine.new response)) }
     ensures undo { IfOk result (λ _. (rewound machine.new).captures ≡ machine.old.captures.items) }
@@ -98,17 +98,17 @@ pub fn run(
 #[inline(always)]
 fn advance(
     alloc: Global,
-    input: Input<'_, '_, '_>,
+    input: Input<'_, '_>,
     here: Place,
     machine: &mut Machine,
     left: &mut u64,
 ) -> Result<Next, AllocError>
-    requires program { IsProgram (program_of input.routines.now) }
+    requires program { IsProgram (code_routines input.code.now) }
     requires input { IsInput input }
     requires inside { Inside input (at here (groups_of machine.old)) }
     ensures leads { IfOk result (λ next. (outs : ℕ → Out) → (let u = subject input.entry.rules input.entry.text.now in
         let out = outs input.entry.index in
-        IsSolution u.setting u.bytes (program_of input.entry.routines.now) outs →
+        IsSolution u.setting u.bytes (code_routines input.entry.code.now) outs →
         Leads (flat_map out (at here (groups_of machine.old) ∷ points machine.old)) out machine.new next)) }
     ensures inside { IfOk result (λ next. All (Inside input.entry) (points machine.old) → All (Inside input.entry) (ahead machine.new next)) }
     ensures rewound { IfOk result (λ _. rewound machine.new ≡ rewound machine.old) }
@@ -137,18 +137,18 @@ fn advance(
 #[cycle(run)]
 fn look(
     alloc: Global,
-    input: Input<'_, '_, '_>,
+    input: Input<'_, '_>,
     looking: Looking,
     here: Place,
     machine: &mut Machine,
     left: &mut u64,
 ) -> Result<Next, AllocError>
-    requires program { IsProgram (program_of input.routines.now) }
+    requires program { IsProgram (code_routines input.code.now) }
     requires input { IsInput input }
-    requires routine { looking.routine < length (take input.index (program_of input.routines.now)) }
+    requires routine { looking.routine < length (take input.index (code_routines input.code.now)) }
     requires inside { Inside input (at here (groups_of machine.old)) }
     ensures leads { IfOk result (λ next. (outs : ℕ → Out) (out : Out) → (let u = subject input.entry.rules input.entry.text.now in
-        let program = program_of input.entry.routines.now in
+        let program = code_routines input.entry.code.now in
         IsSolution u.setting u.bytes program outs →
         Leads (outcomes_by u.setting u.bytes u.direction (matcher_of u.setting u.bytes program outs) out
         (look looking.negate looking.routine looking.next) (at here (groups_of machine.old)) ++ flat_map out (points machine.old))
@@ -159,7 +159,7 @@ fn look(
     ensures left { IfOk result (λ _. left.new ≤ left.old) }
     ensures spent { IfOk result (λ next. next ≡ nexts.OutOfSteps → left.new ≡ 0) }
 {
-    let inside = input_for(input.text, input.rules, input.routines, looking.routine);
+    let inside = input_for(input.text, input.rules, input.code, looking.routine);
     let outer = machine.enter(alloc);
     let response = run(alloc, inside, here.position, machine, left)?;
     machine.leave(outer)?;

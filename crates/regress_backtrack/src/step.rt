@@ -1,18 +1,17 @@
 //! One instruction.
-ghost use Rattle.std.specs.Prelude.{◌≡◌, ◌≤◌, ◌++◌, ◌||◌, ◌==◌, ℕ, All, IfOk, MatchOption, false, flat_map, length, not};
+ghost use Rattle.std.specs.Prelude.{◌≡◌, ◌≤◌, ◌++◌, ◌||◌, ◌==◌, ℕ, All, IfOk, MatchOption, false, flat_map, length, not, slice_get};
 ghost use Rattle.regress_leaves.specs.Subject.{subject};
 ghost use Rattle.regress_tree.specs.Steps.{Matcher};
 ghost use Rattle.regress_program.specs.Program.{Out, either, enter, goto, outcomes_by};
-ghost use Rattle.regress_program.specs.Views.{op_of};
 ghost use Rattle.regress_backtrack.specs.Machine.{at, groups_of, points, rewound};
+ghost use Rattle.regress_backtrack.specs.Views.{op_in, part_of};
 ghost use Rattle.regress_backtrack.specs.Next.{CanStep, Forks, Inside, Iterates, Leads, ahead, is_look};
 ghost use Rattle.regress_backtrack.specs.declared.step.Next.TheVariants.{Back, On, OutOfSteps};
 
-use crate::input::Input;
+use crate::input::{Input, test_at};
+use crate::instruction::Instruction;
 use crate::leaf::leaf_end;
 use crate::machine::{Machine, Place};
-use regress_leaves::leaves::all_of;
-use regress_program::instruction::Instruction;
 use std::alloc::{AllocError, Global};
 
 /// What follows an instruction.
@@ -42,16 +41,16 @@ pub enum Next {
 #[inline(always)]
 pub fn step(
     alloc: Global,
-    input: Input<'_, '_, '_>,
-    instruction: Instruction<'_>,
+    input: Input<'_, '_>,
+    instruction: Instruction,
     here: Place,
     machine: &mut Machine,
     left: &mut u64,
 ) -> Result<Next, AllocError>
-    requires can { CanStep input (op_of instruction) here }
-    requires no_look { is_look (op_of instruction) ≡ false }
+    requires can { CanStep input (op_in input.code.now.tests.items instruction) here }
+    requires no_look { is_look (op_in input.code.now.tests.items instruction) ≡ false }
     ensures leads { IfOk result (λ next. (body_of : ℕ → Matcher) (out : Out) → (let u = subject input.entry.rules input.entry.text.now in
-        Leads (outcomes_by u.setting u.bytes u.direction body_of out (op_of instruction.entry) (at here (groups_of machine.old))
+        Leads (outcomes_by u.setting u.bytes u.direction body_of out (op_in input.entry.code.now.tests.items instruction) (at here (groups_of machine.old))
         ++ flat_map out (points machine.old)) out machine.new next)) }
     ensures inside { IfOk result (λ next. All (Inside input.entry) (points machine.old) → All (Inside input.entry) (ahead machine.new next)) }
     ensures rewound { IfOk result (λ _. rewound machine.new ≡ rewound machine.old) }
@@ -61,26 +60,8 @@ pub fn step(
     match instruction {
         Instruction::Accept => Ok(Next::Accept(here.position)),
         Instruction::Fail => Ok(Next::Back),
-        Instruction::Leaf { node, next } => {
-            let captures = &machine.captures;
-            let to = leaf_end(
-                alloc,
-                input.text,
-                input.rules,
-                node,
-                here.position,
-                captures,
-                left,
-            )?;
-            Ok(reach(here, next, to, left))
-        }
-        Instruction::Text {
-            characters,
-            icase,
-            next,
-        } => {
-            let to = all_of(input.text, input.rules, icase, characters, here.position);
-            Ok(reach(here, next, to, left))
+        Instruction::Leaf { leaf, next } => {
+            match_leaf(alloc, input, leaf, next, here, machine, left)
         }
         Instruction::Split { first, second } => {
             fork(goto(first, here), goto(second, here), machine)
@@ -115,6 +96,46 @@ pub fn step(
         // the precondition excludes it
         Instruction::Look { .. } => Ok(Next::Back),
     }
+}
+
+/// Matches a leaf, and goes on at the instruction `next`. Backtracks if it fails, or if there is no leaf with this index.
+///
+/// # Preconditions
+/// The instruction of `here` is the one that matches the leaf.
+///
+/// # Errors
+/// Returns [`AllocError`] if an allocation fails.
+#[inline(always)]
+fn match_leaf(
+    alloc: Global,
+    input: Input<'_, '_>,
+    leaf: usize,
+    next: usize,
+    here: Place,
+    machine: &Machine,
+    left: &mut u64,
+) -> Result<Next, AllocError>
+    requires { CanStep input (part_of (slice_get input.code.now.tests.items leaf) next) here }
+    ensures leads { IfOk result (λ to. (body_of : ℕ → Matcher) (out : Out) → (let u = subject input.entry.rules input.entry.text.now in
+        Leads (outcomes_by u.setting u.bytes u.direction body_of out (part_of (slice_get input.entry.code.now.tests.items leaf) next)
+        (at here (groups_of machine.now)) ++ flat_map out (points machine.now)) out machine.now to)) }
+    ensures inside { IfOk result (λ to. All (Inside input.entry) (points machine.now) → All (Inside input.entry) (ahead machine.now to)) }
+    ensures left { IfOk result (λ _. left.new ≤ left.old) }
+    ensures goes { IfOk result (λ to. to ≡ OutOfSteps → ⊥) }
+{
+    let Some(test) = test_at(input, leaf) else {
+        return Ok(Next::Back);
+    };
+    let to = leaf_end(
+        alloc,
+        input.text,
+        input.rules,
+        &test.node,
+        here.position,
+        &machine.captures,
+        left,
+    )?;
+    Ok(reach(here, next, to, left))
 }
 
 /// Returns the place with another instruction.

@@ -20,6 +20,7 @@ mod lookarounds;
 mod loops;
 mod nonlinear;
 mod program;
+mod routines;
 mod search;
 mod step;
 mod strings;

@@ -1,16 +1,23 @@
-use Rattle.std.proofs.Common.{option_map, refl, ap, ◌∙◌}
+use Rattle.std.proofs.Common.{◌<◌, length, option_map, refl, ap, ◌∙◌, arith}
+use Rattle.std.proofs.lemmas.List.{length-map}
 use Rattle.std.proofs.lemmas.Option.{slice_get-map, slice_get_read}
-use Rattle.regress_program.specs.Views.{ops_of, routine_of}
+use Rattle.regress_backtrack.specs.Views.{ops_in, routine_in}
 use Rattle.regress_backtrack.proofs.input.input_for.Goals as goal
+
+pub index-routine-requires : goal.index-routine-requires
+index-routine-requires c =
+    omega (arith, length-map c.args.code.now.routines.items (routine_in c.args.code.now.tests.items), c.requires)
 
 pub returns-clause-input : goal.returns-clause-input
 returns-clause-input c =
-    let routines = c.args.routines.now in
+    let tests = c.args.code.now.tests.items in
+    let routines = c.args.code.now.routines.items in
     let i = c.args.index in
+    let lt : i < length routines = omega (arith, length-map routines (routine_in tests), c.requires) in
     record {
-      routine = routine_of c.index-routines-index.result;
-      is = slice_get-map routine_of routines i ∙ ap (option_map routine_of) (slice_get_read routines _ i _ refl c.requires c.index-routines-index.is);
-      ops = ap ops_of c.deref.ensures.value;
+      routine = routine_in tests c.index-routine.result.now;
+      is = slice_get-map (routine_in tests) routines i ∙ ap (option_map (routine_in tests)) (slice_get_read routines _ i _ refl lt c.index-routine.ensures);
+      ops = ap (ops_in tests) c.deref.ensures.value;
       direction = refl;
       first = refl;
     }

@@ -4,7 +4,8 @@ use Rattle.std.proofs.lemmas.List.Elements.{All-head, All-tail}
 use Rattle.regress_leaves.specs.Subject.{subject}
 use Rattle.regress_program.specs.Program.{matcher_of, outcomes_by}
 use Rattle.regress_program.specs.Shape.{IsProgram}
-use Rattle.regress_program.specs.Views.{op_of, program_of}
+use Rattle.regress_backtrack.specs.Code.{code_routines}
+use Rattle.regress_backtrack.specs.Views.{op_in}
 use Rattle.regress_backtrack.specs.Machine.{Groups, at, changes_of, groups_of, points, rewound, state}
 use Rattle.regress_backtrack.specs.Next.{Inside}
 use Rattle.regress_backtrack.specs.Run.{Answers}
@@ -22,7 +23,7 @@ advance-look-requires t c =
     let read = c.instruction_at-instruction.ensures in
     let can = can_step input c.requires.input c.args.here i c.requires.inside.pc read c.requires.program c.requires.inside.position in
     let fits = look_fits input i c.args.here c.in-Look.negate c.in-Look.routine c.in-Look.next c.in-Look.is can in (
-      omega (arith, c.decreases, fits.0, length-take input.index (program_of input.routines.now)),
+      omega (arith, c.decreases, fits.0, length-take input.index (code_routines input.code.now)),
       (c.requires.program, (c.requires.input, (fits.0, c.requires.inside))),
     )
 
@@ -33,7 +34,7 @@ advance-step-requires t c =
     let read = c.instruction_at-instruction.ensures in
     record {
       can = can_step input c.requires.input c.args.here i c.requires.inside.pc read c.requires.program c.requires.inside.position;
-      no_look = not_look i c.in_default.not-Look;
+      no_look = not_look input.code.now.tests.items i c.in_default.not-Look;
     }
 
 pub advance-returns-in-Look-clause-leads : goal.advance-returns-in-Look-clause-leads
@@ -48,8 +49,8 @@ advance-returns-in-Look-clause-leads t c =
     advanced input c.requires.input c.args.here i c.requires.inside.pc read m c.look.new.machine next u.setting u.bytes outs u.direction solution
     c.requires.input.direction c.requires.inside.position
     (subst (λ o. Goes (outs input.index) m c.look.new.machine
-    (outcomes_by u.setting u.bytes u.direction (matcher_of u.setting u.bytes (program_of input.routines.now) outs)
-    (outs input.index) o (at c.args.here (groups_of m))) next) (sym (ap op_of c.in-Look.is)) (leads outs (outs input.index) solution)))
+    (outcomes_by u.setting u.bytes u.direction (matcher_of u.setting u.bytes (code_routines input.code.now) outs)
+    (outs input.index) o (at c.args.here (groups_of m))) next) (sym (ap (op_in input.code.now.tests.items) c.in-Look.is)) (leads outs (outs input.index) solution)))
     c.look.ensures.leads
 
 pub advance-returns-in-Look-clause-inside : goal.advance-returns-in-Look-clause-inside
@@ -73,7 +74,7 @@ advance-returns-in_default t c =
           (λ next leads. λ outs solution.
           advanced input c.requires.input c.args.here i c.requires.inside.pc read m c.step.new.machine next u.setting u.bytes outs u.direction solution
           c.requires.input.direction c.requires.inside.position
-          (leads (matcher_of u.setting u.bytes (program_of input.routines.now) outs) (outs input.index)))
+          (leads (matcher_of u.setting u.bytes (code_routines input.code.now) outs) (outs input.index)))
           c.step.ensures.leads;
       inside = c.step.ensures.inside;
       rewound = c.step.ensures.rewound;
@@ -88,7 +89,7 @@ look-run-requires t c =
     let inside = c.input_for-inside.ensures in (
       omega (arith, c.decreases, inside.index),
       (
-        subst (λ rs. IsProgram (program_of rs)) (sym inside.routines) c.requires.program,
+        subst (λ code. IsProgram (code_routines code)) (sym inside.code) c.requires.program,
         (
           inside.input,
           omega (
@@ -111,15 +112,15 @@ look-returns-clause-leads t c = λ outs out solution.
     let kept = left-lookaround m inner m' (c.in_ok-response.ensures.undo ∙ c.enter-outer.ensures.captures)
     (c.in_ok-leave.ensures.entries ∙ ap (λ s. s.entries.items ++ changes_of inner.stack.entries.items) c.enter-outer.ensures.stack)
     (c.in_ok-leave.ensures.begins ∙ ap (λ s. s.begins.items) c.enter-outer.ensures.stack) c.in_ok-leave.ensures.captures in
-    let answers : Answers (matcher_of u.setting u.bytes (program_of input.routines.now) outs c.args.looking.routine
+    let answers : Answers (matcher_of u.setting u.bytes (code_routines input.code.now) outs c.args.looking.routine
     (state m.captures.items c.args.here.position)) inner
     c.in_ok-response.response =
     same_answers inner c.in_ok-response.response outs c.args.here.position _ _ _ _ _ _ _ _ _ _ (c.in_ok-response.ensures.answers outs) inside.setting
     inside.text
-    (ap program_of inside.routines) inside.index c.enter-outer.ensures.captures solution in
+    (ap code_routines inside.code) inside.index c.enter-outer.ensures.captures solution in
     look_goes out m m' kept.points (ap reverse (c.in_ok-leave.ensures.begins ∙ ap (λ s. s.begins.items) c.enter-outer.ensures.stack)) c.args.here
     c.args.looking.next
-    c.args.looking.negate (matcher_of u.setting u.bytes (program_of input.routines.now) outs c.args.looking.routine) inner c.in_ok-response.response
+    c.args.looking.negate (matcher_of u.setting u.bytes (code_routines input.code.now) outs c.args.looking.routine) inner c.in_ok-response.response
     c.next_after.result answers c.in_ok-leave.ensures.captures (λ none. c.in_ok-response.ensures.none none ∙ c.enter-outer.ensures.captures)
     c.next_after.ensures
 

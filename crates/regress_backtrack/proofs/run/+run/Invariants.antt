@@ -2,7 +2,7 @@
 use Rattle.std.proofs.Common.{◌≡◌, ◌+◌, ◌*◌, ◌≤◌, ◌∷◌, ℕ, All, flat_map}
 use Rattle.regress_leaves.specs.Subject.{subject}
 use Rattle.regress_program.specs.Program.{IsSolution, Out, matcher_of}
-use Rattle.regress_program.specs.Views.{program_of}
+use Rattle.regress_backtrack.specs.Code.{code_routines}
 use Rattle.regress_backtrack.specs.Machine.{at, groups_of, points, rewound, state}
 use Rattle.regress_backtrack.specs.Next.{Inside}
 use Rattle.regress_backtrack.proofs.run.+run.Given as goal
@@ -21,8 +21,8 @@ invariant-run-loop-left l = record {
   left : l.left ≤ l.fn.left;
   undo : (rewound l.machine).captures ≡ l.fn.machine.captures.items;
   inside : All (Inside l.input) (at l.here (groups_of l.machine) ∷ points l.machine);
-  same : (outs : ℕ → Out) → IsSolution (subject l.input.rules l.input.text.now).setting l.input.text.now (program_of l.input.routines.now) outs →
-      matcher_of (subject l.input.rules l.input.text.now).setting l.input.text.now (program_of l.input.routines.now) outs l.input.index
+  same : (outs : ℕ → Out) → IsSolution (subject l.input.rules l.input.text.now).setting l.input.text.now (code_routines l.input.code.now) outs →
+      matcher_of (subject l.input.rules l.input.text.now).setting l.input.text.now (code_routines l.input.code.now) outs l.input.index
       (state l.fn.machine.captures.items l.start)
       ≡ flat_map (outs l.input.index) (at l.here (groups_of l.machine) ∷ points l.machine);
 }

@@ -1,0 +1,19 @@
+use Rattle.std.proofs.Common.{arith}
+use Rattle.std.proofs.lemmas.List.{length-map}
+use Rattle.regress_backtrack.specs.Views.{routine_in}
+use Rattle.regress_backtrack.proofs.backtracker.input_of.Goals as goal
+
+pub input_for-requires : goal.input_for-requires
+input_for-requires c = omega (arith, length-map c.args.code.now.routines.items (routine_in c.args.code.now.tests.items), c.args.code.now.some)
+
+pub returns : goal.returns
+returns c =
+    let made = c.input_for.ensures in
+    let code = c.args.code.now in
+    record {
+      is = made.input;
+      same_text = made.text;
+      setting = made.setting;
+      code = made.code;
+      index = omega (arith, made.index, length-map code.routines.items (routine_in code.tests.items));
+    }

@@ -1,0 +1,27 @@
+use Rattle.std.proofs.Common.{◌≡◌, ◌+◌, ◌++◌, ◌∷◌, [], take, sym, ap, ◌∙◌}
+use Rattle.std.proofs.lemmas.List.{map-append, take_all, take_more}
+use Rattle.regress_program.specs.Views.{program_of, routine_of}
+use Rattle.regress_backtrack.specs.Views.{program_in, routine_in}
+use Rattle.regress_backtrack.proofs.OwnedLemmas.{one_more, settled}
+use Rattle.regress_backtrack.proofs.owned.own_routines.Goals as goal
+
+pub loop-routine-preserved : goal.loop-routine-preserved
+loop-routine-preserved c =
+    let old = c.loop-routine.tests.items in
+    let new = c.own_routine.new.tests.items in
+    let xs = c.args.routines.now in
+    let i = c.loop-routine.routine-index in
+    let x = c.routine-item.result in
+    let last : program_of (take (i + 1) xs) ≡ program_of (take i xs) ++ routine_of x ∷ [] =
+    ap program_of (take_more xs i x c.loop-routine-test.true ∙ ap (λ y. take i xs ++ y ∷ []) (sym c.routine-item.is))
+    ∙ map-append routine_of (take i xs) (x ∷ []) in
+    λ more.
+    ap (program_in (new ++ more)) c.in_ok-push.ensures.items
+    ∙ one_more routine_in old new c.loop-routine.owned.items (program_of (take i xs)) c.in_ok-copy.copy (routine_of x) c.in_ok-copy.ensures.grown
+    c.loop-routine.invariant c.in_ok-copy.ensures.means more
+    ∙ sym last
+
+pub returns : goal.returns
+returns c =
+    settled program_in c.loop-routine.tests.items c.loop-routine.owned.items _ c.loop-routine.invariant
+    ∙ ap program_of (take_all c.loop-routine.routine-index c.args.routines.now c.loop-routine-test.false)

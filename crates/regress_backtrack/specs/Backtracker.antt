@@ -1,0 +1,39 @@
+-- Runs from many positions of a text.
+use Rattle.std.specs.Prelude.{◌≡◌, ℕ, List}
+use Rattle.regress_tree.specs.Steps.{MatchState}
+use Rattle.regress_tree.specs.Tree.{Tree}
+use Rattle.regress_unicode.specs.declared.Tables.{Tables}
+use Rattle.regress_program.specs.Program.{IsSolution, Out}
+use Rattle.regress_backtrack.specs.declared.backtracker.Backtracker.{Backtracker}
+use Rattle.regress_backtrack.specs.declared.code.Code.{Code}
+use Rattle.regress_backtrack.specs.Code.{code_routines, outcomes_from, setting_with, tree_outcomes_from}
+
+-- the program that is run
+abbrev pub run_code : Backtracker → Code
+run_code b = b.code.now
+
+-- the case mappings
+abbrev pub run_tables : Backtracker → Tables
+run_tables b = b.known.tables.now
+
+-- the text
+abbrev pub run_text : Backtracker → List ℕ
+run_text b = b.text.now
+
+-- The same program is run in the same text.
+pub record SameRuns (old new : Backtracker) : Type 0 where
+  pub code : run_code new ≡ run_code old
+  pub tables : run_tables new ≡ run_tables old
+  pub text : run_text new ≡ run_text old
+
+-- These are the outcomes of the instructions of the program in the text.
+abbrev pub AreOutcomes : Backtracker → (ℕ → Out) → Type 0
+AreOutcomes b outs = IsSolution (setting_with (run_code b) (run_tables b)) (run_text b) (code_routines (run_code b)) outs
+
+-- the outcomes from a position with every group unset, by those of the instructions
+abbrev pub outcomes_at : Backtracker → (ℕ → Out) → (position : ℕ) → List MatchState
+outcomes_at b = outcomes_from (run_code b) (run_tables b) (run_text b)
+
+-- the outcomes of a tree from there
+abbrev pub tree_outcomes_at : Backtracker → Tree → (position : ℕ) → List MatchState
+tree_outcomes_at b = tree_outcomes_from (run_code b) (run_tables b) (run_text b)

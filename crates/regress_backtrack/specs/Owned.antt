@@ -1,0 +1,16 @@
+-- Instructions whose leaves are kept in a table that grows.
+use Rattle.std.specs.Prelude.{◌≡◌, List, ◌++◌, map}
+use Rattle.regress_backtrack.specs.declared.test.Test.{Test}
+
+-- The table has grown at its end.
+pub record Grown (old new : List Test) : Type 0 where
+  pub added : List Test
+  pub is : new ≡ old ++ added
+
+-- With these leaves, and any that are added, it is seen as `y`.
+abbrev pub Means : {X Y : Type 0} → (view : List Test → X → Y) → List Test → X → Y → Type 0
+Means view tests x y = (more : List Test) → view (tests ++ more) x ≡ y
+
+-- with a table of leaves, each is seen so
+abbrev pub each : {X Y : Type 0} → (view : List Test → X → Y) → List Test → List X → List Y
+each view tests = map (view tests)

@@ -1,0 +1,60 @@
+//! Programs that own what they run.
+ghost use Rattle.std.specs.Prelude.{◌≡◌, ◌<◌, length, min};
+ghost use Rattle.regress_program.specs.Compiled.{total};
+ghost use Rattle.regress_program.specs.Linear.{is_linear};
+ghost use Rattle.regress_program.specs.Shape.{IsForwards, IsProgram};
+ghost use Rattle.regress_program.specs.Unique.{forwards-prop, program-prop};
+ghost use Rattle.regress_backtrack.specs.Views.{program_in};
+
+use crate::instruction::Routine;
+use crate::test::Test;
+use regress_base::types::Flags;
+
+/// A program that owns what it runs. It is made of a [`Program`](regress_program::Program), and refers neither to the
+/// tree nor to the case mappings.
+#[derive(Drop)]
+pub struct Code {
+    /// The leaves, which the instructions name by their indices.
+    pub(crate) tests: Vec<Test>,
+    /// The routines: those of lookarounds, and as the last one that of the pattern.
+    pub(crate) routines: Vec<Routine>,
+    /// The flags of the pattern.
+    pub(crate) flags: Flags,
+    /// The number of groups.
+    pub(crate) groups: usize,
+    /// The number of instructions, at most `usize::MAX`.
+    pub(crate) instructions: usize,
+    /// Whether it can be searched in linear time, by tables.
+    pub(crate) linear: bool,
+    ghost some: { 0 < length routines.items },
+    ghost is_program: { IsProgram (program_in tests.items routines.items) } by { program-prop (program_in tests.items routines.items) },
+    ghost forwards: { IsForwards (program_in tests.items routines.items) } by { forwards-prop (program_in tests.items routines.items) },
+    ghost counted: { instructions ≡ min (total (program_in tests.items routines.items)) 18446744073709551615 },
+    ghost linear_if: { linear ≡ is_linear (program_in tests.items routines.items) },
+}
+
+impl Code {
+    ghost use Rattle.regress_backtrack.specs.Code.{code_groups, code_routines};
+
+    /// Returns the number of instructions, at most `usize::MAX`.
+    pub fn instructions(&self) -> usize
+        ensures { result ≡ min (total (code_routines self.now)) usize.MAX }
+    {
+        self.instructions
+    }
+
+    /// Returns the number of capture groups of the pattern, at most `usize::MAX`.
+    pub fn groups(&self) -> usize
+        ensures { result ≡ code_groups self.now }
+    {
+        self.groups
+    }
+
+    /// Returns whether the program can be searched in linear time, by tables: whether it has neither a back reference
+    /// nor a lookaround that sets captures.
+    pub fn is_linear(&self) -> bool
+        ensures { result ≡ is_linear (code_routines self.now) }
+    {
+        self.linear
+    }
+}

@@ -1,0 +1,177 @@
+//! Copies of programs that own their leaves.
+ghost use Rattle.std.specs.Prelude.{◌≡◌, [], ◌∷◌, IfOk};
+ghost use Rattle.regress_tree.specs.Tree.{leaf, string_set, tree};
+ghost use Rattle.regress_program.specs.Program.{part};
+ghost use Rattle.regress_program.specs.Search.{groups_of, routines_of, setting_of};
+ghost use Rattle.regress_program.specs.Views.{op_of, ops_of, program_of, routine_of};
+ghost use Rattle.regress_backtrack.specs.Code.{code_flags, code_groups, code_routines};
+ghost use Rattle.regress_backtrack.specs.Owned.{Grown, Means};
+ghost use Rattle.regress_backtrack.specs.Views.{op_in, ops_in, program_in, routine_in};
+
+use crate::code::Code;
+use crate::instruction::{Instruction, Routine};
+use crate::test::Test;
+use regress_program::Program;
+use regress_program::instruction::{
+    Instruction as BorrowedInstruction, Routine as BorrowedRoutine,
+};
+use regress_tree::ir::Node;
+use std::alloc::{AllocError, Global};
+use std::boxed::BoxedSlice;
+
+impl Code {
+    /// Returns the same program, as one that owns what it runs.
+    ///
+    /// # Complexity
+    /// Linear in the size of the program, where the size of a leaf counts for each instruction that matches it.
+    ///
+    /// # Errors
+    /// Returns [`AllocError`] if an allocation fails.
+    pub fn new(alloc: Global, program: &Program<'_, '_>) -> Result<Code, AllocError>
+        ensures routines { IfOk result (λ code. code_routines code ≡ routines_of program.now) }
+        ensures flags { IfOk result (λ code. code_flags code ≡ (setting_of program.now).flags) }
+        ensures groups { IfOk result (λ code. code_groups code ≡ groups_of program.now) }
+    {
+        let mut tests = Vec::new(alloc);
+        let routines = own_routines(alloc, program.routines(), &mut tests)?;
+        Ok(Code {
+            tests,
+            routines,
+            flags: program.rules(false).flags,
+            groups: program.groups(),
+            instructions: program.instructions(),
+            linear: program.is_linear(),
+        })
+    }
+}
+
+/// Returns copies of routines, and adds their leaves.
+///
+/// # Errors
+/// Returns [`AllocError`] if an allocation fails.
+fn own_routines(
+    alloc: Global,
+    routines: &[BorrowedRoutine<'_>],
+    tests: &mut Vec<Test>,
+) -> Result<Vec<Routine>, AllocError>
+    ensures { IfOk result (λ owned. program_in tests.new.items owned.items ≡ program_of routines.now) }
+{
+    let mut owned = Vec::with_capacity(alloc, routines.len())?;
+    for routine in routines {
+        let copy = own_routine(alloc, routine, tests)?;
+        owned.push(copy)?;
+    }
+    Ok(owned)
+}
+
+/// Returns a copy of a routine, and adds its leaves.
+///
+/// # Errors
+/// Returns [`AllocError`] if an allocation fails.
+fn own_routine(
+    alloc: Global,
+    routine: &BorrowedRoutine<'_>,
+    tests: &mut Vec<Test>,
+) -> Result<Routine, AllocError>
+    ensures grown { IfOk result (λ _. Grown tests.old.items tests.new.items) }
+    ensures means { IfOk result (λ owned. Means routine_in tests.new.items owned (routine_of routine.now)) }
+{
+    let instructions = own_instructions(alloc, &routine.instructions, tests)?;
+    Ok(Routine {
+        instructions,
+        entry: routine.entry,
+        backwards: routine.backwards,
+    })
+}
+
+/// Returns copies of instructions, and adds their leaves.
+///
+/// # Errors
+/// Returns [`AllocError`] if an allocation fails.
+fn own_instructions(
+    alloc: Global,
+    instructions: &[BorrowedInstruction<'_>],
+    tests: &mut Vec<Test>,
+) -> Result<Vec<Instruction>, AllocError>
+    ensures grown { IfOk result (λ _. Grown tests.old.items tests.new.items) }
+    ensures means { IfOk result (λ owned. Means ops_in tests.new.items owned.items (ops_of instructions.now)) }
+{
+    let mut owned = Vec::with_capacity(alloc, instructions.len())?;
+    for instruction in instructions {
+        let copy = own_instruction(alloc, *instruction, tests)?;
+        owned.push(copy)?;
+    }
+    Ok(owned)
+}
+
+/// Returns a copy of an instruction, and adds its leaf if it has one.
+///
+/// # Errors
+/// Returns [`AllocError`] if an allocation fails.
+fn own_instruction(
+    alloc: Global,
+    instruction: BorrowedInstruction<'_>,
+    tests: &mut Vec<Test>,
+) -> Result<Instruction, AllocError>
+    ensures grown { IfOk result (λ _. Grown tests.old.items tests.new.items) }
+    ensures means { IfOk result (λ owned. Means op_in tests.new.items owned (op_of instruction.entry)) }
+{
+    Ok(match instruction {
+        BorrowedInstruction::Leaf { node, next } => own_leaf(node.try_clone(alloc)?, next, tests)?,
+        BorrowedInstruction::Text {
+            characters,
+            icase,
+            next,
+        } => own_leaf(one_string(alloc, characters, icase)?, next, tests)?,
+        BorrowedInstruction::Accept => Instruction::Accept,
+        BorrowedInstruction::Fail => Instruction::Fail,
+        BorrowedInstruction::Split { first, second } => Instruction::Split { first, second },
+        BorrowedInstruction::BeginLoop { greedy, body, next } => {
+            Instruction::BeginLoop { greedy, body, next }
+        }
+        BorrowedInstruction::Repeat { greedy, body, next } => {
+            Instruction::Repeat { greedy, body, next }
+        }
+        BorrowedInstruction::EndLoop { next } => Instruction::EndLoop { next },
+        BorrowedInstruction::Unset { start, end, next } => Instruction::Unset { start, end, next },
+        BorrowedInstruction::BeginGroup { next } => Instruction::BeginGroup { next },
+        BorrowedInstruction::EndGroup { id, next } => Instruction::EndGroup { id, next },
+        BorrowedInstruction::Look {
+            negate,
+            routine,
+            next,
+        } => Instruction::Look {
+            negate,
+            routine,
+            next,
+        },
+    })
+}
+
+/// Returns an instruction that matches a leaf, which is added.
+///
+/// # Errors
+/// Returns [`AllocError`] if an allocation fails.
+fn own_leaf(node: Node, next: usize, tests: &mut Vec<Test>) -> Result<Instruction, AllocError>
+    ensures grown { IfOk result (λ _. Grown tests.old.items tests.new.items) }
+    ensures means { IfOk result (λ owned. Means op_in tests.new.items owned (part (tree node) next)) }
+{
+    let leaf = tests.len();
+    tests.push(Test { node })?;
+    Ok(Instruction::Leaf { leaf, next })
+}
+
+/// Returns a set of this string.
+///
+/// # Errors
+/// Returns [`AllocError`] if an allocation fails.
+fn one_string(alloc: Global, characters: &[u32], icase: bool) -> Result<Node, AllocError>
+    ensures { IfOk result (λ node. tree node ≡ leaf (string_set (characters.now ∷ []) icase)) }
+{
+    let mut alternatives = Vec::with_capacity(alloc, 1)?;
+    alternatives.push(BoxedSlice::from_slice(alloc, characters)?)?;
+    Ok(Node::StringSet {
+        alternatives,
+        icase,
+    })
+}
