@@ -4,3 +4,4 @@ pub mod MachineLemmas
 pub mod StepLemmas
 pub mod RunLemmas
 pub mod SearchLemmas
+pub mod StartLemmas

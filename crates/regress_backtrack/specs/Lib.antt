@@ -5,4 +5,5 @@ pub mod Next
 pub mod Owned
 pub mod Run
 pub mod Searched
+pub mod Starts
 pub mod Views

@@ -1,6 +1,7 @@
 //! A backtracking search with the programs of `regress_program`, within a step limit.
 #![tactic(auto)]
 
+mod ascii;
 mod backtracker;
 mod code;
 mod input;
@@ -12,6 +13,7 @@ mod outcome;
 mod owned;
 mod run;
 mod search;
+mod start;
 mod step;
 mod test;
 

@@ -10,6 +10,7 @@ ghost use Rattle.regress_backtrack.specs.Views.{op_in, ops_in, program_in, routi
 
 use crate::code::Code;
 use crate::instruction::{Instruction, Routine};
+use crate::start::start_of;
 use crate::test::Test;
 use regress_program::Program;
 use regress_program::instruction::{
@@ -157,7 +158,8 @@ fn own_leaf(node: Node, next: usize, tests: &mut Vec<Test>) -> Result<Instructio
     ensures means { IfOk result (λ owned. Means op_in tests.new.items owned (part (tree node) next)) }
 {
     let leaf = tests.len();
-    tests.push(Test { node })?;
+    let start = start_of(&node);
+    tests.push(Test { node, start })?;
     Ok(Instruction::Leaf { leaf, next })
 }
 

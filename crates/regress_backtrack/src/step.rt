@@ -1,9 +1,13 @@
 //! One instruction.
 ghost use Rattle.std.specs.Prelude.{◌≡◌, ◌≤◌, ◌++◌, ◌||◌, ◌==◌, ℕ, All, IfOk, MatchOption, false, flat_map, length, not, slice_get};
+ghost use Rattle.regress_leaves.specs.Leaves.{put};
 ghost use Rattle.regress_leaves.specs.Subject.{subject};
+ghost use Rattle.regress_tree.specs.Matching.{steps};
 ghost use Rattle.regress_tree.specs.Steps.{Matcher};
+ghost use Rattle.regress_tree.specs.Tree.{tree};
 ghost use Rattle.regress_program.specs.Program.{Out, either, enter, goto, outcomes_by};
-ghost use Rattle.regress_backtrack.specs.Machine.{at, groups_of, points, rewound};
+ghost use Rattle.regress_program.specs.Shape.{IsPart};
+ghost use Rattle.regress_backtrack.specs.Machine.{at, groups_of, points, rewound, state};
 ghost use Rattle.regress_backtrack.specs.Views.{op_in, part_of};
 ghost use Rattle.regress_backtrack.specs.Next.{CanStep, Forks, Inside, Iterates, Leads, ahead, is_look};
 ghost use Rattle.regress_backtrack.specs.declared.step.Next.TheVariants.{Back, On, OutOfSteps};
@@ -12,6 +16,7 @@ use crate::input::{Input, test_at};
 use crate::instruction::Instruction;
 use crate::leaf::leaf_end;
 use crate::machine::{Machine, Place};
+use crate::test::Test;
 use std::alloc::{AllocError, Global};
 
 /// What follows an instruction.
@@ -126,16 +131,47 @@ fn match_leaf(
     let Some(test) = test_at(input, leaf) else {
         return Ok(Next::Back);
     };
-    let to = leaf_end(
-        alloc,
-        input.text,
-        input.rules,
-        &test.node,
-        here.position,
-        &machine.captures,
-        left,
-    )?;
+    let to = test_end(alloc, input, test, here.position, &machine.captures, left)?;
     Ok(reach(here, next, to, left))
+}
+
+/// Returns the position at which a leaf ends, or `None` if it fails, as [`leaf_end`], which decides unless the next
+/// character and the leaf are simple enough.
+///
+/// # Preconditions
+/// It is a set of strings only if it has exactly one string.
+///
+/// # Errors
+/// Returns [`AllocError`] if an allocation fails.
+#[inline(always)]
+fn test_end(
+    alloc: Global,
+    input: Input<'_, '_>,
+    test: &Test,
+    position: usize,
+    captures: &[Option<(usize, usize)>],
+    left: &mut u64,
+) -> Result<Option<usize>, AllocError>
+    requires { IsPart (tree test.now.node) }
+    ensures to { IfOk result (λ to. let u = subject input.entry.rules input.entry.text.now in
+        steps u.setting u.bytes u.direction (tree test.now.node) (state captures.now position) ≡ put (state captures.now position) to) }
+    ensures left { IfOk result (λ _. left.new ≤ left.old) }
+{
+    match test
+        .start
+        .ascii_end(input.text, input.rules.backwards, position)
+    {
+        Some(to) => Ok(to),
+        None => leaf_end(
+            alloc,
+            input.text,
+            input.rules,
+            &test.node,
+            position,
+            captures,
+            left,
+        ),
+    }
 }
 
 /// Returns the place with another instruction.

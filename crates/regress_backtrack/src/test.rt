@@ -1,5 +1,8 @@
 //! Leaves of a program.
+ghost use Rattle.regress_tree.specs.Tree.{tree};
+ghost use Rattle.regress_backtrack.specs.Starts.{IsStart, IsStart-prop};
 
+use crate::start::Start;
 use regress_tree::ir::Node;
 
 /// A leaf with at most one outcome.
@@ -7,4 +10,7 @@ use regress_tree::ir::Node;
 pub struct Test {
     /// The leaf.
     pub node: Node,
+    /// How a match of it begins.
+    pub start: Start,
+    ghost begins: { IsStart start (tree node) } by { IsStart-prop start (tree node) },
 }

@@ -188,7 +188,7 @@ fn sole_character(bytes: &[u8]) -> Option<u32>
 }
 
 /// Returns whether a leaf that matches one character accepts `c`; false for any other node.
-fn accepts(node: &Node, c: u32) -> bool
+pub fn accepts(node: &Node, c: u32) -> bool
     ensures { result ≡ test_of (tree node.now) c }
 {
     match node {
