@@ -2,8 +2,9 @@
 use Rattle.std.specs.Prelude.{◌≡◌, ℕ, ◌≤◌, ◌<◌, Bool, true, false, List, [], ◌∷◌, flat_map, length, slice_get, Some, take}
 use Rattle.regress_tree.specs.Reading.{direction_if}
 use Rattle.regress_tree.specs.Steps.{MatchState}
-use Rattle.regress_program.specs.Program.{At, Op, look, Out, Routine}
+use Rattle.regress_program.specs.Program.{At, IsSolution, Op, look, Out, Routine}
 use Rattle.regress_program.specs.Shape.{Fits}
+use Rattle.regress_leaves.specs.Subject.{subject}
 use Rattle.regress_backtrack.specs.Code.{code_routines}
 use Rattle.regress_backtrack.specs.Views.{ops_in}
 use Rattle.regress_backtrack.specs.declared.input.Input.{Input}
@@ -11,7 +12,7 @@ use Rattle.regress_backtrack.specs.declared.machine.Machine.{Machine}
 use Rattle.regress_backtrack.specs.declared.machine.Place.{Place}
 use Rattle.regress_backtrack.specs.declared.step.Next.{Next}
 use Rattle.regress_backtrack.specs.declared.step.Next.TheVariants as nexts
-use Rattle.regress_backtrack.specs.Machine.{at, groups_of, points, state}
+use Rattle.regress_backtrack.specs.Machine.{Groups, at, groups_of, points, state}
 
 -- The instruction is a lookaround.
 abbrev pub is_look : Op → Bool
@@ -22,6 +23,14 @@ is_look op = false
 pub record Within (width length : ℕ) (a : At) : Type 0 where
   pub pc : a.pc < width
   pub position : a.state.position ≤ length
+
+-- The outcomes solve the program.
+abbrev pub Solve : Input → (ℕ → Out) → Type 0
+Solve input outs = IsSolution (subject input.rules input.text.now).setting input.text.now (code_routines input.code.now) outs
+
+-- A run has no outcome from a place.
+abbrev pub Fails : Input → Place → Type 0
+Fails input p = (outs : ℕ → Out) (g : Groups) → Solve input outs → outs input.index (at p g) ≡ []
 
 -- inside the routine and the text
 abbrev pub Inside : Input → At → Type 0

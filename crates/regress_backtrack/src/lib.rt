@@ -1,6 +1,7 @@
 //! A backtracking search with the programs of `regress_program`, within a step limit.
 #![tactic(auto)]
 
+mod alternatives;
 mod ascii;
 mod backtracker;
 mod code;

@@ -5,13 +5,15 @@ ghost use Rattle.regress_leaves.specs.Subject.{subject};
 ghost use Rattle.regress_tree.specs.Matching.{steps};
 ghost use Rattle.regress_tree.specs.Steps.{Matcher};
 ghost use Rattle.regress_tree.specs.Tree.{tree};
-ghost use Rattle.regress_program.specs.Program.{Out, either, enter, goto, outcomes_by};
+ghost use Rattle.regress_program.specs.Program.{Out, goto, matcher_of, outcomes_by};
 ghost use Rattle.regress_program.specs.Shape.{IsPart};
+ghost use Rattle.regress_backtrack.specs.Code.{code_routines};
 ghost use Rattle.regress_backtrack.specs.Machine.{at, groups_of, points, rewound, state};
 ghost use Rattle.regress_backtrack.specs.Views.{op_in, part_of};
-ghost use Rattle.regress_backtrack.specs.Next.{CanStep, Forks, Inside, Iterates, Leads, ahead, is_look};
+ghost use Rattle.regress_backtrack.specs.Next.{CanStep, Inside, IsInput, Leads, Solve, ahead, is_look};
 ghost use Rattle.regress_backtrack.specs.declared.step.Next.TheVariants.{Back, On, OutOfSteps};
 
+use crate::alternatives::{Looping, fork, iterate};
 use crate::input::{Input, test_at};
 use crate::instruction::Instruction;
 use crate::leaf::leaf_end;
@@ -53,10 +55,13 @@ pub fn step(
     left: &mut u64,
 ) -> Result<Next, AllocError>
     requires can { CanStep input (op_in input.code.now.tests.items instruction) here }
+    requires input { IsInput input }
     requires no_look { is_look (op_in input.code.now.tests.items instruction) ≡ false }
-    ensures leads { IfOk result (λ next. (body_of : ℕ → Matcher) (out : Out) → (let u = subject input.entry.rules input.entry.text.now in
-        Leads (outcomes_by u.setting u.bytes u.direction body_of out (op_in input.entry.code.now.tests.items instruction) (at here (groups_of machine.old))
-        ++ flat_map out (points machine.old)) out machine.new next)) }
+    ensures leads { IfOk result (λ next. (outs : ℕ → Out) → Solve input.entry outs → (let u = subject input.entry.rules input.entry.text.now in
+        let out = outs input.entry.index in
+        Leads (outcomes_by u.setting u.bytes u.direction (matcher_of u.setting u.bytes (code_routines input.entry.code.now) outs) out
+        (op_in input.entry.code.now.tests.items instruction) (at here (groups_of machine.old)) ++ flat_map out (points machine.old))
+        out machine.new next)) }
     ensures inside { IfOk result (λ next. All (Inside input.entry) (points machine.old) → All (Inside input.entry) (ahead machine.new next)) }
     ensures rewound { IfOk result (λ _. rewound machine.new ≡ rewound machine.old) }
     ensures left { IfOk result (λ _. left.new ≤ left.old) }
@@ -69,12 +74,14 @@ pub fn step(
             match_leaf(alloc, input, leaf, next, here, machine, left)
         }
         Instruction::Split { first, second } => {
-            fork(goto(first, here), goto(second, here), machine)
+            fork(input, goto(first, here), goto(second, here), machine)
         }
-        Instruction::BeginLoop { greedy, body, next } => iterate(greedy, body, next, here, machine),
+        Instruction::BeginLoop { greedy, body, next } => {
+            iterate(input, Looping { greedy, body, next }, here, machine)
+        }
         Instruction::Repeat { greedy, body, next } => {
             if here.moved {
-                iterate(greedy, body, next, here, machine)
+                iterate(input, Looping { greedy, body, next }, here, machine)
             } else {
                 Ok(Next::Back)
             }
@@ -198,45 +205,5 @@ fn reach(here: Place, next: usize, to: Option<usize>, left: &mut u64) -> Next
                 position,
             })
         }
-    }
-}
-
-/// Goes on at the first place, and at the second one after a failure.
-///
-/// # Errors
-/// Returns [`AllocError`] if an allocation fails.
-fn fork(first: Place, second: Place, machine: &mut Machine) -> Result<Next, AllocError>
-    ensures forks { IfOk result (Forks first second machine.old machine.new) }
-    ensures rewound { IfOk result (λ _. rewound machine.new ≡ rewound machine.old) }
-{
-    machine.choose(second)?;
-    Ok(Next::On(first))
-}
-
-/// Begins an iteration or goes on after the loop, whichever is preferred, and the other after a failure.
-///
-/// # Errors
-/// Returns [`AllocError`] if an allocation fails.
-fn iterate(
-    greedy: bool,
-    body: usize,
-    next: usize,
-    here: Place,
-    machine: &mut Machine,
-) -> Result<Next, AllocError>
-    ensures forks { IfOk result (λ to. let again : Place = record { pc = body; moved = false; position = here.position } in
-        let after : Place = record here { pc = next } in Iterates greedy again after machine.old machine.new to) }
-    ensures rewound { IfOk result (λ _. rewound machine.new ≡ rewound machine.old) }
-{
-    let again = Place {
-        pc: body,
-        moved: false,
-        position: here.position,
-    };
-    let after = goto(next, here);
-    if greedy {
-        fork(again, after, machine)
-    } else {
-        fork(after, again, machine)
     }
 }

@@ -34,6 +34,7 @@ advance-step-requires t c =
     let read = c.instruction_at-instruction.ensures in
     record {
       can = can_step input c.requires.input c.args.here i c.requires.inside.pc read c.requires.program c.requires.inside.position;
+      input = c.requires.input;
       no_look = not_look input.code.now.tests.items i c.in_default.not-Look;
     }
 
@@ -74,7 +75,7 @@ advance-returns-in_default t c =
           (λ next leads. λ outs solution.
           advanced input c.requires.input c.args.here i c.requires.inside.pc read m c.step.new.machine next u.setting u.bytes outs u.direction solution
           c.requires.input.direction c.requires.inside.position
-          (leads (matcher_of u.setting u.bytes (code_routines input.code.now) outs) (outs input.index)))
+          (leads outs solution))
           c.step.ensures.leads;
       inside = c.step.ensures.inside;
       rewound = c.step.ensures.rewound;

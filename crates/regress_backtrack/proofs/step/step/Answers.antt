@@ -1,26 +1,84 @@
-use Rattle.std.proofs.Common.{◌++◌, flat_map, ap, subst, sym}
+use Rattle.std.proofs.Common.{ℕ, [], ◌++◌, flat_map, if◌then◌else◌, ap, subst, sym}
 use Rattle.regress_leaves.specs.Subject.{subject}
-use Rattle.regress_program.specs.Program.{outcomes_by}
-use Rattle.regress_backtrack.specs.Views.{op_in}
+use Rattle.regress_program.specs.Program.{Out, either, enter, goto, matcher_of, outcomes_by}
+use Rattle.regress_backtrack.specs.Code.{code_routines}
 use Rattle.regress_backtrack.specs.Machine.{at, groups_of, points}
+use Rattle.regress_backtrack.specs.Next.{Leads}
+use Rattle.regress_backtrack.specs.Views.{op_in}
 use Rattle.regress_backtrack.proofs.StepLemmas.{Goes, ok_map}
 use Rattle.regress_backtrack.proofs.step.step.Goals as goal
 
 pub returns-in-Accept-clause-leads : goal.returns-in-Accept-clause-leads
-returns-in-Accept-clause-leads c = λ body_of out.
-    let u = subject c.args.input.rules c.args.input.text.now in
+returns-in-Accept-clause-leads c = λ outs solves.
+    let input = c.args.input in
+    let u = subject input.rules input.text.now in
+    let out = outs input.index in
     let m = c.args.machine.now in (
       flat_map out (points m),
-      ap (λ i. outcomes_by u.setting u.bytes u.direction body_of out (op_in c.args.input.code.now.tests.items i) (at c.args.here (groups_of m))
+      ap (λ i. outcomes_by u.setting u.bytes u.direction (matcher_of u.setting u.bytes (code_routines input.code.now) outs) out
+          (op_in input.code.now.tests.items i) (at c.args.here (groups_of m))
           ++ flat_map out (points m)) c.in-Accept.is,
     )
 
 pub returns-in-Leaf-clause-leads : goal.returns-in-Leaf-clause-leads
 returns-in-Leaf-clause-leads c =
-    let u = subject c.args.input.rules c.args.input.text.now in
+    let input = c.args.input in
+    let u = subject input.rules input.text.now in
     let m = c.args.machine.now in
     ok_map c.match_leaf.result _ _
-    (λ next leads. λ body_of out.
-    subst (λ i. Goes out m m (outcomes_by u.setting u.bytes u.direction body_of out (op_in c.args.input.code.now.tests.items i) (at c.args.here (groups_of m))) next)
-    (sym c.in-Leaf.is) (leads body_of out))
+    (λ next leads. λ outs solves.
+    subst (λ i. Goes (outs input.index) m m
+    (outcomes_by u.setting u.bytes u.direction (matcher_of u.setting u.bytes (code_routines input.code.now) outs) (outs input.index)
+    (op_in input.code.now.tests.items i) (at c.args.here (groups_of m))) next)
+    (sym c.in-Leaf.is) (leads (matcher_of u.setting u.bytes (code_routines input.code.now) outs) (outs input.index)))
     c.match_leaf.ensures.leads
+
+pub returns-in-Split-clause-leads : goal.returns-in-Split-clause-leads
+returns-in-Split-clause-leads c =
+    let input = c.args.input in
+    let u = subject input.rules input.text.now in
+    let m = c.args.machine.now in
+    let g = groups_of m in
+    let tests = input.code.now.tests.items in
+    let body_of = λ (outs : ℕ → Out). matcher_of u.setting u.bytes (code_routines input.code.now) outs in
+    let rest = λ (outs : ℕ → Out). flat_map (outs input.index) (points m) in
+    ok_map c.fork.result _ _
+    (λ next leads. λ outs solve.
+    subst (λ i. Leads (outcomes_by u.setting u.bytes u.direction (body_of outs) (outs input.index) (op_in tests i) (at c.args.here g) ++ rest outs)
+    (outs input.index) c.fork.new.machine next) (sym c.in-Split.is)
+    (subst (λ p. Leads ((outs input.index (at p g) ++ outs input.index (goto c.in-Split.second (at c.args.here g))) ++ rest outs) (outs input.index)
+    c.fork.new.machine next) c.goto.ensures
+    (subst (λ p. Leads ((outs input.index (at c.goto.result g) ++ outs input.index (at p g)) ++ rest outs) (outs input.index) c.fork.new.machine next)
+    c.goto-in-Split.ensures (leads outs solve))))
+    c.fork.ensures.leads
+
+pub returns-in-BeginLoop-clause-leads : goal.returns-in-BeginLoop-clause-leads
+returns-in-BeginLoop-clause-leads c =
+    let input = c.args.input in
+    let u = subject input.rules input.text.now in
+    let m = c.args.machine.now in
+    let g = groups_of m in
+    let tests = input.code.now.tests.items in
+    let body_of = λ (outs : ℕ → Out). matcher_of u.setting u.bytes (code_routines input.code.now) outs in
+    ok_map c.iterate.result _ _
+    (λ next leads. λ outs solve.
+    subst (λ i. Leads (outcomes_by u.setting u.bytes u.direction (body_of outs) (outs input.index) (op_in tests i) (at c.args.here g)
+    ++ flat_map (outs input.index) (points m)) (outs input.index) c.iterate.new.machine next) (sym c.in-BeginLoop.is) (leads outs solve))
+    c.iterate.ensures.leads
+
+pub returns-then-here-clause-leads : goal.returns-then-here-clause-leads
+returns-then-here-clause-leads c =
+    let input = c.args.input in
+    let u = subject input.rules input.text.now in
+    let m = c.args.machine.now in
+    let g = groups_of m in
+    let tests = input.code.now.tests.items in
+    let body_of = λ (outs : ℕ → Out). matcher_of u.setting u.bytes (code_routines input.code.now) outs in
+    let a = at c.args.here g in
+    ok_map c.iterate-then-here.result _ _
+    (λ next leads. λ outs solve.
+    subst (λ i. Leads (outcomes_by u.setting u.bytes u.direction (body_of outs) (outs input.index) (op_in tests i) a
+    ++ flat_map (outs input.index) (points m)) (outs input.index) c.iterate-then-here.new.machine next) (sym c.in-Repeat.is)
+    (subst (λ moved. Leads ((if moved then either (outs input.index) c.in-Repeat.greedy (enter c.in-Repeat.body a) (goto c.in-Repeat.next a) else [])
+    ++ flat_map (outs input.index) (points m)) (outs input.index) c.iterate-then-here.new.machine next) (sym c.if-here.true) (leads outs solve)))
+    c.iterate-then-here.ensures.leads

@@ -1,0 +1,116 @@
+//! Alternatives, and the iterations of loops.
+ghost use Rattle.std.specs.Prelude.{◌≡◌, ◌≤◌, ◌<◌, ◌++◌, ℕ, All, IfOk, false, flat_map, length, true};
+ghost use Rattle.regress_program.specs.Program.{Out, either};
+ghost use Rattle.regress_backtrack.specs.Machine.{at, groups_of, points, rewound};
+ghost use Rattle.regress_backtrack.specs.Next.{Fails, Inside, IsInput, Leads, Solve, ahead};
+ghost use Rattle.regress_backtrack.specs.declared.step.Next.TheVariants.{OutOfSteps};
+
+use crate::input::{Input, instruction_at, test_at};
+use crate::instruction::Instruction;
+use crate::machine::{Machine, Place};
+use crate::step::Next;
+use std::alloc::AllocError;
+
+/// A loop.
+#[derive(Clone, Copy)]
+pub struct Looping {
+    /// Whether an iteration is preferred.
+    pub greedy: bool,
+    /// The start of an iteration.
+    pub body: usize,
+    /// What follows the loop.
+    pub next: usize,
+}
+
+/// Goes on at the first place, and at the second one after a failure. A place that is known to fail is left out.
+///
+/// # Preconditions
+/// Both places are inside the routine and the text.
+///
+/// # Errors
+/// Returns [`AllocError`] if an allocation fails.
+pub fn fork(
+    input: Input<'_, '_>,
+    first: Place,
+    second: Place,
+    machine: &mut Machine,
+) -> Result<Next, AllocError>
+    requires input { IsInput input }
+    requires first { Inside input (at first (groups_of machine.old)) }
+    requires second { Inside input (at second (groups_of machine.old)) }
+    ensures leads { IfOk result (λ next. (outs : ℕ → Out) → Solve input.entry outs → (let out = outs input.entry.index in
+        Leads ((out (at first (groups_of machine.old)) ++ out (at second (groups_of machine.old))) ++ flat_map out (points machine.old))
+        out machine.new next)) }
+    ensures inside { IfOk result (λ next. All (Inside input.entry) (points machine.old) → All (Inside input.entry) (ahead machine.new next)) }
+    ensures rewound { IfOk result (λ _. rewound machine.new ≡ rewound machine.old) }
+    ensures goes { IfOk result (λ next. next ≡ OutOfSteps → ⊥) }
+{
+    if fails(input, second) {
+        return Ok(Next::On(first));
+    }
+    if fails(input, first) {
+        return Ok(Next::On(second));
+    }
+    machine.choose(second)?;
+    Ok(Next::On(first))
+}
+
+/// Begins an iteration or goes on after the loop, whichever is preferred, and the other after a failure.
+///
+/// # Preconditions
+/// Both are inside the routine, and the position is inside the text.
+///
+/// # Errors
+/// Returns [`AllocError`] if an allocation fails.
+pub fn iterate(
+    input: Input<'_, '_>,
+    looping: Looping,
+    here: Place,
+    machine: &mut Machine,
+) -> Result<Next, AllocError>
+    requires input { IsInput input }
+    requires body { looping.body < length input.instructions.now }
+    requires next { looping.next < length input.instructions.now }
+    requires position { here.position ≤ length input.text.now }
+    ensures leads { IfOk result (λ to. (outs : ℕ → Out) → Solve input.entry outs → (let out = outs input.entry.index in
+        let again : Place = record { pc = looping.body; moved = false; position = here.position } in
+        let after : Place = record here { pc = looping.next } in
+        Leads (either out looping.greedy (at again (groups_of machine.old)) (at after (groups_of machine.old)) ++ flat_map out (points machine.old))
+        out machine.new to)) }
+    ensures inside { IfOk result (λ to. All (Inside input.entry) (points machine.old) → All (Inside input.entry) (ahead machine.new to)) }
+    ensures rewound { IfOk result (λ _. rewound machine.new ≡ rewound machine.old) }
+    ensures goes { IfOk result (λ to. to ≡ OutOfSteps → ⊥) }
+{
+    let again = Place {
+        pc: looping.body,
+        moved: false,
+        position: here.position,
+    };
+    let after = Place {
+        pc: looping.next,
+        ..here
+    };
+    if looping.greedy {
+        fork(input, again, after, machine)
+    } else {
+        fork(input, after, again, machine)
+    }
+}
+
+/// Returns whether a run is known to fail at a place, by the next byte of the text.
+#[inline(always)]
+fn fails(input: Input<'_, '_>, place: Place) -> bool
+    requires input { IsInput input }
+    requires pc { place.pc < length input.instructions.now }
+    requires position { place.position ≤ length input.text.now }
+    ensures { result ≡ true → Fails input.entry place }
+{
+    let Instruction::Leaf { leaf, .. } = instruction_at(input, place.pc) else {
+        return false;
+    };
+    let Some(test) = test_at(input, leaf) else {
+        return false;
+    };
+    test.start
+        .fails_at(input.text, input.rules.backwards, place.position)
+}
