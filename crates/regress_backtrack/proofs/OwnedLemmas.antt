@@ -1,15 +1,8 @@
 -- Tables of leaves that grow.
-use Rattle.std.proofs.Common.{◌≡◌, ℕ, List, [], ◌∷◌, ◌++◌, length, slice_get, Some, refl, sym, ap, ap₂, ◌∙◌, append-nil, append_assoc}
+use Rattle.std.proofs.Common.{◌≡◌, List, [], ◌∷◌, ◌++◌, sym, ap, ap₂, ◌∙◌, append-nil, append_assoc}
 use Rattle.std.proofs.lemmas.List.{map-append}
-use Rattle.regress_tree.specs.Tree.{Tree, tree}
-use Rattle.regress_program.specs.Program.{part}
-use Rattle.regress_backtrack.specs.declared.instruction.Instruction.TheVariants as insts
 use Rattle.regress_backtrack.specs.declared.test.Test.{Test}
 use Rattle.regress_backtrack.specs.Owned.{Grown, Means, each}
-use Rattle.regress_backtrack.specs.Views.{op_in, part_of}
-
-pub Grown-refl : (tests : List Test) → Grown tests tests
-Grown-refl tests = record { added = []; is = sym (append-nil tests) }
 
 pub Grown-trans : {a b c : List Test} → Grown a b → Grown b c → Grown a c
 Grown-trans {a} {b} {c} one two = record {
@@ -32,14 +25,3 @@ pub one_more : {X Y : Type 0} (view : List Test → X → Y) (old new : List Tes
 one_more view old new xs ys x y grown means also = λ more.
     map-append (view (new ++ more)) xs (x ∷ [])
     ∙ ap₂ ◌++◌ (still_means (each view) old new xs ys grown means more) (ap (λ z. z ∷ []) (also more))
-
--- the leaf that was added
-pub added_last : (tests : List Test) (t : Test) (node : Tree) (next : ℕ) → tree t.node ≡ node →
-    Means op_in (tests ++ t ∷ []) (insts.Leaf (length tests) next) (part node next)
-added_last tests t node next is = λ more.
-    ap (λ x. part_of x next) (ap (λ xs. slice_get xs (length tests)) (append_assoc tests (t ∷ []) more) ∙ at_length tests t more)
-    ∙ ap (λ x. part x next) is
-  where
-    at_length : (xs : List Test) (x : Test) (ys : List Test) → slice_get (xs ++ x ∷ ys) (length xs) ≡ Some x
-    at_length [] x ys = refl
-    at_length (z ∷ xs) x ys = at_length xs x ys

@@ -1,5 +1,5 @@
 -- What follows an instruction.
-use Rattle.std.proofs.Common.{◌≡◌, ℕ, ◌≤◌, ◌<◌, ◌==◌, Bool, true, false, not, ◌||◌, List, [], ◌∷◌, ◌++◌, flat_map, length, slice_get, Option, Some, None, MatchOption, All, Result, Ok, Err, IfOk, refl, sym, ap, ap₂, ◌∙◌, subst, append-nil, append_assoc, take, arith}
+use Rattle.std.proofs.Common.{◌≡◌, ℕ, ◌≤◌, ◌<◌, ◌==◌, Bool, false, not, ◌||◌, List, [], ◌∷◌, ◌++◌, flat_map, length, slice_get, Option, Some, None, MatchOption, All, Result, Ok, Err, IfOk, refl, sym, ap, ap₂, ◌∙◌, subst, append-nil, take, arith}
 use Rattle.std.proofs.lemmas.List.Elements.{All-head, All-cons}
 use Rattle.regress_tree.specs.Matching.{steps}
 use Rattle.regress_tree.specs.Reading.{Direction}
@@ -10,7 +10,7 @@ use Rattle.regress_leaves.specs.Leaves.{put}
 use Rattle.regress_backtrack.specs.declared.instruction.Instruction.{Instruction}
 use Rattle.regress_backtrack.specs.declared.instruction.Instruction.TheVariants as insts
 use Rattle.regress_backtrack.specs.declared.test.Test.{Test}
-use Rattle.regress_program.specs.Program.{Out, At, reach, either, ended, outcomes_by}
+use Rattle.regress_program.specs.Program.{Out, At, reach, ended, outcomes_by}
 use Rattle.regress_program.specs.Shape.{Fits, IsPart}
 use Rattle.regress_program.specs.Stays.{IsReached}
 use Rattle.regress_backtrack.specs.Views.{op_in, part_of}
@@ -22,7 +22,7 @@ use Rattle.regress_backtrack.specs.declared.step.Next.{Next}
 use Rattle.regress_backtrack.specs.declared.step.Next.TheVariants as nexts
 use Rattle.regress_backtrack.specs.Machine.{Groups, at, groups_of, points, state}
 use Rattle.regress_backtrack.specs.Code.{code_routines}
-use Rattle.regress_backtrack.specs.Next.{CanStep, is_look, Inside, ahead, Leads, Forks, Iterates}
+use Rattle.regress_backtrack.specs.Next.{CanStep, is_look, Inside, ahead, Leads}
 
 -- what the code says of a part that ends at a position
 abbrev pub Reaches : (next : ℕ) → Place → Next → Option ℕ → Type 0
@@ -47,14 +47,6 @@ module _ (out : Out) (m m' : Machine) where
   pub goes_back : (states : List MatchState) (n : Next) → n ≡ nexts.Back → points m' ≡ points m → states ≡ [] → Goes states n
   goes_back states n is same none = subst (Goes states) (sym is) (ap₂ ◌++◌ none (ap (flat_map out) (sym same)))
 
-  pub goes_first : (states : List MatchState) (n : Next) (first second : Place) → Forks first second m m' n →
-      states ≡ out (at first (groups_of m)) ++ out (at second (groups_of m)) → Goes states n
-  goes_first states n first second forks leads =
-      subst (Goes states) (sym forks.on)
-      (ap (λ xs. xs ++ flat_map out (points m)) leads
-      ∙ append_assoc (out (at first (groups_of m))) (out (at second (groups_of m))) (flat_map out (points m))
-      ∙ sym (ap₂ (λ g ps. out (at first g) ++ flat_map out ps) forks.groups forks.points))
-
   pub goes_after_part : (setting : Setting) (bytes : List ℕ) (d : Direction) (t : Tree) (next : ℕ) (p : Place) (to : Option ℕ) (n : Next) →
       steps setting bytes d t (state m.captures.items p.position) ≡ put (state m.captures.items p.position) to → Reaches next p n to →
       groups_of m' ≡ groups_of m → points m' ≡ points m →
@@ -65,12 +57,6 @@ module _ (out : Out) (m m' : Machine) where
       let there : Place = record { pc = next; moved = p.moved || not (q == p.position); position = q } in
       goes_on _ n there (at there (groups_of m)) is (ap (at there) groups) same
       (ap (flat_map (λ s. out (reach next (at p (groups_of m)) s))) ends ∙ append-nil _)
-
-  pub goes_either : (greedy : Bool) (again after : Place) (n : Next) →
-      Iterates greedy again after m m' n →
-      Goes (either out greedy (at again (groups_of m)) (at after (groups_of m))) n
-  goes_either true again after n forks = goes_first _ n again after forks refl
-  goes_either false again after n forks = goes_first _ n after again forks refl
 
 -- ---- inside the routine and the text
 
@@ -85,19 +71,6 @@ module _ (input : Input) (m m' : Machine) where
 
   pub back_inside : (n : Next) → n ≡ nexts.Back → points m' ≡ points m → Remains n
   back_inside n is same all = subst (λ x. All (Inside input) (ahead m' x)) (sym is) (subst (All (Inside input)) (sym same) all)
-
-  pub fork_inside : (n : Next) (first second : Place) → Forks first second m m' n → Inside input (at first (groups_of m')) →
-      Inside input (at second (groups_of m)) → Remains n
-  fork_inside n first second forks one two all =
-      subst (λ x. All (Inside input) (ahead m' x)) (sym forks.on)
-      (All-cons (Inside input) (at first (groups_of m')) (points m') one
-      (subst (All (Inside input)) (sym forks.points) (All-cons (Inside input) (at second (groups_of m)) (points m) two all)))
-
-  pub either_inside : (greedy : Bool) (again after : Place) (n : Next) →
-      Iterates greedy again after m m' n → ((g : Groups) → Inside input (at again g)) →
-      ((g : Groups) → Inside input (at after g)) → Remains n
-  either_inside true again after n forks one two = fork_inside n again after forks (one _) (two _)
-  either_inside false again after n forks one two = fork_inside n after again forks (two _) (one _)
 
   pub part_inside : (setting : Setting) (d : Direction) (t : Tree) (next : ℕ) (p : Place) (to : Option ℕ) (n : Next) →
       steps setting input.text.now d t (state m.captures.items p.position) ≡ put (state m.captures.items p.position) to → Reaches next p n to →

@@ -63,14 +63,3 @@ Leads states out m (nexts.On p) = states ≡ flat_map out (at p (groups_of m) �
 Leads states out m nexts.Back = states ≡ flat_map out (points m)
 Leads states out m (nexts.Accept k) = (rest : List MatchState) × (states ≡ state m.captures.items k ∷ rest)
 Leads states out m nexts.OutOfSteps = Unit {0}
-
--- The first place is next, and the second one a backtrack point.
-pub record Forks (first second : Place) (old new : Machine) (next : Next) : Type 0 where
-  pub on : next ≡ nexts.On first
-  pub groups : groups_of new ≡ groups_of old
-  pub points : points new ≡ at second (groups_of old) ∷ points old
-
--- One more iteration is next and the end of the loop a backtrack point, or the reverse.
-abbrev pub Iterates : (greedy : Bool) → (again after : Place) → (old new : Machine) → Next → Type 0
-Iterates true again after old new next = Forks again after old new next
-Iterates false again after old new next = Forks after again old new next
