@@ -1,6 +1,7 @@
 -- The tree of an accepted pattern, and the errors of a rejected one.
 use Rattle.std.proofs.Common.{◌≡◌, ◌∙◌, ℕ, ◌<◌, List, [], ◌∷◌, length, map, sym, ap, subst, not-suc-le-zero, arith}
 use Rattle.std.proofs.lemmas.List.{get_or-map, length-map}
+use Rattle.std.specs.Arc.{arc_value}
 use Rattle.std.specs.List.Sorted.{IsNonDecreasingBy, IsPermutation}
 use Rattle.std.specs.Prelude.{Result, Ok, Err, IfErr, IsErr, IsErrAnd, chars}
 use Rattle.regress_front.specs.Accepted.{IsTrueOf, MayExceed, Means, NoneIsAccepted}
@@ -69,6 +70,10 @@ pub passed_on : (P : Error → Type 0) {X Y : Type 0} (r : Result X Error) (e : 
 passed_on P r e (Ok y) given is known = tt
 passed_on P r e (Err x) given is known = subst P (sym given.1) (subst (λ o. IfErr o P) is known)
 
+-- what holds of the tables holds of the value that shares them
+pub with_tables : (P : Tables → Type 0) (tables shared : Tables) → tables ≡ shared → P tables → P shared
+with_tables P tables shared is known = subst P is known
+
 -- the ids of the listed groups ascend
 sorted-map : (groups : List Group) → IsNonDecreasingBy (λ group. group.id) groups →
     IsNonDecreasingBy (λ group. group.id) (map capture_of groups)
@@ -82,7 +87,7 @@ sorted-map (first ∷ groups) sorted = λ i j d up within.
 
 -- A regular expression with the tree and the groups of an accepted pattern is compiled from its text.
 pub compiled : (flags : Flags) (tables : Tables) (text points : List ℕ) (r : Regex) → points ≡ chars text →
-    IsTreeOf (setting_of flags tables) points (tree_of r) → r.compiled.flags ≡ flags → r.tables.now ≡ tables →
+    IsTreeOf (setting_of flags tables) points (tree_of r) → r.compiled.flags ≡ flags → arc_value r.tables ≡ tables →
     IsPermutation (captures (tree_of r)) (groups_of r) → IsNonDecreasingBy (λ group. group.id) r.groups.items → source_of r ≡ text →
     IsCompiled (setting_of flags tables) text r
 compiled flags tables text points r is tree is_flags is_tables groups sorted source = record {
@@ -90,5 +95,5 @@ compiled flags tables text points r is tree is_flags is_tables groups sorted sou
   groups = groups;
   sorted = sorted-map r.groups.items sorted;
   source = source;
-  setting = ap (λ f. setting_of f r.tables.now) is_flags ∙ ap (λ t. setting_of flags t) is_tables;
+  setting = ap (λ f. setting_of f (arc_value r.tables)) is_flags ∙ ap (λ t. setting_of flags t) is_tables;
 }

@@ -1,5 +1,6 @@
 -- A compiled regular expression.
 use Rattle.std.specs.Prelude.{◌≡◌, ℕ, List, map, string_bytes, chars}
+use Rattle.std.specs.Arc.{arc_value}
 use Rattle.std.specs.List.Sorted.{IsNonDecreasingBy, IsPermutation}
 use Rattle.regress_front.specs.Setting.{Setting}
 use Rattle.regress_front.specs.SettingOf as front
@@ -17,7 +18,7 @@ source_of r = string_bytes r.source
 
 -- the flags, and the table of Unicode
 abbrev pub setting_of : Regex → Setting
-setting_of r = front.setting_of r.compiled.flags r.tables.now
+setting_of r = front.setting_of r.compiled.flags (arc_value r.tables)
 
 -- the tree of the pattern
 abbrev pub tree_of : Regex → Tree

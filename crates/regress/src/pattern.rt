@@ -16,15 +16,16 @@ use regress_front::util::code_points;
 use regress_match::{Group, groups};
 use std::alloc::Global;
 use std::fmt::{self, Display, Formatter, Write};
+use std::sync::Arc;
 
 /// A compiled regular expression (ECMA-262, RegExp), for any number of searches.
 ///
-/// It keeps its source, its tree in normal form, and a reference to the tables. A search backtracks within a step
+/// It keeps its source, its tree in normal form, and its share of the tables. A search backtracks within a step
 /// limit, so it ends also for untrusted patterns and texts ([`Options`]).
 ///
 /// # Examples
 /// ```
-/// let tables = Tables::small(alloc)?;
+/// let tables = Arc::new(alloc, Tables::small(alloc)?)?;
 /// let regex = Regex::new(alloc, "(?<month>\\d\\d)-(\\d\\d)", &tables)?;
 /// match regex.find(alloc, "on 12-31")? {
 ///     Some(found) => {
@@ -36,20 +37,21 @@ use std::fmt::{self, Display, Formatter, Write};
 /// }
 /// ```
 #[derive(Drop)]
-pub struct Regex<'t> {
+pub struct Regex {
     source: String,
     /// The tree in normal form, and the flags.
     compiled: ir::Regex,
     /// The capture groups in the order of their ids.
     groups: Vec<Group>,
-    tables: &'t Tables,
+    tables: Arc<Tables>,
     /// The number of steps that a search may take.
     steps: u64,
     ghost well_formed: { ∥ IsWellFormed (tree compiled.node) ∥₁ },
 }
 
-impl<'t> Regex<'t> {
+impl Regex {
     ghost use Rattle.std.specs.Prelude.{◌≡◌, ◌<◌, ◌↔◌, false, All, IsTrue, IfOk, IfErr, IfSome, chars, length, map, option_map};
+    ghost use Rattle.std.specs.Arc.{arc_value};
     ghost use Rattle.regress_front.specs.Bound.{HasAtMost};
     ghost use Rattle.regress_front.specs.SettingOf.{setting_of as setting_under};
     ghost use Rattle.regress_match.specs.Matched.{IsInside};
@@ -67,9 +69,9 @@ impl<'t> Regex<'t> {
     ///
     /// # Errors
     /// As for [`Regex::with_options`].
-    pub fn new(alloc: Global, pattern: &str, tables: &'t Tables) -> Result<Regex<'t>, Error>
-        ensures compiled { IfOk result (IsCompiled (setting_under no_flags tables.now) pattern.now) }
-        ensures failed { IfErr result (IsDue (setting_under no_flags tables.now) (chars pattern.now) default_options.nodes) }
+    pub fn new(alloc: Global, pattern: &str, tables: &Arc<Tables>) -> Result<Regex, Error>
+        ensures compiled { IfOk result (IsCompiled (setting_under no_flags (arc_value tables.now)) pattern.now) }
+        ensures failed { IfErr result (IsDue (setting_under no_flags (arc_value tables.now)) (chars pattern.now) default_options.nodes) }
     {
         Regex::with_flags(alloc, pattern, Flags::default(), tables)
     }
@@ -83,10 +85,10 @@ impl<'t> Regex<'t> {
         alloc: Global,
         pattern: &str,
         flags: Flags,
-        tables: &'t Tables,
-    ) -> Result<Regex<'t>, Error>
-        ensures compiled { IfOk result (IsCompiled (setting_under flags tables.now) pattern.now) }
-        ensures failed { IfErr result (IsDue (setting_under flags tables.now) (chars pattern.now) default_options.nodes) }
+        tables: &Arc<Tables>,
+    ) -> Result<Regex, Error>
+        ensures compiled { IfOk result (IsCompiled (setting_under flags (arc_value tables.now)) pattern.now) }
+        ensures failed { IfErr result (IsDue (setting_under flags (arc_value tables.now)) (chars pattern.now) default_options.nodes) }
     {
         Regex::with_options(alloc, pattern, flags, Options::default(), tables)
     }
@@ -108,10 +110,10 @@ impl<'t> Regex<'t> {
         pattern: &str,
         flags: Flags,
         options: Options,
-        tables: &'t Tables,
-    ) -> Result<Regex<'t>, Error>
-        ensures compiled { IfOk result (IsCompiled (setting_under flags tables.now) pattern.now) }
-        ensures failed { IfErr result (IsDue (setting_under flags tables.now) (chars pattern.now) options.nodes) }
+        tables: &Arc<Tables>,
+    ) -> Result<Regex, Error>
+        ensures compiled { IfOk result (IsCompiled (setting_under flags (arc_value tables.now)) pattern.now) }
+        ensures failed { IfErr result (IsDue (setting_under flags (arc_value tables.now)) (chars pattern.now) options.nodes) }
         ensures small { IfOk result (λ _. options.nodes < usize.MAX → HasAtMost flags (chars pattern.now) options.nodes) }
     {
         let points = code_points(alloc, pattern)?;
@@ -126,7 +128,7 @@ impl<'t> Regex<'t> {
             source,
             compiled,
             groups,
-            tables,
+            tables: Arc::try_clone(tables)?,
             steps: options.steps,
         })
     }
@@ -178,7 +180,7 @@ impl<'t> Regex<'t> {
         ensures inside { IfOk result (λ found. IfSome found (λ m. IsInside text.now (match_of m))) }
         ensures groups { IfOk result (λ found. IfSome found (λ m. groups_in m ≡ groups_of self.now)) }
     {
-        let found = search::find(alloc, &self.compiled, self.tables, text, start, self.steps)?;
+        let found = search::find(alloc, &self.compiled, &self.tables, text, start, self.steps)?;
         match found {
             Some(found) => Ok(Some(Match {
                 found,
@@ -193,7 +195,7 @@ impl<'t> Regex<'t> {
     ///
     /// # Examples
     /// ```
-    /// let tables = Tables::small(alloc)?;
+    /// let tables = Arc::new(alloc, Tables::small(alloc)?)?;
     /// let regex = Regex::new(alloc, "a+", &tables)?;
     /// let mut ends = Vec::new(alloc);
     /// for found in regex.find_iter(alloc, "aabxa") {
@@ -211,7 +213,7 @@ impl<'t> Regex<'t> {
         Matches::new(
             alloc,
             &self.compiled,
-            self.tables,
+            &self.tables,
             &self.groups,
             text,
             self.steps,
@@ -270,7 +272,7 @@ impl<'t> Regex<'t> {
 }
 
 /// Writes the text of the pattern.
-impl Display for Regex<'_> {
+impl Display for Regex {
     ghost use Rattle.std.specs.Prelude.{Some};
     ghost use Rattle.regress.specs.Compiled.{source_of};
 

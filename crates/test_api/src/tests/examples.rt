@@ -546,10 +546,11 @@ fn the_examples_of_matchers_hold(rt: HostRuntime) -> Result<(), Fail> {
 #[test]
 fn the_examples_of_regular_expressions_hold(rt: HostRuntime) -> Result<(), Fail> {
     use regress::{Regex, parse_flags};
+    use std::sync::Arc;
     let alloc = rt.alloc();
     // the leftmost match is found, with its groups
     {
-        let tables = Tables::small(alloc)?;
+        let tables = Arc::new(alloc, Tables::small(alloc)?)?;
         let regex = Regex::new(alloc, "(?<month>\\d\\d)-(\\d\\d)", &tables)?;
         match regex.find(alloc, "on 12-31")? {
             Some(found) => {
@@ -562,7 +563,7 @@ fn the_examples_of_regular_expressions_hold(rt: HostRuntime) -> Result<(), Fail>
     }
     // all matches are found
     {
-        let tables = Tables::small(alloc)?;
+        let tables = Arc::new(alloc, Tables::small(alloc)?)?;
         let regex = Regex::new(alloc, "a+", &tables)?;
         let mut ends = Vec::new(alloc);
         for found in regex.find_iter(alloc, "aabxa") {

@@ -1,12 +1,13 @@
 //! Tests of the calls of `regress`, each on a pattern whose matches ECMA-262 states.
 
 use regress::{Error, Flags, FlagsError, Options, Regex, SearchError, Tables, parse_flags};
+use std::sync::Arc;
 use std::test::Fail;
 
 #[test]
 fn a_regular_expression_describes_itself(rt: HostRuntime) -> Result<(), Fail> {
     let alloc = rt.alloc();
-    let tables = Tables::small(alloc)?;
+    let tables = Arc::new(alloc, Tables::small(alloc)?)?;
     let regex = Regex::with_flags(alloc, "(?<x>a)|(?<y>b)|(c)", parse_flags("ig")?, &tables)?;
     assert_eq!(rt; regex.source(), "(?<x>a)|(?<y>b)|(c)");
     let text = format!(in alloc; "{regex}")?;
@@ -24,7 +25,7 @@ fn a_regular_expression_describes_itself(rt: HostRuntime) -> Result<(), Fail> {
 #[test]
 fn a_regular_expression_searches(rt: HostRuntime) -> Result<(), Fail> {
     let alloc = rt.alloc();
-    let tables = Tables::small(alloc)?;
+    let tables = Arc::new(alloc, Tables::small(alloc)?)?;
     let regex = Regex::with_flags(alloc, "(?<x>a)|(?<y>b)|(c)", parse_flags("i")?, &tables)?;
     assert!(rt; regex.is_match(alloc, "xB")?);
     assert!(rt; !regex.is_match(alloc, "x")?);
@@ -54,7 +55,7 @@ fn a_regular_expression_searches(rt: HostRuntime) -> Result<(), Fail> {
 #[test]
 fn a_regular_expression_has_limits(rt: HostRuntime) -> Result<(), Fail> {
     let alloc = rt.alloc();
-    let tables = Tables::small(alloc)?;
+    let tables = Arc::new(alloc, Tables::small(alloc)?)?;
     match Regex::new(alloc, "a(", &tables) {
         Err(Error::Syntax { position, .. }) => assert_eq!(rt; position, 1),
         _ => assert!(rt; false, "it is rejected"),
