@@ -1,16 +1,20 @@
 -- The matches that an iteration has found.
-use Rattle.std.proofs.Common.{◌≡◌, ◌∙◌, ℕ, false, List, [], ◌∷◌, ◌++◌, Option, Some, None, All, map, refl, subst, sym, option_map, arith}
+use Rattle.std.proofs.Common.{◌≡◌, ◌∙◌, ℕ, ◌<◌, false, List, [], ◌∷◌, ◌++◌, Option, Some, None, All, length, map, refl, subst, sym, option_map, arith}
 use Rattle.std.specs.Prelude.{◌↔◌, IsTrue, Ok, is_some}
 use Rattle.std.proofs.lemmas.List.{map-append}
-use Rattle.std.proofs.lemmas.List.Elements.{All-push}
+use Rattle.std.proofs.lemmas.List.Elements.{All-cons, All-head, All-nil, All-push, All-tail}
 use Rattle.regress_front.specs.Steps.{MatchState}
 use Rattle.regress_front.specs.WellFormed.{Capture}
+use Rattle.regress_match.specs.Matched as matcher
 use Rattle.regress_match.specs.Matched.{IsInside}
-use Rattle.regress_match.specs.Searched.{AreAllMatches, AreMatches, next_offset}
+use Rattle.regress_match.specs.Searched.{AreAllMatches, AreMatches}
 use Rattle.regress_match.proofs.lemmas.Searched.{AreMatches-more}
 use Rattle.regress_program.specs.Found as one
 use Rattle.regress_program.specs.Found.{IsLeftmost, start_of}
+use Rattle.regress_replace.specs.Order.{AreInOrder}
+use Rattle.regress_replace.proofs.lemmas.Found.{AreMatches-in_order}
 use Rattle.regress.specs.Found.{MatchesSomewhere, groups_in, match_of}
+use Rattle.regress.specs.Replaced.{AreFirstMatches}
 use Rattle.regress.specs.Searched.{Advances, has_failed, next_from, searched_groups, searched_outcomes, searched_text}
 use Rattle.regress.specs.declared.found.Match.{Match}
 use Rattle.regress.specs.declared.search.Matches.{Matches}
@@ -27,35 +31,26 @@ somewhere text at None finds = (
   (λ there. absurd (there.2 (finds there.0 (omega arith) there.1))),
 )
 
-All-nil : (P : Match → Type 0) → All P []
-All-nil P k d within = absurd (omega (arith, within))
-
 -- The iteration has found these matches without an error, and goes on after them.
-pub record HasFound (text : List ℕ) (at : ℕ → List MatchState) (groups : List Capture) (now : Matches) (ms : List Match) : Type 0 where
+pub record HasFound (text : List ℕ) (at : ℕ → List MatchState) (now : Matches) (ms : List matcher.Match) : Type 0 where
   pub same_text : searched_text now ≡ text
   pub same_outcomes : searched_outcomes now ≡ at
-  pub same_groups : searched_groups now ≡ groups
   pub failed : has_failed now ≡ false
-  pub found : AreMatches text at 0 (next_from now) (map match_of ms)
-  pub inside : All (λ m. IsInside text (match_of m)) ms
-  pub named : All (λ m. groups_in m ≡ groups) ms
+  pub found : AreMatches text at 0 (next_from now) ms
+  pub inside : All (IsInside text) ms
 
-pub begins : (text : List ℕ) (at : ℕ → List MatchState) (groups : List Capture) (now : Matches) → searched_text now ≡ text →
-    searched_outcomes now ≡ at → searched_groups now ≡ groups → has_failed now ≡ false → next_from now ≡ 0 →
-    HasFound text at groups now []
-begins text at groups now same_text same_outcomes same_groups failed from = record {
+pub begins : (text : List ℕ) (at : ℕ → List MatchState) (now : Matches) → searched_text now ≡ text → searched_outcomes now ≡ at →
+    has_failed now ≡ false → next_from now ≡ 0 → HasFound text at now []
+begins text at now same_text same_outcomes failed from = record {
   same_text = same_text;
   same_outcomes = same_outcomes;
-  same_groups = same_groups;
   failed = failed;
   found = from;
-  inside = All-nil (λ m. IsInside text (match_of m));
-  named = All-nil (λ m. groups_in m ≡ groups);
+  inside = All-nil (IsInside text);
 }
 
-module _ (text : List ℕ) (at : ℕ → List MatchState) (groups : List Capture) (now : Matches) (ms : List Match)
-    (sofar : HasFound text at groups now ms) where
-  pub one_more : (new : Matches) (m : Match) → Advances now (Some (Ok m)) new → HasFound text at groups new (ms ++ m ∷ [])
+module _ (text : List ℕ) (at : ℕ → List MatchState) (now : Matches) (ms : List matcher.Match) (sofar : HasFound text at now ms) where
+  pub one_more : (new : Matches) (m : Match) → Advances now (Some (Ok m)) new → HasFound text at new (ms ++ match_of m ∷ [])
   one_more new m step =
       let next = step.yields.0 in
       let here : IsLeftmost text at (next_from now) (match_of m) =
@@ -64,21 +59,61 @@ module _ (text : List ℕ) (at : ℕ → List MatchState) (groups : List Capture
       record {
         same_text = step.same.text ∙ sofar.same_text;
         same_outcomes = step.same.outcomes ∙ sofar.same_outcomes;
-        same_groups = step.same.groups ∙ sofar.same_groups;
         failed = step.yields.1;
-        found = subst (λ k. AreMatches text at 0 k (map match_of (ms ++ m ∷ []))) (sym next.goes_on)
-            (subst (λ all. AreMatches text at 0 (next_offset (match_of m)) all) (sym (map-append match_of ms (m ∷ [])))
-            (AreMatches-more text at 0 (next_from now) (map match_of ms) (match_of m) sofar.found here));
-        inside = All-push (λ m. IsInside text (match_of m)) ms m sofar.inside
-            (subst (λ t. IsInside t (match_of m)) sofar.same_text next.inside);
-        named = All-push (λ m. groups_in m ≡ groups) ms m sofar.named (next.groups ∙ sofar.same_groups);
+        found = subst (λ k. AreMatches text at 0 k (ms ++ match_of m ∷ [])) (sym next.goes_on)
+            (AreMatches-more text at 0 (next_from now) ms (match_of m) sofar.found here);
+        inside = All-push (IsInside text) ms (match_of m) sofar.inside (subst (λ t. IsInside t (match_of m)) sofar.same_text next.inside);
       }
 
   -- no match remains
-  pub all_found : (new : Matches) → Advances now None new → AreAllMatches text at (map match_of ms)
-  all_found new step = record {
+  none_left : (new : Matches) → Advances now None new → one.Finds text at (next_from now) None
+  none_left new step =
+      subst (λ t. one.Finds t at (next_from now) None) sofar.same_text
+      (subst (λ f. one.Finds (searched_text now) f (next_from now) None) sofar.same_outcomes (step.yields sofar.failed))
+
+  pub all_found : (new : Matches) → Advances now None new → AreAllMatches text at ms
+  all_found new step = record { to = next_from now; found = sofar.found; none = none_left new step }
+
+  -- fewer than n matches, after which none remains
+  pub fewer_found : (n : ℕ) → length ms < n → (new : Matches) → Advances now None new → AreFirstMatches text at n ms
+  fewer_found n few new step = record {
     to = next_from now;
     found = sofar.found;
-    none = subst (λ t. one.Finds t at (next_from now) None) sofar.same_text
-        (subst (λ f. one.Finds (searched_text now) f (next_from now) None) sofar.same_outcomes (step.yields sofar.failed));
+    few = omega (arith, few);
+    all = λ _. none_left new step;
   }
+
+  pub in_order : AreInOrder 0 ms
+  in_order = AreMatches-in_order text at 0 (next_from now) ms sofar.found
+
+-- The same for matches with the groups of the pattern.
+pub record HasFoundWith (text : List ℕ) (at : ℕ → List MatchState) (groups : List Capture) (now : Matches) (ms : List Match) : Type 0 where
+  pub found : HasFound text at now (map match_of ms)
+  pub same_groups : searched_groups now ≡ groups
+  pub named : All (λ m. groups_in m ≡ groups) ms
+
+pub begins_with : (text : List ℕ) (at : ℕ → List MatchState) (groups : List Capture) (now : Matches) → searched_text now ≡ text →
+    searched_outcomes now ≡ at → searched_groups now ≡ groups → has_failed now ≡ false → next_from now ≡ 0 →
+    HasFoundWith text at groups now []
+begins_with text at groups now same_text same_outcomes same_groups failed from = record {
+  found = begins text at now same_text same_outcomes failed from;
+  same_groups = same_groups;
+  named = All-nil (λ m. groups_in m ≡ groups);
+}
+
+pub one_more_with : (text : List ℕ) (at : ℕ → List MatchState) (groups : List Capture) (now : Matches) (ms : List Match) →
+    HasFoundWith text at groups now ms → (new : Matches) (m : Match) → Advances now (Some (Ok m)) new →
+    HasFoundWith text at groups new (ms ++ m ∷ [])
+one_more_with text at groups now ms sofar new m step = record {
+  found = subst (HasFound text at new) (sym (map-append match_of ms (m ∷ [])))
+      (one_more text at now (map match_of ms) sofar.found new m step);
+  same_groups = step.same.groups ∙ sofar.same_groups;
+  named = All-push (λ m. groups_in m ≡ groups) ms m sofar.named (step.yields.0.groups ∙ sofar.same_groups);
+}
+
+-- what holds of the matches of a list holds of its elements
+pub inside_each : (text : List ℕ) (ms : List Match) → All (IsInside text) (map match_of ms) → All (λ m. IsInside text (match_of m)) ms
+inside_each text [] inside = All-nil (λ m. IsInside text (match_of m))
+inside_each text (m ∷ ms) inside =
+    All-cons (λ m. IsInside text (match_of m)) m ms (All-head (IsInside text) (match_of m) (map match_of ms) inside)
+    (inside_each text ms (All-tail (IsInside text) (match_of m) (map match_of ms) inside))

@@ -1,3 +1,4 @@
 mod CompiledLemmas
 mod FoundLemmas
 mod LettersLemmas
+mod ReplacedLemmas

@@ -6,4 +6,5 @@ pub mod Groups
 pub mod Inside
 pub mod Letters
 pub mod Limits
+pub mod Replaced
 pub mod Searched

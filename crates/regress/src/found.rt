@@ -1,12 +1,13 @@
 //! A match, and the spans of its groups.
-ghost use Rattle.std.specs.Prelude.{◌≡◌, None, if◌then◌else◌, slice_index_or};
+ghost use Rattle.std.specs.Prelude.{◌≡◌};
 ghost use Rattle.regress_match.specs.Matched.{start_of, state_of};
-ghost use Rattle.regress_match.specs.Names.{capture_of, is_named, named_span};
+ghost use Rattle.regress_match.specs.Names.{named_span};
 ghost use Rattle.regress.specs.Groups.{all_spans, named_left, named_spans, spans_left};
 ghost use Rattle.regress.specs.Found.{group_span, groups_in, match_of, span_of};
 
 use crate::groups::{Groups, NamedGroups};
 use regress_match::{Group, Match as Found};
+use regress_replace::named_capture;
 use std::ops::Range;
 
 /// A match of a regular expression in a text. All positions are byte offsets of the text.
@@ -60,15 +61,7 @@ impl<'r> Match<'r> {
     pub fn named_group(&self, name: &str) -> Option<Range<usize>>
         ensures { span_of result ≡ named_span name.now (state_of (match_of self.now)).captures (groups_in self.now) }
     {
-        let mut rest = self.groups;
-        while let [group, after @ ..] = rest {
-            let span = self.capture_if_named(group, name);
-            if span.is_some() {
-                return range_of(span);
-            }
-            rest = after;
-        }
-        None
+        range_of(named_capture(&self.found, self.groups, name))
     }
 
     /// Returns the span of the whole match, and then that of each group, `None` for an unset one.
@@ -91,18 +84,6 @@ impl<'r> Match<'r> {
             rest: self.groups,
         }
     }
-
-    /// Returns the span of a group if it has this name.
-    fn capture_if_named(&self, group: &Group, name: &str) -> Option<(usize, usize)>
-        ensures { result ≡ (if is_named name.now (capture_of group.now).name
-            then slice_index_or (state_of (match_of self.now)).captures (capture_of group.now).id None else None) }
-    {
-        if has_name(group, name) {
-            self.found.group(usize::from(group.id))
-        } else {
-            None
-        }
-    }
 }
 
 /// Returns a span as a range.
@@ -112,14 +93,5 @@ pub(crate) fn range_of(span: Option<(usize, usize)>) -> Option<Range<usize>>
     match span {
         Some((start, end)) => Some(start..end),
         None => None,
-    }
-}
-
-fn has_name(group: &Group, name: &str) -> bool
-    ensures { result ≡ is_named name.now (capture_of group.now).name }
-{
-    match &group.name {
-        Some(own) => own.as_str() == name,
-        None => false,
     }
 }

@@ -12,7 +12,9 @@ mod groups;
 mod letters;
 mod limits;
 mod pattern;
+mod replacing;
 mod search;
+mod splitting;
 
 pub use failure::{Error, SearchError};
 pub use found::Match;

@@ -13,7 +13,7 @@ use regress_front::parse::node_bound;
 use regress_front::types::Flags;
 use regress_front::unicode::Tables;
 use regress_front::util::code_points;
-use regress_match::{Group, groups};
+use regress_match::{Group, Match as Found, groups};
 use std::alloc::Global;
 use std::fmt::{self, Display, Formatter, Write};
 use std::sync::Arc;
@@ -42,7 +42,7 @@ pub struct Regex {
     /// The tree in normal form, and the flags.
     compiled: ir::Regex,
     /// The capture groups in the order of their ids.
-    groups: Vec<Group>,
+    pub(crate) groups: Vec<Group>,
     tables: Arc<Tables>,
     /// The number of steps that a search may take.
     steps: u64,
@@ -57,6 +57,7 @@ impl Regex {
     ghost use Rattle.regress_match.specs.Matched.{IsInside};
     ghost use Rattle.regress_match.specs.Searched.{AreAllMatches};
     ghost use Rattle.regress_program.specs.Found.{Finds};
+    ghost use Rattle.regress_replace.specs.Order.{AreInOrder};
     ghost use Rattle.regress.specs.Compiled.{IsCompiled, groups_of, outcomes_of, setting_of, source_of};
     ghost use Rattle.regress.specs.Failures.{IsDue};
     ghost use Rattle.regress.specs.Found.{MatchesSomewhere, groups_in, match_of};
@@ -240,6 +241,15 @@ impl Regex {
             all.push(found)?;
         }
         Ok(all)
+    }
+
+    /// Returns all matches in `text`, without the groups of the pattern.
+    pub(crate) fn all_matches(&self, alloc: Global, text: &str) -> Result<Vec<Found>, SearchError>
+        ensures all { IfOk result (λ all. AreAllMatches text.now (outcomes_of self.now text.now) all.items) }
+        ensures inside { IfOk result (λ all. All (IsInside text.now) all.items) }
+        ensures order { IfOk result (λ all. AreInOrder 0 all.items) }
+    {
+        search::find_all(alloc, &self.compiled, &self.tables, text, self.steps)
     }
 
     /// Returns the text of the pattern.

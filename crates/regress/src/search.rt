@@ -1,11 +1,12 @@
 //! Searches, by backtracking within a step limit.
-ghost use Rattle.std.specs.Prelude.{IfOk, IfSome};
+ghost use Rattle.std.specs.Prelude.{All, IfOk, IfSome};
 ghost use Rattle.regress_front.specs.SettingOf.{setting_of};
 ghost use Rattle.regress_front.specs.Tree.{tree};
 ghost use Rattle.regress_front.specs.WellFormed.{IsWellFormed};
 ghost use Rattle.regress_match.specs.Matched.{IsInside, outcomes_at};
-ghost use Rattle.regress_match.specs.Searched.{searched_tree};
+ghost use Rattle.regress_match.specs.Searched.{AreAllMatches, searched_tree};
 ghost use Rattle.regress_program.specs.Found.{Finds};
+ghost use Rattle.regress_replace.specs.Order.{AreInOrder};
 
 use crate::failure::SearchError;
 use crate::found::Match;
@@ -30,6 +31,24 @@ pub(crate) fn find(
         Outcome::Matched(found) => Ok(Some(found)),
         Outcome::NoMatch => Ok(None),
         Outcome::OutOfSteps => Err(SearchError::OutOfSteps),
+    }
+}
+
+/// Returns all non-overlapping matches of a tree, from left to right.
+pub(crate) fn find_all(
+    alloc: Global,
+    regex: &Regex,
+    tables: &Tables,
+    text: &str,
+    steps: u64,
+) -> Result<Vec<Found>, SearchError>
+    ensures all { IfOk result (λ all. AreAllMatches text.now (outcomes_at (setting_of regex.now.flags tables.now) text.now (tree regex.now.node)) all.items) }
+    ensures inside { IsWellFormed (tree regex.now.node) → IfOk result (λ all. All (IsInside text.now) all.items) }
+    ensures order { IfOk result (λ all. AreInOrder 0 all.items) }
+{
+    match regress_match::find_all(alloc, regex, tables, text, steps)? {
+        Some(all) => Ok(all),
+        None => Err(SearchError::OutOfSteps),
     }
 }
 

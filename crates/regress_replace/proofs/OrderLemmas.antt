@@ -1,38 +1,14 @@
 -- A loop over matches in order: what is done so far, and what is left to do.
-use Rattle.std.proofs.Common.{◌≡◌, ℕ, suc, ◌+◌, ◌<◌, ◌≤◌, List, [], ◌∷◌, ◌++◌, drop, length, get_or, slice_range, All, sym, subst, ap, ◌∙◌, append_assoc, append-nil, map, add-one, drop-cons}
+use Rattle.std.proofs.Common.{◌≡◌, ℕ, ◌+◌, ◌<◌, List, [], ◌∷◌, ◌++◌, drop, length, get_or, slice_range, All, sym, ap, ◌∙◌, append_assoc, append-nil, map}
 use Rattle.std.proofs.lemmas.List.Elements.{All-head, All-tail}
 use Rattle.std.proofs.lemmas.List.Folds.{drop_split}
-use Rattle.std.specs.Str.{IsCharBoundary}
 use Rattle.regress_program.specs.Found.{start_of}
 use Rattle.regress_program.specs.declared.found.Match.{Match}
 use Rattle.regress_match.specs.Matched.{IsInside}
 use Rattle.regress_replace.specs.Expansion.{end_of, matched_text}
 use Rattle.regress_replace.specs.Order.{AreInOrder}
 use Rattle.regress_replace.specs.Replaced.{joined, replaced, split_pieces}
-
--- the next match of a list
-pub next_match : (ms : List Match) (i : ℕ) (m : Match) → i < length ms → m ≡ get_or ms i m → drop i ms ≡ m ∷ drop (i + 1) ms
-next_match ms i m below is = rw add-one (drop-cons ms i m below ∙ ap (λ k. k ∷ drop (suc i) ms) (sym is))
-
--- a search of the text is at `from`, and these matches follow
-pub record IsBefore (text : List ℕ) (from : ℕ) (ms : List Match) : Type 0 where
-  pub boundary : IsCharBoundary text from
-  pub order : AreInOrder from ms
-
-pub match_inside : (text : List ℕ) (ms : List Match) (i : ℕ) (m : Match) → i < length ms → m ≡ get_or ms i m → All (IsInside text) ms →
-    IsInside text m
-match_inside text ms i m below is inside = subst (IsInside text) (sym is) (inside i m below)
-
-pub before_first : (text : List ℕ) (from : ℕ) (ms : List Match) (i : ℕ) (m : Match) → i < length ms → m ≡ get_or ms i m →
-    IsBefore text from (drop i ms) → (from ≤ start_of m) × AreInOrder (end_of m) (drop (i + 1) ms)
-before_first text from ms i m below is before = subst (AreInOrder from) (next_match ms i m below is) before.order
-
-pub before_next : (text : List ℕ) (from : ℕ) (ms : List Match) (i : ℕ) (m : Match) → i < length ms → m ≡ get_or ms i m →
-    All (IsInside text) ms → IsBefore text from (drop i ms) → IsBefore text (end_of m) (drop (i + 1) ms)
-before_next text from ms i m below is inside before = record {
-  boundary = (match_inside text ms i m below is inside).span.end;
-  order = (before_first text from ms i m below is before).1;
-}
+use Rattle.regress_replace.proofs.lemmas.Order.{next_match}
 
 -- one more match is replaced
 pub replaced_more : (text : List ℕ) (f : Match → List ℕ) (from : ℕ) (ms : List Match) (i : ℕ) (m : Match) (done all : List ℕ) → i < length ms →

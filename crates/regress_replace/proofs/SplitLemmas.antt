@@ -7,8 +7,7 @@ use Rattle.regress_program.specs.declared.found.Match.{Match}
 use Rattle.regress_match.specs.Matched.{IsInside}
 use Rattle.regress_replace.specs.Expansion.{end_of}
 use Rattle.regress_replace.specs.Split.{all_parts, capture_texts, limited, part_texts, split_parts, splits}
-use Rattle.regress_replace.proofs.lemmas.Order.{AreInOrder-from}
-use Rattle.regress_replace.proofs.OrderLemmas.{IsBefore, before_first, match_inside, next_match}
+use Rattle.regress_replace.proofs.lemmas.Order.{AreInOrder-from, IsBefore, before_first, match_inside, next_match}
 
 -- the parts within a limit, as their texts
 pub limited_texts : (limit : Option ℕ) (parts : List (Option (Bor (List ℕ)))) → part_texts (limited limit parts) ≡ limited limit (part_texts parts)

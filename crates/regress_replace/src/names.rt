@@ -19,8 +19,11 @@ pub(crate) fn has_names(groups: &[Group]) -> bool
     false
 }
 
-/// Returns the capture of the first set group with a name.
-pub(crate) fn named_capture(found: &Match, groups: &[Group], name: &str) -> Option<(usize, usize)>
+/// Returns the span that the group with a name has captured last.
+///
+/// If several groups share the name it is the first one that is set. The result is `None` if none is set, or if no group
+/// has this name.
+pub fn named_capture(found: &Match, groups: &[Group], name: &str) -> Option<(usize, usize)>
     ensures { result ≡ named_span name.now (state_of found.now).captures (map capture_of groups.now) }
 {
     for group in groups {

@@ -15,7 +15,7 @@ use Rattle.regress_replace.specs.Expansion.{end_of}
 use Rattle.regress_replace.specs.Order.{AreInOrder}
 use Rattle.regress_replace.proofs.lemmas.Order.{AreInOrder-from}
 
-AreMatches-in_order : (text : List ℕ) (at : ℕ → List MatchState) (from to : ℕ) (ms : List Match) → AreMatches text at from to ms → AreInOrder from ms
+pub AreMatches-in_order : (text : List ℕ) (at : ℕ → List MatchState) (from to : ℕ) (ms : List Match) → AreMatches text at from to ms → AreInOrder from ms
 AreMatches-in_order text at from to [] found = tt
 AreMatches-in_order text at from to (m ∷ ms) found =
     (found.0.from, AreInOrder-from (end_of m) (next_offset m) ms (omega arith) (AreMatches-in_order text at (next_offset m) to ms found.1))

@@ -580,3 +580,63 @@ fn the_examples_of_regular_expressions_hold(rt: HostRuntime) -> Result<(), Fail>
     }
     Ok(())
 }
+
+#[test]
+fn the_examples_of_replacing_hold(rt: HostRuntime) -> Result<(), Fail> {
+    use regress::Regex;
+    use std::sync::Arc;
+    let alloc = rt.alloc();
+    // a template swaps two words
+    {
+        let tables = Arc::new(alloc, Tables::small(alloc)?)?;
+        let regex = Regex::new(alloc, "(\\w+) (\\w+)", &tables)?;
+        let swapped = regex.replace(alloc, "one two three four", "$2 $1")?;
+        assert_eq!(rt; swapped.as_str(), "two one three four");
+        let swapped = regex.replace_all(alloc, "one two three four", "$2 $1")?;
+        assert_eq!(rt; swapped.as_str(), "two one four three");
+    }
+    // a closure returns what replaces the leftmost match
+    {
+        let tables = Arc::new(alloc, Tables::small(alloc)?)?;
+        let regex = Regex::new(alloc, "a+", &tables)?;
+        let first = regex.replace_with(alloc, "aab", |m| Ok(format!(in alloc; "{}", m.end())?))?;
+        assert_eq!(rt; first.as_str(), "2b");
+    }
+    // a closure counts
+    {
+        let tables = Arc::new(alloc, Tables::small(alloc)?)?;
+        let regex = Regex::new(alloc, "[a-z]", &tables)?;
+        let mut count = 0_u8;
+        let numbered = regex.replace_all_with(alloc, "a-b", |_| {
+            count = count.wrapping_add(1);
+            Ok(format!(in alloc; "{count}")?)
+        })?;
+        assert_eq!(rt; numbered.as_str(), "1-2");
+    }
+    Ok(())
+}
+
+#[test]
+fn the_examples_of_splitting_hold(rt: HostRuntime) -> Result<(), Fail> {
+    use regress::Regex;
+    use std::sync::Arc;
+    let alloc = rt.alloc();
+    // a text is split at commas
+    {
+        let tables = Arc::new(alloc, Tables::small(alloc)?)?;
+        let regex = Regex::new(alloc, ",\\s*", &tables)?;
+        let pieces = regex.split(alloc, "a, b,c,")?;
+        assert_eq!(rt; pieces.as_slice(), ["a", "b", "c", ""].as_slice());
+        let pieces = regex.splitn(alloc, "a, b,c", 2)?;
+        assert_eq!(rt; pieces.as_slice(), ["a", "b,c"].as_slice());
+    }
+    // captures are parts
+    {
+        let tables = Arc::new(alloc, Tables::small(alloc)?)?;
+        let regex = Regex::new(alloc, "(-)|\\+", &tables)?;
+        let parts = regex.split_with_captures(alloc, "1-2+3", None)?;
+        let expected = [Some("1"), Some("-"), Some("2"), None, Some("3")];
+        assert_eq!(rt; parts.as_slice(), expected.as_slice());
+    }
+    Ok(())
+}

@@ -2,7 +2,8 @@ use Rattle.std.proofs.Common.{map, string_bytes}
 use Rattle.regress_match.specs.Names.{capture_of}
 use Rattle.regress_replace.specs.Expansion.{expansion}
 use Rattle.std.proofs.lemmas.Str.{IsCharBoundary-start}
-use Rattle.regress_replace.proofs.OrderLemmas.{before_next, replaced_more}
+use Rattle.regress_replace.proofs.lemmas.Order.{before_next}
+use Rattle.regress_replace.proofs.OrderLemmas.{replaced_more}
 use Rattle.regress_replace.proofs.replace.replace_matches.Goals as goal
 
 pub loop-found-init : goal.loop-found-init

@@ -3,7 +3,7 @@ use Rattle.std.proofs.Common.{◌≡◌, ◌++◌, drop, map, string_bytes}
 use Rattle.regress_match.specs.Names.{capture_of}
 use Rattle.regress_replace.specs.Expansion.{expansion}
 use Rattle.regress_replace.specs.Replaced.{replaced}
-use Rattle.regress_replace.proofs.OrderLemmas.{IsBefore}
+use Rattle.regress_replace.proofs.lemmas.Order.{IsBefore}
 use Rattle.regress_replace.proofs.replace.replace_matches.Given as goal
 
 abbrev pub invariant-loop-found : goal.invariant-loop-found

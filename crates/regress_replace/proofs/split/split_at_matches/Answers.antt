@@ -4,7 +4,8 @@ use Rattle.std.specs.Borrow.{Bor}
 use Rattle.std.proofs.lemmas.Str.{IsCharBoundary-start}
 use Rattle.std.proofs.lemmas.Grind.{common_steps}
 use Rattle.regress_replace.specs.Replaced.{split_pieces}
-use Rattle.regress_replace.proofs.OrderLemmas.{joined_whole, before_next, split_more}
+use Rattle.regress_replace.proofs.lemmas.Order.{before_next}
+use Rattle.regress_replace.proofs.OrderLemmas.{joined_whole, split_more}
 use Rattle.regress_replace.proofs.split.split_at_matches.Goals as goal
 
 pub loop-found-init : goal.loop-found-init

@@ -2,7 +2,7 @@
 use Rattle.std.proofs.Common.{◌≡◌, ◌++◌, ℕ, List, drop, map}
 use Rattle.std.specs.Borrow.{Bor}
 use Rattle.regress_replace.specs.Replaced.{split_pieces}
-use Rattle.regress_replace.proofs.OrderLemmas.{IsBefore}
+use Rattle.regress_replace.proofs.lemmas.Order.{IsBefore}
 use Rattle.regress_replace.proofs.split.split_at_matches.Given as goal
 
 abbrev pub invariant-loop-found : goal.invariant-loop-found

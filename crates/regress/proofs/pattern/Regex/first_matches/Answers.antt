@@ -1,0 +1,34 @@
+use Rattle.std.proofs.Common.{◌<◌, Some, length, subst, sym, arith}
+use Rattle.regress.specs.Compiled.{outcomes_of}
+use Rattle.regress.specs.Searched.{Advances}
+use Rattle.regress.proofs.FoundLemmas.{HasFound, fewer_found, in_order, one_more}
+use Rattle.regress.proofs.pattern.Regex.first_matches.Goals as goal
+
+pub loop-matches-preserved : goal.loop-matches-preserved
+loop-matches-preserved c =
+    let text = c.args.text.now in
+    let at = outcomes_of c.args.self.now text in
+    let now = c.loop-matches.matches in
+    let new = c.next.new.self in
+    let few : length c.loop-matches.first.items < c.args.count = omega (arith, c.loop-matches-test.true, c.len.ensures) in
+    record {
+      found = subst (λ ms. HasFound text at new ms) (sym c.in_ok-push-in-Some.ensures.items)
+          (one_more text at now c.loop-matches.first.items c.loop-matches.invariant.found new c.in_ok-found-in-Some.field-0
+          (subst (λ r. Advances now (Some r) new) c.in_ok-found-in-Some.was c.in-Some.ensures.steps));
+      few = omega (arith, few, c.in_ok-push-in-Some.ensures.len);
+    }
+
+pub returns-in-None-clause-first : goal.returns-in-None-clause-first
+returns-in-None-clause-first c =
+    fewer_found c.args.text.now (outcomes_of c.args.self.now c.args.text.now) c.loop-matches.matches c.loop-matches.first.items
+    c.loop-matches.invariant.found c.args.count (omega (arith, c.loop-matches-test.true, c.len.ensures)) c.next.new.self c.in-None.ensures.steps
+
+pub returns-in-None-clause-order : goal.returns-in-None-clause-order
+returns-in-None-clause-order c =
+    in_order c.args.text.now (outcomes_of c.args.self.now c.args.text.now) c.loop-matches.matches c.loop-matches.first.items
+    c.loop-matches.invariant.found
+
+pub returns-clause-order : goal.returns-clause-order
+returns-clause-order c =
+    in_order c.args.text.now (outcomes_of c.args.self.now c.args.text.now) c.loop-matches.matches c.loop-matches.first.items
+    c.loop-matches.invariant.found
