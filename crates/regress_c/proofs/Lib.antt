@@ -1,1 +1,5 @@
+mod CompileLemmas
+mod HandleValues
+mod LooseValues
 mod ResultLemmas
+mod SearchLemmas

@@ -33,7 +33,7 @@ pub(crate) fn is_request(pattern: &[u32], bits: u32, choice: u32) -> bool
 }
 
 /// Returns whether `bits` consists of known flags, and `choice` is 0 or 1.
-fn are_options(bits: u32, choice: u32) -> bool
+pub(crate) fn are_options(bits: u32, choice: u32) -> bool
     ensures { IsTrue result ↔ AreOptions bits choice }
 {
     bits <= ALL_BITS && choice < 2

@@ -1,0 +1,72 @@
+-- The result of a search, from what it computed.
+use Rattle.std.proofs.Common.{◌≡◌, ◌++◌, ◌<◌, ◌+◌, ℕ, suc, List, [], ◌∷◌, Option, drop, flat_map, get_or, length, map, add-one, append_assoc, drop-cons, refl, sym, ap, ◌∙◌, subst}
+use Rattle.std.specs.Prelude.{IfOk, IfSome, MatchOption, MatchResult, None, Some, Result, Ok, Err}
+use Rattle.regress.specs.declared.failure.SearchError.{SearchError}
+use Rattle.regress.specs.declared.failure.SearchError.TheVariants.{Memory, OutOfSteps}
+use Rattle.regress_front.specs.Steps.{CaptureSpan}
+use Rattle.regress_c.specs.Spans.{ends_of}
+use Rattle.regress_c.specs.SearchResults.{IsBare, status_of, SearchResult, written, no_match, out_of_memory, little, bad, out_of_steps}
+
+-- what is written has the property that was computed, and the arguments are valid
+pub search-written : {A : Type 0} {P : List ℕ → Type 0} {Missing : Type 0} {old new numbers : List ℕ} {status needed : ℕ} → A → P numbers →
+    SearchResult (Unit {0}) (λ xs. xs ≡ numbers) ⊥ old status needed new → SearchResult A P Missing old status needed new
+search-written {P = P} asked has (written u gives) = written asked (gives.0, subst P (sym gives.1) has, gives.2, gives.3)
+search-written asked has (no_match u none) = absurd none
+search-written asked has (out_of_memory u) = out_of_memory asked
+search-written {P = P} asked has (little u wants) = little asked (wants.0, subst P (sym wants.1) has, wants.2, wants.3)
+search-written asked has (bad none) = absurd (none tt)
+search-written asked has (out_of_steps u) = out_of_steps asked
+
+-- the rest of the items begins with the next one
+next_item : {X : Type 0} (xs : List X) (i : ℕ) (x : X) → i < length xs → x ≡ get_or xs i x → drop i xs ≡ x ∷ drop (i + 1) xs
+next_item xs i x below is = rw add-one (drop-cons xs i x below ∙ ap (λ k. k ∷ drop (suc i) xs) (sym is))
+
+-- the numbers of one more item are appended
+pub item_more : {X Y : Type 0} (f : Y → List ℕ) (g : X → Y) (xs : List X) (i : ℕ) (x : X) (done whole : List ℕ) → i < length xs →
+    x ≡ get_or xs i x → done ++ flat_map f (map g (drop i xs)) ≡ whole → (done ++ f (g x)) ++ flat_map f (map g (drop (i + 1) xs)) ≡ whole
+item_more f g xs i x done whole below is so_far =
+    append_assoc done (f (g x)) (flat_map f (map g (drop (i + 1) xs)))
+    ∙ ap (λ rest. done ++ flat_map f (map g rest)) (sym (next_item xs i x below is)) ∙ so_far
+
+-- the two ends of one more span are appended
+pub span_more : (span : Option CaptureSpan) (rest : List (Option CaptureSpan)) (a b : ℕ) (done whole : List ℕ) → ends_of span ≡ a ∷ b ∷ [] →
+    done ++ flat_map ends_of (span ∷ rest) ≡ whole → ((done ++ a ∷ []) ++ b ∷ []) ++ flat_map ends_of rest ≡ whole
+span_more span rest a b done whole is so_far =
+    ap (λ xs. xs ++ flat_map ends_of rest) (append_assoc done (a ∷ []) (b ∷ [])) ∙ append_assoc done (a ∷ b ∷ []) (flat_map ends_of rest)
+    ∙ ap (λ xs. done ++ (xs ++ flat_map ends_of rest)) (sym is) ∙ so_far
+
+-- -- of a search that may fail
+
+module _ {A : Type 0} {P : List ℕ → Type 0} {Missing : Type 0} {old new : List ℕ} {status needed : ℕ} where
+  at-bare : (expected : ℕ) → IsBare expected old status needed new → SearchResult A P Missing old expected 0 old →
+      SearchResult A P Missing old status needed new
+  at-bare expected bare is =
+      subst (λ s. SearchResult A P Missing old s needed new) (sym bare.0)
+      (subst (λ n. SearchResult A P Missing old expected n new) (sym bare.1)
+      (subst (λ buffer. SearchResult A P Missing old expected 0 buffer) (sym bare.2) is))
+
+  pub search-reports : {V : Type 0} (items : V → List ℕ) (r : Result (Option V) SearchError) → A →
+      IfOk r (λ some. MatchOption some Missing (λ v. P (items v))) →
+      MatchResult r (λ some. MatchOption some (IsBare 1 old status needed new)
+      (λ v. SearchResult (Unit {0}) (λ xs. xs ≡ items v) ⊥ old status needed new)) (λ error. IsBare (status_of error) old status needed new) →
+      SearchResult A P Missing old status needed new
+  search-reports items (Ok None) asked has is = at-bare 1 is (no_match asked has)
+  search-reports items (Ok (Some v)) asked has is = search-written asked has is
+  search-reports items (Err Memory) asked has is = at-bare 2 is (out_of_memory asked)
+  search-reports items (Err OutOfSteps) asked has is = at-bare 7 is (out_of_steps asked)
+
+-- -- of numbers that are computed
+
+pub given-written : {old new : List ℕ} {needed : ℕ} (items handed : List ℕ) → needed ≡ length items → handed ≡ items →
+    new ≡ handed ++ drop (length handed) old → SearchResult (Unit {0}) (λ xs. xs ≡ items) ⊥ old 0 needed new
+given-written {old = old} items handed count same put = written tt (items, refl, count, put ∙ ap (λ xs. xs ++ drop (length xs) old) same)
+
+pub given-little : {old new : List ℕ} {needed : ℕ} (items handed : List ℕ) → needed ≡ length items → handed ≡ items → new ≡ old →
+    length old < length handed → SearchResult (Unit {0}) (λ xs. xs ≡ items) ⊥ old 3 needed new
+given-little {old = old} {needed = needed} items handed count same left less =
+    subst (λ buffer. SearchResult (Unit {0}) (λ xs. xs ≡ items) ⊥ old 3 needed buffer) (sym left)
+    (little tt (items, refl, count, subst (λ xs. length old < length xs) same less))
+
+-- what holds of the regular expression that was taken holds of the handle
+pub held : {R : Type 0} (P : R → Type 0) (old : Option R) (x y : R) → Some x ≡ old → y ≡ x → P y → IfSome old P
+held P old x y taken same is = subst (λ v. IfSome v P) taken (subst P same is)

@@ -1,0 +1,29 @@
+use Rattle.std.proofs.Common.{◌≡◌, true, sym, subst}
+use Rattle.regress.specs.Compiled.{outcomes_of}
+use Rattle.regress.specs.Found.{MatchesSomewhere}
+use Rattle.regress_c.specs.SearchResults.{found, not_found, too_little_memory, no_text, too_many_steps}
+use Rattle.regress_c.proofs.searches.test.Goals as goal
+
+pub returns-in-Ok-true : goal.returns-in-Ok-true
+returns-in-Ok-true c = record {
+  status =
+      found c.in-Ok.ensures.cases.1
+      (subst (λ t. MatchesSomewhere t (outcomes_of c.args.regex.now t)) c.in-Ok.ensures.cases.0 (c.in-Ok-true.ensures.0 (cc)));
+}
+
+pub returns-in-Ok-false : goal.returns-in-Ok-false
+returns-in-Ok-false c = record {
+  status =
+      not_found c.in-Ok.ensures.cases.1
+      (λ some. let yes : c.in-Ok-false.field-0 ≡ true = c.in-Ok-false.ensures.1
+      (subst (λ t. MatchesSomewhere t (outcomes_of c.args.regex.now t)) (sym c.in-Ok.ensures.cases.0) some) in cc);
+}
+
+pub returns-in-Err-Memory : goal.returns-in-Err-Memory
+returns-in-Err-Memory c = record { status = too_little_memory c.in-Ok.ensures.cases.1 }
+
+pub returns-in-Err-OutOfSteps : goal.returns-in-Err-OutOfSteps
+returns-in-Err-OutOfSteps c = record { status = too_many_steps c.in-Ok.ensures.cases.1 }
+
+pub returns-in-Err : goal.returns-in-Err
+returns-in-Err c = record { status = no_text c.in-Err.ensures.cases.0 }

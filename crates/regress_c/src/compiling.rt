@@ -1,0 +1,79 @@
+//! The results of compiling a pattern.
+ghost use Rattle.std.specs.Prelude.{◌≡◌, chars, IfErr, IfOk};
+ghost use Rattle.regress.specs.Compiled.{IsCompiled};
+ghost use Rattle.regress.specs.Failures.{IsDue};
+ghost use Rattle.regress_c.specs.CompileResults.{CompileResult, nodes_limit};
+ghost use Rattle.regress_c.specs.Request.{setting_by, IsTextRequest};
+
+use super::handle::Handle;
+use super::request::{are_options, make_tables, parse_flags};
+use super::results::{BAD_INPUT, MEMORY, OK};
+use regress::{Error, Options, Regex};
+use std::alloc::Global;
+use std::sync::Arc;
+
+const SYNTAX: u32 = 5;
+
+const TOO_LARGE: u32 = 6;
+
+/// Compiles a pattern, and writes its handle, or the kind and the position of its syntax error. Returns the status.
+pub(crate) fn write_compiled(
+    alloc: Global,
+    pattern: &[u8],
+    bits: u32,
+    options: Options,
+    handle: &mut Handle,
+    kind: &mut u32,
+    position: &mut usize,
+) -> u32
+    ensures status { CompileResult (IsTextRequest pattern.now bits 0) (setting_by bits) pattern.now options.nodes
+        handle.old.value result kind.new position.new handle.new.value }
+{
+    *kind = 0;
+    *position = 0;
+    if !are_options(bits, 0) {
+        return BAD_INPUT;
+    }
+    match str::from_utf8(pattern) {
+        Ok(pattern) => match compile(alloc, pattern, bits, options) {
+            Ok(regex) => {
+                *handle = Handle::of(regex);
+                OK
+            }
+            Err(
+                Error::Syntax {
+                    kind: found,
+                    position: at,
+                    ..
+                },
+            ) => {
+                *kind = found.number();
+                *position = at;
+                SYNTAX
+            }
+            Err(Error::TooLarge) => TOO_LARGE,
+            Err(Error::Memory) => MEMORY,
+        },
+        Err(_) => BAD_INPUT,
+    }
+}
+
+/// Returns the limits, where 0 stands for the default.
+pub(crate) fn options_of(steps: u64, nodes: usize) -> Options
+    ensures { result.nodes ≡ nodes_limit nodes }
+{
+    let default = Options::default();
+    Options {
+        steps: if steps == 0 { default.steps } else { steps },
+        nodes: if nodes == 0 { default.nodes } else { nodes },
+    }
+}
+
+fn compile(alloc: Global, pattern: &str, bits: u32, options: Options) -> Result<Box<Regex>, Error>
+    ensures compiled { IfOk result (λ regex. IsCompiled (setting_by bits) pattern.now regex.value) }
+    ensures failed { IfErr result (IsDue (setting_by bits) (chars pattern.now) options.nodes) }
+{
+    let tables = Arc::new(alloc, make_tables(alloc, bits)?)?;
+    let regex = Regex::with_options(alloc, pattern, parse_flags(bits), options, &tables)?;
+    Ok(Box::new(alloc, regex)?)
+}

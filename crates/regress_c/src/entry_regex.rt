@@ -1,0 +1,162 @@
+//! The functions that C calls to compile a pattern, and to search for it. include/regress.h documents them.
+ghost use Rattle.std.specs.Prelude.{◌≡◌, IfSome, IsUtf8, None, length};
+ghost use Rattle.regress.specs.Compiled.{groups_of, outcomes_of};
+ghost use Rattle.regress.specs.Found.{MatchesSomewhere};
+ghost use Rattle.regress_c.specs.CompileResults.{CompileResult, nodes_limit};
+ghost use Rattle.regress_c.specs.Request.{setting_by, IsTextRequest};
+ghost use Rattle.regress_c.specs.SearchResults.{SearchResult, TestResult};
+ghost use Rattle.regress_c.specs.Spans.{AreEndsOfAll, AreEndsOfFirst};
+ghost use Rattle.regress_program.specs.Found.{Finds};
+
+use super::compiling::{options_of, write_compiled};
+use super::handle::Handle;
+use super::searches;
+use std::alloc::Global;
+
+const ABI_VERSION: u32 = 1;
+
+/// Returns the version of these functions.
+#[unsafe(no_mangle)]
+pub extern "C" fn regress_abi_version() -> u32
+    ensures { result ≡ 1 }
+{
+    ABI_VERSION
+}
+
+/// Compiles a pattern in UTF-8, and writes its handle. A handle that was there before is not freed.
+///
+/// `steps` and `nodes` are the limits, 0 for the default.
+///
+/// # Errors
+/// Returns a status: 0 for success, 2 if an allocation failed, 4 if the arguments are invalid, 5 if the pattern is
+/// rejected, and 6 if it may have more nodes than allowed. `handle` is changed only with 0, and `kind` and `position`
+/// are 0 unless it is 5.
+#[unsafe(no_mangle)]
+pub extern "C" fn regress_compile(
+    alloc: Global,
+    pattern: &[u8],
+    flags: u32,
+    steps: u64,
+    nodes: usize,
+    handle: &mut Handle,
+    kind: &mut u32,
+    position: &mut usize,
+) -> u32
+    ensures status { CompileResult (IsTextRequest pattern.now flags 0) (setting_by flags) pattern.now (nodes_limit nodes)
+        handle.old.value result kind.new position.new handle.new.value }
+{
+    write_compiled(
+        alloc,
+        pattern,
+        flags,
+        options_of(steps, nodes),
+        handle,
+        kind,
+        position,
+    )
+}
+
+/// Writes the start and the end of the leftmost match from the byte offset `from` on, and those of its groups.
+///
+/// # Errors
+/// Returns a status: 0 for success, 1 if there is no match, 2 if an allocation failed, 3 if `spans` is too small, 4 if
+/// the text is not UTF-8, and 7 if the search takes more steps than allowed. `spans` is changed only with 0, and
+/// `needed` is 0 unless the status is 0 or 3.
+///
+/// # Preconditions
+/// The handle is one of a compiled pattern.
+#[unsafe(no_mangle)]
+pub extern "C" fn regress_find(
+    alloc: Global,
+    handle: &mut Handle,
+    text: &[u8],
+    from: usize,
+    spans: &mut [usize],
+    needed: &mut usize,
+) -> u32
+    requires { handle.old.value ≡ None → ⊥ }
+    ensures same { handle.new.value ≡ handle.old.value }
+    ensures status { IfSome handle.old.value (λ regex. SearchResult (IsUtf8 text.now)
+        (AreEndsOfFirst text.now (outcomes_of regex text.now) from) (Finds text.now (outcomes_of regex text.now) from None)
+        spans.old result needed.new spans.new) }
+{
+    let regex = handle.take(alloc);
+    let status = searches::write_first(alloc, &regex, text, from, spans, needed);
+    *handle = Handle::of(regex);
+    status
+}
+
+/// Writes the start and the end of each non-overlapping match from left to right, and those of its groups.
+///
+/// # Errors
+/// As `regress_find`, but with no match the status is 0.
+///
+/// # Preconditions
+/// The handle is one of a compiled pattern.
+#[unsafe(no_mangle)]
+pub extern "C" fn regress_find_all(
+    alloc: Global,
+    handle: &mut Handle,
+    text: &[u8],
+    spans: &mut [usize],
+    needed: &mut usize,
+) -> u32
+    requires { handle.old.value ≡ None → ⊥ }
+    ensures same { handle.new.value ≡ handle.old.value }
+    ensures status { IfSome handle.old.value (λ regex. SearchResult (IsUtf8 text.now)
+        (AreEndsOfAll text.now (outcomes_of regex text.now)) ⊥ spans.old result needed.new spans.new) }
+{
+    let regex = handle.take(alloc);
+    let status = searches::write_all(alloc, &regex, text, spans, needed);
+    *handle = Handle::of(regex);
+    status
+}
+
+/// Returns whether the pattern matches somewhere, as a status.
+///
+/// # Errors
+/// Returns a status: 0 if it matches, 1 if it does not, 2 if an allocation failed, 4 if the text is not UTF-8, and 7 if
+/// the search takes more steps than allowed.
+///
+/// # Preconditions
+/// The handle is one of a compiled pattern.
+#[unsafe(no_mangle)]
+pub extern "C" fn regress_is_match(alloc: Global, handle: &mut Handle, text: &[u8]) -> u32
+    requires { handle.old.value ≡ None → ⊥ }
+    ensures same { handle.new.value ≡ handle.old.value }
+    ensures status { IfSome handle.old.value (λ regex. TestResult (IsUtf8 text.now)
+        (MatchesSomewhere text.now (outcomes_of regex text.now)) (MatchesSomewhere text.now (outcomes_of regex text.now) → ⊥) result) }
+{
+    let regex = handle.take(alloc);
+    let status = searches::test(alloc, &regex, text);
+    *handle = Handle::of(regex);
+    status
+}
+
+/// Returns the number of capture groups, without the whole match.
+///
+/// # Preconditions
+/// The handle is one of a compiled pattern.
+#[unsafe(no_mangle)]
+pub extern "C" fn regress_group_count(alloc: Global, handle: &mut Handle) -> usize
+    requires { handle.old.value ≡ None → ⊥ }
+    ensures same { handle.new.value ≡ handle.old.value }
+    ensures count { IfSome handle.old.value (λ regex. result ≡ length (groups_of regex)) }
+{
+    let regex = handle.take(alloc);
+    let count = regex.group_count();
+    *handle = Handle::of(regex);
+    count
+}
+
+/// Frees the regular expression of a handle.
+///
+/// # Preconditions
+/// The handle is one of a compiled pattern.
+#[unsafe(no_mangle)]
+pub extern "C" fn regress_free(alloc: Global, handle: &mut Handle)
+    requires { handle.old.value ≡ None → ⊥ }
+    ensures { handle.new.value ≡ None }
+{
+    let _regex = handle.take(alloc);
+}

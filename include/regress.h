@@ -1,0 +1,110 @@
+/* Regular expressions in ECMAScript syntax, for C: a pattern is compiled once, and then searched for in any number of
+   texts.
+
+   Patterns and texts are UTF-8, each with its length in bytes, and not terminated by a zero. Positions in a text are
+   byte offsets, positions in a pattern are code-point indices.
+
+   Every call but regress_abi_version and regress_group_count returns a status. A call writes nothing but what its
+   status says. Each writes the size of its result to `needed` where it has one: with REGRESS_ROOM it is the size that
+   the buffer has to have, and the buffer is unchanged, so call again with a buffer of that size.
+
+   No pointer may be NULL or dangling, even if its length is 0. Buffers must not overlap each other or the input. A
+   handle is a variable that regress_compile writes. It may be moved, but two copies of it must not be used. It is freed
+   once, by regress_free, and not used afterwards, except that regress_compile may write it again. A handle stays on the
+   thread that compiled it: threads that search at the same time have a handle each. A call allocates with malloc, and
+   frees everything but the handle before it returns. It must not be made in a signal handler. */
+
+#ifndef REGRESS_H
+#define REGRESS_H
+
+#include <stddef.h>
+#include <stdint.h>
+
+#ifdef __cplusplus
+extern "C" {
+#endif
+
+/* The version of this header, and that of the calls: it grows when a call, a status or a number changes its meaning,
+   and not when one is added. */
+#define REGRESS_VERSION "0.1.0"
+#define REGRESS_ABI_VERSION 1u
+
+/* A handle to a compiled regular expression. `inside` is the library's own. */
+typedef struct regress_regex {
+    void *inside;
+} regress_regex;
+
+/* Statuses. */
+#define REGRESS_OK 0u           /* success: the result is written */
+#define REGRESS_NO_MATCH 1u     /* the text has no match */
+#define REGRESS_MEMORY 2u       /* an allocation failed */
+#define REGRESS_ROOM 3u         /* the buffer is too small and unchanged: `needed` is the size that it has to have */
+#define REGRESS_BAD_INPUT 4u    /* invalid arguments: invalid UTF-8, an unknown bit */
+#define REGRESS_SYNTAX 5u       /* the pattern is rejected: a syntax error */
+#define REGRESS_TOO_LARGE 6u    /* the pattern may have more nodes than allowed */
+#define REGRESS_OUT_OF_STEPS 7u /* the search takes more steps than allowed */
+
+/* Flags of a pattern, independent of each other: the flag v of JavaScript is UNICODE and UNICODE_SETS together. */
+#define REGRESS_ICASE 1u         /* i */
+#define REGRESS_MULTILINE 2u     /* m */
+#define REGRESS_DOT_ALL 4u       /* s */
+#define REGRESS_UNICODE 8u       /* u */
+#define REGRESS_UNICODE_SETS 16u /* v */
+/* Use the small table instead of the one of all of Unicode, which regress_compile takes about half a millisecond to
+   make: for patterns in ASCII, and for tests. It has few properties; letters in names are those of ASCII and from
+   U+00C0 to U+00F6. */
+#define REGRESS_SMALL_TABLE 32u
+
+/* What a group without a capture has as its start and its end. */
+#define REGRESS_UNSET SIZE_MAX
+
+/* Returns the version of the calls of the library, REGRESS_ABI_VERSION of the header that it was built with. */
+uint32_t regress_abi_version(void);
+
+/* Compiles a pattern, and writes `handle`. A handle that it had before is not freed.
+
+   `steps` is the number of steps that one search may take, and `nodes` the number of nodes that the tree of the pattern
+   may have; 0 stands for the default, a billion steps, about a minute at most, and a million nodes.
+
+   Returns OK, SYNTAX, TOO_LARGE, MEMORY or BAD_INPUT. With OK `handle` is written, else it is unchanged. With SYNTAX
+   `kind` is the kind of the syntax error and `position` its position, from 0 to the number of code points of the
+   pattern; else both are 0. The kinds are the numbers REGRESS_FRONT_KIND_.. of regress_front.h. */
+uint32_t regress_compile(const uint8_t *pattern, size_t length, uint32_t flags, uint64_t steps, size_t nodes,
+                         regress_regex *handle, uint32_t *kind, size_t *position);
+
+/* Searches for the leftmost match that starts at the byte offset `from` or later.
+
+   What precedes `from` is text too: ^ does not match there, and a lookbehind may match it. `from` may be off a
+   character boundary; past the end of the text there is no match.
+
+   Returns OK, NO_MATCH, ROOM, OUT_OF_STEPS, MEMORY or BAD_INPUT. With OK `spans`, a buffer of `room` numbers, begins
+   with the start and the end of the match, and then those of each group in the order of the opening parentheses: byte
+   offsets, or REGRESS_UNSET twice for a group that is unset. `needed` is the number of these, 2 for the match and for
+   each group, with OK and ROOM, else 0: 2 * (regress_group_count + 1). */
+uint32_t regress_find(regress_regex *handle, const uint8_t *text, size_t length, size_t from, size_t *spans,
+                      size_t room, size_t *needed);
+
+/* Searches for all non-overlapping matches, from left to right: as regress_find from the end of the match before, and
+   one character further after an empty match. The step limit is for all of them together. Prefer it to calls of
+   regress_find in a loop, each of which decodes the whole text.
+
+   Returns OK, ROOM, OUT_OF_STEPS, MEMORY or BAD_INPUT. With OK `spans` begins with the numbers of each match, as
+   regress_find writes them, one match after the other. `needed` is their number with OK and ROOM, else 0; it is 0 if
+   there is no match. */
+uint32_t regress_find_all(regress_regex *handle, const uint8_t *text, size_t length, size_t *spans, size_t room,
+                          size_t *needed);
+
+/* Returns whether the pattern matches somewhere in the text: OK or NO_MATCH; or OUT_OF_STEPS, MEMORY or BAD_INPUT. */
+uint32_t regress_is_match(regress_regex *handle, const uint8_t *text, size_t length);
+
+/* Returns the number of groups, without the whole match. */
+size_t regress_group_count(regress_regex *handle);
+
+/* Frees a handle. */
+void regress_free(regress_regex *handle);
+
+#ifdef __cplusplus
+}
+#endif
+
+#endif
