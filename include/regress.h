@@ -64,7 +64,7 @@ uint32_t regress_abi_version(void);
 /* Compiles a pattern, and writes `handle`. A handle that it had before is not freed.
 
    `steps` is the number of steps that one search may take, and `nodes` the number of nodes that the tree of the pattern
-   may have; 0 stands for the default, a billion steps, about a minute at most, and a million nodes.
+   may have; 0 is the default, a billion steps, about a minute at most, and a million nodes.
 
    Returns OK, SYNTAX, TOO_LARGE, MEMORY or BAD_INPUT. With OK `handle` is written, else it is unchanged. With SYNTAX
    `kind` is the kind of the syntax error and `position` its position, from 0 to the number of code points of the

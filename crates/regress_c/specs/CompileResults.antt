@@ -7,7 +7,7 @@ use Rattle.regress.specs.Compiled.{IsCompiled}
 use Rattle.regress.specs.declared.pattern.Regex.{Regex}
 use Rattle.regress_c.specs.Results.{IsError}
 
--- the limit on nodes, where 0 stands for the default
+-- the limit on nodes, where 0 is the default
 abbrev pub nodes_limit : ℕ → ℕ
 nodes_limit nodes = if nodes == 0 then 1000000 else nodes
 

@@ -6,7 +6,7 @@ use Rattle.regress_match.specs.Searched.{AreAllMatches}
 use Rattle.regress_program.specs.Found.{Finds}
 use Rattle.regress_program.specs.declared.found.Match.{Match}
 
--- what stands for a position in the span of an unset group
+-- the number in place of a position in the span of an unset group
 abbrev pub unset : ℕ
 unset = 2 ^ 64 - 1
 

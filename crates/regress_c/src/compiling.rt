@@ -58,7 +58,7 @@ pub(crate) fn write_compiled(
     }
 }
 
-/// Returns the limits, where 0 stands for the default.
+/// Returns the limits, where 0 is the default.
 pub(crate) fn options_of(steps: u64, nodes: usize) -> Options
     ensures { result.nodes ≡ nodes_limit nodes }
 {

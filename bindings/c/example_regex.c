@@ -1,0 +1,70 @@
+/* Prints the matches of a pattern in a text, with their groups: example_regex PATTERN TEXT. */
+
+#include <inttypes.h>
+#include <stdio.h>
+#include <stdlib.h>
+#include <string.h>
+
+#include <regress.h>
+
+static void print_span(const char *text, size_t start, size_t end) {
+    if (start == REGRESS_UNSET) {
+        printf(" unset");
+    } else {
+        printf(" %zu-%zu \"%.*s\"", start, end, (int)(end - start), text + start);
+    }
+}
+
+/* Prints a line for each match. */
+static uint32_t print_matches(regress_regex *regex, const char *text) {
+    size_t length = strlen(text), needed = 0, room = 64;
+    size_t width = 2 * (regress_group_count(regex) + 1);
+    size_t *spans = malloc(room * sizeof *spans);
+    uint32_t status = REGRESS_MEMORY;
+    while (spans) {
+        status = regress_find_all(regex, (const uint8_t *)text, length, spans, room, &needed);
+        if (status != REGRESS_ROOM) {
+            break;
+        }
+        free(spans);
+        room = needed;
+        spans = malloc(room * sizeof *spans);
+        status = REGRESS_MEMORY;
+    }
+    if (status == REGRESS_OK) {
+        for (size_t match = 0; match < needed; match += width) {
+            for (size_t span = 0; span < width; span += 2) {
+                print_span(text, spans[match + span], spans[match + span + 1]);
+            }
+            printf("\n");
+        }
+    }
+    free(spans);
+    return status;
+}
+
+int main(int count, char **arguments) {
+    if (count != 3) {
+        fprintf(stderr, "usage: example_regex PATTERN TEXT\n");
+        return 2;
+    }
+    regress_regex regex;
+    uint32_t kind;
+    size_t position;
+    const char *pattern = arguments[1];
+    uint32_t status = regress_compile((const uint8_t *)pattern, strlen(pattern), REGRESS_UNICODE, 0, 0, &regex, &kind,
+                                      &position);
+    if (status == REGRESS_SYNTAX) {
+        fprintf(stderr, "syntax error %" PRIu32 " at %zu\n", kind, position);
+        return 1;
+    }
+    if (status == REGRESS_OK) {
+        status = print_matches(&regex, arguments[2]);
+        regress_free(&regex);
+    }
+    if (status != REGRESS_OK) {
+        fprintf(stderr, "no result: status %" PRIu32 "\n", status);
+        return 3;
+    }
+    return 0;
+}

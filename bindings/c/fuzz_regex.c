@@ -1,0 +1,49 @@
+/* A target for libFuzzer: compiles a pattern and searches a text, with small limits. tools/fuzz_c builds and runs it. */
+
+#include <stdlib.h>
+#include <string.h>
+
+#include <regress.h>
+
+int LLVMFuzzerTestOneInput(const uint8_t *data, size_t size) {
+    static size_t spans[512];
+    if (size < 3) {
+        return 0;
+    }
+    /* The flags, the length of the pattern, the pattern and the text. */
+    uint32_t flags = data[0] % 128;
+    size_t rest = size - 2, length = data[1] % (rest + 1), needed, position;
+    const uint8_t *pattern = data + 2, *text = pattern + length;
+    uint32_t kind;
+    regress_regex regex = {NULL};
+    uint32_t status = regress_compile(pattern, length, flags, 100000, 10000, &regex, &kind, &position);
+    if (status == REGRESS_SYNTAX && (kind < 1 || kind > 32 || position > length)) {
+        abort();
+    }
+    if (status != REGRESS_OK) {
+        if (regex.inside) {
+            abort();
+        }
+        return 0;
+    }
+    size_t most = rest - length, count = regress_group_count(&regex);
+    status = regress_find(&regex, text, most, 0, spans, 512, &needed);
+    uint32_t tested = regress_is_match(&regex, text, most);
+    if (status == REGRESS_OK) {
+        if (needed != 2 * (count + 1) || spans[0] > spans[1] || spans[1] > most) {
+            abort();
+        }
+        for (size_t i = 0; i < needed; i += 2) {
+            int is_unset = spans[i] == REGRESS_UNSET && spans[i + 1] == REGRESS_UNSET;
+            if (!is_unset && (spans[i] > spans[i + 1] || spans[i + 1] > most)) {
+                abort();
+            }
+        }
+    }
+    if ((status == REGRESS_OK && tested != REGRESS_OK) || (status == REGRESS_NO_MATCH && tested != REGRESS_NO_MATCH)) {
+        abort();
+    }
+    regress_find_all(&regex, text, most, spans, 512, &needed);
+    regress_free(&regex);
+    return 0;
+}

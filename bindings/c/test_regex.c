@@ -1,0 +1,188 @@
+/* Tests of the functions for C that compile and search. Linked with --wrap=malloc, --wrap=realloc and --wrap=free, so
+   that one allocation can be made to fail, and that blocks which are not freed are counted. */
+
+#include <stdio.h>
+#include <stdlib.h>
+#include <string.h>
+
+#include <regress.h>
+
+void *__real_malloc(size_t size);
+void *__real_realloc(void *block, size_t size);
+void __real_free(void *block);
+
+static long requests;
+static long refused = -1;
+static long blocks;
+
+void *__wrap_malloc(size_t size) {
+    void *block = requests++ == refused ? NULL : __real_malloc(size);
+    blocks += block != NULL;
+    return block;
+}
+
+void *__wrap_realloc(void *block, size_t size) {
+    void *moved = requests++ == refused ? NULL : __real_realloc(block, size);
+    blocks += !block && moved;
+    return moved;
+}
+
+void __wrap_free(void *block) {
+    blocks -= block != NULL;
+    __real_free(block);
+}
+
+static int wrong;
+
+static void check(int holds, const char *what, int line) {
+    if (!holds) {
+        fprintf(stderr, "test_regex.c:%d: %s\n", line, what);
+        wrong++;
+    }
+}
+
+#define CHECK(condition) check((condition), #condition, __LINE__)
+
+#define SMALL REGRESS_SMALL_TABLE
+
+/* A buffer for numbers, and one more that must stay unchanged. */
+#define ROOM 64
+#define MARK ((size_t)0xA5A5A5A5u)
+static size_t spans[ROOM + 1];
+static size_t needed, position;
+static uint32_t kind;
+
+static uint32_t compiled(const char *pattern, uint32_t flags, regress_regex *regex) {
+    return regress_compile((const uint8_t *)pattern, strlen(pattern), flags, 0, 0, regex, &kind, &position);
+}
+
+static void mark(void) {
+    for (size_t i = 0; i <= ROOM; i++) {
+        spans[i] = MARK;
+    }
+}
+
+static uint32_t found(regress_regex *regex, const char *text, size_t from, size_t room) {
+    mark();
+    return regress_find(regex, (const uint8_t *)text, strlen(text), from, spans, room, &needed);
+}
+
+static uint32_t found_all(regress_regex *regex, const char *text, size_t room) {
+    mark();
+    return regress_find_all(regex, (const uint8_t *)text, strlen(text), spans, room, &needed);
+}
+
+static int are(const size_t *expected, size_t count) {
+    return needed == count && memcmp(spans, expected, count * sizeof *spans) == 0 && spans[count] == MARK;
+}
+
+#define ARE(...) are((const size_t[]){__VA_ARGS__}, sizeof((const size_t[]){__VA_ARGS__}) / sizeof(size_t))
+
+static void searches(void) {
+    regress_regex regex;
+    CHECK(compiled("(a)|(b)(?=c)", SMALL, &regex) == REGRESS_OK && kind == 0 && position == 0);
+    CHECK(regress_group_count(&regex) == 2);
+    CHECK(found(&regex, "xbca", 0, ROOM) == REGRESS_OK
+          && ARE(1, 2, REGRESS_UNSET, REGRESS_UNSET, 1, 2));
+    CHECK(found(&regex, "xbca", 2, ROOM) == REGRESS_OK
+          && ARE(3, 4, 3, 4, REGRESS_UNSET, REGRESS_UNSET));
+    CHECK(found(&regex, "xbca", 4, ROOM) == REGRESS_NO_MATCH && needed == 0 && spans[0] == MARK);
+    CHECK(found(&regex, "xbca", 5, ROOM) == REGRESS_NO_MATCH);
+    CHECK(found_all(&regex, "abca", ROOM) == REGRESS_OK
+          && ARE(0, 1, 0, 1, REGRESS_UNSET, REGRESS_UNSET, 1, 2, REGRESS_UNSET, REGRESS_UNSET, 1, 2, 3, 4, 3, 4,
+                 REGRESS_UNSET, REGRESS_UNSET));
+    CHECK(found_all(&regex, "xyz", ROOM) == REGRESS_OK && needed == 0 && spans[0] == MARK);
+    CHECK(regress_is_match(&regex, (const uint8_t *)"xa", 2) == REGRESS_OK);
+    CHECK(regress_is_match(&regex, (const uint8_t *)"xx", 2) == REGRESS_NO_MATCH);
+    regress_free(&regex);
+    /* U+20AC takes three bytes, and the empty match is found on each character boundary. */
+    CHECK(compiled("", SMALL, &regex) == REGRESS_OK);
+    CHECK(found_all(&regex, "\xE2\x82\xAC", ROOM) == REGRESS_OK && ARE(0, 0, 3, 3));
+    CHECK(found(&regex, "\xE2\x82\xAC", 1, ROOM) == REGRESS_OK && ARE(3, 3));
+    regress_free(&regex);
+    CHECK(compiled("\\p{Lu}", REGRESS_UNICODE, &regex) == REGRESS_OK);
+    CHECK(found(&regex, "\xC3\xA9\xC3\x89", 0, ROOM) == REGRESS_OK && ARE(2, 4));
+    regress_free(&regex);
+    CHECK(compiled("A", SMALL | REGRESS_ICASE, &regex) == REGRESS_OK);
+    CHECK(found(&regex, "xa", 0, ROOM) == REGRESS_OK && ARE(1, 2));
+    regress_free(&regex);
+}
+
+static void rooms(void) {
+    regress_regex regex;
+    CHECK(compiled("(a)", SMALL, &regex) == REGRESS_OK);
+    CHECK(found(&regex, "a", 0, 0) == REGRESS_ROOM && needed == 4 && spans[0] == MARK);
+    CHECK(found(&regex, "a", 0, 3) == REGRESS_ROOM && needed == 4 && spans[0] == MARK);
+    CHECK(found(&regex, "a", 0, 4) == REGRESS_OK && ARE(0, 1, 0, 1));
+    CHECK(found_all(&regex, "aa", 7) == REGRESS_ROOM && needed == 8 && spans[0] == MARK);
+    CHECK(found_all(&regex, "aa", 8) == REGRESS_OK && ARE(0, 1, 0, 1, 1, 2, 1, 2));
+    regress_free(&regex);
+}
+
+static void errors(void) {
+    int mark_of_caller;
+    regress_regex regex = {&mark_of_caller};
+    CHECK(compiled("ab)", SMALL, &regex) == REGRESS_SYNTAX && kind == 1 && position == 2);
+    CHECK(regress_compile((const uint8_t *)"\xFF", 1, SMALL, 0, 0, &regex, &kind, &position) == REGRESS_BAD_INPUT
+          && kind == 0 && position == 0);
+    CHECK(compiled("a", 64, &regex) == REGRESS_BAD_INPUT);
+    CHECK(regress_compile((const uint8_t *)"abcdef", 6, SMALL, 0, 1, &regex, &kind, &position) == REGRESS_TOO_LARGE);
+    CHECK(regex.inside == &mark_of_caller);
+    CHECK(regress_compile((const uint8_t *)"(a*)*b", 6, SMALL, 1, 0, &regex, &kind, &position) == REGRESS_OK);
+    CHECK(found(&regex, "aaaaaaaaaaaaaaaaaaaaaaaaaaaaaaaa", 0, ROOM) == REGRESS_OUT_OF_STEPS && needed == 0
+          && spans[0] == MARK);
+    CHECK(found(&regex, "\xFF", 0, ROOM) == REGRESS_BAD_INPUT && needed == 0 && spans[0] == MARK);
+    CHECK(regress_is_match(&regex, (const uint8_t *)"\xFF", 1) == REGRESS_BAD_INPUT);
+    regress_free(&regex);
+}
+
+/* With each allocation failing in order, the status is MEMORY with nothing written and nothing kept, or the result is
+   that of a run without failures. */
+static void refuse(const char *pattern, const char *text) {
+    regress_regex regex;
+    size_t expected[ROOM], wanting = 0;
+    requests = 0;
+    CHECK(compiled(pattern, SMALL, &regex) == REGRESS_OK);
+    CHECK(found_all(&regex, text, ROOM) == REGRESS_OK);
+    memcpy(expected, spans, sizeof expected);
+    size_t expected_needed = needed;
+    regress_free(&regex);
+    long most = requests, before = blocks;
+    for (long each = 0; each < most; each++) {
+        requests = 0;
+        refused = each;
+        uint32_t status = compiled(pattern, SMALL, &regex);
+        if (status == REGRESS_OK) {
+            status = found_all(&regex, text, ROOM);
+            CHECK(status == REGRESS_OK ? needed == expected_needed && memcmp(spans, expected, sizeof expected) == 0
+                                       : status == REGRESS_MEMORY && needed == 0 && spans[0] == MARK);
+            refused = -1;
+            CHECK(found_all(&regex, text, ROOM) == REGRESS_OK && memcmp(spans, expected, sizeof expected) == 0);
+            regress_free(&regex);
+        } else {
+            CHECK(status == REGRESS_MEMORY && kind == 0 && position == 0);
+        }
+        wanting += status == REGRESS_MEMORY;
+        refused = -1;
+        CHECK(blocks == before);
+    }
+    CHECK(wanting > 0);
+    printf("%s: out of memory in %zu of %ld runs\n", pattern, wanting, most);
+}
+
+int main(void) {
+    CHECK(regress_abi_version() == REGRESS_ABI_VERSION);
+    long before = blocks;
+    searches();
+    rooms();
+    errors();
+    CHECK(blocks == before);
+    refuse("(?<a>x)|(?<b>y+)\\k<b>", "xyyzyyyy");
+    refuse("(?<=ab)c{2}[a-c]+|[^a]", "abccab");
+    if (wrong) {
+        fprintf(stderr, "%d checks fail\n", wrong);
+        return 1;
+    }
+    puts("all checks pass");
+    return 0;
+}
