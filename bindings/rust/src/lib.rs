@@ -1,7 +1,8 @@
-//! Parses regular expressions in ECMAScript syntax to trees.
+//! Regular expressions in ECMAScript syntax: compiled once, and searched for in texts ([`regex`]); or parsed to trees.
 //!
-//! The library that this crate calls is proved to return the tree of the pattern. `include/regress_front.h` documents
-//! its functions and the encoding of a tree. This crate decodes the encoding, which is tested and not proved.
+//! The library that this crate calls is proved to return the matches of the pattern, and its tree. `include/regress.h`
+//! and `include/regress_front.h` document its calls. This crate passes strings and numbers on, and decodes trees, which
+//! is tested and not proved.
 //!
 //! What an emitter or matcher has to know of a tree:
 //! - In a lookbehind the parts of a [`Node::Cat`] are in reverse order, which is the order in which they are matched. A
@@ -10,14 +11,24 @@
 //! - An iteration of a loop past the minimum that does not advance fails, which ends the loop.
 //! - The groups inside a [`Node::Loop`] are unset at the start of each iteration.
 //! - A [`Node::BackRef`] to a group that is unset matches the empty text.
-//! - The right sides of [`Node::Alt`] are nested as deeply as there are alternatives. Iterate over them: recursion, such
-//!   as that of the derived `Debug`, overflows a stack of 8 MiB at some 200,000 alternatives.
+//! - The right sides of [`Node::Alt`] are nested as deeply as there are alternatives. Iterate over them, as
+//!   [`Node::alternatives`] does: recursion overflows a stack of 8 MiB at some 200,000 alternatives. What this crate
+//!   implements for trees, such as `Debug`, `Clone`, `PartialEq` and `Drop`, iterates.
 
+#![deny(unsafe_code)]
+
+#[allow(unsafe_code)]
+mod ffi;
+mod flags;
 mod kind;
 mod library;
 mod node;
+mod printed;
+pub mod regex;
 mod words;
 
+pub use flags::{Flags, FlagsError, Table};
 pub use kind::FaultKind;
-pub use library::{parse, parse_and_optimize, Fault, Flags, Table};
-pub use node::{AnchorType, BracketContents, Interval, Node, Quantifier};
+pub use library::{parse, parse_and_optimize, parse_and_optimize_str, parse_str, Fault};
+pub use node::{AnchorType, BracketContents, Interval, Node, Quantifier, RightSide};
+pub use regex::{escape, Error, Match, Matches, Options, Regex, SearchError};

@@ -1,64 +1,16 @@
-//! The functions of the library.
+//! Parsing.
 
+use crate::ffi::{self, TREE_BAD_INPUT, TREE_FAULT, TREE_MEMORY};
+use crate::flags::{bits, Flags, Table};
 use crate::kind::FaultKind;
 use crate::node::Node;
 use crate::words::decode;
 use std::error::Error;
 use std::fmt;
 
-extern "C" {
-    fn regress_front_parse_code_points(
-        pattern: *const u32,
-        pattern_length: usize,
-        flags: u32,
-        optimize: u32,
-        words: *mut u32,
-        room: usize,
-        needed: *mut usize,
-        kind: *mut u32,
-        place: *mut usize,
-    ) -> u32;
-
-    fn regress_front_tell_fault(
-        pattern: *const u32,
-        pattern_length: usize,
-        flags: u32,
-        text: *mut u8,
-        room: usize,
-        needed: *mut usize,
-        kind: *mut u32,
-        place: *mut usize,
-    ) -> u32;
-}
-
-const OK: u32 = 0;
-const FAULT: u32 = 1;
-const MEMORY: u32 = 2;
-const ROOM: u32 = 3;
-
-/// The flags of a pattern, independent of each other: the flag v of JavaScript is `unicode` and `unicode_sets`
-/// together.
-#[derive(Clone, Copy, Debug, Default, PartialEq, Eq)]
-pub struct Flags {
-    pub icase: bool,
-    pub multiline: bool,
-    pub dot_all: bool,
-    pub unicode: bool,
-    pub unicode_sets: bool,
-}
-
-/// The table of Unicode data under which a pattern is parsed.
-#[derive(Clone, Copy, Debug, Default, PartialEq, Eq)]
-pub enum Table {
-    /// All of Unicode. Each call takes about a millisecond to make it.
-    #[default]
-    Whole,
-    /// A small table, for patterns in ASCII and for tests.
-    Small,
-}
-
 /// Why parsing fails.
 #[derive(Clone, Debug, PartialEq, Eq)]
+#[non_exhaustive]
 pub enum Fault {
     /// The pattern is rejected: the kind of the syntax error, its text, and its position, a code-point index from 0 to
     /// the length.
@@ -71,6 +23,8 @@ pub enum Fault {
     Memory,
     /// A number in the pattern is above U+10FFFF.
     NoCodePoint,
+    /// The library returns what this crate does not know: it is of another version.
+    Library,
 }
 
 impl fmt::Display for Fault {
@@ -79,21 +33,21 @@ impl fmt::Display for Fault {
             Fault::Syntax { text, .. } => f.write_str(text),
             Fault::Memory => f.write_str("out of memory"),
             Fault::NoCodePoint => f.write_str("no code point"),
+            Fault::Library => f.write_str("the library is of another version"),
         }
     }
 }
 
 impl Error for Fault {}
 
-/// Parses a pattern of code points, surrogates included, and returns its tree. For a `&str` they are
-/// `chars().map(u32::from)`.
+/// Parses a pattern of code points, surrogates included, and returns its tree.
+///
+/// An allocation of this crate's own that fails aborts, as elsewhere in `std`. The size of the tree is not limited: for
+/// untrusted patterns bound their length, or compile them by [`Regex::with_options`](crate::Regex::with_options).
 ///
 /// # Errors
 /// Returns [`Fault::Syntax`] if the pattern is rejected, [`Fault::Memory`] if the library is out of memory, and
 /// [`Fault::NoCodePoint`] if a number is not a code point.
-///
-/// # Panics
-/// Panics if an allocation of this crate's own fails, as `Vec` does.
 pub fn parse(pattern: &[u32], flags: Flags, table: Table) -> Result<Node, Fault> {
     tree(pattern, bits(flags, table), 0)
 }
@@ -102,107 +56,54 @@ pub fn parse(pattern: &[u32], flags: Flags, table: Table) -> Result<Node, Fault>
 ///
 /// # Errors
 /// As [`parse`].
-///
-/// # Panics
-/// As [`parse`].
 pub fn parse_and_optimize(pattern: &[u32], flags: Flags, table: Table) -> Result<Node, Fault> {
     tree(pattern, bits(flags, table), 1)
 }
 
-fn bits(flags: Flags, table: Table) -> u32 {
-    u32::from(flags.icase)
-        | u32::from(flags.multiline) << 1
-        | u32::from(flags.dot_all) << 2
-        | u32::from(flags.unicode) << 3
-        | u32::from(flags.unicode_sets) << 4
-        | u32::from(table == Table::Small) << 5
+/// Parses a pattern and returns its tree. Positions of syntax errors count code points here too.
+///
+/// # Errors
+/// As [`parse`].
+pub fn parse_str(pattern: &str, flags: Flags, table: Table) -> Result<Node, Fault> {
+    parse(&code_points(pattern), flags, table)
+}
+
+/// Parses a pattern and returns its optimized tree, in normal form.
+///
+/// # Errors
+/// As [`parse`].
+pub fn parse_and_optimize_str(pattern: &str, flags: Flags, table: Table) -> Result<Node, Fault> {
+    parse_and_optimize(&code_points(pattern), flags, table)
+}
+
+fn code_points(text: &str) -> Vec<u32> {
+    text.chars().map(u32::from).collect()
 }
 
 fn tree(pattern: &[u32], bits: u32, optimize: u32) -> Result<Node, Fault> {
-    // Most trees fit at the first call.
-    let mut words = vec![0; 16 * pattern.len() + 64];
-    let mut answer = words_into(pattern, bits, optimize, &mut words);
-    if answer.status == ROOM {
-        words.resize(answer.needed, 0);
-        answer = words_into(pattern, bits, optimize, &mut words);
-    }
-    match answer.status {
-        OK => Ok(decode(&words[..answer.needed]).expect("the encoding of a tree")),
-        FAULT => Err(fault(pattern, bits)),
-        MEMORY => Err(Fault::Memory),
-        _ => Err(Fault::NoCodePoint),
-    }
-}
-
-struct Answer {
-    status: u32,
-    needed: usize,
-    kind: u32,
-    place: usize,
-}
-
-fn words_into(pattern: &[u32], bits: u32, optimize: u32, words: &mut [u32]) -> Answer {
-    let (mut needed, mut kind, mut place) = (0, 0, 0);
-    // SAFETY: pointers and lengths are those of slices, which are never null, and the call keeps none of them.
-    let status = unsafe {
-        regress_front_parse_code_points(
-            pattern.as_ptr(),
-            pattern.len(),
-            bits,
-            optimize,
-            words.as_mut_ptr(),
-            words.len(),
-            &mut needed,
-            &mut kind,
-            &mut place,
-        )
-    };
-    Answer {
-        status,
-        needed,
-        kind,
-        place,
+    let output = ffi::tree_words(pattern, bits, optimize);
+    match output.status {
+        ffi::OK => decode(&output.items).ok_or(Fault::Library),
+        TREE_FAULT => Err(fault(pattern, bits)),
+        TREE_MEMORY => Err(Fault::Memory),
+        TREE_BAD_INPUT => Err(Fault::NoCodePoint),
+        _ => Err(Fault::Library),
     }
 }
 
 /// Returns the syntax error of a pattern that is rejected: its kind, text and position from one call.
 fn fault(pattern: &[u32], bits: u32) -> Fault {
-    let mut text = vec![0; 128];
-    let mut answer = text_into(pattern, bits, &mut text);
-    if answer.status == ROOM {
-        text.resize(answer.needed, 0);
-        answer = text_into(pattern, bits, &mut text);
+    let (output, kind, place) = ffi::tree_fault(pattern, bits);
+    match output.status {
+        TREE_FAULT => {}
+        TREE_MEMORY => return Fault::Memory,
+        _ => return Fault::Library,
     }
-    if answer.status != FAULT {
-        return Fault::Memory;
-    }
-    text.truncate(answer.needed);
-    Fault::Syntax {
-        kind: FaultKind::from_number(answer.kind).expect("the number of a kind"),
-        text: String::from_utf8(text).expect("a text in UTF-8"),
-        place: answer.place,
-    }
-}
-
-fn text_into(pattern: &[u32], bits: u32, text: &mut [u8]) -> Answer {
-    let (mut needed, mut kind, mut place) = (0, 0, 0);
-    // SAFETY: as above.
-    let status = unsafe {
-        regress_front_tell_fault(
-            pattern.as_ptr(),
-            pattern.len(),
-            bits,
-            text.as_mut_ptr(),
-            text.len(),
-            &mut needed,
-            &mut kind,
-            &mut place,
-        )
-    };
-    Answer {
-        status,
-        needed,
-        kind,
-        place,
+    match (
+        FaultKind::from_number(kind),
+        String::from_utf8(output.items),
+    ) {
+        (Some(kind), Ok(text)) => Fault::Syntax { kind, text, place },
+        _ => Fault::Library,
     }
 }

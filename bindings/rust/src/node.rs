@@ -1,10 +1,14 @@
 //! Trees.
 
+use std::fmt;
+use std::iter;
 use std::mem;
-use std::ops::Range;
+use std::ops::{Deref, DerefMut, Range};
 
 /// A node of a pattern's tree. The crate's documentation has what an emitter has to know.
-#[derive(Debug, PartialEq, Eq)]
+///
+/// `Debug` writes the fields, `Display` the printed form of `docs/ir.md`, a line for each node.
+#[derive(Clone, Debug, PartialEq, Eq)]
 pub enum Node {
     /// Matches the empty text.
     Empty,
@@ -21,7 +25,7 @@ pub enum Node {
     /// The parts in the order in which they are matched, which is reversed in a lookbehind.
     Cat(Vec<Node>),
     /// The outcomes of the left side, and then those of the right side.
-    Alt(Box<Node>, Box<Node>),
+    Alt(Box<Node>, RightSide),
     /// Any character.
     MatchAny,
     /// Any character but a line terminator.
@@ -71,17 +75,106 @@ pub enum Node {
     },
 }
 
-// There may be as many nested right sides as alternatives, so that they are dropped in a loop.
-impl Drop for Node {
+impl Node {
+    /// Returns the alternatives of this node from left to right: those of an [`Node::Alt`] and of its right sides, or
+    /// else the node itself.
+    pub fn alternatives(&self) -> impl Iterator<Item = &Node> {
+        let mut next = Some(self);
+        iter::from_fn(move || match next? {
+            Node::Alt(left, right) => {
+                next = Some(right);
+                Some(&**left)
+            }
+            last => {
+                next = None;
+                Some(last)
+            }
+        })
+    }
+}
+
+/// The right side of a [`Node::Alt`], which it dereferences to.
+///
+/// There may be as many nested right sides as alternatives, so that what this type implements iterates over them.
+pub struct RightSide(Box<Node>);
+
+impl RightSide {
+    /// Returns the right side that is this node.
+    pub fn new(node: Node) -> RightSide {
+        RightSide(Box::new(node))
+    }
+
+    /// Returns the node.
+    pub fn into_inner(mut self) -> Node {
+        mem::replace(&mut *self.0, Node::Empty)
+    }
+}
+
+impl From<Node> for RightSide {
+    fn from(node: Node) -> RightSide {
+        RightSide::new(node)
+    }
+}
+
+impl Deref for RightSide {
+    type Target = Node;
+
+    fn deref(&self) -> &Node {
+        &self.0
+    }
+}
+
+impl DerefMut for RightSide {
+    fn deref_mut(&mut self) -> &mut Node {
+        &mut self.0
+    }
+}
+
+impl Drop for RightSide {
     fn drop(&mut self) {
-        let Node::Alt(_, right) = self else {
-            return;
-        };
-        let mut next = mem::replace(&mut **right, Node::Empty);
-        while let Node::Alt(_, right) = &mut next {
-            let behind = mem::replace(&mut **right, Node::Empty);
-            next = behind;
+        let mut next = mem::replace(&mut *self.0, Node::Empty);
+        while let Node::Alt(_, right) = next {
+            next = right.into_inner();
         }
+    }
+}
+
+impl Clone for RightSide {
+    fn clone(&self) -> RightSide {
+        let mut lefts = Vec::new();
+        let mut next: &Node = self;
+        while let Node::Alt(left, right) = next {
+            lefts.push(left.clone());
+            next = right;
+        }
+        // The last one is no Alt, so that this call does not recurse.
+        let mut node = next.clone();
+        while let Some(left) = lefts.pop() {
+            node = Node::Alt(left, RightSide::new(node));
+        }
+        RightSide::new(node)
+    }
+}
+
+impl PartialEq for RightSide {
+    fn eq(&self, other: &RightSide) -> bool {
+        let (mut ours, mut theirs): (&Node, &Node) = (self, other);
+        while let (Node::Alt(left, right), Node::Alt(other_left, other_right)) = (ours, theirs) {
+            if left != other_left {
+                return false;
+            }
+            (ours, theirs) = (right, other_right);
+        }
+        ours == theirs
+    }
+}
+
+impl Eq for RightSide {}
+
+/// Writes the list of the alternatives of the right side.
+impl fmt::Debug for RightSide {
+    fn fmt(&self, f: &mut fmt::Formatter<'_>) -> fmt::Result {
+        f.debug_list().entries(self.alternatives()).finish()
     }
 }
 

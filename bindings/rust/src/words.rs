@@ -1,6 +1,6 @@
 //! Decodes trees.
 
-use crate::node::{AnchorType, BracketContents, Interval, Node, Quantifier};
+use crate::node::{AnchorType, BracketContents, Interval, Node, Quantifier, RightSide};
 
 /// Returns the tree with this encoding, or `None` if it is not the encoding of a tree.
 pub(crate) fn decode(words: &[u32]) -> Option<Node> {
@@ -25,7 +25,7 @@ impl Reader<'_> {
         }
         let mut node = self.other(kind)?;
         while let Some(left) = lefts.pop() {
-            node = Node::Alt(Box::new(left), Box::new(node));
+            node = Node::Alt(Box::new(left), RightSide::new(node));
         }
         Some(node)
     }

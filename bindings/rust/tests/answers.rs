@@ -8,9 +8,6 @@
 //! optimized tree may differ from the file's; it is then compared with the output of the program that
 //! REGRESS_FRONT_PROGRAM names.
 
-mod printed;
-
-use printed::printed;
 use regress_front::{parse, parse_and_optimize, Fault, Flags, Node, Table};
 use std::process::Command;
 use std::{env, fs};
@@ -104,7 +101,7 @@ fn read_points(digits: &str) -> Vec<u32> {
 
 fn told(answer: Result<Node, Fault>) -> String {
     match answer {
-        Ok(node) => printed(&node).replace('\n', "\\n"),
+        Ok(node) => node.to_string().replace('\n', "\\n"),
         Err(fault) => fault.to_string(),
     }
 }

@@ -1,9 +1,9 @@
 //! Tests of the public functions.
 
-mod printed;
-
-use printed::printed;
-use regress_front::{parse, parse_and_optimize, Fault, FaultKind, Flags, Interval, Node, Table};
+use regress_front::{
+    parse, parse_and_optimize, parse_and_optimize_str, parse_str, Fault, FaultKind, Flags,
+    Interval, Node, Table,
+};
 
 fn points(text: &str) -> Vec<u32> {
     text.chars().map(u32::from).collect()
@@ -57,7 +57,7 @@ fn the_optimized_tree_differs() {
     let tree =
         parse_and_optimize(&points("(?:ab){2}|[c-d]"), Flags::default(), Table::Small).unwrap();
     assert_eq!(
-        printed(&tree),
+        tree.to_string(),
         "Cat\n..Alt\n....ByteSeq4 0x61626162\n....ByteSet2 0x63 0x64\n..Goal\n"
     );
 }
@@ -103,4 +103,51 @@ fn many_alternatives_take_no_stack() {
         sides += 1;
     }
     assert_eq!(sides, 100_001);
+}
+
+#[test]
+fn a_tree_of_many_alternatives_is_printed_compared_and_cloned() {
+    let pattern = "a|".repeat(200_000);
+    let tree = parse_str(&pattern, Flags::default(), Table::Small).unwrap();
+    let Node::Cat(parts) = &tree else {
+        panic!("no Cat")
+    };
+    assert_eq!(parts[0].alternatives().count(), 200_001);
+    let copy = tree.clone();
+    assert!(tree == copy);
+    let other = parse_str(&pattern[1..], Flags::default(), Table::Small).unwrap();
+    assert!(tree != other);
+    assert!(format!("{tree:?}").starts_with("Cat([Alt(Char { c: 97 }, [Char { c: 97 }, "));
+    assert_eq!(tree.to_string().lines().count(), 400_003);
+}
+
+#[test]
+fn a_tree_can_be_taken_apart() {
+    let tree = parse_str("a|b|c", Flags::default(), Table::Small).unwrap();
+    let Node::Cat(mut parts) = tree else {
+        panic!("no Cat")
+    };
+    let Node::Alt(left, right) = parts.swap_remove(0) else {
+        panic!("no Alt")
+    };
+    assert_eq!(*left, Node::Char { c: 0x61 });
+    let Node::Alt(left, right) = right.into_inner() else {
+        panic!("no Alt")
+    };
+    assert_eq!(*left, Node::Char { c: 0x62 });
+    assert_eq!(right.into_inner(), Node::Char { c: 0x63 });
+}
+
+#[test]
+fn a_text_is_parsed_as_its_code_points() {
+    let flags = Flags::default();
+    let tree = parse_and_optimize_str("é|x", flags, Table::Small).unwrap();
+    assert_eq!(
+        Ok(tree),
+        parse_and_optimize(&points("é|x"), flags, Table::Small)
+    );
+    let Err(Fault::Syntax { place, .. }) = parse_str("é)", flags, Table::Small) else {
+        panic!("no syntax error")
+    };
+    assert_eq!(place, 1);
 }

@@ -1,41 +1,46 @@
 //! Trees in the printed form of the program `regex-front`, which docs/ir.md specifies.
 
-use regress_front::{AnchorType, Interval, Node, Quantifier};
+use crate::node::{AnchorType, Interval, Node, Quantifier};
+use std::fmt::{self, Write};
 
-/// Returns the printed form of a tree.
-pub fn printed(node: &Node) -> String {
-    let mut text = String::new();
-    print(node, 0, &mut text);
-    text
+/// Writes the printed form of docs/ir.md, a line for each node.
+impl fmt::Display for Node {
+    fn fmt(&self, f: &mut fmt::Formatter<'_>) -> fmt::Result {
+        print(self, 0, f)
+    }
 }
 
-fn print(node: &Node, depth: usize, text: &mut String) {
+/// Writes the lines of a node that is inside as many nodes as `depth` says.
+fn print(node: &Node, depth: usize, f: &mut fmt::Formatter<'_>) -> fmt::Result {
     let mut node = node;
     let mut depth = depth;
+    // A loop over the right sides of alternatives, because there may be many thousands of them.
     loop {
-        text.push_str(&"..".repeat(depth.min(120)));
-        if depth > 120 {
-            text.push_str(&format!("(+{}).. ", depth - 120));
+        for _ in 0..depth.min(120) {
+            f.write_str("..")?;
         }
-        text.push_str(&line(node));
-        text.push('\n');
+        if depth > 120 {
+            write!(f, "(+{}).. ", depth - 120)?;
+        }
+        f.write_str(&line(node))?;
+        f.write_char('\n')?;
         depth += 1;
         match node {
             Node::Cat(parts) => {
                 for part in parts {
-                    print(part, depth, text);
+                    print(part, depth, f)?;
                 }
-                return;
+                return Ok(());
             }
             Node::Alt(left, right) => {
-                print(left, depth, text);
+                print(left, depth, f)?;
                 node = right;
             }
             Node::CaptureGroup { contents: body, .. }
             | Node::Loop { loopee: body, .. }
             | Node::Loop1CharBody { loopee: body, .. }
             | Node::LookaroundAssertion { contents: body, .. } => node = body,
-            _ => return,
+            _ => return Ok(()),
         }
     }
 }

@@ -1,0 +1,266 @@
+//! The calls of the library, which `include/regress.h` and `include/regress_front.h` document. No other module has
+//! unsafe code.
+
+use std::ffi::c_void;
+use std::ptr;
+
+pub(crate) const OK: u32 = 0;
+
+/// Statuses of the calls for regular expressions.
+pub(crate) const NO_MATCH: u32 = 1;
+pub(crate) const MEMORY: u32 = 2;
+const ROOM: u32 = 3;
+pub(crate) const SYNTAX: u32 = 5;
+pub(crate) const TOO_LARGE: u32 = 6;
+pub(crate) const OUT_OF_STEPS: u32 = 7;
+
+/// Statuses of the calls for trees.
+pub(crate) const TREE_FAULT: u32 = 1;
+pub(crate) const TREE_MEMORY: u32 = 2;
+pub(crate) const TREE_BAD_INPUT: u32 = 4;
+
+/// What an unset group has as its start and its end.
+pub(crate) const UNSET: usize = usize::MAX;
+
+/// The version of the calls that this crate makes.
+const ABI_VERSION: u32 = 1;
+
+/// A `regress_regex` of the library.
+#[repr(C)]
+struct RegressRegex {
+    inside: *mut c_void,
+}
+
+extern "C" {
+    fn regress_abi_version() -> u32;
+
+    fn regress_compile(
+        pattern: *const u8,
+        length: usize,
+        flags: u32,
+        steps: u64,
+        nodes: usize,
+        handle: *mut RegressRegex,
+        kind: *mut u32,
+        position: *mut usize,
+    ) -> u32;
+
+    fn regress_find(
+        handle: *mut RegressRegex,
+        text: *const u8,
+        length: usize,
+        from: usize,
+        spans: *mut usize,
+        room: usize,
+        needed: *mut usize,
+    ) -> u32;
+
+    fn regress_find_all(
+        handle: *mut RegressRegex,
+        text: *const u8,
+        length: usize,
+        spans: *mut usize,
+        room: usize,
+        needed: *mut usize,
+    ) -> u32;
+
+    fn regress_is_match(handle: *mut RegressRegex, text: *const u8, length: usize) -> u32;
+
+    fn regress_group_count(handle: *mut RegressRegex) -> usize;
+
+    fn regress_free(handle: *mut RegressRegex);
+
+    fn regress_front_parse_code_points(
+        pattern: *const u32,
+        pattern_length: usize,
+        flags: u32,
+        optimize: u32,
+        words: *mut u32,
+        room: usize,
+        needed: *mut usize,
+        kind: *mut u32,
+        place: *mut usize,
+    ) -> u32;
+
+    fn regress_front_tell_fault(
+        pattern: *const u32,
+        pattern_length: usize,
+        flags: u32,
+        text: *mut u8,
+        room: usize,
+        needed: *mut usize,
+        kind: *mut u32,
+        place: *mut usize,
+    ) -> u32;
+}
+
+/// A status with a result, which is empty unless the status says that there is one.
+pub(crate) struct Output<T> {
+    pub(crate) status: u32,
+    pub(crate) items: Vec<T>,
+}
+
+/// A compiled regular expression of the library. It stays on the thread that has compiled it: its pointer makes it
+/// neither `Send` nor `Sync`.
+pub(crate) struct Handle(RegressRegex);
+
+impl Drop for Handle {
+    fn drop(&mut self) {
+        // SAFETY: regress_compile has written the handle, which is not used afterwards.
+        unsafe { regress_free(&mut self.0) }
+    }
+}
+
+/// Returns whether the library has the calls that this crate makes.
+pub(crate) fn has_abi() -> bool {
+    // SAFETY: the call has no arguments.
+    unsafe { regress_abi_version() == ABI_VERSION }
+}
+
+/// Compiles a pattern. Returns the status if that fails.
+pub(crate) fn compile(pattern: &str, flags: u32, steps: u64, nodes: usize) -> Result<Handle, u32> {
+    let mut handle = RegressRegex {
+        inside: ptr::null_mut(),
+    };
+    let (mut kind, mut position) = (0, 0);
+    // SAFETY: the pattern is a slice, and the other pointers are those of variables.
+    let status = unsafe {
+        regress_compile(
+            start_of(pattern),
+            pattern.len(),
+            flags,
+            steps,
+            nodes,
+            &mut handle,
+            &mut kind,
+            &mut position,
+        )
+    };
+    match status {
+        OK => Ok(Handle(handle)),
+        _ => Err(status),
+    }
+}
+
+impl Handle {
+    /// Writes the spans of the leftmost match from an offset on.
+    pub(crate) fn find(&mut self, text: &str, from: usize) -> Output<usize> {
+        let room = 2 * (self.group_count() + 1);
+        with_room(room, |spans: &mut [usize], needed| {
+            // SAFETY: the handle is alive, and pointers and lengths are those of slices.
+            unsafe {
+                regress_find(
+                    &mut self.0,
+                    start_of(text),
+                    text.len(),
+                    from,
+                    spans.as_mut_ptr(),
+                    spans.len(),
+                    needed,
+                )
+            }
+        })
+    }
+
+    /// Writes the spans of all matches.
+    pub(crate) fn find_all(&mut self, text: &str) -> Output<usize> {
+        // If there are more matches, the search is made a second time.
+        let room = (64 * (self.group_count() + 1)).max(text.len() / 4);
+        with_room(room, |spans: &mut [usize], needed| {
+            // SAFETY: as for `find`.
+            unsafe {
+                regress_find_all(
+                    &mut self.0,
+                    start_of(text),
+                    text.len(),
+                    spans.as_mut_ptr(),
+                    spans.len(),
+                    needed,
+                )
+            }
+        })
+    }
+
+    /// Returns the status of a search: OK if there is a match.
+    pub(crate) fn is_match(&mut self, text: &str) -> u32 {
+        // SAFETY: as for `find`.
+        unsafe { regress_is_match(&mut self.0, start_of(text), text.len()) }
+    }
+
+    /// Returns the number of groups, without the whole match.
+    pub(crate) fn group_count(&mut self) -> usize {
+        // SAFETY: the handle is alive.
+        unsafe { regress_group_count(&mut self.0) }
+    }
+}
+
+/// Writes the encoding of a pattern's tree, for a pattern of code points.
+pub(crate) fn tree_words(pattern: &[u32], flags: u32, optimize: u32) -> Output<u32> {
+    // Most trees fit at the first call.
+    let room = 16 * pattern.len() + 64;
+    let (mut kind, mut place) = (0, 0);
+    with_room(room, |words: &mut [u32], needed| {
+        // SAFETY: pointers and lengths are those of slices and variables. A pointer may dangle if its length is 0.
+        unsafe {
+            regress_front_parse_code_points(
+                pattern.as_ptr(),
+                pattern.len(),
+                flags,
+                optimize,
+                words.as_mut_ptr(),
+                words.len(),
+                needed,
+                &mut kind,
+                &mut place,
+            )
+        }
+    })
+}
+
+/// Writes the text of the syntax error of a pattern that is rejected. Also returns its kind and its position.
+pub(crate) fn tree_fault(pattern: &[u32], flags: u32) -> (Output<u8>, u32, usize) {
+    let (mut kind, mut place) = (0, 0);
+    let output = with_room(128, |text: &mut [u8], needed| {
+        // SAFETY: as for `tree_words`.
+        unsafe {
+            regress_front_tell_fault(
+                pattern.as_ptr(),
+                pattern.len(),
+                flags,
+                text.as_mut_ptr(),
+                text.len(),
+                needed,
+                &mut kind,
+                &mut place,
+            )
+        }
+    });
+    (output, kind, place)
+}
+
+/// Makes a call with a buffer, and once more if it is too small: with one of the size that the call reports.
+fn with_room<T: Clone + Default>(
+    room: usize,
+    mut call: impl FnMut(&mut [T], &mut usize) -> u32,
+) -> Output<T> {
+    let mut needed = 0;
+    // A buffer that is not empty has a valid pointer.
+    let mut items = vec![T::default(); room.max(1)];
+    let mut status = call(&mut items, &mut needed);
+    if status == ROOM {
+        items = vec![T::default(); needed.max(1)];
+        status = call(&mut items, &mut needed);
+    }
+    // The size of the result is 0 if there is none.
+    items.truncate(if status == ROOM { 0 } else { needed });
+    Output { status, items }
+}
+
+/// Returns a valid pointer to the bytes of a text, also for an empty one, whose own may dangle.
+fn start_of(text: &str) -> *const u8 {
+    static NOTHING: u8 = 0;
+    match text.len() {
+        0 => &NOTHING,
+        _ => text.as_ptr(),
+    }
+}

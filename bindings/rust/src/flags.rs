@@ -1,0 +1,107 @@
+//! Flags of a pattern.
+
+use std::error::Error;
+use std::fmt::{self, Write};
+use std::str::FromStr;
+
+/// The flags of a pattern, independent of each other: the flag v of JavaScript is `unicode` and `unicode_sets`
+/// together.
+#[derive(Clone, Copy, Debug, Default, PartialEq, Eq, Hash)]
+pub struct Flags {
+    pub icase: bool,
+    pub multiline: bool,
+    pub dot_all: bool,
+    pub unicode: bool,
+    pub unicode_sets: bool,
+}
+
+/// The table of Unicode data under which a pattern is parsed.
+#[derive(Clone, Copy, Debug, Default, PartialEq, Eq, Hash)]
+pub enum Table {
+    /// All of Unicode. Each call that takes a pattern makes it, in about a millisecond.
+    #[default]
+    Whole,
+    /// A small table, for patterns in ASCII and for tests.
+    Small,
+}
+
+/// Why letters specify no flags.
+#[derive(Clone, Copy, Debug, PartialEq, Eq)]
+pub enum FlagsError {
+    /// This is no letter of a flag.
+    Unknown(char),
+    /// This letter occurs twice.
+    Repeated(char),
+    /// The flags u and v exclude each other.
+    UnicodeAndSets,
+}
+
+impl fmt::Display for FlagsError {
+    fn fmt(&self, f: &mut fmt::Formatter<'_>) -> fmt::Result {
+        match self {
+            FlagsError::Unknown(letter) => write!(f, "unknown flag {letter}"),
+            FlagsError::Repeated(letter) => write!(f, "flag {letter} occurs twice"),
+            FlagsError::UnicodeAndSets => f.write_str("flags u and v exclude each other"),
+        }
+    }
+}
+
+impl Error for FlagsError {}
+
+/// Reads the letters of JavaScript, in any order: `i`, `m`, `s`, `u` and `v`. The letters `d`, `g` and `y` are accepted
+/// and set nothing: a match always has the spans of its groups, and the caller chooses between the calls that find one
+/// match and all matches.
+impl FromStr for Flags {
+    type Err = FlagsError;
+
+    fn from_str(letters: &str) -> Result<Flags, FlagsError> {
+        for (index, letter) in letters.char_indices() {
+            if !"dgimsuvy".contains(letter) {
+                return Err(FlagsError::Unknown(letter));
+            }
+            if letters[..index].contains(letter) {
+                return Err(FlagsError::Repeated(letter));
+            }
+        }
+        let unicode_sets = letters.contains('v');
+        if unicode_sets && letters.contains('u') {
+            return Err(FlagsError::UnicodeAndSets);
+        }
+        Ok(Flags {
+            icase: letters.contains('i'),
+            multiline: letters.contains('m'),
+            dot_all: letters.contains('s'),
+            unicode: unicode_sets || letters.contains('u'),
+            unicode_sets,
+        })
+    }
+}
+
+/// Writes the letters of JavaScript in alphabetical order.
+impl fmt::Display for Flags {
+    fn fmt(&self, f: &mut fmt::Formatter<'_>) -> fmt::Result {
+        let letters = [
+            (self.icase, 'i'),
+            (self.multiline, 'm'),
+            (self.dot_all, 's'),
+            (self.unicode && !self.unicode_sets, 'u'),
+            (self.unicode_sets, 'v'),
+        ];
+        for (is_set, letter) in letters {
+            if is_set {
+                f.write_char(letter)?;
+            }
+        }
+        Ok(())
+    }
+}
+
+/// Returns the flags and the table as the library has them.
+pub(crate) fn bits(flags: Flags, table: Table) -> u32 {
+    u32::from(flags.icase)
+        | u32::from(flags.multiline) << 1
+        | u32::from(flags.dot_all) << 2
+        | u32::from(flags.unicode) << 3
+        | u32::from(flags.unicode_sets) << 4
+        | u32::from(table == Table::Small) << 5
+}

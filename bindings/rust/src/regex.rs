@@ -1,0 +1,330 @@
+//! Regular expressions: a pattern is compiled once, and then searched for in texts.
+//!
+//! ```
+//! use regress_front::Regex;
+//!
+//! let regex = Regex::new(r"(?<month>\d\d)-(\d\d)")?;
+//! let text = "on 12-31";
+//! if let Some(found) = regex.find(text)? {
+//!     assert_eq!(found.as_str(), "12-31");
+//!     assert_eq!(found.named_group("month"), Some(3..5));
+//!     assert_eq!(found.group(2), Some(6..8));
+//! }
+//! assert_eq!(regex.replace_all(text, "$2.$<month>.")?, "on 31.12.");
+//! # Ok::<(), Box<dyn std::error::Error>>(())
+//! ```
+//!
+//! A search backtracks within a step limit ([`Options`]), so that it also ends for untrusted patterns and texts. It
+//! fails with a [`SearchError`] at the limit.
+
+mod error;
+mod escape;
+mod found;
+mod handles;
+mod names;
+mod replace;
+mod split;
+
+pub use error::{Error, SearchError};
+pub use escape::escape;
+pub use found::{Match, Matches};
+
+use crate::ffi::{self, Handle};
+use crate::flags::{bits, Flags, Table};
+use crate::library::parse_str;
+use error::{compile_error, search_error};
+use handles::{with_handle, Recipe};
+use names::group_names;
+use std::borrow::Cow;
+use std::fmt;
+use std::str::FromStr;
+use std::sync::Arc;
+
+/// A compiled regular expression.
+///
+/// A clone shares it, in next to no time. Threads may search with it at the same time: the pattern is compiled once
+/// more at the first search of each further thread.
+#[derive(Clone)]
+pub struct Regex {
+    compiled: Arc<Compiled>,
+}
+
+struct Compiled {
+    recipe: Arc<Recipe>,
+    flags: Flags,
+    /// The name of each group, in order.
+    names: Vec<Option<String>>,
+}
+
+/// The limits of a regular expression, and its table of Unicode.
+#[derive(Clone, Copy, Debug, PartialEq, Eq)]
+pub struct Options {
+    /// The number of steps that one search may take; 0 is the default, a billion, which takes about a minute at most.
+    /// A call that is about all matches is one search.
+    pub steps: u64,
+    /// The number of nodes that the tree of the pattern may have; 0 is the default, a million.
+    pub nodes: usize,
+    pub table: Table,
+}
+
+impl Default for Options {
+    fn default() -> Options {
+        Options {
+            steps: 1_000_000_000,
+            nodes: 1_000_000,
+            table: Table::Whole,
+        }
+    }
+}
+
+impl Regex {
+    /// Compiles a pattern without flags, within the default [`Options`].
+    ///
+    /// # Errors
+    /// As for [`Regex::with_options`].
+    pub fn new(pattern: &str) -> Result<Regex, Error> {
+        Regex::with_options(pattern, Flags::default(), Options::default())
+    }
+
+    /// Compiles a pattern with flags by JavaScript's letters, as [`Flags`] reads them.
+    ///
+    /// # Errors
+    /// Returns [`Error::Flags`] if the letters specify no flags, and else as for [`Regex::with_options`].
+    pub fn with_flags(pattern: &str, letters: &str) -> Result<Regex, Error> {
+        Regex::with_options(pattern, letters.parse()?, Options::default())
+    }
+
+    /// Compiles a pattern with flags, within limits.
+    ///
+    /// # Errors
+    /// - [`Error::Syntax`] if the pattern is rejected.
+    /// - [`Error::TooLarge`] if its tree may have more nodes than `options.nodes`, whether or not it is valid.
+    /// - [`Error::Memory`] if the library is out of memory.
+    pub fn with_options(pattern: &str, flags: Flags, options: Options) -> Result<Regex, Error> {
+        if !ffi::has_abi() {
+            return Err(Error::Library);
+        }
+        let recipe = Arc::new(Recipe {
+            pattern: pattern.to_owned(),
+            bits: bits(flags, options.table),
+            steps: options.steps,
+            nodes: options.nodes,
+        });
+        let failed = |status| compile_error(status, pattern, flags, options.table);
+        let count = with_handle(&recipe, |handle| handle.group_count()).map_err(failed)?;
+        // Only a pattern with a name is parsed to its tree.
+        let names = match pattern.contains("(?<") {
+            true => group_names(&parse_str(pattern, flags, options.table)?, count),
+            false => vec![None; count],
+        };
+        Ok(Regex {
+            compiled: Arc::new(Compiled {
+                recipe,
+                flags,
+                names,
+            }),
+        })
+    }
+
+    /// Returns whether the pattern matches somewhere in `text`.
+    ///
+    /// # Errors
+    /// As for [`Regex::find_from`].
+    pub fn is_match(&self, text: &str) -> Result<bool, SearchError> {
+        match self.call(|handle| handle.is_match(text))? {
+            ffi::OK => Ok(true),
+            ffi::NO_MATCH => Ok(false),
+            status => Err(search_error(status)),
+        }
+    }
+
+    /// Returns the leftmost match in `text`, and of those at its position the preferred one; `None` if there is none.
+    ///
+    /// # Errors
+    /// As for [`Regex::find_from`].
+    pub fn find<'t>(&self, text: &'t str) -> Result<Option<Match<'t>>, SearchError> {
+        self.find_from(text, 0)
+    }
+
+    /// Returns the leftmost match in `text` that starts at the byte offset `start` or later; `None` if there is none.
+    ///
+    /// What precedes `start` is text too: `^` does not match there, and a lookbehind may match it. `start` may be off a
+    /// character boundary; past the end of `text` there is no match. For all matches prefer [`Regex::find_iter`]: each
+    /// call decodes the whole text.
+    ///
+    /// # Errors
+    /// - [`SearchError::OutOfSteps`] if the search takes more steps than [`Options`] allow.
+    /// - [`SearchError::Memory`] if the library is out of memory.
+    pub fn find_from<'t>(
+        &self,
+        text: &'t str,
+        start: usize,
+    ) -> Result<Option<Match<'t>>, SearchError> {
+        let output = self.call(|handle| handle.find(text, start))?;
+        match output.status {
+            ffi::OK => Match::new(self, text, &output.items).map(Some),
+            ffi::NO_MATCH => Ok(None),
+            status => Err(search_error(status)),
+        }
+    }
+
+    /// Returns an iterator over the non-overlapping matches in `text`, from left to right. After an empty match the
+    /// search goes on one character further.
+    ///
+    /// All matches are found by this call. If the search fails, the iterator returns the error, and no match.
+    pub fn find_iter<'r, 't>(&'r self, text: &'t str) -> Matches<'r, 't> {
+        Matches::new(self, text, self.all_spans(text))
+    }
+
+    /// Returns all non-overlapping matches in `text`, from left to right.
+    ///
+    /// # Errors
+    /// As for [`Regex::find_from`]. The step limit is for all matches together.
+    pub fn find_all<'t>(&self, text: &'t str) -> Result<Vec<Match<'t>>, SearchError> {
+        self.find_iter(text).collect()
+    }
+
+    /// Returns `text` with the first match replaced by a template, as JavaScript's `replace`.
+    ///
+    /// In the template `$$` is a `$`, `$&` the match, `` $` `` the text before it, `$'` the text after it, and `$1` to
+    /// `$99` and `$<name>` the capture of a group, empty if the group is unset. Everything else is taken as it is.
+    ///
+    /// # Errors
+    /// As for [`Regex::find_from`].
+    pub fn replace<'t>(&self, text: &'t str, template: &str) -> Result<Cow<'t, str>, SearchError> {
+        self.replace_with(text, |found| found.expand(template))
+    }
+
+    /// Returns `text` with all matches replaced by a template, as by [`Regex::replace`].
+    ///
+    /// # Errors
+    /// As for [`Regex::find_from`]. The step limit is for all matches together.
+    pub fn replace_all<'t>(
+        &self,
+        text: &'t str,
+        template: &str,
+    ) -> Result<Cow<'t, str>, SearchError> {
+        self.replace_all_with(text, |found| found.expand(template))
+    }
+
+    /// Returns `text` with the first match replaced by what a function returns for it.
+    ///
+    /// # Errors
+    /// As for [`Regex::find_from`].
+    pub fn replace_with<'t>(
+        &self,
+        text: &'t str,
+        replacement: impl FnMut(&Match<'t>) -> String,
+    ) -> Result<Cow<'t, str>, SearchError> {
+        let first = self.find(text)?;
+        Ok(replace::replaced(text, first.as_slice(), replacement))
+    }
+
+    /// Returns `text` with each match replaced by what a function returns for it, from left to right.
+    ///
+    /// # Errors
+    /// As for [`Regex::find_from`]. The step limit is for all matches together.
+    pub fn replace_all_with<'t>(
+        &self,
+        text: &'t str,
+        replacement: impl FnMut(&Match<'t>) -> String,
+    ) -> Result<Cow<'t, str>, SearchError> {
+        let matches = self.find_all(text)?;
+        Ok(replace::replaced(text, &matches, replacement))
+    }
+
+    /// Returns the parts of `text` before, between and after the matches, one more than there are matches.
+    ///
+    /// # Errors
+    /// As for [`Regex::find_from`]. The step limit is for all matches together.
+    pub fn split<'t>(&self, text: &'t str) -> Result<Vec<&'t str>, SearchError> {
+        Ok(split::at_matches(text, &self.find_all(text)?))
+    }
+
+    /// Returns the first parts of [`Regex::split`], at most `limit`: the last of as many is the rest of `text`.
+    ///
+    /// # Errors
+    /// As for [`Regex::split`].
+    pub fn splitn<'t>(&self, text: &'t str, limit: usize) -> Result<Vec<&'t str>, SearchError> {
+        if limit == 0 {
+            return Ok(Vec::new());
+        }
+        let mut matches = self.find_all(text)?;
+        matches.truncate(limit - 1);
+        Ok(split::at_matches(text, &matches))
+    }
+
+    /// Returns the parts of `text` as JavaScript's `split`, at most `limit`.
+    ///
+    /// A match splits the text unless it is empty and at the start of the text, at its end, or at the end of the match
+    /// before it. The part before a match is followed by the captures of its groups, `None` for a group that is unset.
+    /// An empty text has no parts if it has a match, and else one.
+    ///
+    /// # Errors
+    /// As for [`Regex::split`].
+    pub fn split_with_captures<'t>(
+        &self,
+        text: &'t str,
+        limit: Option<usize>,
+    ) -> Result<Vec<Option<&'t str>>, SearchError> {
+        Ok(split::with_captures(text, &self.find_all(text)?, limit))
+    }
+
+    /// Returns the text of the pattern.
+    pub fn source(&self) -> &str {
+        &self.compiled.recipe.pattern
+    }
+
+    /// Returns the flags.
+    pub fn flags(&self) -> Flags {
+        self.compiled.flags
+    }
+
+    /// Returns the number of capture groups, without the whole match.
+    pub fn group_count(&self) -> usize {
+        self.compiled.names.len()
+    }
+
+    /// Returns the name of each capture group in the order of the opening parentheses, `None` for a group without one.
+    pub fn group_names(&self) -> impl Iterator<Item = Option<&str>> {
+        self.compiled.names.iter().map(Option::as_deref)
+    }
+
+    /// Returns the spans of all matches and their groups.
+    fn all_spans(&self, text: &str) -> Result<Vec<usize>, SearchError> {
+        let output = self.call(|handle| handle.find_all(text))?;
+        match output.status {
+            ffi::OK => Ok(output.items),
+            status => Err(search_error(status)),
+        }
+    }
+
+    /// Makes a call with the handle of this thread.
+    fn call<T>(&self, call: impl FnOnce(&mut Handle) -> T) -> Result<T, SearchError> {
+        with_handle(&self.compiled.recipe, call).map_err(search_error)
+    }
+}
+
+/// Writes the text of the pattern.
+impl fmt::Display for Regex {
+    fn fmt(&self, f: &mut fmt::Formatter<'_>) -> fmt::Result {
+        f.write_str(self.source())
+    }
+}
+
+impl fmt::Debug for Regex {
+    fn fmt(&self, f: &mut fmt::Formatter<'_>) -> fmt::Result {
+        f.debug_struct("Regex")
+            .field("source", &self.source())
+            .field("flags", &format_args!("{}", self.flags()))
+            .finish()
+    }
+}
+
+impl FromStr for Regex {
+    type Err = Error;
+
+    fn from_str(pattern: &str) -> Result<Regex, Error> {
+        Regex::new(pattern)
+    }
+}

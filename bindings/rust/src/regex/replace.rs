@@ -1,0 +1,93 @@
+//! Replacing matches, by a function or by a template (ECMA-262, GetSubstitution).
+
+use super::Match;
+use std::borrow::Cow;
+
+/// Returns a text with each of these matches replaced, which are in order.
+pub(crate) fn replaced<'t>(
+    text: &'t str,
+    matches: &[Match<'t>],
+    mut replacement: impl FnMut(&Match<'t>) -> String,
+) -> Cow<'t, str> {
+    if matches.is_empty() {
+        return Cow::Borrowed(text);
+    }
+    let mut out = String::new();
+    let mut from = 0;
+    for found in matches {
+        out.push_str(text.get(from..found.start()).unwrap_or_default());
+        out.push_str(&replacement(found));
+        from = found.end();
+    }
+    out.push_str(text.get(from..).unwrap_or_default());
+    Cow::Owned(out)
+}
+
+/// Returns what a template expands to at a match.
+pub(crate) fn expand(template: &str, found: &Match<'_>) -> String {
+    let mut out = String::new();
+    let mut has_names = found.named_groups().next().is_some();
+    let mut rest = template;
+    while let Some((plain, after)) = rest.split_once('$') {
+        out.push_str(plain);
+        match reference(after, found, has_names) {
+            Some((value, remaining)) => {
+                out.push_str(value);
+                rest = remaining;
+            }
+            None => {
+                // A `<` without a `>` after it: no later `<` has one either.
+                has_names &= !after.starts_with('<');
+                out.push('$');
+                rest = after;
+            }
+        }
+    }
+    out.push_str(rest);
+    out
+}
+
+/// Returns the value of the reference that follows a `$`, and the rest of the template; `None` if the `$` is no
+/// reference.
+fn reference<'a, 't: 'a>(
+    after: &'a str,
+    found: &Match<'t>,
+    has_names: bool,
+) -> Option<(&'a str, &'a str)> {
+    let first = after.chars().next()?;
+    let rest = &after[first.len_utf8()..];
+    let text = found.searched();
+    match first {
+        '$' => Some(("$", rest)),
+        '&' => Some((found.as_str(), rest)),
+        '`' => Some((&text[..found.start()], rest)),
+        '\'' => Some((&text[found.end()..], rest)),
+        '0'..='9' => {
+            let (number, rest) = number(after, found.group_count())?;
+            Some((captured(text, found.group(number)), rest))
+        }
+        '<' if has_names => {
+            let (name, rest) = rest.split_once('>')?;
+            Some((captured(text, found.named_group(name)), rest))
+        }
+        _ => None,
+    }
+}
+
+/// Returns the number of a group that a text begins with, and the rest of the text. A second digit is taken only if the
+/// pattern has as many groups.
+fn number(text: &str, groups: usize) -> Option<(usize, &str)> {
+    [2, 1].into_iter().find_map(|digits| {
+        let (number, rest) = (text.get(..digits)?, text.get(digits..)?);
+        if !number.bytes().all(|byte| byte.is_ascii_digit()) {
+            return None;
+        }
+        let number = number.parse().ok()?;
+        (1..=groups).contains(&number).then_some((number, rest))
+    })
+}
+
+/// Returns the text of a capture, which is empty if the group is unset.
+fn captured(text: &str, span: Option<std::ops::Range<usize>>) -> &str {
+    span.map_or("", |span| &text[span])
+}

@@ -1,0 +1,233 @@
+//! Tests of regular expressions.
+
+use regress_front::{
+    escape, Error, FaultKind, Flags, FlagsError, Match, Options, Regex, SearchError, Table,
+};
+use std::borrow::Cow;
+use std::thread;
+
+fn texts<'t>(regex: &Regex, text: &'t str) -> Vec<&'t str> {
+    let matches = regex.find_iter(text);
+    matches.map(|found| found.unwrap().as_str()).collect()
+}
+
+#[test]
+fn a_match_has_the_spans_of_its_groups() {
+    let regex = Regex::new(r"(?<month>\d\d)-(\d\d)(x)?").unwrap();
+    let text = "é: 12-31.";
+    let found = regex.find(text).unwrap().unwrap();
+    assert_eq!(found.range(), 4..9);
+    assert_eq!((found.start(), found.end()), (4, 9));
+    assert_eq!(found.as_str(), "12-31");
+    assert_eq!(found.group(0), Some(4..9));
+    assert_eq!(found.group(2), Some(7..9));
+    assert_eq!(found.group(3), None);
+    assert_eq!(found.group(4), None);
+    assert_eq!(found.named_group("month"), Some(4..6));
+    assert_eq!(found.named_group("day"), None);
+    let spans: Vec<_> = found.groups().collect();
+    assert_eq!(spans, [Some(4..9), Some(4..6), Some(7..9), None]);
+    let named: Vec<_> = found.named_groups().collect();
+    assert_eq!(named, [("month", Some(4..6))]);
+    assert_eq!(
+        format!("{found:?}"),
+        r#"Match { text: "12-31", range: 4..9, groups: [Some(4..6), Some(7..9), None] }"#
+    );
+}
+
+#[test]
+fn a_regex_has_its_source_flags_and_names() {
+    let regex = Regex::with_flags("(?<a>x)(y)", "mi").unwrap();
+    assert_eq!(regex.to_string(), "(?<a>x)(y)");
+    assert_eq!(regex.source(), "(?<a>x)(y)");
+    assert_eq!(regex.flags().to_string(), "im");
+    assert_eq!(regex.group_count(), 2);
+    assert_eq!(regex.group_names().collect::<Vec<_>>(), [Some("a"), None]);
+    assert_eq!(
+        format!("{regex:?}"),
+        r#"Regex { source: "(?<a>x)(y)", flags: im }"#
+    );
+    assert!("(".parse::<Regex>().is_err());
+}
+
+#[test]
+fn matches_come_from_left_to_right() {
+    let regex = Regex::new("a*").unwrap();
+    assert_eq!(texts(&regex, "aabé"), ["aa", "", "", ""]);
+    assert_eq!(texts(&regex, ""), [""]);
+    let starts: Vec<usize> = regex.find_iter("bé").map(|m| m.unwrap().start()).collect();
+    assert_eq!(starts, [0, 1, 3]);
+    assert!(texts(&Regex::new("x").unwrap(), "abc").is_empty());
+}
+
+#[test]
+fn a_search_may_begin_inside_the_text() {
+    let regex = Regex::new("^a|a$|b").unwrap();
+    let starts = |text, from| {
+        let found: Option<Match> = regex.find_from(text, from).unwrap();
+        found.map(|found| found.start())
+    };
+    assert_eq!(starts("aab", 0), Some(0));
+    assert_eq!(starts("aab", 1), Some(2));
+    assert_eq!(starts("aab", 3), None);
+    assert_eq!(starts("aab", 4), None);
+    assert_eq!(starts("éb", 1), Some(2));
+    assert!(regex.is_match("ba").unwrap());
+    assert!(!regex.is_match("cac").unwrap());
+}
+
+#[test]
+fn many_matches_are_found_by_one_call() {
+    let text = "ab".repeat(50_000);
+    let regex = Regex::new("(a)|(b)").unwrap();
+    assert_eq!(regex.find_all(&text).unwrap().len(), 100_000);
+    assert_eq!(regex.replace_all(&text, "$1$1").unwrap().len(), 2 * 50_000);
+}
+
+#[test]
+fn texts_are_replaced_by_templates_and_functions() {
+    let regex = Regex::new(r"(?<a>\d)(x)?").unwrap();
+    let text = "1-2x";
+    assert_eq!(regex.replace(text, "[$&]").unwrap(), "[1]-2x");
+    assert_eq!(regex.replace_all(text, "[$<a>$2]").unwrap(), "[1]-[2x]");
+    assert_eq!(regex.replace_all(text, "$$$3$02$").unwrap(), "$$3$-$$3x$");
+    assert_eq!(
+        regex.replace_with(text, |m| m.as_str().repeat(2)).unwrap(),
+        "11-2x"
+    );
+    assert_eq!(
+        regex
+            .replace_all_with(text, |m| format!("<{}>", m.start()))
+            .unwrap(),
+        "<0>-<2>"
+    );
+    for same in [
+        regex.replace("ab", "y"),
+        regex.replace_all("ab", "y"),
+        regex.replace_all_with("ab", |_| "y".into()),
+    ] {
+        assert!(matches!(same.unwrap(), Cow::Borrowed("ab")));
+    }
+}
+
+#[test]
+fn texts_are_split_at_matches() {
+    let regex = Regex::new(r",\s*").unwrap();
+    assert_eq!(regex.split("a, b,c").unwrap(), ["a", "b", "c"]);
+    assert_eq!(regex.split("").unwrap(), [""]);
+    assert_eq!(regex.split(",a,").unwrap(), ["", "a", ""]);
+    assert_eq!(regex.splitn("a, b,c", 2).unwrap(), ["a", "b,c"]);
+    assert_eq!(regex.splitn("a, b,c", 1).unwrap(), ["a, b,c"]);
+    assert!(regex.splitn("a, b,c", 0).unwrap().is_empty());
+    let empty = Regex::new("").unwrap();
+    assert_eq!(empty.split("ab").unwrap(), ["", "a", "b", ""]);
+    assert_eq!(
+        empty.split_with_captures("ab", None).unwrap(),
+        [Some("a"), Some("b")]
+    );
+    let captures = Regex::new("(-)|(=)").unwrap();
+    assert_eq!(
+        captures.split_with_captures("a=b", None).unwrap(),
+        [Some("a"), None, Some("="), Some("b")]
+    );
+    assert_eq!(
+        captures.split_with_captures("a=b", Some(2)).unwrap(),
+        [Some("a"), None]
+    );
+}
+
+#[test]
+fn a_syntax_error_has_a_kind_a_text_and_a_position() {
+    let error = Regex::new("a[b").unwrap_err();
+    assert_eq!(error.to_string(), "Unbalanced bracket, at position 1");
+    let Error::Syntax {
+        kind,
+        text,
+        position,
+    } = error
+    else {
+        panic!("{error:?}")
+    };
+    assert_eq!(kind, FaultKind::UnbalancedBracket);
+    assert_eq!(text, "Unbalanced bracket");
+    assert_eq!(position, 1);
+}
+
+#[test]
+fn flags_are_letters() {
+    let flags: Flags = "gimsvdy".parse().unwrap();
+    assert!(flags.icase && flags.multiline && flags.dot_all);
+    assert!(flags.unicode && flags.unicode_sets);
+    assert_eq!(flags.to_string(), "imsv");
+    assert_eq!("".parse(), Ok(Flags::default()));
+    assert_eq!("x".parse::<Flags>(), Err(FlagsError::Unknown('x')));
+    assert_eq!("imi".parse::<Flags>(), Err(FlagsError::Repeated('i')));
+    assert_eq!("uv".parse::<Flags>(), Err(FlagsError::UnicodeAndSets));
+    assert_eq!(
+        Regex::with_flags("a", "uv").unwrap_err(),
+        Error::Flags(FlagsError::UnicodeAndSets)
+    );
+}
+
+#[test]
+fn limits_are_kept() {
+    let options = Options {
+        steps: 100,
+        nodes: 10,
+        table: Table::Small,
+    };
+    let flags = Flags::default();
+    assert_eq!(
+        Regex::with_options(&"a".repeat(1000), flags, options).unwrap_err(),
+        Error::TooLarge
+    );
+    let regex = Regex::with_options("(a*)*b", flags, options).unwrap();
+    let text = "a".repeat(1000);
+    assert_eq!(regex.is_match(&text), Err(SearchError::OutOfSteps));
+    assert_eq!(regex.find(&text).unwrap_err(), SearchError::OutOfSteps);
+    assert_eq!(regex.find_all(&text).unwrap_err(), SearchError::OutOfSteps);
+    assert_eq!(regex.replace_all(&text, ""), Err(SearchError::OutOfSteps));
+    let mut matches = regex.find_iter(&text);
+    assert!(matches.next().unwrap().is_err());
+    assert!(matches.next().is_none());
+}
+
+#[test]
+fn threads_share_a_regex() {
+    fn is_shared<T: Send + Sync>() {}
+    is_shared::<Regex>();
+    is_shared::<Match>();
+    let regex = Regex::new("a+").unwrap();
+    thread::scope(|scope| {
+        for length in 1..5 {
+            let regex = &regex;
+            scope.spawn(move || {
+                let text = "a".repeat(length);
+                for _ in 0..100 {
+                    assert_eq!(regex.find(&text).unwrap().unwrap().end(), length);
+                }
+            });
+        }
+    });
+    let clone = regex.clone();
+    drop(regex);
+    assert!(thread::spawn(move || clone.is_match("a").unwrap())
+        .join()
+        .unwrap());
+}
+
+#[test]
+fn an_escaped_text_matches_itself() {
+    let text = "1+1 = 2?\t\n\u{B}\u{C}\r-\u{2028}é";
+    let pattern = escape(text);
+    assert_eq!(
+        pattern,
+        "\\x31\\+1\\x20\\x3d\\x202\\?\\t\\n\\v\\f\\r\\x2d\\u2028é"
+    );
+    assert_eq!(escape(""), "");
+    assert_eq!(escape("é1"), "é1");
+    for letters in ["", "i", "u", "v"] {
+        let found = Regex::with_flags(&pattern, letters).unwrap().find(text);
+        assert_eq!(found.unwrap().unwrap().as_str(), text);
+    }
+}
