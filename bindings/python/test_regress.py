@@ -1,0 +1,289 @@
+"""Tests of the module regress: python3 test_regress.py [FOLDER], where FOLDER has regress.py and libregress.so.
+
+The results are those of V8, in the files of crates/test_cases/data/generated, and those of Python's module re, for
+patterns that mean the same there."""
+
+import copy
+import doctest
+import pathlib
+import pickle
+import re
+import sys
+import threading
+import time
+import unittest
+
+if len(sys.argv) > 1:
+    sys.path.insert(0, sys.argv.pop(1))
+import regress
+
+CASES = pathlib.Path(__file__).resolve().parents[2] / 'crates/test_cases/data/generated'
+
+
+def literal(field):
+    """Returns a field of a test case with its code points in brackets replaced by the characters."""
+    def replaced(found):
+        times, by, text = found[1].partition('×')
+        return int(times) * text if by else chr(int(found[1], 16))
+    return re.sub('⟨(.*?)⟩', replaced, field)
+
+
+def cases(name):
+    """Yields the lines of a file of test cases, each with its fields."""
+    for number, line in enumerate((CASES / name).read_text(encoding='utf-8').split('\n'), 1):
+        if line and not line.startswith('#'):
+            yield '%s:%d: %s' % (name, number, line), [literal(field) for field in line.split('\t')]
+
+
+def compiled(flags, pattern):
+    """Compiles a pattern of a test case, whose flags are independent of each other: v needs u there."""
+    return regress.compile(pattern, flags.replace('u', '') if 'v' in flags else flags)
+
+
+class V8(unittest.TestCase):
+    """Compares with V8."""
+
+    def conclude(self, failures, count):
+        self.assertGreater(count, 0)
+        self.assertFalse(failures, '%d of %d fail:\n%s' % (len(failures), count, '\n'.join(failures[:20])))
+        print('%d results are those of V8' % count)
+
+    def test_first_matches(self):
+        failures = []
+        count = 0
+        for name, (_, call, flags, pattern, text, result) in cases('v8.tsv'):
+            count += 1
+            self.assertEqual(call, 'find')
+            found = compiled(flags, pattern).search(text)
+            spans = [found.span(number) for number in range(found.re.groups + 1)] if found else []
+            shown = ' '.join('-' if span == (-1, -1) else '%d-%d' % span for span in spans) or 'none'
+            if shown != result:
+                failures.append('%s\n    found: %s' % (name, shown))
+        self.conclude(failures, count)
+
+    def test_replaced_and_split_texts(self):
+        failures = []
+        count = 0
+        for name, (call, flags, pattern, text, last, result) in cases('v8_replaces.tsv'):
+            count += 1
+            pattern = compiled(flags, pattern)
+            if call == 'replace':
+                results = [pattern.sub(last, text, 1), pattern.sub(lambda found: found.expand(last), text, 1)]
+            elif call == 'replace_all':
+                results = [pattern.sub(last, text), pattern.subn(last, text)[0]]
+            else:
+                # The limit of JavaScript is that of the parts.
+                parts = pattern.split(text)[:None if last == '-' else int(last)]
+                results = [' | '.join('-' if part is None else part for part in parts) if parts else 'none']
+            failures += ['%s\n    found: %s' % (name, shown) for shown in results if shown != result]
+        self.conclude(failures, count)
+
+
+class Re(unittest.TestCase):
+    """Compares with Python's re, over patterns and texts for which both have the same results."""
+
+    PATTERNS = ['a', 'a+', '(a)(b)?', '(?:a|(b))(c)?', '[^a]', '^a', 'b$', 'é+', '(.)(.)', 'x*', '', 'a|ab',
+                '(a|ab)(c|bcd)?']
+    TEXTS = ['', 'a', 'abc', 'aab', 'abcd', 'éaé', 'ab' * 40 + 'é' + 'ba' * 40, 'a😀b', 'ééé', '日本ab']
+
+    def pairs(self):
+        for pattern in self.PATTERNS:
+            for text in self.TEXTS:
+                yield regress.compile(pattern), re.compile(pattern), text
+                yield regress.compile(pattern.encode()), re.compile(pattern.encode()), text.encode()
+
+    def assertSame(self, ours, theirs):
+        self.assertEqual(ours is None, theirs is None)
+        if ours is None:
+            return
+        for group in range(theirs.re.groups + 1):
+            self.assertEqual(ours.span(group), theirs.span(group))
+            self.assertEqual(ours.start(group), theirs.start(group))
+            self.assertEqual(ours.end(group), theirs.end(group))
+            self.assertEqual(ours[group], theirs[group])
+        self.assertEqual(ours.groups(), theirs.groups())
+        self.assertEqual((ours.pos, ours.endpos, ours.string), (theirs.pos, theirs.endpos, theirs.string))
+
+    def test_matches(self):
+        for ours, theirs, text in self.pairs():
+            # Bytes of one character are one character for us.
+            if isinstance(text, bytes) and not text.isascii():
+                continue
+            for pos in range(len(text) + 2) if len(text) < 9 else (0, 80, 83):
+                for name in ('search', 'match', 'fullmatch'):
+                    with self.subTest(name=name, pattern=theirs.pattern, text=text, pos=pos):
+                        self.assertSame(getattr(ours, name)(text, pos), getattr(theirs, name)(text, pos))
+
+    def test_ends(self):
+        for ours, theirs, text in self.pairs():
+            if isinstance(text, bytes) and not text.isascii():
+                continue
+            for endpos in range(-1, len(text) + 2) if len(text) < 9 else (80, 81):
+                for name in ('search', 'match', 'fullmatch'):
+                    with self.subTest(name=name, pattern=theirs.pattern, text=text, endpos=endpos):
+                        found = getattr(ours, name)(text, 0, endpos), getattr(theirs, name)(text, 0, endpos)
+                        self.assertSame(*found)
+                        # In re an empty search is at pos, even if that is past the end.
+                        if endpos >= 1:
+                            found = getattr(ours, name)(text, 1, endpos), getattr(theirs, name)(text, 1, endpos)
+                            self.assertSame(*found)
+
+    def test_all_matches(self):
+        for ours, theirs, text in self.pairs():
+            if isinstance(text, bytes) and not text.isascii():
+                continue
+            for pos in (0, 1, 2):
+                with self.subTest(pattern=theirs.pattern, text=text, pos=pos):
+                    found = list(ours.finditer(text, pos)), list(theirs.finditer(text, pos))
+                    self.assertEqual(len(found[0]), len(found[1]))
+                    for pair in zip(*found):
+                        self.assertSame(*pair)
+                    self.assertEqual(ours.findall(text, pos), theirs.findall(text, pos))
+            # Empty matches split a text in re, and not in JavaScript.
+            if not theirs.match(text[:0]):
+                for maxsplit in (-1, 0, 1, 2):
+                    self.assertEqual(ours.split(text, maxsplit), theirs.split(text, maxsplit))
+            letter = text[:0] + (b'<' if isinstance(text, bytes) else '<')
+            self.assertEqual(ours.subn(letter, text, 2), theirs.subn(letter, text, 2))
+            self.assertEqual(ours.sub(letter, text), theirs.sub(letter, text))
+            self.assertEqual(ours.sub(lambda found: found[0] * 2, text), theirs.sub(lambda found: found[0] * 2, text))
+
+
+class Calls(unittest.TestCase):
+    """Tests what is this module's own."""
+
+    def test_groups(self):
+        pattern = regress.compile(r'(?<year>\d{4})(?:-(?<month>\d\d))?(x)?', 'u')
+        self.assertEqual(pattern.groups, 3)
+        self.assertEqual(pattern.groupindex, {'year': 1, 'month': 2})
+        found = pattern.search('é 2024-05')
+        self.assertEqual(found.group('year', 2, 3), ('2024', '05', None))
+        self.assertEqual(found.groups(''), ('2024', '05', ''))
+        self.assertEqual(found.groupdict(), {'year': '2024', 'month': '05'})
+        self.assertEqual(pattern.search('2024').groupdict('?'), {'year': '2024', 'month': '?'})
+        self.assertEqual(found.span('month'), (7, 9))
+        self.assertEqual(found.span(3), (-1, -1))
+        self.assertEqual(found.expand('$<month>/$1$3$4$$'), '05/2024$4$')
+        self.assertEqual(repr(found), "<regress.Match object; span=(2, 9), match='2024-05'>")
+        for group in (4, -1, 'day', 'x'):
+            with self.assertRaises(IndexError):
+                found[group]
+
+    def test_names_beside_nodes_of_all_kinds(self):
+        pattern = (r'(?<a>[\q{abc|de}x-z]{2,3}?|\w+)\b(?<b>^.|[^\d]|\u{1F600})(?:(?<c\u{e9}>é)*|(y))+'
+                   r'(?<=(?<d>a))\k<a>[ab]\p{L}*$')
+        self.assertEqual(regress.compile(pattern, 'v').groupindex, {'a': 1, 'b': 2, 'cé': 3, 'd': 5})
+
+    def test_groups_of_one_name(self):
+        pattern = regress.compile('(?<a>x)|(?<a>y)')
+        self.assertEqual(pattern.groupindex, {'a': 1})
+        self.assertEqual(pattern.search('y')['a'], 'y')
+        self.assertEqual(pattern.sub('<$<a>>', 'xzy'), '<x>z<y>')
+        self.assertEqual(pattern.subn('<$<a>>', 'xzy'), ('<x>z<y>', 2))
+
+    def test_flags(self):
+        self.assertEqual(regress.compile('a', 'vgimsdy').flags, 'imsv')
+        self.assertTrue(regress.compile('a.b', 'is').search('A\nB'))
+        for flags in ('x', 'ii', 'uv'):
+            with self.assertRaises(regress.error) as caught:
+                regress.compile('a', flags)
+            self.assertEqual(caught.exception.kind, 'Flags')
+
+    def test_fullmatch_tries_other_matches(self):
+        self.assertEqual(regress.compile('a|ab').fullmatch('ab').span(), (0, 2))
+        self.assertEqual(regress.compile('a|ab').match('ab').span(), (0, 1))
+        self.assertEqual(regress.compile('^a$', 'm').fullmatch('b\na\nc', 2, 3).span(), (2, 3))
+        self.assertIsNone(regress.compile('a$', 'm').fullmatch('a\nb'))
+        self.assertIsNone(regress.compile('^b', 'm').fullmatch('a\nb'))
+        self.assertEqual(regress.compile('a|b', 'v').fullmatch('b').span(), (0, 1))
+
+    def test_syntax_errors(self):
+        with self.assertRaises(regress.error) as caught:
+            regress.compile('é[b')
+        error = caught.exception
+        self.assertEqual(str(error), 'Unbalanced bracket at position 1')
+        self.assertEqual((error.msg, error.pos, error.kind), ('Unbalanced bracket', 1, 'UnbalancedBracket'))
+        self.assertEqual(error.pattern, 'é[b')
+        with self.assertRaises(regress.error) as caught:
+            regress.compile('é[b'.encode())
+        self.assertEqual(caught.exception.pos, 2)
+
+    def test_limits(self):
+        with self.assertRaises(regress.error) as caught:
+            regress.compile('a' * 1000, nodes=10)
+        self.assertEqual(caught.exception.kind, 'TooLarge')
+        pattern = regress.compile('(a*)*b', steps=100)
+        for call in (pattern.search, pattern.findall, lambda text: pattern.sub('', text)):
+            with self.assertRaises(regress.error) as caught:
+                call('a' * 1000)
+            self.assertEqual(caught.exception.kind, 'OutOfSteps')
+        with self.assertRaises(ValueError):
+            regress.compile('a', steps=0)
+
+    def test_types(self):
+        for pattern, text in (('a', b'a'), (b'a', 'a'), ('a', None)):
+            with self.assertRaises(TypeError):
+                regress.compile(pattern).search(text)
+        with self.assertRaises(TypeError):
+            regress.compile('a').sub(b'b', 'a')
+        with self.assertRaises(TypeError):
+            regress.compile(1)
+        self.assertEqual(regress.compile(b'a').search(bytearray(b'ba')).span(), (1, 2))
+        found = regress.compile('(.)é'.encode()).search('x日é'.encode())
+        self.assertEqual((found.span(), found[1]), ((1, 6), '日'.encode()))
+
+    def test_texts_that_are_no_unicode(self):
+        with self.assertRaises(UnicodeEncodeError):
+            regress.compile('a').search('\ud800')
+        with self.assertRaises(UnicodeEncodeError):
+            regress.compile('\ud800')
+        with self.assertRaises(UnicodeDecodeError):
+            regress.compile(b'a').search(b'\xff')
+        with self.assertRaises(UnicodeDecodeError):
+            regress.compile(b'\xff')
+
+    def test_positions_take_linear_time(self):
+        text = 'é😀x' * 100_000
+        begin = time.perf_counter()
+        spans = [found.span() for found in regress.compile('(?<=(é).)x').finditer(text)]
+        self.assertEqual(spans, [(3 * n + 2, 3 * n + 3) for n in range(100_000)])
+        self.assertLess(time.perf_counter() - begin, 20)
+
+    def test_values(self):
+        pattern = regress.compile('a', 'i')
+        self.assertEqual(repr(pattern), "regress.compile('a', 'i')")
+        self.assertEqual(pickle.loads(pickle.dumps(pattern)), pattern)
+        self.assertIs(copy.deepcopy(pattern), pattern)
+        self.assertEqual(len({pattern, regress.compile('a', 'i'), regress.compile('a')}), 2)
+        self.assertIs(regress.compile(pattern), pattern)
+
+    def test_escape(self):
+        text = '1+1 = 2?\t\n\v\f\r-\u2028é'
+        self.assertEqual(regress.escape(text), '\\x31\\+1\\x20\\x3d\\x202\\?\\t\\n\\v\\f\\r\\x2d\\u2028é')
+        self.assertEqual(regress.escape('é1'), 'é1')
+        self.assertEqual(regress.escape(b'a.'), b'\\x61\\.')
+        for flags in ('', 'i', 'u', 'v'):
+            self.assertTrue(regress.compile(regress.escape(text), flags).fullmatch(text))
+
+    def test_threads(self):
+        pattern = regress.compile('a+')
+        lengths = []
+
+        def search(length):
+            for _ in range(200):
+                found = pattern.search('a' * length)
+                if found.end() == length:
+                    lengths.append(length)
+        threads = [threading.Thread(target=search, args=(length,)) for length in range(1, 5)]
+        for thread in threads:
+            thread.start()
+        for thread in threads:
+            thread.join()
+        self.assertEqual(len(lengths), 800)
+
+    def test_documentation(self):
+        self.assertEqual(doctest.testmod(regress).failed, 0)
+
+
+if __name__ == '__main__':
+    unittest.main()
