@@ -6,7 +6,7 @@ use base.Logic.{SProp, ent, emp, never, fst∗, id⊢}
 use base.Fml.{ftrue}
 use prog.Wp.{WpFn}
 use types.Logic.{sem}
-use types.Kit.{‵, raw, ◌⊛◌, ◌$◌, ◌∵◌, !, qed, by, move, keep, split, fsplit, fjoin, rewrite, suffices, use0}
+use types.Kit.{‵, raw, ◌⊛◌, ◌$◌, ◌∵◌, !, qed, by, move, keep, split, fsplit, fjoin, fpick, rewrite, suffices, use0}
 use types.Run.{stop, fld, of_opd, no_more, and_then, returns, enter}
 use types.ByLocal.{alloc_all, pass_all, free_all, look_at, get, get_in, sets}
 use types.Part.{agg, sub, whole}
@@ -21,11 +21,11 @@ use denote.Steps.{nothing, heard}
 use denote.Triple.Walked.{Stays, stay_dropped, walk_of, Goes-dropped}
 use Rattle.core.proofs.alloc.Calls.{Goes-blank, handle_tells}
 use Rattle.std.proofs.raw_atomic.Walks.{proved_at, leaves}
-use Rattle.libc.specs.Heap.{chunk}
 use Rattle.std.specs.Prelude.{Option, None, Some}
 use Rattle.std.specs.contracts.alloc.Global as heap
 use Rattle.std.proofs.alloc.Global.TheLaws as heap_laws
 use Rattle.std.specs.contracts.impls.GlobalAllocator.TheImpl.{ghosts}
+use Rattle.std_alloc.specs.Box.Ownership.{box_owns}
 use Rattle.regress_c.specs.Handles.{owned}
 use Rattle.regress.specs.declared.pattern.Regex.{Regex}
 use Rattle.regress.specs.contracts.pattern.Regex as held
@@ -46,7 +46,8 @@ into_loose_spec 𝓤 𝓛 𝓜 𝓡 wired =
     -- [the box or nothing; the handle's allocator; the tokens; what is required]
     move ! (3 ∷ []) $ heard ! _ (λ asked. let found = some_of d.value asked in let x : Regex = found.0 in
     rewrite ! 0 (λ (v : Option Regex). ‵ (owned R d.at v)) found.1 refl $
-    in_a_block ! d.at (λ p. owned R p (Some x)) (fst∗ 𝓤 (never 𝓤) (sem 𝓛 (chunk (bare (lone R.mir)) null_ptr))) (λ b o e.
+    fpick ! (λ from.
+    in_a_block ! d.at (λ p. box_owns (ghosts.dealloc_token from) R p x) (fst∗ 𝓤 (never 𝓤) (sem 𝓛 (ghosts.dealloc_token from (bare (lone R.mir)) null_ptr))) (λ b o e.
     let p : Ptr = block_ptr b o in
     move ! (1 ∷ []) $ fsplit ! $ handle_tells (al R Z LZ ghosts) ! a z.0.4.1.0 (λ h ea fits. move ! (2 ∷ []) $
     let w : Val = alone p in let es = subst (λ (q : Ptr). z.0.4.0 ≡ alone q ∷ []) e ev in
@@ -55,4 +56,4 @@ into_loose_spec 𝓤 𝓛 𝓜 𝓡 wired =
     sets ! (of_opd ! (get_in ! (fld ! refl (stop !)) (sub ! 0 refl (whole !)))) refl (tt, tt) $ sets ! (of_opd ! (get ! refl)) refl (tt, tt) $
     sets ! (agg ! (and_then ! (get ! refl) (and_then ! (get ! refl) (no_more !)))) refl (loose_good R Z LZ ghosts b o h fits) $
     returns ! (look_at ! 0 refl) $ free_all ! refl $ loose_in R Z LZ ghosts ! b o h a x $ use0 𝓛 (raw (fact 𝓤 (Some x ≡ d.value))) (fact_i 𝓤 (Some x ≡ d.value) (emp 𝓤) (sym found.1)) $
-    nothing ! $ nothing ! $ fjoin ! $ nothing ! $ fjoin ! $ keep ! (4 ∷ 0 ∷ 2 ∷ 1 ∷ []) $ by ! (leaves 𝓛 f.ended hs c z (both (vptr b o) h) (record { at = p; alloc = a; value = x }) (tt, (tt, tt)) (tt, (tt, tt)))))))))
+    nothing ! $ nothing ! $ fjoin ! $ nothing ! $ fjoin ! $ keep ! (4 ∷ 0 ∷ 2 ∷ 1 ∷ []) $ by ! (leaves 𝓛 f.ended hs c z (both (vptr b o) h) (record { at = p; alloc = a; value = x }) (tt, (tt, tt)) (tt, (tt, tt))))))))))
