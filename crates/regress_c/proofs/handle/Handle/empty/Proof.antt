@@ -1,18 +1,15 @@
 -- `empty` makes a handle that owns nothing.
 use Rattle.std.proofs.Common.{◌≡◌, [], ◌∷◌, refl}
 use base.Logic.{emp}
-use base.Fml.{ftrue}
-use types.Kit.{‵, raw, ◌$◌, ◌∵◌, !, qed, drop, keep, by, use0, fjoin}
-use types.Run.{lit, of_opd, no_more, and_then, returns, enter}
-use types.ByLocal.{alloc_all, pass_all, free_all, look_at, get, sets}
+use types.Kit.{raw, ◌$◌, ◌∵◌, !, qed, drop, keep, by, use0}
+use types.Run.{lit, no_more, and_then, returns, enter}
+use types.ByLocal.{alloc_all, pass_all, free_all, look_at, sets}
 use types.Part.{agg}
 use contract.Monad.{fact, fact_i}
-use contract.Running.{tables}
 use denote.RawPtr.{Ptr, null_ptr}
 use denote.Steps.{nothing}
 use denote.Triple.Entry.{on_entry}
 use denote.Triple.Walked.{walk_of}
-use Rattle.core.proofs.atomic.Steps.{Ptr-Good}
 use Rattle.std.proofs.raw_atomic.Walks.{proved, leaves}
 use Rattle.std.specs.Prelude.{Option, None}
 use Rattle.regress.specs.declared.pattern.Regex.{Regex}
