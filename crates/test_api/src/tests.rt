@@ -10,6 +10,7 @@ mod lengths;
 mod linting;
 mod matchers;
 mod passes;
+mod programs;
 mod regular_expressions;
 mod walks;
 
