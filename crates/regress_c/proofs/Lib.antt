@@ -1,5 +1,7 @@
 mod CompileLemmas
 mod HandleValues
 mod LooseValues
+mod MessageLemmas
 mod ResultLemmas
 mod SearchLemmas
+mod TextLemmas

@@ -6,3 +6,4 @@ pub mod Handles
 pub mod Spans
 pub mod SearchResults
 pub mod CompileResults
+pub mod TextResults

@@ -6,11 +6,12 @@ ghost use Rattle.regress_c.specs.CompileResults.{CompileResult, nodes_limit};
 ghost use Rattle.regress_c.specs.Request.{setting_by, IsTextRequest};
 ghost use Rattle.regress_c.specs.SearchResults.{SearchResult, TestResult};
 ghost use Rattle.regress_c.specs.Spans.{AreEndsOfAll, AreEndsOfFirst};
+ghost use Rattle.regress_c.specs.TextResults.{HasGroup, HasKind, IsMessage, IsNameOf, TextResult};
 ghost use Rattle.regress_program.specs.Found.{Finds};
 
 use super::compiling::{options_of, write_compiled};
 use super::handle::Handle;
-use super::searches;
+use super::{searches, texts};
 use std::alloc::Global;
 
 const ABI_VERSION: u32 = 1;
@@ -147,6 +148,45 @@ pub extern "C" fn regress_group_count(alloc: Global, handle: &mut Handle) -> usi
     let count = regex.group_count();
     *handle = Handle::of(regex);
     count
+}
+
+/// Writes the name of the capture group with a number, from 1, in UTF-8; nothing for a group without a name.
+///
+/// # Errors
+/// Returns a status: 0 for success, 3 if `out` is too small, and 4 if there is no such group. `out` is changed only
+/// with 0, and `needed` is 0 unless the status is 0 or 3.
+///
+/// # Preconditions
+/// The handle is one of a compiled pattern.
+#[unsafe(no_mangle)]
+pub extern "C" fn regress_group_name(
+    alloc: Global,
+    handle: &mut Handle,
+    group: usize,
+    out: &mut [u8],
+    needed: &mut usize,
+) -> u32
+    requires { handle.old.value ≡ None → ⊥ }
+    ensures same { handle.new.value ≡ handle.old.value }
+    ensures status { IfSome handle.old.value (λ regex. TextResult (HasGroup (groups_of regex) group) (IsNameOf (groups_of regex) group)
+        out.old result needed.new out.new) }
+{
+    let regex = handle.take(alloc);
+    let status = texts::write_name(&regex, group, out, needed);
+    *handle = Handle::of(regex);
+    status
+}
+
+/// Writes the text of a kind of syntax error, in UTF-8: the whole text, or that before the name of a group.
+///
+/// # Errors
+/// Returns a status: 0 for success, 3 if `out` is too small, and 4 if there is no such kind. `out` is changed only with
+/// 0, and `needed` is 0 unless the status is 0 or 3.
+#[unsafe(no_mangle)]
+pub extern "C" fn regress_error_message(kind: u32, out: &mut [u8], needed: &mut usize) -> u32
+    ensures status { TextResult (HasKind kind) (IsMessage kind) out.old result needed.new out.new }
+{
+    texts::write_message(kind, out, needed)
 }
 
 /// Frees the regular expression of a handle.

@@ -10,4 +10,5 @@ mod loose;
 mod request;
 mod results;
 mod searches;
+mod texts;
 mod trees;
