@@ -100,6 +100,19 @@ uint32_t regress_is_match(regress_regex *handle, const uint8_t *text, size_t len
 /* Returns the number of groups, without the whole match. */
 size_t regress_group_count(regress_regex *handle);
 
+/* Writes the name of the group with the number `group`, from 1, in UTF-8, to `out`, a buffer of `room` bytes.
+
+   Returns OK, ROOM or BAD_INPUT: the last if there is no such group. `needed` is the length of the name in bytes with
+   OK and ROOM, else 0; with OK it is 0 for a group without a name. */
+uint32_t regress_group_name(regress_regex *handle, size_t group, uint8_t *out, size_t room, size_t *needed);
+
+/* Writes the text of a kind of syntax error, in UTF-8, to `out`, a buffer of `room` bytes. `kind` is the number that
+   regress_compile writes. The text of REGRESS_FRONT_KIND_UNKNOWN_NAME ends in a colon and a space, without the name.
+
+   Returns OK, ROOM or BAD_INPUT: the last if there is no such kind. `needed` is the length of the text in bytes with OK
+   and ROOM, else 0. */
+uint32_t regress_error_message(uint32_t kind, uint8_t *out, size_t room, size_t *needed);
+
 /* Frees a handle. */
 void regress_free(regress_regex *handle);
 

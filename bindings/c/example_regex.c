@@ -55,7 +55,10 @@ int main(int count, char **arguments) {
     uint32_t status = regress_compile((const uint8_t *)pattern, strlen(pattern), REGRESS_UNICODE, 0, 0, &regex, &kind,
                                       &position);
     if (status == REGRESS_SYNTAX) {
-        fprintf(stderr, "syntax error %" PRIu32 " at %zu\n", kind, position);
+        uint8_t message[128];
+        size_t needed;
+        regress_error_message(kind, message, sizeof message, &needed);
+        fprintf(stderr, "%.*s, at position %zu\n", (int)needed, (const char *)message, position);
         return 1;
     }
     if (status == REGRESS_OK) {

@@ -17,8 +17,12 @@ int LLVMFuzzerTestOneInput(const uint8_t *data, size_t size) {
     uint32_t kind;
     regress_regex regex = {NULL};
     uint32_t status = regress_compile(pattern, length, flags, 100000, 10000, &regex, &kind, &position);
-    if (status == REGRESS_SYNTAX && (kind < 1 || kind > 32 || position > length)) {
-        abort();
+    if (status == REGRESS_SYNTAX) {
+        static uint8_t message[128];
+        uint32_t told = regress_error_message(kind, message, sizeof message, &needed);
+        if (told != REGRESS_OK || needed == 0 || position > length) {
+            abort();
+        }
     }
     if (status != REGRESS_OK) {
         if (regex.inside) {
@@ -27,6 +31,13 @@ int LLVMFuzzerTestOneInput(const uint8_t *data, size_t size) {
         return 0;
     }
     size_t most = rest - length, count = regress_group_count(&regex);
+    static uint8_t name[256];
+    for (size_t group = 0; group <= count + 1; group++) {
+        status = regress_group_name(&regex, group, name, sizeof name, &needed);
+        if (status != (group >= 1 && group <= count ? REGRESS_OK : REGRESS_BAD_INPUT)) {
+            abort();
+        }
+    }
     status = regress_find(&regex, text, most, 0, spans, 512, &needed);
     uint32_t tested = regress_is_match(&regex, text, most);
     if (status == REGRESS_OK) {

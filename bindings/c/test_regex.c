@@ -119,6 +119,53 @@ static void rooms(void) {
     regress_free(&regex);
 }
 
+/* A buffer for texts, and one more byte that must stay unchanged. */
+static uint8_t bytes[ROOM + 1];
+
+static int are_bytes(const char *expected) {
+    size_t count = strlen(expected);
+    return needed == count && memcmp(bytes, expected, count) == 0 && bytes[count] == 0xA5;
+}
+
+static uint32_t name(regress_regex *regex, size_t group, size_t room) {
+    memset(bytes, 0xA5, sizeof bytes);
+    return regress_group_name(regex, group, bytes, room, &needed);
+}
+
+static uint32_t message(uint32_t of, size_t room) {
+    memset(bytes, 0xA5, sizeof bytes);
+    return regress_error_message(of, bytes, room, &needed);
+}
+
+static void names(void) {
+    regress_regex regex;
+    CHECK(compiled("(?<year>a)(b)(?<\xC3\xA9>c)", SMALL, &regex) == REGRESS_OK);
+    CHECK(name(&regex, 1, ROOM) == REGRESS_OK && are_bytes("year"));
+    CHECK(name(&regex, 1, 4) == REGRESS_OK && are_bytes("year"));
+    CHECK(name(&regex, 1, 3) == REGRESS_ROOM && needed == 4 && bytes[0] == 0xA5);
+    CHECK(name(&regex, 2, ROOM) == REGRESS_OK && are_bytes(""));
+    CHECK(name(&regex, 2, 0) == REGRESS_OK && are_bytes(""));
+    CHECK(name(&regex, 3, ROOM) == REGRESS_OK && are_bytes("\xC3\xA9"));
+    CHECK(name(&regex, 0, ROOM) == REGRESS_BAD_INPUT && are_bytes(""));
+    CHECK(name(&regex, 4, ROOM) == REGRESS_BAD_INPUT && are_bytes(""));
+    CHECK(name(&regex, SIZE_MAX, ROOM) == REGRESS_BAD_INPUT && are_bytes(""));
+    regress_free(&regex);
+}
+
+static void messages(void) {
+    CHECK(message(1, ROOM) == REGRESS_OK && are_bytes("Unbalanced parenthesis"));
+    CHECK(message(1, 21) == REGRESS_ROOM && needed == 22 && bytes[0] == 0xA5);
+    CHECK(message(31, ROOM) == REGRESS_OK && are_bytes("Backreference to invalid named capture group: "));
+    CHECK(message(32, ROOM) == REGRESS_OK && are_bytes("Duplicate capture group name"));
+    CHECK(message(0, ROOM) == REGRESS_BAD_INPUT && are_bytes(""));
+    CHECK(message(33, ROOM) == REGRESS_BAD_INPUT && are_bytes(""));
+    CHECK(message(UINT32_MAX, ROOM) == REGRESS_BAD_INPUT && are_bytes(""));
+    for (uint32_t each = 1; each <= 32; each++) {
+        uint32_t status = message(each, ROOM);
+        CHECK((status == REGRESS_OK && needed <= ROOM) || (status == REGRESS_ROOM && needed > ROOM));
+    }
+}
+
 static void errors(void) {
     int mark_of_caller;
     regress_regex regex = {&mark_of_caller};
@@ -156,6 +203,10 @@ static void refuse(const char *pattern, const char *text) {
             status = found_all(&regex, text, ROOM);
             CHECK(status == REGRESS_OK ? needed == expected_needed && memcmp(spans, expected, sizeof expected) == 0
                                        : status == REGRESS_MEMORY && needed == 0 && spans[0] == MARK);
+            requests = refused = 0;
+            CHECK(name(&regex, 1, ROOM) == (regress_group_count(&regex) ? REGRESS_OK : REGRESS_BAD_INPUT));
+            CHECK(message(kind ? kind : 1, ROOM) == REGRESS_OK);
+            CHECK(requests == 0);
             refused = -1;
             CHECK(found_all(&regex, text, ROOM) == REGRESS_OK && memcmp(spans, expected, sizeof expected) == 0);
             regress_free(&regex);
@@ -176,6 +227,8 @@ int main(void) {
     searches();
     rooms();
     errors();
+    names();
+    messages();
     CHECK(blocks == before);
     refuse("(?<a>x)|(?<b>y+)\\k<b>", "xyyzyyyy");
     refuse("(?<=ab)c{2}[a-c]+|[^a]", "abccab");
