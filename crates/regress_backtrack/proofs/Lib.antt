@@ -5,3 +5,4 @@ pub mod StepLemmas
 pub mod RunLemmas
 pub mod SearchLemmas
 pub mod StartLemmas
+pub mod SweepLemmas

@@ -1,5 +1,5 @@
 -- The backtrack points and the groups at the start, as the stack changes.
-use Rattle.std.proofs.Common.{◌≡◌, ℕ, zero, suc, List, [], ◌∷◌, ◌++◌, drop, reverse, Option, Some, refl, sym, ap, ap₂, ◌∙◌, get_or, set, min, max}
+use Rattle.std.proofs.Common.{◌≡◌, ℕ, zero, suc, ◌+◌, ◌-◌, ◌<◌, ◌≤◌, arith, List, [], ◌∷◌, ◌++◌, drop, reverse, Option, Some, refl, sym, ap, ap₂, ◌∙◌, get_or, set, min, max, true}
 use Rattle.std.proofs.lemmas.List.{reverse-append}
 use Rattle.std.proofs.lemmas.List.Elements.{filter-append}
 use Rattle.regress_tree.specs.Steps.{CaptureSpan}
@@ -8,7 +8,7 @@ use Rattle.regress_backtrack.specs.declared.machine.Place.{Place}
 use Rattle.regress_backtrack.specs.declared.machine.Entry.{Entry}
 use Rattle.regress_backtrack.specs.declared.machine.Entry.TheVariants as entries
 use Rattle.regress_backtrack.specs.declared.machine.Machine.{Machine}
-use Rattle.regress_backtrack.specs.Machine.{Groups, at, undone, point_of, points_of, before_all, groups_of, points, rewound, Kept, Chosen, Closed, closed_at, is_change, changes_of}
+use Rattle.regress_backtrack.specs.Machine.{Groups, at, range_points, undone, point_of, points_of, before_all, groups_of, points, rewound, Kept, Chosen, Ranged, Closed, closed_at, is_change, changes_of}
 
 -- the last entry comes first
 last-first : (es : List Entry) (e : Entry) → reverse (es ++ e ∷ []) ≡ e ∷ reverse es
@@ -45,14 +45,31 @@ pub groups-same : (c c' : List (Option CaptureSpan)) (b b' : List ℕ) → c' �
     (let g' : Groups = record { captures = c'; begins = b' } in let g : Groups = record { captures = c; begins = b } in g' ≡ g)
 groups-same c c' b b' ec eb = ap₂ (λ x y. record { captures = x; begins = y }) ec eb
 
-pub chosen : (m m' : Machine) (p : Place) → m'.stack.entries.items ≡ m.stack.entries.items ++ entries.Point p ∷ [] → m'.captures.items ≡ m.captures.items →
+pub chosen : (m m' : Machine) (p : Place) → m'.stack.entries.items ≡ m.stack.entries.items ++ entries.Points p p.position ∷ [] → m'.captures.items ≡ m.captures.items →
     m'.stack.begins.items ≡ m.stack.begins.items → Chosen p m m'
 chosen m m' p grown captures begins =
     let same : groups_of m' ≡ groups_of m = groups-same _ _ _ _ captures (ap reverse begins) in
     record {
       groups = same;
-      points = points-more m m' (entries.Point p) grown same ∙ ap (λ g. at p g ∷ points m) same;
-      rewound = rewound-more m m' (entries.Point p) grown same;
+      points = points-more m m' (entries.Points p p.position) grown same ∙ ap (λ n. range_points p n (groups_of m') ++ points m) (none p.position)
+          ∙ ap (λ g. at p g ∷ points m) same;
+      rewound = rewound-more m m' (entries.Points p p.position) grown same;
+    }
+  where
+    none : (n : ℕ) → n - n ≡ zero
+    none n = omega arith
+
+-- several points at once
+pub ranged : (m m' : Machine) (p : Place) (last more : ℕ) → last ≡ p.position + more → m'.stack.entries.items ≡ m.stack.entries.items ++ entries.Points p last ∷ [] →
+    m'.captures.items ≡ m.captures.items → m'.stack.begins.items ≡ m.stack.begins.items → Ranged p more m m'
+ranged m m' p last more is grown captures begins =
+    let same : groups_of m' ≡ groups_of m = groups-same _ _ _ _ captures (ap reverse begins) in
+    let count : last - p.position ≡ more = omega (arith, is) in
+    record {
+      groups = same;
+      points = points-more m m' (entries.Points p last) grown same
+          ∙ ap₂ (λ n g. range_points p n g ++ points m) count same;
+      rewound = rewound-more m m' (entries.Points p last) grown same;
     }
 
 set-back : {A : Type 0} (xs : List A) (i : ℕ) (v w : A) → w ≡ get_or xs i w → set (set xs i v) i w ≡ xs
@@ -111,26 +128,48 @@ closed-none m m' position captures begins begins' =
 
 -- ---- backtracking
 
-pub no_point : (e : Entry) (g : Groups) → ((p : Place) → e ≡ entries.Point p → ⊥) → point_of e g ≡ []
-no_point (entries.Point p) g not = absurd (not p refl)
+pub no_point : (e : Entry) (g : Groups) → ((p : Place) (last : ℕ) → e ≡ entries.Points p last → ⊥) → point_of e g ≡ []
+no_point (entries.Points p last) g not = absurd (not p last refl)
 no_point (entries.Capture group before) g not = refl
 no_point entries.Began g not = refl
 no_point (entries.Ended from) g not = refl
 
 -- the last entry is removed, and what it records is undone
 pub popped : (m m' : Machine) (e : Entry) → m.stack.entries.items ≡ m'.stack.entries.items ++ e ∷ [] → groups_of m' ≡ undone e (groups_of m) →
-    ((p : Place) → e ≡ entries.Point p → ⊥) → Kept m m'
+    ((p : Place) (last : ℕ) → e ≡ entries.Points p last → ⊥) → Kept m m'
 popped m m' e is back not = record {
   points = sym (points-more m' m e is (sym back) ∙ ap (λ xs. xs ++ points m') (no_point e (groups_of m) not));
   rewound = sym (rewound-more m' m e is (sym back));
 }
 
-pub popped-point : (m m' : Machine) (p : Place) → m.stack.entries.items ≡ m'.stack.entries.items ++ entries.Point p ∷ [] → groups_of m' ≡ groups_of m →
-    (points m ≡ at p (groups_of m') ∷ points m') × (rewound m' ≡ rewound m)
-popped-point m m' p is same = (
-  points-more m' m (entries.Point p) is (sym same) ∙ ap (λ g. at p g ∷ points m') (sym same),
-  sym (rewound-more m' m (entries.Point p) is (sym same)),
-)
+pub popped-point : (m m' : Machine) (p : Place) (last : ℕ) → last ≤ p.position → m.stack.entries.items ≡ m'.stack.entries.items ++ entries.Points p last ∷ [] →
+    groups_of m' ≡ groups_of m → (points m ≡ at p (groups_of m') ∷ points m') × (rewound m' ≡ rewound m)
+popped-point m m' p last le is same =
+    let none : last - p.position ≡ zero = omega (arith, le) in (
+      points-more m' m (entries.Points p last) is (sym same) ∙ ap₂ (λ n g. range_points p n g ++ points m') none (sym same),
+      sym (rewound-more m' m (entries.Points p last) is (sym same)),
+    )
+
+-- The last of several points is removed: the stack `base` is what is below them.
+pub popped-last : (m m' : Machine) (base : List Entry) (p : Place) (last : ℕ) → p.position < last → m.stack.entries.items ≡ base ++ entries.Points p last ∷ [] →
+    m'.stack.entries.items ≡ base ++ entries.Points p (last - 1) ∷ [] → groups_of m' ≡ groups_of m →
+    (points m ≡ at (record { pc = p.pc; moved = true; position = last }) (groups_of m') ∷ points m') × (rewound m' ≡ rewound m)
+unfolding points rewound
+popped-last m m' base p last lt is is' same =
+    let n = last - 1 - p.position in
+    let count : last - p.position ≡ suc n = omega (arith, lt) in
+    let count' : last - 1 - p.position ≡ n = refl in
+    let end : p.position + suc n ≡ last = omega (arith, lt) in
+    let order : reverse m.stack.entries.items ≡ entries.Points p last ∷ reverse base = ap reverse is ∙ last-first base (entries.Points p last) in
+    let order' : reverse m'.stack.entries.items ≡ entries.Points p (last - 1) ∷ reverse base =
+    ap reverse is' ∙ last-first base (entries.Points p (last - 1)) in (
+      ap₂ points_of order (sym same)
+          ∙ ap (λ k. range_points p k (groups_of m') ++ points_of (reverse base) (groups_of m')) count
+          ∙ ap (λ k. at (record { pc = p.pc; moved = true; position = k }) (groups_of m')
+          ∷ (range_points p n (groups_of m') ++ points_of (reverse base) (groups_of m'))) end
+          ∙ ap (λ es. at (record { pc = p.pc; moved = true; position = last }) (groups_of m') ∷ points_of es (groups_of m')) (sym order'),
+      ap₂ before_all order' same ∙ sym (ap (λ es. before_all es (groups_of m)) order),
+    )
 
 pub points-none : (m : Machine) → m.stack.entries.items ≡ [] → points m ≡ []
 unfolding points
@@ -143,7 +182,7 @@ rewound-none m is = ap (λ es. before_all (reverse es) (groups_of m)) is
 -- ---- lookarounds
 
 one_reversed : (e : Entry) → reverse (changes_of (e ∷ [])) ≡ changes_of (e ∷ [])
-one_reversed (entries.Point p) = refl
+one_reversed (entries.Points p last) = refl
 one_reversed (entries.Capture group before) = refl
 one_reversed entries.Began = refl
 one_reversed (entries.Ended from) = refl
@@ -164,7 +203,7 @@ opened begins g = record { captures = g.captures; begins = begins }
 changed-points : (begins : List ℕ) (es rest : List Entry) (g : Groups) →
     points_of (changes_of es ++ rest) (opened begins g) ≡ points_of rest (opened begins (before_all es g))
 changed-points begins [] rest g = refl
-changed-points begins (entries.Point p ∷ es) rest g = changed-points begins es rest g
+changed-points begins (entries.Points p last ∷ es) rest g = changed-points begins es rest g
 changed-points begins (entries.Capture group before ∷ es) rest g = changed-points begins es rest (undone (entries.Capture group before) g)
 changed-points begins (entries.Began ∷ es) rest g = changed-points begins es rest (undone entries.Began g)
 changed-points begins (entries.Ended from ∷ es) rest g = changed-points begins es rest (undone (entries.Ended from) g)
@@ -172,7 +211,7 @@ changed-points begins (entries.Ended from ∷ es) rest g = changed-points begins
 changed-before : (begins : List ℕ) (es rest : List Entry) (g : Groups) →
     before_all (changes_of es ++ rest) (opened begins g) ≡ before_all rest (opened begins (before_all es g))
 changed-before begins [] rest g = refl
-changed-before begins (entries.Point p ∷ es) rest g = changed-before begins es rest g
+changed-before begins (entries.Points p last ∷ es) rest g = changed-before begins es rest g
 changed-before begins (entries.Capture group before ∷ es) rest g = changed-before begins es rest (undone (entries.Capture group before) g)
 changed-before begins (entries.Began ∷ es) rest g = changed-before begins es rest (undone entries.Began g)
 changed-before begins (entries.Ended from ∷ es) rest g = changed-before begins es rest (undone (entries.Ended from) g)

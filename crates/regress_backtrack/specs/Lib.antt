@@ -6,4 +6,5 @@ pub mod Owned
 pub mod Run
 pub mod Searched
 pub mod Starts
+pub mod Sweep
 pub mod Views

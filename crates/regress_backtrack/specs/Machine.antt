@@ -1,5 +1,5 @@
 -- The backtrack stack: the points at which a run goes on after a failure, and the changes that are undone before.
-use Rattle.std.specs.Prelude.{◌≡◌, ℕ, List, [], ◌∷◌, ◌++◌, Option, drop, filter, reverse, slice_set, Bool, true, false}
+use Rattle.std.specs.Prelude.{◌≡◌, ℕ, zero, suc, ◌+◌, ◌-◌, List, [], ◌∷◌, ◌++◌, Option, drop, filter, reverse, slice_set, Bool, true, false}
 use Rattle.regress_tree.specs.Steps.{CaptureSpan, MatchState}
 use Rattle.regress_program.specs.Program.{At}
 use Rattle.regress_backtrack.specs.declared.machine.Place.{Place}
@@ -20,16 +20,21 @@ state captures position = record { position = position; captures = captures }
 abbrev pub at : Place → Groups → At
 at p g = record { pc = p.pc; moved = p.moved; state = record { position = p.position; captures = g.captures }; begins = g.begins }
 
+-- the places from this one up to `more` positions after it, the last one first, each after at least one iteration but for the first
+abbrev pub range_points : Place → (more : ℕ) → Groups → List At
+range_points p zero g = at p g ∷ []
+range_points p (suc more) g = at (record { pc = p.pc; moved = true; position = p.position + suc more }) g ∷ range_points p more g
+
 -- the groups before the change that an entry records
 abbrev pub undone : Entry → Groups → Groups
-undone (entries.Point p) g = g
+undone (entries.Points first last) g = g
 undone (entries.Capture group before) g = record g { captures = slice_set g.captures group before }
 undone entries.Began g = record g { begins = drop 1 g.begins }
 undone (entries.Ended from) g = record g { begins = from ∷ g.begins }
 
--- the backtrack point that an entry is, if it is one
+-- the backtrack points of an entry
 abbrev pub point_of : Entry → Groups → List At
-point_of (entries.Point p) g = at p g ∷ []
+point_of (entries.Points first last) g = range_points first (last - first.position) g
 point_of (entries.Capture group before) g = []
 point_of entries.Began g = []
 point_of (entries.Ended from) g = []
@@ -67,6 +72,12 @@ pub record Chosen (p : Place) (old new : Machine) : Type 0 where
   pub points : points new ≡ at p (groups_of old) ∷ points old
   pub rewound : rewound new ≡ rewound old
 
+-- Backtrack points at consecutive positions were added.
+pub record Ranged (p : Place) (more : ℕ) (old new : Machine) : Type 0 where
+  pub groups : groups_of new ≡ groups_of old
+  pub points : points new ≡ range_points p more (groups_of old) ++ points old
+  pub rewound : rewound new ≡ rewound old
+
 -- where the innermost open group began; without one it is the position
 abbrev pub closed_at : (position : ℕ) → List ℕ → ℕ
 closed_at position [] = position
@@ -79,7 +90,7 @@ pub record Closed (position : ℕ) (old new : Groups) (began : ℕ) : Type 0 whe
   pub at_start : began ≡ closed_at position old.begins
 
 abbrev pub is_change : Entry → Bool
-is_change (entries.Point p) = false
+is_change (entries.Points first last) = false
 is_change (entries.Capture group before) = true
 is_change entries.Began = false
 is_change (entries.Ended from) = false

@@ -9,6 +9,7 @@ use crate::input::{Input, instruction_at, test_at};
 use crate::instruction::Instruction;
 use crate::machine::{Machine, Place};
 use crate::step::Next;
+use crate::sweep::sweep;
 use std::alloc::AllocError;
 
 /// A loop.
@@ -60,6 +61,9 @@ pub fn fork(
 /// # Preconditions
 /// Both are inside the routine, and the position is inside the text.
 ///
+/// # Complexity
+/// It subtracts from the remaining steps `left` the number of bytes by which it moves the position.
+///
 /// # Errors
 /// Returns [`AllocError`] if an allocation fails.
 pub fn iterate(
@@ -67,6 +71,7 @@ pub fn iterate(
     looping: Looping,
     here: Place,
     machine: &mut Machine,
+    left: &mut u64,
 ) -> Result<Next, AllocError>
     requires input { IsInput input }
     requires body { looping.body < length input.instructions.now }
@@ -79,6 +84,7 @@ pub fn iterate(
         out machine.new to)) }
     ensures inside { IfOk result (λ to. All (Inside input.entry) (points machine.old) → All (Inside input.entry) (ahead machine.new to)) }
     ensures rewound { IfOk result (λ _. rewound machine.new ≡ rewound machine.old) }
+    ensures left { IfOk result (λ _. left.new ≤ left.old) }
     ensures goes { IfOk result (λ to. to ≡ OutOfSteps → ⊥) }
 {
     let again = Place {
@@ -91,7 +97,10 @@ pub fn iterate(
         ..here
     };
     if looping.greedy {
-        fork(input, again, after, machine)
+        match sweep(input, looping, here, machine, left)? {
+            Some(to) => Ok(Next::On(to)),
+            None => fork(input, again, after, machine),
+        }
     } else {
         fork(input, after, again, machine)
     }

@@ -16,6 +16,7 @@ mod run;
 mod search;
 mod start;
 mod step;
+mod sweep;
 mod test;
 
 pub use backtracker::Backtracker;

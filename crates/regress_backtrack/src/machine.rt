@@ -1,8 +1,8 @@
 //! The captures of a run, and its backtrack stack.
-ghost use Rattle.std.specs.Prelude.{◌≡◌, ◌∷◌, ◌++◌, [], ℕ, IfOk, MatchOption, None, replicate, slice_set};
+ghost use Rattle.std.specs.Prelude.{◌≡◌, ◌∷◌, ◌++◌, ◌+◌, ◌≤◌, [], ℕ, IfOk, MatchOption, None, replicate, slice_set};
 ghost use Rattle.regress_tree.specs.Repetition.{unset_from};
 ghost use Rattle.regress_program.specs.Program.{ended, goto};
-ghost use Rattle.regress_backtrack.specs.Machine.{Chosen, Closed, Kept, at, changes_of, groups_of, points, rewound, undone};
+ghost use Rattle.regress_backtrack.specs.Machine.{Chosen, Closed, Kept, Ranged, at, changes_of, groups_of, points, rewound, undone};
 
 use regress_program::groups::unset_groups;
 use std::alloc::{AllocError, Global};
@@ -19,11 +19,17 @@ pub struct Place {
     pub position: usize,
 }
 
-/// An entry of the backtrack stack: a backtrack point, or a change that backtracking undoes.
+/// An entry of the backtrack stack: backtrack points, or a change that backtracking undoes.
 #[derive(Clone, Copy)]
 pub enum Entry {
-    /// A backtrack point.
-    Point(Place),
+    /// Backtrack points at consecutive positions, which are tried from the last one to the first one. At each but the
+    /// first one the innermost open iteration has advanced.
+    Points {
+        /// The first one.
+        first: Place,
+        /// The position of the last one. If it is not after the first one, there is only the first one.
+        last: usize,
+    },
     /// A capture was changed.
     Capture {
         /// The id of the group.
@@ -129,7 +135,29 @@ impl Machine {
     pub fn choose(&mut self, place: Place) -> Result<(), AllocError>
         ensures { IfOk result (λ _. Chosen place self.old self.new) }
     {
-        self.stack.entries.push(Entry::Point(place))?;
+        self.stack.entries.push(Entry::Points {
+            first: place,
+            last: place.position,
+        })?;
+        Ok(())
+    }
+
+    /// Adds a backtrack point, and one at each of the `more` positions after it, at which the innermost open iteration
+    /// has advanced. The last one is tried first.
+    ///
+    /// # Preconditions
+    /// The last position is at most `usize::MAX`.
+    ///
+    /// # Errors
+    /// Returns [`AllocError`] if an allocation fails.
+    pub fn choose_range(&mut self, first: Place, more: usize) -> Result<(), AllocError>
+        requires { first.position + more ≤ usize.MAX }
+        ensures { IfOk result (λ _. Ranged first more self.old self.new) }
+    {
+        self.stack.entries.push(Entry::Points {
+            first,
+            last: first.position + more,
+        })?;
         Ok(())
     }
 
@@ -145,7 +173,20 @@ impl Machine {
     {
         while let Some(entry) = self.stack.entries.pop() {
             match entry {
-                Entry::Point(place) => return Ok(Some(place)),
+                Entry::Points { first, last } => {
+                    if last <= first.position {
+                        return Ok(Some(first));
+                    }
+                    self.stack.entries.push(Entry::Points {
+                        first,
+                        last: last - 1,
+                    })?;
+                    return Ok(Some(Place {
+                        pc: first.pc,
+                        moved: true,
+                        position: last,
+                    }));
+                }
                 _ => self.undo(entry)?,
             }
         }
@@ -161,7 +202,7 @@ impl Machine {
         ensures entries { self.new.stack.entries.items ≡ self.old.stack.entries.items }
     {
         match entry {
-            Entry::Point(_) => {}
+            Entry::Points { .. } => {}
             Entry::Capture { group, before } => {
                 if group < self.captures.len() {
                     self.captures[group] = before;

@@ -77,11 +77,11 @@ pub fn step(
             fork(input, goto(first, here), goto(second, here), machine)
         }
         Instruction::BeginLoop { greedy, body, next } => {
-            iterate(input, Looping { greedy, body, next }, here, machine)
+            iterate(input, Looping { greedy, body, next }, here, machine, left)
         }
         Instruction::Repeat { greedy, body, next } => {
             if here.moved {
-                iterate(input, Looping { greedy, body, next }, here, machine)
+                iterate(input, Looping { greedy, body, next }, here, machine, left)
             } else {
                 Ok(Next::Back)
             }

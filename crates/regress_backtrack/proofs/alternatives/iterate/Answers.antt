@@ -1,4 +1,4 @@
-use Rattle.std.proofs.Common.{◌++◌, false, flat_map, subst, sym}
+use Rattle.std.proofs.Common.{rules, ◌≡◌, ◌++◌, false, flat_map, subst, sym}
 use Rattle.regress_program.specs.Program.{either}
 use Rattle.regress_backtrack.specs.declared.machine.Place.{Place}
 use Rattle.regress_backtrack.specs.Machine.{at, groups_of, points}
@@ -6,17 +6,20 @@ use Rattle.regress_backtrack.specs.Next.{Leads}
 use Rattle.regress_backtrack.proofs.StepLemmas.{ok_map}
 use Rattle.regress_backtrack.proofs.alternatives.iterate.Goals as goal
 
-pub returns-then-looping-clause-leads : goal.returns-then-looping-clause-leads
-returns-then-looping-clause-leads c =
+pub returns-in-None-clause-leads : goal.returns-in-None-clause-leads
+returns-in-None-clause-leads c =
     let input = c.args.input in
     let m = c.args.machine.now in
     let g = groups_of m in
     let again : Place = record { pc = c.args.looping.body; moved = false; position = c.args.here.position } in
     let after : Place = record { pc = c.args.looping.next; moved = c.args.here.moved; position = c.args.here.position } in
+    let same : c.sweep.new.machine ≡ m = search rules in
     ok_map c.fork.result _ _
     (λ to leads. λ outs solve.
     subst (λ greedy. Leads (either (outs input.index) greedy (at again g) (at after g) ++ flat_map (outs input.index) (points m)) (outs input.index)
-    c.fork.new.machine to) (sym c.if-looping.true) (leads outs solve))
+    c.fork.new.machine to) (sym c.if-looping.true)
+    (subst (λ x. Leads ((outs input.index (at again (groups_of x)) ++ outs input.index (at after (groups_of x))) ++ flat_map (outs input.index) (points x))
+    (outs input.index) c.fork.new.machine to) same (leads outs solve)))
     c.fork.ensures.leads
 
 pub returns-else-looping-clause-leads : goal.returns-else-looping-clause-leads

@@ -1,0 +1,137 @@
+-- Loops over one character, whose iterations are gone over at once.
+use Rattle.std.proofs.Common.{◌≡◌, ℕ, zero, suc, ◌+◌, ◌-◌, ◌<◌, ◌≤◌, ◌==◌, ◌||◌, not, Bool, true, false, List, [], ◌∷◌, ◌++◌, length, slice_index, Some, All, flat_map, refl, sym, ap, ap₂, ◌∙◌, subst, append-nil, append_assoc, arith}
+use Rattle.std.proofs.lemmas.Grind.{flat_map-append}
+use Rattle.std.proofs.lemmas.List.Elements.{All-nil, All-cons, All-append}
+use Rattle.regress_base.specs.ByteBitmap.{contains}
+use Rattle.regress_base.specs.declared.bytesearch.bitmap.ByteBitmap.{ByteBitmap}
+use Rattle.regress_tree.specs.Matching.{steps}
+use Rattle.regress_tree.specs.Reading.{direction_if, forwards}
+use Rattle.regress_tree.specs.Steps.{MatchState}
+use Rattle.regress_tree.specs.Tree.{tree}
+use Rattle.regress_leaves.specs.Subject.{subject}
+use Rattle.regress_leaves.proofs.ReadingLemmas.{ascii_after}
+use Rattle.regress_program.specs.Program.{Out, matcher_of, outcomes_by, reach}
+use Rattle.regress_backtrack.specs.declared.alternatives.Looping.{Looping}
+use Rattle.regress_backtrack.specs.declared.input.Input.{Input}
+use Rattle.regress_backtrack.specs.declared.instruction.Instruction.TheVariants as insts
+use Rattle.regress_backtrack.specs.declared.machine.Machine.{Machine}
+use Rattle.regress_backtrack.specs.declared.machine.Place.{Place}
+use Rattle.regress_backtrack.specs.declared.start.Start.TheVariants as starts
+use Rattle.regress_backtrack.specs.Code.{code_routines}
+use Rattle.regress_backtrack.specs.Machine.{Groups, Ranged, at, groups_of, points, range_points, state}
+use Rattle.regress_backtrack.specs.Next.{Inside, IsInput, Solve}
+use Rattle.regress_backtrack.specs.Starts.{IsStart}
+use Rattle.regress_backtrack.specs.Sweep.{AreIn, IsSwept}
+use Rattle.regress_backtrack.specs.Views.{part_of}
+use Rattle.regress_backtrack.proofs.RunLemmas.{solved}
+use Rattle.regress_backtrack.proofs.StartLemmas.{ascii_matches}
+
+module _ (out : Out) (g : Groups) (body turn next low : ℕ) (moved : Bool) where
+  abbrev again : ℕ → List MatchState
+  again k = out (at (record { pc = body; moved = false; position = k }) g)
+
+  abbrev turned : ℕ → List MatchState
+  turned k = out (at (record { pc = turn; moved = true; position = k }) g)
+
+  abbrev after : ℕ → List MatchState
+  after k = out (at (record { pc = next; moved = true; position = k }) g)
+
+  -- Each of the first iterations ends at the instruction `turn`, at which one more begins, or what follows.
+  pub swept_outcomes : (more : ℕ) →
+      ((k : ℕ) → k ≤ more → again (low + k) ≡ turned (low + suc k)) →
+      ((k : ℕ) → k < more → turned (low + suc k) ≡ again (low + suc k) ++ after (low + suc k)) →
+      again (low + zero) ++ out (at (record { pc = next; moved = moved; position = low }) g)
+      ≡ turned (low + suc more) ++ flat_map out (range_points (record { pc = next; moved = moved; position = low }) more g)
+  swept_outcomes zero ends turns = ap₂ ◌++◌ (ends zero (omega arith)) (sym (append-nil _))
+  swept_outcomes (suc more) ends turns =
+      let first : Place = record { pc = next; moved = moved; position = low } in
+      swept_outcomes more (λ k le. ends k (omega (arith, le))) (λ k lt. turns k (omega (arith, lt)))
+      ∙ ap (λ xs. xs ++ flat_map out (range_points first more g)) (turns more (omega arith))
+      ∙ ap (λ xs. (xs ++ after (low + suc more)) ++ flat_map out (range_points first more g)) (ends (suc more) (omega arith))
+      ∙ append_assoc (turned (low + suc (suc more))) (after (low + suc more)) (flat_map out (range_points first more g))
+
+ends_moved : (k : ℕ) → (false || not (k + 1 == k)) ≡ true
+ends_moved k = grind arith
+
+module _ (input : Input) (is : IsInput input) (looping : Looping) (set : ByteBitmap) (turn : ℕ) (swept : IsSwept input looping set turn)
+    (body_in : looping.body < length input.instructions.now) (outs : ℕ → Out) (solve : Solve input outs) (g : Groups) where
+  -- an iteration
+  pub iteration : (k : ℕ) → k < length input.text.now → slice_index input.text.now k < 128 → contains set (slice_index input.text.now k) ≡ true →
+      outs input.index (at (record { pc = looping.body; moved = false; position = k }) g)
+      ≡ outs input.index (at (record { pc = turn; moved = true; position = k + 1 }) g)
+  iteration k lt ascii member =
+      let u = subject input.rules input.text.now in
+      let out = outs input.index in
+      let body_of = matcher_of u.setting u.bytes (code_routines input.code.now) outs in
+      let p : Place = record { pc = looping.body; moved = false; position = k } in
+      let start : IsStart (starts.Ascii set) (tree swept.test.node) = subst (λ x. IsStart x (tree swept.test.node)) swept.starts swept.test.begins in
+      let one : steps u.setting u.bytes u.direction (tree swept.test.node) (state g.captures k) ≡ state g.captures (k + 1) ∷ [] =
+      subst (λ b. steps u.setting u.bytes (direction_if b) (tree swept.test.node) (state g.captures k) ≡ state g.captures (k + 1) ∷ []) (sym swept.forwards)
+      (ascii_matches set (tree swept.test.node) start.0 start.1 u.setting u.bytes forwards (state g.captures k) (slice_index input.text.now k) (k + 1) ascii
+      (ascii_after input.text.now k (slice_index input.text.now k) ascii lt refl) member) in
+      solved input is p (insts.Leaf swept.leaf turn) body_in swept.body u.setting u.bytes outs u.direction g solve is.direction (omega (arith, lt))
+      ∙ ap (λ o. outcomes_by u.setting u.bytes u.direction body_of out (part_of o turn) (at p g)) swept.is_test
+      ∙ ap (flat_map (λ s. out (reach turn (at p g) s))) one
+      ∙ append-nil _
+      ∙ ap (λ b. out (at (record { pc = turn; moved = b; position = k + 1 }) g)) (ends_moved k)
+
+  -- the end of an iteration
+  pub turned_on : (k : ℕ) → k ≤ length input.text.now →
+      outs input.index (at (record { pc = turn; moved = true; position = k }) g)
+      ≡ outs input.index (at (record { pc = looping.body; moved = false; position = k }) g)
+      ++ outs input.index (at (record { pc = looping.next; moved = true; position = k }) g)
+  turned_on k le =
+      let u = subject input.rules input.text.now in
+      let p : Place = record { pc = turn; moved = true; position = k } in
+      solved input is p (insts.Repeat true looping.body looping.next) swept.turn_in swept.turns u.setting u.bytes outs u.direction g solve is.direction le
+
+  -- several iterations at once
+  pub iterations : (here : Place) (more : ℕ) → AreIn set input.text.now here.position (suc more) →
+      outs input.index (at (record { pc = looping.body; moved = false; position = here.position }) g)
+      ++ outs input.index (at (record here { pc = looping.next }) g)
+      ≡ outs input.index (at (record { pc = turn; moved = true; position = here.position + suc more }) g)
+      ++ flat_map (outs input.index) (range_points (record here { pc = looping.next }) more g)
+  iterations here more are =
+      ap (λ k. outs input.index (at (record { pc = looping.body; moved = false; position = k }) g) ++ outs input.index (at (record here { pc = looping.next }) g))
+      (the_low here.position)
+      ∙ swept_outcomes (outs input.index) g looping.body turn looping.next here.position here.moved more
+      (λ k le. let in_set = are k (omega (arith, le)) in
+      iteration (here.position + k) in_set.0 in_set.1.0 in_set.1.1
+      ∙ ap (λ n. outs input.index (at (record { pc = turn; moved = true; position = n }) g)) (one_more here.position k))
+      (λ k lt. let in_set = are k (omega (arith, lt)) in turned_on (here.position + suc k) (omega (arith, in_set.0)))
+    where
+      the_low : (n : ℕ) → n ≡ n + zero
+      the_low n = omega arith
+
+      one_more : (n k : ℕ) → (n + k) + 1 ≡ n + suc k
+      one_more n k = omega arith
+
+-- the machine after several iterations
+pub swept_leads : (out : Out) (m m' : Machine) (first to : Place) (more : ℕ) (states : List MatchState) → Ranged first more m m' →
+    states ≡ out (at to (groups_of m)) ++ flat_map out (range_points first more (groups_of m)) →
+    states ++ flat_map out (points m) ≡ flat_map out (at to (groups_of m') ∷ points m')
+swept_leads out m m' first to more states ranged is =
+    ap (λ xs. xs ++ flat_map out (points m)) is
+    ∙ append_assoc (out (at to (groups_of m))) (flat_map out (range_points first more (groups_of m))) (flat_map out (points m))
+    ∙ ap (λ xs. out (at to (groups_of m)) ++ xs) (sym (flat_map-append out (range_points first more (groups_of m)) (points m)))
+    ∙ ap₂ (λ g ps. out (at to g) ++ flat_map out ps) (sym ranged.groups) (sym ranged.points)
+
+range_inside : (input : Input) (g : Groups) (p : Place) (more : ℕ) → p.pc < length input.instructions.now → p.position + more ≤ length input.text.now →
+    All (Inside input) (range_points p more g)
+range_inside input g p zero lt le = All-cons (Inside input) (at p g) [] (record { pc = lt; position = omega (arith, le) }) (All-nil (Inside input))
+range_inside input g p (suc more) lt le =
+    All-cons (Inside input) (at (record { pc = p.pc; moved = true; position = p.position + suc more }) g) (range_points p more g)
+    (record { pc = lt; position = le }) (range_inside input g p more lt (omega (arith, le)))
+
+pub swept_inside : (input : Input) (m m' : Machine) (first to : Place) (more : ℕ) → Ranged first more m m' → first.pc < length input.instructions.now →
+    first.position + more ≤ length input.text.now → to.pc < length input.instructions.now → to.position ≤ length input.text.now →
+    All (Inside input) (points m) → All (Inside input) (at to (groups_of m') ∷ points m')
+swept_inside input m m' first to more ranged lt le lt' le' all =
+    All-cons (Inside input) (at to (groups_of m')) (points m') (record { pc = lt'; position = le' })
+    (subst (All (Inside input)) (sym ranged.points)
+    (All-append (Inside input) (range_points first more (groups_of m)) (points m) (range_inside input (groups_of m) first more lt le) all))
+
+pub turn_is : (greedy : Bool) (body body' next next' : ℕ) → greedy ≡ true → body ≡ body' → next ≡ next' →
+    Some (insts.Repeat greedy body next) ≡ Some (insts.Repeat true body' next')
+turn_is greedy body body' next next' g b n =
+    ap (λ x. Some (insts.Repeat x body next)) g ∙ ap₂ (λ x y. Some (insts.Repeat true x y)) b n

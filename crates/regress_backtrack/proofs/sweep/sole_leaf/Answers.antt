@@ -1,0 +1,20 @@
+use Rattle.std.proofs.Common.{rules, arith, ◌≡◌, ◌<◌, length, slice_get, Some, true, sym, ap, ◌∙◌, subst}
+use Rattle.regress_backtrack.specs.declared.instruction.Instruction.TheVariants as insts
+use Rattle.regress_backtrack.proofs.SweepLemmas.{turn_is}
+use Rattle.regress_backtrack.proofs.sweep.sole_leaf.Goals as goal
+
+pub returns-in-Ascii : goal.returns-in-Ascii
+returns-in-Ascii c =
+    let greedy : c.in-Repeat.greedy ≡ true = search rules in
+    record {
+      leaf = c.in-Leaf.leaf;
+      test = c.in_ok-set.field-0.now;
+      body = c.instruction_at.ensures ∙ ap Some c.in-Leaf.is;
+      turn_in = omega (arith, c.if-turn-input.false);
+      turns = c.instruction_at-2.ensures ∙ ap Some c.in-Repeat.is
+          ∙ turn_is c.in-Repeat.greedy c.in-Repeat.body c.args.looping.body c.in-Repeat.next c.args.looping.next greedy (omega (arith, c.if-body-looping.false))
+          (omega (arith, c.if-next-looping.false));
+      is_test = c.in_ok-set.ensures;
+      starts = c.in-Ascii.is;
+      forwards = c.if-input.false;
+    }

@@ -1,0 +1,38 @@
+use Rattle.std.proofs.Common.{◌≡◌, ◌+◌, ◌-◌, ◌<◌, ◌≤◌, ◌++◌, ℕ, suc, true, false, flat_map, length, sym, ap, ◌∙◌, arith}
+use Rattle.regress_program.specs.Program.{Out}
+use Rattle.regress_backtrack.specs.declared.machine.Place.{Place}
+use Rattle.regress_backtrack.specs.Machine.{at, groups_of, range_points}
+use Rattle.regress_backtrack.specs.Sweep.{AreIn}
+use Rattle.regress_backtrack.proofs.SweepLemmas.{iterations, swept_inside, swept_leads}
+use Rattle.regress_backtrack.proofs.sweep.sweep.Goals as goal
+
+pub returns-clause-leads : goal.returns-clause-leads
+returns-clause-leads c = λ outs solve.
+    let input = c.args.input in
+    let here = c.args.here in
+    let m = c.args.machine.now in
+    let g = groups_of m in
+    let set = c.in-Some.swept.set.now in
+    let turn = c.in-Some.swept.turn in
+    let count = c.count_of-count.result in
+    let more = count - 1 in
+    let same : count ≡ suc more = omega (arith, c.if-count-eq0.false) in
+    let are : AreIn set input.text.now here.position (suc more) = λ k lt. c.count_of-count.ensures.are_in k (omega (arith, lt, same)) in
+    let first : Place = record { pc = c.args.looping.next; moved = here.moved; position = here.position } in
+    let to : Place = record { pc = turn; moved = true; position = here.position + count } in
+    let out = outs input.index in
+    swept_leads out m c.choose_range.new.self first to more
+    (out (at (record { pc = c.args.looping.body; moved = false; position = here.position }) g) ++ out (at first g))
+    c.in_ok-choose_range.ensures
+    (iterations input c.requires.input c.args.looping set turn c.in-Some.ensures c.requires.body outs solve g here more are
+    ∙ ap (λ n. out (at (record { pc = turn; moved = true; position = here.position + n }) g) ++ flat_map out (range_points first more g)) (sym same))
+
+pub returns-clause-inside : goal.returns-clause-inside
+returns-clause-inside c =
+    let here = c.args.here in
+    let count = c.count_of-count.result in
+    let first : Place = record { pc = c.args.looping.next; moved = here.moved; position = here.position } in
+    let to : Place = record { pc = c.in-Some.swept.turn; moved = true; position = here.position + count } in
+    let within : here.position + count ≤ length c.args.input.text.now = c.count_of-count.ensures.within in
+    swept_inside c.args.input c.args.machine.now c.choose_range.new.self first to (count - 1) c.in_ok-choose_range.ensures c.requires.next
+    (omega (arith, within)) c.in-Some.ensures.turn_in within

@@ -1,0 +1,118 @@
+//! Loops over one character, whose iterations are gone over at once.
+ghost use Rattle.std.specs.Prelude.{◌≡◌, ◌≤◌, ◌<◌, ◌+◌, ◌++◌, ◌∷◌, ℕ, All, IfOk, IfSome, MatchOption, flat_map, length, false, true};
+ghost use Rattle.regress_program.specs.Program.{Out};
+ghost use Rattle.regress_backtrack.specs.Machine.{at, groups_of, points, rewound};
+ghost use Rattle.regress_backtrack.specs.Next.{Inside, IsInput, Solve};
+ghost use Rattle.regress_backtrack.specs.Sweep.{AreIn, IsSwept};
+
+use crate::alternatives::Looping;
+use crate::input::{Input, instruction_at, test_at};
+use crate::instruction::Instruction;
+use crate::machine::{Machine, Place};
+use crate::start::Start;
+use regress_base::bytesearch::ByteBitmap;
+use std::alloc::AllocError;
+
+/// A loop over a leaf that matches one character.
+#[derive(Clone, Copy)]
+struct Swept<'c> {
+    /// The ASCII characters that the leaf matches.
+    set: &'c ByteBitmap,
+    /// The instruction that ends an iteration, and begins another one or goes on after the loop.
+    turn: usize,
+}
+
+/// Goes over the ASCII characters at a place at once, if the body of a greedy loop is a leaf that matches one character.
+/// Each is an iteration, and what follows the loop is tried after each of them, the last one first. Returns where the
+/// last iteration ends, or `None` if there is none, where nothing has changed.
+///
+/// # Preconditions
+/// The loop is greedy, its body and what follows are inside the routine, and the position is inside the text.
+///
+/// # Complexity
+/// It subtracts from the remaining steps `left` the number of characters that it goes over.
+///
+/// # Errors
+/// Returns [`AllocError`] if an allocation fails.
+pub fn sweep(
+    input: Input<'_, '_>,
+    looping: Looping,
+    here: Place,
+    machine: &mut Machine,
+    left: &mut u64,
+) -> Result<Option<Place>, AllocError>
+    requires input { IsInput input }
+    requires body { looping.body < length input.instructions.now }
+    requires next { looping.next < length input.instructions.now }
+    requires position { here.position ≤ length input.text.now }
+    requires greedy { looping.greedy ≡ true }
+    ensures leads { IfOk result (λ found. MatchOption found (machine.new ≡ machine.old)
+        (λ to. (outs : ℕ → Out) → Solve input.entry outs → (let out = outs input.entry.index in
+        let again : Place = record { pc = looping.body; moved = false; position = here.position } in
+        let after : Place = record here { pc = looping.next } in
+        (out (at again (groups_of machine.old)) ++ out (at after (groups_of machine.old))) ++ flat_map out (points machine.old)
+        ≡ flat_map out (at to (groups_of machine.new) ∷ points machine.new)))) }
+    ensures inside { IfOk result (λ found. IfSome found (λ to.
+        All (Inside input.entry) (points machine.old) → All (Inside input.entry) (at to (groups_of machine.new) ∷ points machine.new))) }
+    ensures rewound { IfOk result (λ _. rewound machine.new ≡ rewound machine.old) }
+    ensures left { IfOk result (λ _. left.new ≤ left.old) }
+{
+    let Some(swept) = sole_leaf(input, looping) else {
+        return Ok(None);
+    };
+    let count = count_of(input.text, swept.set, here.position);
+    if count == 0 {
+        return Ok(None);
+    }
+    let after = Place {
+        pc: looping.next,
+        ..here
+    };
+    machine.choose_range(after, count - 1)?;
+    *left = left.saturating_sub(count as u64);
+    Ok(Some(Place {
+        pc: swept.turn,
+        moved: true,
+        position: here.position + count,
+    }))
+}
+
+/// Returns the leaf of a loop and the end of an iteration, if the body is a leaf that matches one character forwards.
+fn sole_leaf<'c>(input: Input<'c, '_>, looping: Looping) -> Option<Swept<'c>>
+    requires { looping.body < length input.instructions.now }
+    ensures { IfSome result (λ s. IsSwept input.entry looping s.set.now s.turn) }
+{
+    if input.rules.backwards {
+        return None;
+    }
+    let Instruction::Leaf { leaf, next: turn } = instruction_at(input, looping.body) else {
+        return None;
+    };
+    if turn >= input.instructions.len() {
+        return None;
+    }
+    let Instruction::Repeat { greedy, body, next } = instruction_at(input, turn) else {
+        return None;
+    };
+    if !greedy || body != looping.body || next != looping.next {
+        return None;
+    }
+    match &test_at(input, leaf)?.start {
+        Start::Ascii(set) => Some(Swept { set, turn }),
+        _ => None,
+    }
+}
+
+/// Returns the number of characters of the set from a position on.
+fn count_of(text: &str, set: &ByteBitmap, position: usize) -> usize
+    requires { position ≤ length text.now }
+    ensures are_in { AreIn set.now text.now position result }
+    ensures within { position + result ≤ length text.now }
+{
+    let bytes = text.as_bytes();
+    let mut end = position;
+    while end < bytes.len() && bytes[end].is_ascii() && set.contains(bytes[end]) {
+        end += 1;
+    }
+    end - position
+}
