@@ -1,4 +1,4 @@
--- Loops over one character, whose iterations are gone over at once.
+-- Loops over one character, whose iterations are run at once.
 use Rattle.std.specs.Prelude.{◌≡◌, ℕ, ◌+◌, ◌<◌, true, false, List, length, slice_get, slice_index, Some}
 use Rattle.regress_base.specs.ByteBitmap.{contains}
 use Rattle.regress_base.specs.declared.bytesearch.bitmap.ByteBitmap.{ByteBitmap}

@@ -1,4 +1,4 @@
-//! Loops over one character, whose iterations are gone over at once.
+//! Loops over one character, whose iterations are run at once.
 ghost use Rattle.std.specs.Prelude.{◌≡◌, ◌≤◌, ◌<◌, ◌+◌, ◌++◌, ◌∷◌, ℕ, All, IfOk, IfSome, MatchOption, flat_map, length, false, true};
 ghost use Rattle.regress_program.specs.Program.{Out};
 ghost use Rattle.regress_backtrack.specs.Machine.{at, groups_of, points, rewound};
@@ -22,7 +22,7 @@ struct Swept<'c> {
     turn: usize,
 }
 
-/// Goes over the ASCII characters at a place at once, if the body of a greedy loop is a leaf that matches one character.
+/// Consumes the ASCII characters at a place at once, if the body of a greedy loop is a leaf that matches one character.
 /// Each is an iteration, and what follows the loop is tried after each of them, the last one first. Returns where the
 /// last iteration ends, or `None` if there is none, where nothing has changed.
 ///
@@ -30,7 +30,7 @@ struct Swept<'c> {
 /// The loop is greedy, its body and what follows are inside the routine, and the position is inside the text.
 ///
 /// # Complexity
-/// It subtracts from the remaining steps `left` the number of characters that it goes over.
+/// It subtracts from the remaining steps `left` the number of characters that it consumes.
 ///
 /// # Errors
 /// Returns [`AllocError`] if an allocation fails.
