@@ -76,7 +76,7 @@ pub fn parse_and_optimize_str(pattern: &str, flags: Flags, table: Table) -> Resu
     parse_and_optimize(&code_points(pattern), flags, table)
 }
 
-fn code_points(text: &str) -> Vec<u32> {
+pub(crate) fn code_points(text: &str) -> Vec<u32> {
     text.chars().map(u32::from).collect()
 }
 
@@ -92,7 +92,7 @@ fn tree(pattern: &[u32], bits: u32, optimize: u32) -> Result<Node, Fault> {
 }
 
 /// Returns the syntax error of a pattern that is rejected: its kind, text and position from one call.
-fn fault(pattern: &[u32], bits: u32) -> Fault {
+pub(crate) fn fault(pattern: &[u32], bits: u32) -> Fault {
     let (output, kind, place) = ffi::tree_fault(pattern, bits);
     match output.status {
         TREE_FAULT => {}

@@ -110,7 +110,7 @@ impl Regex {
             steps: options.steps,
             nodes: options.nodes,
         });
-        let failed = |status| compile_error(status, pattern, flags, options.table);
+        let failed = |status| compile_error(status, pattern, recipe.bits);
         let count = with_handle(&recipe, |handle| handle.group_count()).map_err(failed)?;
         // Only a pattern with a name is parsed to its tree.
         let names = match pattern.contains("(?<") {

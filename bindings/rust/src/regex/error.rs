@@ -1,9 +1,9 @@
 //! Errors of compiling and of searching.
 
 use crate::ffi;
-use crate::flags::{Flags, FlagsError, Table};
+use crate::flags::FlagsError;
 use crate::kind::FaultKind;
-use crate::library::{parse_str, Fault};
+use crate::library::{code_points, fault, Fault};
 use std::fmt;
 
 /// Why a pattern was not compiled.
@@ -94,14 +94,12 @@ impl From<Fault> for Error {
     }
 }
 
-/// Returns the error of a pattern that was not compiled, for the status of the call.
-pub(crate) fn compile_error(status: u32, pattern: &str, flags: Flags, table: Table) -> Error {
+/// Returns the error of a pattern that was not compiled, for the status of the call and the flags as the library has
+/// them.
+pub(crate) fn compile_error(status: u32, pattern: &str, bits: u32) -> Error {
     match status {
-        // Parsing also returns the text.
-        ffi::SYNTAX => match parse_str(pattern, flags, table) {
-            Ok(_) => Error::Library,
-            Err(fault) => fault.into(),
-        },
+        // The call for trees also returns the text.
+        ffi::SYNTAX => fault(&code_points(pattern), bits).into(),
         ffi::TOO_LARGE => Error::TooLarge,
         ffi::MEMORY => Error::Memory,
         _ => Error::Library,
