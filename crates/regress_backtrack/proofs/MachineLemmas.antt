@@ -111,21 +111,6 @@ kept-ended m m' from grown captures begins =
       rewound = rewound-more m m' (entries.Ended from) grown back;
     }
 
-pub closed-some : (m m' : Machine) (position from : ℕ) → m'.captures.items ≡ m.captures.items → m.stack.begins.items ≡ m'.stack.begins.items ++ from ∷ [] →
-    Closed position (groups_of m) (groups_of m') from
-closed-some m m' position from captures begins =
-    let is : reverse m.stack.begins.items ≡ from ∷ reverse m'.stack.begins.items = ap reverse begins ∙ reverse-append m'.stack.begins.items (from ∷ []) in
-    record { captures = captures; begins = sym (ap (drop 1) is); at_start = sym (ap (closed_at position) is) }
-
-pub closed-none : (m m' : Machine) (position : ℕ) → m'.captures.items ≡ m.captures.items → m.stack.begins.items ≡ [] → m'.stack.begins.items ≡ [] →
-    Closed position (groups_of m) (groups_of m') position
-closed-none m m' position captures begins begins' =
-    record {
-      captures = captures;
-      begins = ap reverse begins' ∙ sym (ap (λ xs. drop 1 (reverse xs)) begins);
-      at_start = sym (ap (λ xs. closed_at position (reverse xs)) begins);
-    }
-
 -- ---- backtracking
 
 pub no_point : (e : Entry) (g : Groups) → ((p : Place) (last : ℕ) → e ≡ entries.Points p last → ⊥) → point_of e g ≡ []

@@ -1,5 +1,5 @@
 -- Runs and lookarounds.
-use Rattle.std.proofs.Common.{◌≡◌, ℕ, ◌<◌, ◌≤◌, ◌==◌, Bool, true, false, not, ◌||◌, List, [], ◌∷◌, ◌++◌, flat_map, length, take, Option, Some, All, slice_get, option_map, if◌then◌else◌, refl, sym, ap, ap₂, ◌∙◌, subst, append-nil, arith, reverse}
+use Rattle.std.proofs.Common.{◌≡◌, ℕ, ◌<◌, ◌≤◌, ◌==◌, Bool, true, false, not, ◌||◌, List, [], ◌∷◌, ◌++◌, flat_map, length, take, Option, Some, All, slice_get, option_map, refl, sym, ap, ap₂, ◌∙◌, subst, append-nil, arith, reverse}
 use Rattle.std.proofs.lemmas.List.{length-map}
 use Rattle.std.proofs.lemmas.List.Elements.{All-nil, All-cons}
 use Rattle.std.proofs.lemmas.Option.{slice_get-map}
@@ -161,16 +161,7 @@ or_false false = refl
 stays-moved : (b : Bool) (k : ℕ) → (b || not (k == k)) ≡ b
 stays-moved b k = ap (λ x. b || not x) (same_here k) ∙ or_false b
 
--- the outcomes of a lookaround, by the result of its body
-abbrev after_look : (negate : Bool) → (s t : MatchState) → Response → List MatchState
-after_look negate s t (responses.Matched k) = if negate then [] else t ∷ []
-after_look negate s t responses.NoMatch = if negate then t ∷ [] else []
-after_look negate s t responses.OutOfSteps = []
-
 module _ (out : Out) (m m' : Machine) (same : points m' ≡ points m) (begins : (groups_of m').begins ≡ (groups_of m).begins) (p : Place) (next : ℕ) where
-  after : Place
-  after = record p { pc = next }
-
   -- on from the lookaround
   reach-after : (t : MatchState) → t ≡ state m'.captures.items p.position → at (record p { pc = next }) (groups_of m') ≡ reach next (at p (groups_of m)) t
   reach-after t is =
@@ -212,11 +203,3 @@ look_inside input m m' responses.NoMatch true p n same is lt le = on_inside inpu
 look_inside input m m' responses.NoMatch false p n same is lt le = back_inside input m m' n is same
 look_inside input m m' responses.OutOfSteps negate p n same is lt le = λ all.
     subst (λ x. All (Inside input) (ahead m' x)) (sym is) (All-nil (Inside input))
-
--- only a run that is out of steps leaves a lookaround out of steps
-pub look_spent : (r : Response) (negate : Bool) (p : Place) (n : Next) → IsAfter r negate p n → n ≡ nexts.OutOfSteps → r ≡ responses.OutOfSteps
-look_spent (responses.Matched k) true p n is out = let bad : nexts.Back ≡ nexts.OutOfSteps = sym is ∙ out in cc
-look_spent (responses.Matched k) false p n is out = let bad : nexts.On p ≡ nexts.OutOfSteps = sym is ∙ out in cc
-look_spent responses.NoMatch true p n is out = let bad : nexts.On p ≡ nexts.OutOfSteps = sym is ∙ out in cc
-look_spent responses.NoMatch false p n is out = let bad : nexts.Back ≡ nexts.OutOfSteps = sym is ∙ out in cc
-look_spent responses.OutOfSteps negate p n is out = refl

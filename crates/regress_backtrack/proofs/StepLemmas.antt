@@ -1,17 +1,17 @@
 -- What follows an instruction.
-use Rattle.std.proofs.Common.{◌≡◌, ℕ, ◌≤◌, ◌<◌, ◌==◌, Bool, false, not, ◌||◌, List, [], ◌∷◌, ◌++◌, flat_map, length, slice_get, Option, Some, None, MatchOption, All, Result, Ok, Err, IfOk, refl, sym, ap, ap₂, ◌∙◌, subst, append-nil, take, arith}
+use Rattle.std.proofs.Common.{◌≡◌, ℕ, ◌≤◌, ◌<◌, ◌==◌, Bool, false, not, ◌||◌, List, [], ◌++◌, flat_map, length, slice_get, Option, Some, None, MatchOption, All, Result, Ok, Err, IfOk, refl, sym, ap, ap₂, ◌∙◌, subst, take, arith}
 use Rattle.std.proofs.lemmas.List.Elements.{All-head, All-cons}
 use Rattle.regress_tree.specs.Matching.{steps}
 use Rattle.regress_tree.specs.Reading.{Direction}
 use Rattle.regress_tree.specs.Setting.{Setting}
-use Rattle.regress_tree.specs.Steps.{MatchState, Matcher}
+use Rattle.regress_tree.specs.Steps.{MatchState}
 use Rattle.regress_tree.specs.Tree.{Tree, tree}
 use Rattle.regress_leaves.specs.Leaves.{put}
 use Rattle.regress_backtrack.specs.declared.instruction.Instruction.{Instruction}
 use Rattle.regress_backtrack.specs.declared.instruction.Instruction.TheVariants as insts
 use Rattle.regress_backtrack.specs.declared.test.Test.{Test}
-use Rattle.regress_program.specs.Program.{Out, At, reach, ended, outcomes_by}
-use Rattle.regress_program.specs.Shape.{Fits, IsPart}
+use Rattle.regress_program.specs.Program.{Out, At}
+use Rattle.regress_program.specs.Shape.{Fits}
 use Rattle.regress_program.specs.Stays.{IsReached}
 use Rattle.regress_backtrack.specs.Views.{op_in, part_of}
 use Rattle.regress_program.proofs.lemmas.Onward.{Stays-tree}
@@ -20,7 +20,7 @@ use Rattle.regress_backtrack.specs.declared.machine.Machine.{Machine}
 use Rattle.regress_backtrack.specs.declared.machine.Place.{Place}
 use Rattle.regress_backtrack.specs.declared.step.Next.{Next}
 use Rattle.regress_backtrack.specs.declared.step.Next.TheVariants as nexts
-use Rattle.regress_backtrack.specs.Machine.{Groups, at, groups_of, points, state}
+use Rattle.regress_backtrack.specs.Machine.{at, groups_of, points, state}
 use Rattle.regress_backtrack.specs.Code.{code_routines}
 use Rattle.regress_backtrack.specs.Next.{CanStep, is_look, Inside, ahead, Leads}
 
@@ -28,12 +28,6 @@ use Rattle.regress_backtrack.specs.Next.{CanStep, is_look, Inside, ahead, Leads}
 abbrev pub Reaches : (next : ℕ) → Place → Next → Option ℕ → Type 0
 Reaches next p n to =
     MatchOption to (n ≡ nexts.Back) (λ q. n ≡ nexts.On (record { pc = next; moved = p.moved || not (q == p.position); position = q }))
-
-pub reaches_on : (next : ℕ) (p : Place) (n : Next) (to : Option ℕ) → Reaches next p n to → n ≡ nexts.OutOfSteps → ⊥
-reaches_on next p n None is out = let bad : nexts.Back ≡ nexts.OutOfSteps = sym is ∙ out in cc
-reaches_on next p n (Some q) is out =
-    let there : Place = record { pc = next; moved = p.moved || not (q == p.position); position = q } in
-    let bad : nexts.On there ≡ nexts.OutOfSteps = sym is ∙ out in cc
 
 module _ (out : Out) (m m' : Machine) where
   abbrev pub Goes : List MatchState → Next → Type 0
@@ -46,17 +40,6 @@ module _ (out : Out) (m m' : Machine) where
 
   pub goes_back : (states : List MatchState) (n : Next) → n ≡ nexts.Back → points m' ≡ points m → states ≡ [] → Goes states n
   goes_back states n is same none = subst (Goes states) (sym is) (ap₂ ◌++◌ none (ap (flat_map out) (sym same)))
-
-  pub goes_after_part : (setting : Setting) (bytes : List ℕ) (d : Direction) (t : Tree) (next : ℕ) (p : Place) (to : Option ℕ) (n : Next) →
-      steps setting bytes d t (state m.captures.items p.position) ≡ put (state m.captures.items p.position) to → Reaches next p n to →
-      groups_of m' ≡ groups_of m → points m' ≡ points m →
-      Goes (flat_map (λ s. out (reach next (at p (groups_of m)) s)) (steps setting bytes d t (state m.captures.items p.position))) n
-  goes_after_part setting bytes d t next p None n ends is groups same =
-      goes_back _ n is same (ap (flat_map (λ s. out (reach next (at p (groups_of m)) s))) ends)
-  goes_after_part setting bytes d t next p (Some q) n ends is groups same =
-      let there : Place = record { pc = next; moved = p.moved || not (q == p.position); position = q } in
-      goes_on _ n there (at there (groups_of m)) is (ap (at there) groups) same
-      (ap (flat_map (λ s. out (reach next (at p (groups_of m)) s))) ends ∙ append-nil _)
 
 -- ---- inside the routine and the text
 
@@ -86,19 +69,6 @@ module _ (input : Input) (m m' : Machine) where
 -- ---- leaves
 
 module _ (input : Input) (m : Machine) (o : Option Test) (next : ℕ) (p : Place) (n : Next) where
-  -- an instruction with no leaf fails
-  pub no_leaf_goes : (setting : Setting) (bytes : List ℕ) (d : Direction) (body_of : ℕ → Matcher) (out : Out) → o ≡ None → n ≡ nexts.Back →
-      Goes out m m (outcomes_by setting bytes d body_of out (part_of o next) (at p (groups_of m))) n
-  no_leaf_goes setting bytes d body_of out none is =
-      goes_back out m m _ n is refl (ap (λ x. outcomes_by setting bytes d body_of out (part_of x next) (at p (groups_of m))) none)
-
-  pub leaf_goes : (t : Test) (to : Option ℕ) (setting : Setting) (bytes : List ℕ) (d : Direction) (body_of : ℕ → Matcher) (out : Out) → o ≡ Some t →
-      steps setting bytes d (tree t.node) (state m.captures.items p.position) ≡ put (state m.captures.items p.position) to → Reaches next p n to →
-      Goes out m m (outcomes_by setting bytes d body_of out (part_of o next) (at p (groups_of m))) n
-  leaf_goes t to setting bytes d body_of out some ends is =
-      subst (λ x. Goes out m m (outcomes_by setting bytes d body_of out (part_of x next) (at p (groups_of m))) n) (sym some)
-      (goes_after_part out m m setting bytes d (tree t.node) next p to n ends is refl refl)
-
   pub leaf_inside : (t : Test) (to : Option ℕ) (setting : Setting) (d : Direction) → o ≡ Some t → CanStep input (part_of o next) p →
       steps setting input.text.now d (tree t.node) (state m.captures.items p.position) ≡ put (state m.captures.items p.position) to → Reaches next p n to →
       Remains input m m n
@@ -106,20 +76,6 @@ module _ (input : Input) (m : Machine) (o : Option Test) (next : ℕ) (p : Place
       let fits = subst (λ x. Fits (take input.index (code_routines input.code.now)) (length input.instructions.now) p.pc (part_of x next)) some can.fits in
       let lt : next < length input.instructions.now = omega (arith, fits.1, can.pc) in
       part_inside input m m setting d (tree t.node) next p to n ends is refl lt can.position
-
-  pub leaf_part : (t : Test) → o ≡ Some t → CanStep input (part_of o next) p → IsPart (tree t.node)
-  leaf_part t some can =
-      (subst (λ x. Fits (take input.index (code_routines input.code.now)) (length input.instructions.now) p.pc (part_of x next)) some can.fits).0
-
--- ---- groups
-
-pub end-goto : (id next : ℕ) (p : Place) (g : Groups) →
-    ended id next (at p g) g.begins ≡ ended id next (at (record p { pc = next }) g) g.begins
-end-goto id next p g = by g.begins
-  where
-    by : (begins : List ℕ) → ended id next (at p g) begins ≡ ended id next (at (record p { pc = next }) g) begins
-    by [] = refl
-    by (from ∷ begins) = refl
 
 -- an instruction with a leaf is no lookaround
 part_no_look : (t : Option Test) (next : ℕ) → is_look (part_of t next) ≡ false

@@ -1,7 +1,6 @@
 mod CompileLemmas
 mod HandleValues
 mod LooseValues
-mod MessageLemmas
 mod ResultLemmas
 mod SearchLemmas
 mod TextLemmas

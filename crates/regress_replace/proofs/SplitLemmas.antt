@@ -1,12 +1,11 @@
 -- Splitting a text with captures: what is done so far, and what is left to do.
-use Rattle.std.proofs.Common.{◌≡◌, ℕ, zero, suc, ◌+◌, ◌<◌, ◌≤◌, true, false, List, [], ◌∷◌, ◌++◌, Option, Some, None, drop, length, IsSomeAnd, get_or, slice_range, map, option_map, All, refl, sym, ap, ◌∙◌, append_assoc, arith}
+use Rattle.std.proofs.Common.{◌≡◌, ℕ, ◌+◌, ◌<◌, ◌≤◌, false, List, [], ◌∷◌, ◌++◌, Option, Some, None, drop, length, IsSomeAnd, get_or, map, option_map, All, refl, sym, ap, ◌∙◌, arith}
 use Rattle.std.proofs.lemmas.List.{length-map, take-map, take-append-le}
 use Rattle.std.specs.Borrow.{Bor}
-use Rattle.regress_program.specs.Found.{start_of, state_of}
 use Rattle.regress_program.specs.declared.found.Match.{Match}
 use Rattle.regress_match.specs.Matched.{IsInside}
 use Rattle.regress_replace.specs.Expansion.{end_of}
-use Rattle.regress_replace.specs.Split.{all_parts, capture_texts, limited, part_texts, split_parts, splits}
+use Rattle.regress_replace.specs.Split.{all_parts, limited, part_texts, split_parts, splits}
 use Rattle.regress_replace.proofs.lemmas.Order.{AreInOrder-from, IsBefore, before_first, match_inside, next_match}
 
 -- the parts within a limit, as their texts
@@ -27,31 +26,7 @@ all_parts_are [] [] none = refl
 all_parts_are [] (m ∷ ms) none = absurd (omega (arith, none refl))
 all_parts_are (b ∷ bs) ms none = refl
 
--- an empty text with a match has no parts
-pub no_parts : (text : List ℕ) (ms : List Match) → length text ≡ 0 → 0 < length ms → all_parts text ms ≡ []
-no_parts [] [] empty some = absurd (omega arith)
-no_parts [] (m ∷ ms) empty some = refl
-no_parts (b ∷ bs) ms empty some = absurd (omega arith)
-
-limited_nil : (limit : Option ℕ) → [] ≡ limited {X = Option (List ℕ)} limit []
-limited_nil None = refl
-limited_nil (Some zero) = refl
-limited_nil (Some (suc n)) = refl
-
--- a match that splits the text
-pub parts_more : (text : List ℕ) (from : ℕ) (ms : List Match) (i : ℕ) (m : Match) (done all : List (Option (List ℕ))) → i < length ms →
-    m ≡ get_or ms i m → splits text from m ≡ true → done ++ split_parts text from (drop i ms) ≡ all →
-    ((done ++ Some (slice_range text from (start_of m)) ∷ []) ++ capture_texts text (state_of m).captures)
-    ++ split_parts text (end_of m) (drop (i + 1) ms) ≡ all
-parts_more text from ms i m done all below is splits_it so_far =
-    let rest = split_parts text (end_of m) (drop (i + 1) ms) in
-    let head = Some (slice_range text from (start_of m)) in
-    let captures = capture_texts text (state_of m).captures in
-    let here : split_parts text from (m ∷ drop (i + 1) ms) ≡ head ∷ (captures ++ rest) = rw splits_it in
-    append_assoc (done ++ head ∷ []) captures rest ∙ append_assoc done (head ∷ []) (captures ++ rest)
-    ∙ ap (λ zs. done ++ zs) (sym here) ∙ ap (λ zs. done ++ split_parts text from zs) (sym (next_match ms i m below is)) ∙ so_far
-
--- a match that does not
+-- a match that does not split the text
 pub parts_same : (text : List ℕ) (from : ℕ) (ms : List Match) (i : ℕ) (m : Match) (done all : List (Option (List ℕ))) → i < length ms →
     m ≡ get_or ms i m → splits text from m ≡ false → done ++ split_parts text from (drop i ms) ≡ all →
     done ++ split_parts text from (drop (i + 1) ms) ≡ all

@@ -1,5 +1,4 @@
-use Rattle.std.proofs.Common.{rules, arith, ◌≡◌, ◌<◌, length, slice_get, Some, true, sym, ap, ◌∙◌, subst}
-use Rattle.regress_backtrack.specs.declared.instruction.Instruction.TheVariants as insts
+use Rattle.std.proofs.Common.{rules, arith, ◌≡◌, Some, true, ap, ◌∙◌}
 use Rattle.regress_backtrack.proofs.SweepLemmas.{turn_is}
 use Rattle.regress_backtrack.proofs.sweep.sole_leaf.Goals as goal
 

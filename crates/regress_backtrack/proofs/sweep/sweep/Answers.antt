@@ -1,5 +1,4 @@
-use Rattle.std.proofs.Common.{◌≡◌, ◌+◌, ◌-◌, ◌<◌, ◌≤◌, ◌++◌, ℕ, suc, true, false, flat_map, length, sym, ap, ◌∙◌, arith}
-use Rattle.regress_program.specs.Program.{Out}
+use Rattle.std.proofs.Common.{◌≡◌, ◌+◌, ◌-◌, ◌≤◌, ◌++◌, suc, true, false, flat_map, length, sym, ap, ◌∙◌, arith}
 use Rattle.regress_backtrack.specs.declared.machine.Place.{Place}
 use Rattle.regress_backtrack.specs.Machine.{at, groups_of, range_points}
 use Rattle.regress_backtrack.specs.Sweep.{AreIn}

@@ -1,4 +1,4 @@
-use Rattle.std.proofs.Common.{rules, arith, ◌≡◌, ◌<◌, ◌-◌, ◌++◌, ◌∷◌, [], length, length-append, refl, sym, ap, ◌∙◌}
+use Rattle.std.proofs.Common.{rules, arith, ◌≡◌, ◌<◌, ◌++◌, ◌∷◌, [], length, length-append, refl, sym, ap, ◌∙◌}
 use Rattle.regress_backtrack.specs.declared.machine.Entry.TheVariants as entries
 use Rattle.regress_backtrack.specs.declared.machine.Machine.{Machine}
 use Rattle.regress_backtrack.proofs.MachineLemmas.{Kept-refl, Kept-trans, popped, popped-last, popped-point, points-none, rewound-none}
