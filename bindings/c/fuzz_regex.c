@@ -1,9 +1,47 @@
-/* A target for libFuzzer: compiles a pattern and searches a text, with small limits. tools/fuzz_c builds and runs it. */
+/* A target for libFuzzer: compiles a pattern, searches a text and replaces matches, with small limits, and escapes the
+   text. tools/fuzz_c builds and runs it. */
 
 #include <stdlib.h>
 #include <string.h>
 
 #include <regress.h>
+
+static uint8_t out[4096];
+
+/* Replaces by the match itself, which gives the text, and by the pattern as a template. */
+static void replace(regress_regex *regex, const uint8_t *text, size_t most, const uint8_t *pattern, size_t length,
+                    int is_missing) {
+    size_t needed;
+    uint32_t status = regress_replace_all(regex, text, most, (const uint8_t *)"$&", 2, out, sizeof out, &needed);
+    if (status == REGRESS_OK ? needed != most || memcmp(out, text, most) != 0 : needed != 0) {
+        abort();
+    }
+    status = regress_replace(regex, text, most, pattern, length, out, sizeof out, &needed);
+    if (status == REGRESS_OK && is_missing && (needed != most || memcmp(out, text, most) != 0)) {
+        abort();
+    }
+    uint32_t status_of_all = regress_replace_all(regex, text, most, pattern, length, out, sizeof out, &needed);
+    if ((status_of_all == REGRESS_BAD_INPUT) != (status == REGRESS_BAD_INPUT)
+        || (status_of_all == REGRESS_ROOM) != (needed > sizeof out)) {
+        abort();
+    }
+}
+
+/* Searches in a text for the pattern that escapes it. */
+static void escape(const uint8_t *text, size_t most, uint32_t flags) {
+    size_t needed, position, spans[2];
+    uint32_t kind;
+    regress_regex regex = {NULL};
+    uint32_t status = regress_escape(text, most, out, sizeof out, &needed);
+    if (status == REGRESS_BAD_INPUT || (status == REGRESS_ROOM && needed <= 4 * most)) {
+        return;
+    }
+    if (status != REGRESS_OK || regress_compile(out, needed, flags, 0, 0, &regex, &kind, &position) != REGRESS_OK
+        || regress_find(&regex, text, most, 0, spans, 2, &needed) != REGRESS_OK || spans[0] != 0 || spans[1] != most) {
+        abort();
+    }
+    regress_free(&regex);
+}
 
 int LLVMFuzzerTestOneInput(const uint8_t *data, size_t size) {
     static size_t spans[512];
@@ -54,7 +92,9 @@ int LLVMFuzzerTestOneInput(const uint8_t *data, size_t size) {
     if ((status == REGRESS_OK && tested != REGRESS_OK) || (status == REGRESS_NO_MATCH && tested != REGRESS_NO_MATCH)) {
         abort();
     }
+    replace(&regex, text, most, pattern, length, status == REGRESS_NO_MATCH);
     regress_find_all(&regex, text, most, spans, 512, &needed);
     regress_free(&regex);
+    escape(text, most, flags);
     return 0;
 }

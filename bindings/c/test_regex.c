@@ -166,6 +166,66 @@ static void messages(void) {
     }
 }
 
+static uint32_t replaced(regress_regex *regex, const char *text, const char *replacement, size_t room) {
+    memset(bytes, 0xA5, sizeof bytes);
+    return regress_replace(regex, (const uint8_t *)text, strlen(text), (const uint8_t *)replacement,
+                           strlen(replacement), bytes, room, &needed);
+}
+
+static uint32_t all_replaced(regress_regex *regex, const char *text, const char *replacement, size_t room) {
+    memset(bytes, 0xA5, sizeof bytes);
+    return regress_replace_all(regex, (const uint8_t *)text, strlen(text), (const uint8_t *)replacement,
+                               strlen(replacement), bytes, room, &needed);
+}
+
+static uint32_t escaped(const char *text, size_t room) {
+    memset(bytes, 0xA5, sizeof bytes);
+    return regress_escape((const uint8_t *)text, strlen(text), bytes, room, &needed);
+}
+
+static int are_none(void) { return needed == 0 && bytes[0] == 0xA5; }
+
+/* The expected texts are those of V8 11.3. */
+static void replaces(void) {
+    regress_regex regex;
+    CHECK(compiled("(?<a>x)|(y)", SMALL, &regex) == REGRESS_OK);
+    CHECK(all_replaced(&regex, "axby", "[$&$`$'$1$2$<a>$$]", ROOM) == REGRESS_OK && are_bytes("a[xabyxx$]b[yaxby$]"));
+    CHECK(replaced(&regex, "axby", "[$&$`$'$1$2$<a>$$]", ROOM) == REGRESS_OK && are_bytes("a[xabyxx$]by"));
+    CHECK(all_replaced(&regex, "axby", "", ROOM) == REGRESS_OK && are_bytes("ab"));
+    CHECK(all_replaced(&regex, "ab", "c", ROOM) == REGRESS_OK && are_bytes("ab"));
+    CHECK(replaced(&regex, "ab", "c", ROOM) == REGRESS_OK && are_bytes("ab"));
+    CHECK(all_replaced(&regex, "", "c", 0) == REGRESS_OK && are_bytes(""));
+    CHECK(all_replaced(&regex, "axby", "--", 5) == REGRESS_ROOM && needed == 6 && bytes[0] == 0xA5);
+    CHECK(all_replaced(&regex, "axby", "--", 6) == REGRESS_OK && are_bytes("a--b--"));
+    CHECK(replaced(&regex, "axby", "--", 4) == REGRESS_ROOM && needed == 5 && bytes[0] == 0xA5);
+    CHECK(replaced(&regex, "axby", "--", 5) == REGRESS_OK && are_bytes("a--by"));
+    CHECK(all_replaced(&regex, "\xFF", "c", ROOM) == REGRESS_BAD_INPUT && are_none());
+    CHECK(all_replaced(&regex, "x", "\xFF", ROOM) == REGRESS_BAD_INPUT && are_none());
+    CHECK(replaced(&regex, "\xFF", "c", ROOM) == REGRESS_BAD_INPUT && are_none());
+    CHECK(replaced(&regex, "x", "\xFF", ROOM) == REGRESS_BAD_INPUT && are_none());
+    regress_free(&regex);
+    CHECK(compiled("(x)|(y)", SMALL, &regex) == REGRESS_OK);
+    CHECK(all_replaced(&regex, "axby", "$3$10$02$<a>$", ROOM) == REGRESS_OK && are_bytes("a$3x0$<a>$b$30y$<a>$"));
+    regress_free(&regex);
+    CHECK(compiled("", SMALL, &regex) == REGRESS_OK);
+    CHECK(all_replaced(&regex, "\xE2\x82\xAC", "-", ROOM) == REGRESS_OK && are_bytes("-\xE2\x82\xAC-"));
+    regress_free(&regex);
+    CHECK(regress_compile((const uint8_t *)"(a*)*b", 6, SMALL, 1, 0, &regex, &kind, &position) == REGRESS_OK);
+    CHECK(all_replaced(&regex, "aaaaaaaaaaaaaaaaaaaaaaaaaaaaaaaa", "c", ROOM) == REGRESS_OUT_OF_STEPS && are_none());
+    CHECK(replaced(&regex, "aaaaaaaaaaaaaaaaaaaaaaaaaaaaaaaa", "c", ROOM) == REGRESS_OUT_OF_STEPS && are_none());
+    regress_free(&regex);
+}
+
+/* The expected patterns are by ECMA-262, EncodeForRegExpEscape. */
+static void escapes(void) {
+    CHECK(escaped("1+1 = 2?", ROOM) == REGRESS_OK && are_bytes("\\x31\\+1\\x20\\x3d\\x202\\?"));
+    CHECK(escaped("\xC3\xA9" "1/\t\xE2\x80\xA8", ROOM) == REGRESS_OK && are_bytes("\xC3\xA9" "1\\/\\t\\u2028"));
+    CHECK(escaped("", 0) == REGRESS_OK && are_bytes(""));
+    CHECK(escaped("a.", 5) == REGRESS_ROOM && needed == 6 && bytes[0] == 0xA5);
+    CHECK(escaped("a.", 6) == REGRESS_OK && are_bytes("\\x61\\."));
+    CHECK(escaped("a\xFF", ROOM) == REGRESS_BAD_INPUT && are_none());
+}
+
 static void errors(void) {
     int mark_of_caller;
     regress_regex regex = {&mark_of_caller};
@@ -221,6 +281,43 @@ static void refuse(const char *pattern, const char *text) {
     printf("%s: out of memory in %zu of %ld runs\n", pattern, wanting, most);
 }
 
+/* A call that writes a text, and what it writes. */
+enum writing { REPLACING, REPLACING_ALL, ESCAPING };
+
+static uint32_t written(enum writing how, regress_regex *regex) {
+    switch (how) {
+    case REPLACING:
+        return replaced(regex, "-xyyxyy", "<$<a>$'>", ROOM);
+    case REPLACING_ALL:
+        return all_replaced(regex, "-xyyxyy", "<$<a>$'>", ROOM);
+    default:
+        return escaped("1 + 1 = 2", ROOM);
+    }
+}
+
+/* As `refuse`, for a call that writes a text. */
+static void refuse_text(enum writing how, const char *expected) {
+    regress_regex regex;
+    size_t wanting = 0;
+    CHECK(compiled("x(?<a>y+)", SMALL, &regex) == REGRESS_OK);
+    requests = 0;
+    CHECK(written(how, &regex) == REGRESS_OK && are_bytes(expected));
+    long most = requests, before = blocks;
+    for (long each = 0; each < most; each++) {
+        requests = 0;
+        refused = each;
+        uint32_t status = written(how, &regex);
+        refused = -1;
+        CHECK(status == REGRESS_OK ? are_bytes(expected) : status == REGRESS_MEMORY && are_none());
+        CHECK(blocks == before);
+        wanting += status == REGRESS_MEMORY;
+    }
+    CHECK(wanting > 0);
+    CHECK(written(how, &regex) == REGRESS_OK && are_bytes(expected));
+    regress_free(&regex);
+    printf("%s: out of memory in %zu of %ld runs\n", expected, wanting, most);
+}
+
 int main(void) {
     CHECK(regress_abi_version() == REGRESS_ABI_VERSION);
     long before = blocks;
@@ -229,9 +326,14 @@ int main(void) {
     errors();
     names();
     messages();
+    replaces();
+    escapes();
     CHECK(blocks == before);
     refuse("(?<a>x)|(?<b>y+)\\k<b>", "xyyzyyyy");
     refuse("(?<=ab)c{2}[a-c]+|[^a]", "abccab");
+    refuse_text(REPLACING, "-<yyxyy>xyy");
+    refuse_text(REPLACING_ALL, "-<yyxyy><yy>");
+    refuse_text(ESCAPING, "\\x31\\x20\\+\\x201\\x20\\x3d\\x202");
     if (wrong) {
         fprintf(stderr, "%d checks fail\n", wrong);
         return 1;

@@ -111,9 +111,13 @@ def escape(text):
     """
     if not isinstance(text, str):
         return escape(bytes(text).decode()).encode()
-    # A first digit or letter would continue an escape before the pattern.
-    first = _re.match('[0-9A-Za-z]?', text).group()
-    return ''.join(map(_code, first)) + _ESCAPED.sub(_escaped, text[len(first):])
+    data = text.encode()
+    # At most four times as much is needed, and mostly less than twice.
+    status, pattern = _call(ctypes.c_char, 2 * len(data), _OK, lambda *buffer: _library.regress_escape(
+        data, len(data), *buffer))
+    if status != _OK:
+        raise _failure(status)
+    return pattern.decode()
 
 
 class Pattern:
@@ -455,13 +459,11 @@ class _Handle:
         """Raises the exception of a status."""
         if status == _OK:
             return
-        if status == _MEMORY:
-            raise MemoryError('the library is out of memory')
         if status == _TOO_LARGE:
             raise error('the pattern is too large', self._source, kind='TooLarge')
         if status == _OUT_OF_STEPS:
             raise error('the search takes too many steps', self._source, kind='OutOfSteps')
-        raise RuntimeError('the library returned the status %d' % status)
+        raise _failure(status)
 
 
 class _Program:
@@ -531,15 +533,20 @@ def _call(item, room, written, function):
     return status, buffer[:needed.value if status == written else 0]
 
 
+def _failure(status):
+    """Returns the exception of a status that does not depend on a pattern or a text."""
+    if status == _MEMORY:
+        return MemoryError('the library is out of memory')
+    return RuntimeError('the library returned the status %d' % status)
+
+
 def _syntax_error(program):
     """Returns the exception of a pattern that is rejected."""
     kind, position = ctypes.c_uint32(), ctypes.c_size_t()
     status, text = _call(ctypes.c_char, 128, _FAULT, lambda *buffer: _library.regress_front_tell_fault_of_text(
         program.pattern, len(program.pattern), program.flags, *buffer, ctypes.byref(kind), ctypes.byref(position)))
-    if status == _MEMORY:
-        return MemoryError('the library is out of memory')
     if status != _FAULT:
-        return RuntimeError('the library returned the status %d' % status)
+        return _failure(status)
     source, pos = program.source, position.value - program.offset
     if isinstance(source, bytes):
         pos = len(source.decode()[:pos].encode())
@@ -553,10 +560,8 @@ def _tree(program):
     room = 16 * len(program.pattern) + 64
     status, words = _call(ctypes.c_uint32, room, _OK, lambda *buffer: _library.regress_front_parse_text(
         program.pattern, len(program.pattern), program.flags, 0, *buffer, ctypes.byref(kind), ctypes.byref(position)))
-    if status == _MEMORY:
-        raise MemoryError('the library is out of memory')
     if status != _OK:
-        raise RuntimeError('the library returned the status %d' % status)
+        raise _failure(status)
     return words
 
 
@@ -698,26 +703,6 @@ def _capture(found, span):
     return b'' if span[0] == _UNSET else found._text.data[span[0]:span[1]]
 
 
-# Syntax characters, control characters, other punctuators, white space and line terminators (ECMA-262,
-# EncodeForRegExpEscape).
-_ESCAPED = _re.compile(
-    r'''([\^$\\.*+?()\[\]{}|/])|([\t\n\v\f\r])|([,\-=<>\#&!%:;@~'`"'''
-    r'\x20\xA0\u1680\u2000-\u200A\u2028\u2029\u202F\u205F\u3000\uFEFF])')
-
-
-def _escaped(found):
-    if found[1]:
-        return '\\' + found[1]
-    if found[2]:
-        return '\\' + 'tnvfr'['\t\n\v\f\r'.index(found[2])]
-    return _code(found[3])
-
-
-def _code(character):
-    code = ord(character)
-    return '\\x%02x' % code if code <= 0xFF else '\\u%04x' % code
-
-
 def _load():
     """Returns the library, with the types of its calls."""
     folder = os.path.dirname(os.path.abspath(__file__))
@@ -735,6 +720,7 @@ def _load():
         'regress_find': (number, handle, data, size, size, sizes, size, sizes),
         'regress_find_all': (number, handle, data, size, sizes, size, sizes),
         'regress_group_count': (size, handle),
+        'regress_escape': (number, data, size, octets, size, sizes),
         'regress_free': (None, handle),
         'regress_front_parse_text': (number, data, size, number, number, numbers, size, sizes, numbers, sizes),
         'regress_front_tell_fault_of_text': (number, data, size, number, octets, size, sizes, numbers, sizes),

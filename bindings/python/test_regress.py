@@ -262,6 +262,10 @@ class Calls(unittest.TestCase):
         self.assertEqual(regress.escape(text), '\\x31\\+1\\x20\\x3d\\x202\\?\\t\\n\\v\\f\\r\\x2d\\u2028é')
         self.assertEqual(regress.escape('é1'), 'é1')
         self.assertEqual(regress.escape(b'a.'), b'\\x61\\.')
+        self.assertEqual(regress.escape('-' * 100), '\\x2d' * 100)
+        self.assertEqual(regress.escape('\0'), '\0')
+        self.assertRaises(UnicodeEncodeError, regress.escape, '\ud800')
+        self.assertRaises(UnicodeDecodeError, regress.escape, b'\xff')
         for flags in ('', 'i', 'u', 'v'):
             self.assertTrue(regress.compile(regress.escape(text), flags).fullmatch(text))
 

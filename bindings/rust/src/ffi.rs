@@ -68,6 +68,14 @@ extern "C" {
 
     fn regress_group_count(handle: *mut RegressRegex) -> usize;
 
+    fn regress_escape(
+        text: *const u8,
+        length: usize,
+        out: *mut u8,
+        room: usize,
+        needed: *mut usize,
+    ) -> u32;
+
     fn regress_free(handle: *mut RegressRegex);
 
     fn regress_front_parse_code_points(
@@ -192,6 +200,23 @@ impl Handle {
         // SAFETY: the handle is alive.
         unsafe { regress_group_count(&mut self.0) }
     }
+}
+
+/// Writes the pattern that matches a text, in UTF-8.
+pub(crate) fn escape(text: &str) -> Output<u8> {
+    // At most four times as much is needed, and mostly less than twice.
+    with_room(2 * text.len(), |out: &mut [u8], needed| {
+        // SAFETY: pointers and lengths are those of slices.
+        unsafe {
+            regress_escape(
+                start_of(text),
+                text.len(),
+                out.as_mut_ptr(),
+                out.len(),
+                needed,
+            )
+        }
+    })
 }
 
 /// Writes the encoding of a pattern's tree, for a pattern of code points.

@@ -226,6 +226,7 @@ fn an_escaped_text_matches_itself() {
     );
     assert_eq!(escape(""), "");
     assert_eq!(escape("é1"), "é1");
+    assert_eq!(escape(&"-".repeat(100)), "\\x2d".repeat(100));
     for letters in ["", "i", "u", "v"] {
         let found = Regex::with_flags(&pattern, letters).unwrap().find(text);
         assert_eq!(found.unwrap().unwrap().as_str(), text);

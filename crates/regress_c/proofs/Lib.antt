@@ -1,6 +1,7 @@
 mod CompileLemmas
 mod HandleValues
 mod LooseValues
+mod ReplaceLemmas
 mod ResultLemmas
 mod SearchLemmas
 mod TextLemmas

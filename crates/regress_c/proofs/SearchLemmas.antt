@@ -5,7 +5,7 @@ use Rattle.regress.specs.declared.failure.SearchError.{SearchError}
 use Rattle.regress.specs.declared.failure.SearchError.TheVariants.{Memory, OutOfSteps}
 use Rattle.regress_front.specs.Steps.{CaptureSpan}
 use Rattle.regress_c.specs.Spans.{ends_of}
-use Rattle.regress_c.specs.SearchResults.{IsBare, status_of, SearchResult, written, no_match, out_of_memory, little, bad, out_of_steps}
+use Rattle.regress_c.specs.SearchResults.{IsBare, status_of, SearchResult, written, no_match, out_of_memory, little, bad, out_of_steps, TestResult, too_little_memory, too_many_steps}
 
 -- what is written has the property that was computed, and the arguments are valid
 pub search-written : {A : Type 0} {P : List ℕ → Type 0} {Missing : Type 0} {old new numbers : List ℕ} {status needed : ℕ} → A → P numbers →
@@ -38,7 +38,7 @@ span_more span rest a b done whole is so_far =
 -- -- of a search that may fail
 
 module _ {A : Type 0} {P : List ℕ → Type 0} {Missing : Type 0} {old new : List ℕ} {status needed : ℕ} where
-  at-bare : (expected : ℕ) → IsBare expected old status needed new → SearchResult A P Missing old expected 0 old →
+  pub at-bare : (expected : ℕ) → IsBare expected old status needed new → SearchResult A P Missing old expected 0 old →
       SearchResult A P Missing old status needed new
   at-bare expected bare is =
       subst (λ s. SearchResult A P Missing old s needed new) (sym bare.0)
@@ -54,6 +54,11 @@ module _ {A : Type 0} {P : List ℕ → Type 0} {Missing : Type 0} {old new : Li
   search-reports items (Ok (Some v)) asked has is = search-written asked has is
   search-reports items (Err Memory) asked has is = at-bare 2 is (out_of_memory asked)
   search-reports items (Err OutOfSteps) asked has is = at-bare 7 is (out_of_steps asked)
+
+-- a search that fails has the status of its error
+pub test-fails : {A Present Missing : Type 0} {status : ℕ} (error : SearchError) → A → status ≡ status_of error → TestResult A Present Missing status
+test-fails {A} {Present} {Missing} Memory asked is = subst (TestResult A Present Missing) (sym is) (too_little_memory asked)
+test-fails {A} {Present} {Missing} OutOfSteps asked is = subst (TestResult A Present Missing) (sym is) (too_many_steps asked)
 
 -- -- of numbers that are computed
 

@@ -7,3 +7,5 @@ pub mod Spans
 pub mod SearchResults
 pub mod CompileResults
 pub mod TextResults
+pub mod ReplaceResults
+pub mod EscapeResults

@@ -62,8 +62,7 @@ pub(crate) fn test(alloc: Global, regex: &Regex, text: &[u8]) -> u32
         Ok(text) => match regex.is_match(alloc, text) {
             Ok(true) => OK,
             Ok(false) => NO_MATCH,
-            Err(SearchError::Memory) => MEMORY,
-            Err(SearchError::OutOfSteps) => OUT_OF_STEPS,
+            Err(error) => error_status(error),
         },
         Err(_) => BAD_INPUT,
     }
@@ -83,8 +82,17 @@ fn report(
     match found {
         Ok(Some(items)) => give(&items, buffer, needed),
         Ok(None) => NO_MATCH,
-        Err(SearchError::Memory) => MEMORY,
-        Err(SearchError::OutOfSteps) => OUT_OF_STEPS,
+        Err(error) => error_status(error),
+    }
+}
+
+/// Returns the status of an error of a search.
+pub(crate) fn error_status(error: SearchError) -> u32
+    ensures { result ≡ status_of error }
+{
+    match error {
+        SearchError::Memory => MEMORY,
+        SearchError::OutOfSteps => OUT_OF_STEPS,
     }
 }
 

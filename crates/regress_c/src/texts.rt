@@ -31,7 +31,7 @@ pub(crate) fn write_message(kind: u32, out: &mut [u8], needed: &mut usize) -> u3
 }
 
 /// Writes a text and its length. Returns the status.
-fn give_text(text: &str, out: &mut [u8], needed: &mut usize) -> u32
+pub(crate) fn give_text(text: &str, out: &mut [u8], needed: &mut usize) -> u32
     ensures { TextResult (Unit {0}) (λ bytes. bytes ≡ text.now) out.old result needed.new out.new }
 {
     *needed = text.len();

@@ -1,7 +1,8 @@
 use Rattle.std.proofs.Common.{◌≡◌, true, sym, subst}
 use Rattle.regress.specs.Compiled.{outcomes_of}
 use Rattle.regress.specs.Found.{MatchesSomewhere}
-use Rattle.regress_c.specs.SearchResults.{found, not_found, too_little_memory, no_text, too_many_steps}
+use Rattle.regress_c.specs.SearchResults.{found, not_found, no_text}
+use Rattle.regress_c.proofs.SearchLemmas.{test-fails}
 use Rattle.regress_c.proofs.searches.test.Goals as goal
 
 pub returns-in-Ok-true : goal.returns-in-Ok-true
@@ -19,11 +20,8 @@ returns-in-Ok-false c = record {
       (subst (λ t. MatchesSomewhere t (outcomes_of c.args.regex.now t)) (sym c.in-Ok.ensures.cases.0) some) in cc);
 }
 
-pub returns-in-Err-Memory : goal.returns-in-Err-Memory
-returns-in-Err-Memory c = record { status = too_little_memory c.in-Ok.ensures.cases.1 }
-
-pub returns-in-Err-OutOfSteps : goal.returns-in-Err-OutOfSteps
-returns-in-Err-OutOfSteps c = record { status = too_many_steps c.in-Ok.ensures.cases.1 }
+pub returns-in-Err-is_match : goal.returns-in-Err-is_match
+returns-in-Err-is_match c = record { status = test-fails c.in-Err-is_match.error c.in-Ok.ensures.cases.1 c.error_status.ensures }
 
 pub returns-in-Err : goal.returns-in-Err
 returns-in-Err c = record { status = no_text c.in-Err.ensures.cases.0 }

@@ -1,0 +1,82 @@
+//! The functions that C calls to replace matches, and to escape a text. include/regress.h documents them.
+ghost use Rattle.std.specs.Prelude.{◌≡◌, IfSome, IsUtf8, None};
+ghost use Rattle.regress_c.specs.EscapeResults.{EscapeResult};
+ghost use Rattle.regress_c.specs.ReplaceResults.{HasAllReplaced, HasFirstReplaced};
+ghost use Rattle.regress_c.specs.SearchResults.{SearchResult};
+
+use super::handle::Handle;
+use super::{escaping, replacing};
+use std::alloc::Global;
+
+/// Writes the text with its leftmost match replaced by the expansion of a template, and the text if there is none.
+///
+/// # Errors
+/// Returns a status: 0 for success, 2 if an allocation failed, 3 if `out` is too small, 4 if the text or the template is
+/// not UTF-8, and 7 if the search takes more steps than allowed. `out` is changed only with 0, and `needed` is 0 unless
+/// the status is 0 or 3.
+///
+/// # Preconditions
+/// The handle is one of a compiled pattern.
+#[unsafe(no_mangle)]
+pub extern "C" fn regress_replace(
+    alloc: Global,
+    handle: &mut Handle,
+    text: &[u8],
+    template: &[u8],
+    out: &mut [u8],
+    needed: &mut usize,
+) -> u32
+    requires { handle.old.value ≡ None → ⊥ }
+    ensures same { handle.new.value ≡ handle.old.value }
+    ensures status { IfSome handle.old.value (λ regex. SearchResult (IsUtf8 text.now × IsUtf8 template.now)
+        (HasFirstReplaced regex text.now template.now) ⊥ out.old result needed.new out.new) }
+{
+    let regex = handle.take(alloc);
+    let status = replacing::write_first_replaced(alloc, &regex, text, template, out, needed);
+    *handle = Handle::of(regex);
+    status
+}
+
+/// Writes the text with each of its non-overlapping matches replaced by the expansion of a template.
+///
+/// # Errors
+/// As `regress_replace`.
+///
+/// # Preconditions
+/// The handle is one of a compiled pattern.
+#[unsafe(no_mangle)]
+pub extern "C" fn regress_replace_all(
+    alloc: Global,
+    handle: &mut Handle,
+    text: &[u8],
+    template: &[u8],
+    out: &mut [u8],
+    needed: &mut usize,
+) -> u32
+    requires { handle.old.value ≡ None → ⊥ }
+    ensures same { handle.new.value ≡ handle.old.value }
+    ensures status { IfSome handle.old.value (λ regex. SearchResult (IsUtf8 text.now × IsUtf8 template.now)
+        (HasAllReplaced regex text.now template.now) ⊥ out.old result needed.new out.new) }
+{
+    let regex = handle.take(alloc);
+    let status = replacing::write_all_replaced(alloc, &regex, text, template, out, needed);
+    *handle = Handle::of(regex);
+    status
+}
+
+/// Writes the pattern that matches exactly a text.
+///
+/// # Errors
+/// Returns a status: 0 for success, 2 if an allocation failed, 3 if `out` is too small, and 4 if the text is not UTF-8.
+/// `out` is changed only with 0, and `needed` is 0 unless the status is 0 or 3.
+#[unsafe(no_mangle)]
+pub extern "C" fn regress_escape(
+    alloc: Global,
+    text: &[u8],
+    out: &mut [u8],
+    needed: &mut usize,
+) -> u32
+    ensures status { EscapeResult text.now out.old result needed.new out.new }
+{
+    escaping::write_escaped(alloc, text, out, needed)
+}
