@@ -113,8 +113,7 @@ uint32_t regress_replace(regress_regex *handle, const uint8_t *text, size_t leng
 uint32_t regress_replace_all(regress_regex *handle, const uint8_t *text, size_t length, const uint8_t *replacement,
                              size_t replacement_length, uint8_t *out, size_t room, size_t *needed);
 
-/* Writes the pattern that matches exactly a text, as RegExp.escape of JavaScript, to `out`, a buffer of `room` bytes. At
-   most 4 * length bytes are needed.
+/* Writes the pattern that matches exactly a text, as RegExp.escape of JavaScript, to `out`, a buffer of `room` bytes.
 
    The pattern is accepted under all flags, also inside a larger pattern. A quantifier after it applies to its last
    character only, so put it into a group first.

@@ -112,7 +112,7 @@ def escape(text):
     if not isinstance(text, str):
         return escape(bytes(text).decode()).encode()
     data = text.encode()
-    # At most four times as much is needed, and mostly less than twice.
+    # Mostly less than twice as much is needed.
     status, pattern = _call(ctypes.c_char, 2 * len(data), _OK, lambda *buffer: _library.regress_escape(
         data, len(data), *buffer))
     if status != _OK:

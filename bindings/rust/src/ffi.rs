@@ -204,7 +204,7 @@ impl Handle {
 
 /// Writes the pattern that matches a text, in UTF-8.
 pub(crate) fn escape(text: &str) -> Output<u8> {
-    // At most four times as much is needed, and mostly less than twice.
+    // Mostly less than twice as much is needed.
     with_room(2 * text.len(), |out: &mut [u8], needed| {
         // SAFETY: pointers and lengths are those of slices.
         unsafe {
