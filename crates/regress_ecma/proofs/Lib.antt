@@ -1,0 +1,5 @@
+mod Bridge
+mod Groups
+mod CharacterSets
+mod Sets
+mod Theorem
