@@ -94,7 +94,7 @@ module _ (text : List ℕ) where
 
   -- ---- tests on a position
 
-  if_same : (b : Bool) (c : Continuation) (s : Steps.MatchState) →
+  pub if_same : (b : Bool) (c : Continuation) (s : Steps.MatchState) →
       (if b then c (state_on text s) else failure) ≡ first_result text c (if b then s ∷ [] else [])
   if_same true c s = sym (or_failure (c (state_on text s)))
   if_same false c s = refl

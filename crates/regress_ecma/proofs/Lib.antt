@@ -3,3 +3,5 @@ mod Groups
 mod CharacterSets
 mod Sets
 mod Theorem
+mod BackReferences
+mod Strings

@@ -1,35 +1,40 @@
 -- What the dialect gives, and what ECMA-262's matchers return.
-use Rattle.std.proofs.Common.{◌≡◌, ℕ, zero, suc, ◌+◌, ◌<◌, ◌≤◌, ◌==◌, Bool, true, false, not, ◌&&◌, ◌||◌, List, [], ◌∷◌, length, slice_get, Option, Some, None, option_map, All, if◌then◌else◌, refl, sym, ap, ap₂, subst, ◌∙◌}
+use Rattle.std.proofs.Common.{arith, ◌-◌, ◌≡◌, ℕ, zero, suc, ◌+◌, ◌<◌, ◌≤◌, ◌==◌, Bool, true, false, not, ◌&&◌, ◌||◌, List, [], ◌∷◌, length, slice_get, Option, Some, None, option_map, All, if◌then◌else◌, refl, sym, ap, ap₂, subst, ◌∙◌}
 use Rattle.std.proofs.Math.ListN.{replicate}
-use Rattle.std.proofs.lemmas.Bool.{false≢true}
+use Rattle.std.proofs.lemmas.Bool.{false≢true, ne_eqb}
 use Rattle.std.proofs.lemmas.List.Elements.{All-nil, All-cons}
 use Rattle.std.specs.Char.{IsScalar}
 use Rattle.regress_base.specs.Classes.{line_terminators}
 use Rattle.regress_base.specs.Intervals.{is_member}
-use Rattle.regress_base.specs.Table.{Table}
+use Rattle.regress_base.specs.Table.{Table, denotes}
 use Rattle.regress_base.specs.declared.types.AnchorType.{AnchorType}
 use Rattle.regress_base.specs.declared.types.AnchorType.TheVariants.{StartOfLine, EndOfLine}
 use Rattle.regress_base.specs.declared.types.Flags.{Flags}
 use Rattle.regress_base.specs.declared.types.Quantifier.{Quantifier}
 use Rattle.regress_tree.specs.Assertions.{differ, is_line_terminator, at_anchor, at_boundary}
 use Rattle.regress_tree.specs.Reading.{Direction, forwards, backwards, IsText, of_characters}
+use Rattle.regress_tree.specs.References.{back_reference as back_reference_steps}
 use Rattle.regress_tree.specs.Setting.{Setting}
 use Rattle.regress_tree.specs.Steps as Steps
 use Rattle.regress_tree.specs.Steps.{IsStateOf, IsCaptureOf, hold_at, dedup, ◌then_◌}
-use Rattle.regress_syntax.specs.Meaning.{along, is_literal, is_any, is_in_word, atom_steps, pattern_steps, terms_steps, item_steps, quantified_steps, meaning}
-use Rattle.regress_syntax.specs.Syntax.{Name, names, Atom, literal, dot, anchor, boundary, class_escape, class, class_set, string_property, back_reference, Group, grouping, modified, capture, look, Pattern, Terms, Item, one, either, no_terms, more_terms, atom, group, counts_of_item, counts_of_term, counts_of_terms}
+use Rattle.regress_classes.specs.ClassSets.{Value, has_strings}
+use Rattle.regress_syntax.specs.Meaning.{is_in_class, along, any_reference, groups_named, is_literal, is_any, is_in_word, atom_steps, pattern_steps, terms_steps, item_steps, quantified_steps, meaning}
+use Rattle.regress_syntax.specs.Syntax.{Name, names, Atom, literal, dot, anchor, boundary, class_escape, class, class_set, string_property, back_reference, by_number, by_name, is_named, Group, grouping, modified, capture, look, Pattern, Terms, Item, one, either, no_terms, more_terms, atom, group, counts_of_item, counts_of_term, counts_of_terms}
 use Rattle.regress_ecma.specs.Notation.{failure, Matcher}
-use Rattle.regress_ecma.specs.Characters.{word_characters}
+use Rattle.regress_ecma.specs.Characters.{character_complement, word_characters}
 use Rattle.regress_ecma.specs.Repetition.{match_sequence}
+use Rattle.regress_ecma.specs.CharacterMatchers.{is_same, backreference_matcher}
 use Rattle.regress_ecma.specs.Assertions.{is_in_at, index_before, is_word_char, accept, compile_anchor, compile_boundary}
-use Rattle.regress_ecma.specs.Atoms.{compile_atom}
+use Rattle.regress_ecma.specs.Atoms.{numbers_of, compile_atom}
 use Rattle.regress_ecma.specs.Compile.{compile_pattern, quantified, flags_inside, compile_disjunction, compile_alternative, compile_term}
 use Rattle.regress_ecma.specs.Differences.{HasCaseDataOfUnicode, flags_of, IsInOrder, IsProper, AreProper, IsProperItem, differs_at_atom, differs, differs_in_terms, differs_in_item}
 use Rattle.regress_ecma.specs.Compared.{state_on, IsComparable}
 use Rattle.regress_ecma.proofs.Bridge.{first_result, Agrees, Agrees-empty, Agrees-or, Agrees-then, Agrees-repeat}
 use Rattle.regress_ecma.proofs.Groups.{Agrees-capture, Agrees-look, Agrees-hold}
+use Rattle.regress_ecma.proofs.BackReferences.{Agrees-back_reference}
+use Rattle.regress_ecma.proofs.Strings.{Agrees-strings, Agrees-no_strings}
 use Rattle.regress_ecma.proofs.CharacterSets.{Agrees-character, passes-after, passes-before}
-use Rattle.regress_ecma.proofs.Sets.{literal_set, dot_is_set, word_member, class_is_set, escape_is_set}
+use Rattle.regress_ecma.proofs.Sets.{same-literal, literal_set, dot_is_set, word_member, class_is_set, complement_is_set, escape_is_set}
 
 or-none : (a b : Bool) → (a || b) ≡ false → (a ≡ false) × (b ≡ false)
 or-none true b e = absurd (false≢true (sym e))
@@ -82,6 +87,58 @@ module _ (setting : Setting) (maps : HasCaseDataOfUnicode setting.table) (with_u
   with_u_in : (rer : Flags) → HasFlagsOf rer → rer.unicode_sets ≡ true → rer.unicode ≡ true
   with_u_in rer flags v = flags.unicode ∙ with_u (sym flags.unicode_sets ∙ v)
 
+  -- The comparison of the dialect is that of ECMA-262.
+  compared : (rer : Flags) → HasFlagsOf rer → (a b : ℕ) → is_same setting.table rer a b ≡ denotes setting.table rer.icase setting.flags.unicode a b
+  compared rer flags a b =
+      same-literal setting.table maps rer (with_u_in rer flags) a b ∙ ap (λ (u : Bool). denotes setting.table rer.icase u a b) flags.unicode
+
+  reference_agrees : (rer : Flags) → HasFlagsOf rer → (d : Direction) (n : ℕ) →
+      Agrees text d (back_reference_steps d (of_characters text) (denotes setting.table rer.icase setting.flags.unicode) (n - 1))
+      (backreference_matcher setting.table rer (n ∷ []) d)
+  reference_agrees rer flags d n =
+      Agrees-back_reference setting.table rer text is_text (denotes setting.table rer.icase setting.flags.unicode) (compared rer flags) d n
+
+  same_numbers : (name : Name) (n : ℕ) (names : List (Option Name)) → groups_named name n names ≡ numbers_of name n names
+  same_numbers name n [] = refl
+  same_numbers name n (other ∷ names) =
+      ap (λ (rest : List ℕ). if is_named name other then n ∷ rest else rest) (same_numbers name (n + 1) names)
+
+  named_agrees : (rer : Flags) → HasFlagsOf rer → (d : Direction) (name : Name) (ns : List ℕ) → numbers_of name 1 all ≡ ns → not (length ns == 1) ≡ false →
+      Agrees text d
+      (any_reference (λ k. back_reference_steps d (of_characters text) (denotes setting.table rer.icase setting.flags.unicode) (k - 1)) (groups_named name 1 all))
+      (backreference_matcher setting.table rer (numbers_of name 1 all) d)
+  named_agrees rer flags d name [] is none = absurd (false≢true (sym none))
+  named_agrees rer flags d name (n ∷ []) is none =
+      subst
+      (λ (ms : List ℕ). Agrees text d
+      (any_reference (λ k. back_reference_steps d (of_characters text) (denotes setting.table rer.icase setting.flags.unicode) (k - 1)) ms)
+      (backreference_matcher setting.table rer (numbers_of name 1 all) d))
+      (sym (same_numbers name 1 all))
+      (subst
+      (λ (ms : List ℕ). Agrees text d
+      (any_reference (λ k. back_reference_steps d (of_characters text) (denotes setting.table rer.icase setting.flags.unicode) (k - 1)) ms)
+      (backreference_matcher setting.table rer ms d))
+      (sym is) (reference_agrees rer flags d n))
+  named_agrees rer flags d name (n ∷ k ∷ ns) is none = absurd (several (length ns) none)
+    where
+      several : (l : ℕ) → not (suc (suc l) == 1) ≡ false → ⊥
+      several l e =
+          let no : (suc (suc l) == 1) ≡ false = ne_eqb (suc (suc l)) 1 (omega arith) in
+          false≢true (sym e ∙ ap not no)
+
+  class_set_agrees : (d : Direction) (rer : Flags) → HasFlagsOf rer → rer.icase ≡ false → (negated : Bool) (value : Value) → (negated && has_strings value) ≡ false →
+      Agrees text d (atom_steps setting all text d (class_set rer negated value)) (compile_atom setting.table all rer d (class_set rer negated value))
+  class_set_agrees d rer flags plain false value none =
+      Agrees-strings setting.table rer text is_text d (denotes setting.table rer.icase setting.flags.unicode)
+      (λ c ch h. literal_set setting.table maps rer (with_u_in rer flags) c ch h ∙ ap (λ (u : Bool). denotes setting.table rer.icase u c ch) flags.unicode)
+      value.strings value.members (is_in_class setting.table rer false value.members)
+      (class_is_set setting.table maps rer (with_u_in rer flags) plain false value.members) value.has_empty
+  class_set_agrees d rer flags plain true value none =
+      let parts = or-none (not (length value.strings == 0)) value.has_empty none in
+      Agrees-no_strings setting.table rer text is_text d (denotes setting.table rer.icase setting.flags.unicode)
+      value.strings parts.0 (character_complement setting.table rer value.members) (is_in_class setting.table rer true value.members)
+      (complement_is_set setting.table maps rer (with_u_in rer flags) plain value.members) value.has_empty parts.1
+
   abbrev AtomAgrees : Direction → Atom → Flags → Type 0
   AtomAgrees d a rer =
       HasFlagsOf rer → differs_at_atom all rer a ≡ false →
@@ -99,9 +156,12 @@ module _ (setting : Setting) (maps : HasCaseDataOfUnicode setting.table) (with_u
       Agrees-character setting.table rer _ false _ text is_text (escape_is_set setting.table maps rer (with_u_in rer flags) none kind negated) d
   atom_agrees d (class rer inverted members) flags none =
       Agrees-character setting.table rer members inverted _ text is_text (class_is_set setting.table maps rer (with_u_in rer flags) none inverted members) d
-  atom_agrees d (class_set rer negated value) flags none = absurd (false≢true (sym none))
+  atom_agrees d (class_set rer negated value) flags none =
+      let parts = or-none rer.icase (negated && has_strings value) none in
+      class_set_agrees d rer flags parts.0 negated value parts.1
   atom_agrees d (string_property rer written) flags none = absurd (false≢true (sym none))
-  atom_agrees d (back_reference rer to) flags none = absurd (false≢true (sym none))
+  atom_agrees d (back_reference rer (by_number n)) flags none = reference_agrees rer flags d n
+  atom_agrees d (back_reference rer (by_name name)) flags none = named_agrees rer flags d name (numbers_of name 1 all) refl none
 
   quantified_agrees : (d : Direction) (q : Option Quantifier) → IsInOrder q → (n count : ℕ) (f : Steps.Matcher) (m : Matcher) → Agrees text d f m →
       Agrees text d (quantified_steps (length text) q n (n + count) f) (quantified fuel n count q m)

@@ -29,6 +29,23 @@ without_line_terminators =
     record { first = 0; last = 0x9 } ∷ record { first = 0xB; last = 0xC } ∷ record { first = 0xE; last = 0x2027 }
     ∷ record { first = 0x202A; last = code_point_max } ∷ []
 
+-- the strings with fewer than n code points, in descending order of length
+abbrev pub descending : ℕ → List (List ℕ) → List (List ℕ)
+descending zero strings = []
+descending (suc n) strings = filter (λ s. length s == n) strings ++ descending n strings
+
+-- the matchers as alternatives, in order
+abbrev pub alternatives : List Matcher → (last : Matcher) → Matcher
+alternatives [] last = last
+alternatives (m ∷ ms) last = match_two_alternatives m (alternatives ms last)
+
+-- the singles of a property of strings
+abbrev pub singles_of : List (List ℕ) → CharSet
+singles_of [] = []
+singles_of ([] ∷ strings) = singles_of strings
+singles_of ((c ∷ []) ∷ strings) = record { first = c; last = c } ∷ singles_of strings
+singles_of ((c ∷ d ∷ cs) ∷ strings) = singles_of strings
+
 module _ (table : Table) where
   -- 22.2.2.7 CompileAtom, `.`: its set
   abbrev pub dot_set : Flags → CharSet
@@ -45,34 +62,12 @@ module _ (table : Table) where
   string_matcher rer d (c1 ∷ c2 ∷ cs) =
       match_sequence (character_set_matcher table rer (one_character c1) false d) (string_matcher rer d (c2 ∷ cs)) d
 
-  -- the alternatives of a list of matchers
-  abbrev pub any_of : Matcher → List Matcher → Matcher
-  any_of m [] = m
-  any_of m (next ∷ ms) = match_two_alternatives m (any_of next ms)
-
-  -- the strings with fewer than n code points, in descending order of length
-  abbrev pub descending : ℕ → List (List ℕ) → List (List ℕ)
-  descending zero strings = []
-  descending (suc n) strings = filter (λ s. length s == n) strings ++ descending n strings
-
   -- 22.2.2.7 CompileAtom, CharacterClass: strings of two or more code points, single ones, and the empty string
   abbrev pub compile_strings : Flags → Direction → List (List ℕ) → (singles : CharSet) → (has_empty : Bool) → Matcher
   compile_strings rer d strings singles has_empty =
-      joined (map (string_matcher rer d) (descending (length (concat strings) + 1) strings))
-    where
-      last : Matcher
-      last = any_of (character_set_matcher table rer singles false d) (if has_empty then empty_matcher ∷ [] else [])
-
-      joined : List Matcher → Matcher
-      joined [] = last
-      joined (m ∷ ms) = match_two_alternatives m (joined ms)
-
-  -- the singles of a property of strings
-  abbrev pub singles_of : List (List ℕ) → CharSet
-  singles_of [] = []
-  singles_of ([] ∷ strings) = singles_of strings
-  singles_of ((c ∷ []) ∷ strings) = record { first = c; last = c } ∷ singles_of strings
-  singles_of ((c ∷ d ∷ cs) ∷ strings) = singles_of strings
+      let single : Matcher = character_set_matcher table rer singles false d in
+      alternatives (map (string_matcher rer d) (descending (length (concat strings) + 1) strings))
+      (if has_empty then match_two_alternatives single empty_matcher else single)
 
   -- 22.2.2.7 CompileAtom, and 22.2.2.8 CompileCharacterClass; 22.2.2.4 CompileAssertion without lookarounds. The names are
   -- those of all groups of the pattern.

@@ -1,11 +1,13 @@
 -- For which syntax trees, flags and tables the dialect is compared with ECMA-262.
-use Rattle.std.specs.Prelude.{◌≡◌, ℕ, ◌≤◌, Bool, true, false, ◌||◌, List, Option, Some, None, IfSome}
+use Rattle.std.specs.Prelude.{◌&&◌, ◌==◌, not, length, ◌≡◌, ℕ, ◌≤◌, Bool, true, false, ◌||◌, List, Option, Some, None, IfSome}
 use Rattle.regress_base.specs.Classes.{line_terminators, word_characters}
 use Rattle.regress_base.specs.Intervals.{Bounds, code_point_max, is_member}
 use Rattle.regress_base.specs.Table.{Table, IsIdempotent}
 use Rattle.regress_base.specs.declared.types.Flags.{Flags}
 use Rattle.regress_base.specs.declared.types.Quantifier.{Quantifier}
-use Rattle.regress_syntax.specs.Syntax.{Name, Atom, literal, dot, anchor, boundary, class_escape, class, class_set, string_property, back_reference, Pattern, Terms, Item, one, either, no_terms, more_terms, atom, group}
+use Rattle.regress_classes.specs.ClassSets.{has_strings}
+use Rattle.regress_syntax.specs.Syntax.{Name, by_number, by_name, Atom, literal, dot, anchor, boundary, class_escape, class, class_set, string_property, back_reference, Pattern, Terms, Item, one, either, no_terms, more_terms, atom, group}
+use Rattle.regress_ecma.specs.Atoms.{numbers_of}
 use Rattle.regress_ecma.specs.Compile.{flags_inside}
 
 -- What maps to the same character as a member of the set is a member.
@@ -68,12 +70,13 @@ module _ (names : List (Option Name)) where
   differs_at_atom rer (class_escape flags kind negated) = rer.icase
   -- `[k]` with i, without u; `[\W]` and `\P{Lu}` with u, whose members the tree does not tell from those of other classes
   differs_at_atom rer (class flags inverted members) = rer.icase
-  -- with i, `[[^A]]` and `[[A-Z]&&[a-z]]`, likewise. Not compared without i.
-  differs_at_atom rer (class_set flags negated value) = true
+  -- with i, `[[^A]]` and `[[A-Z]&&[a-z]]`, likewise. The grammar has no strings in a negated class.
+  differs_at_atom rer (class_set flags negated value) = rer.icase || (negated && has_strings value)
   -- not compared
   differs_at_atom rer (string_property flags written) = true
-  -- a reference to several groups of one name. Others are not compared.
-  differs_at_atom rer (back_reference flags to) = true
+  differs_at_atom rer (back_reference flags (by_number n)) = false
+  -- a reference to several groups of one name
+  differs_at_atom rer (back_reference flags (by_name name)) = not (length (numbers_of name 1 names) == 1)
 
   abbrev mutual
     pub differs : Flags → Pattern → Bool
