@@ -5,3 +5,4 @@ mod Sets
 mod Theorem
 mod BackReferences
 mod Strings
+mod Derived

@@ -14,6 +14,7 @@ use Rattle.regress_base.specs.declared.charclasses.CharacterClassType.TheVariant
 use Rattle.regress_base.specs.declared.types.Flags.{Flags}
 use Rattle.regress_classes.specs.ClassProductions.{members_of}
 use Rattle.regress_base.proofs.lemmas.Listings.{lists-head, lists-tail, lists-interval}
+use Rattle.regress_base.proofs.lemmas.Literals.{scalar_in_range}
 use Rattle.regress_base.proofs.lemmas.Sets.{intervals_of-member}
 use Rattle.regress_tree.specs.Assertions.{differ, is_line_terminator}
 use Rattle.regress_syntax.specs.Meaning.{is_literal, is_any, is_in_word, is_in_class}
@@ -83,9 +84,6 @@ has_some_gives q (iv ∷ ivs) h = by_test (list_any q (code_points iv)) refl h (
         (found.0, rw found.1 (or-right (is_within iv found.0)), found.2)
 
 -- ---- canonical forms
-
-pub scalar-le : (ch : ℕ) → IsScalar ch → ch ≤ code_point_max
-scalar-le ch h = grind (arith, nat_tests, h)
 
 module _ (table : Table) (maps : HasCaseDataOfUnicode table) (rer : Flags) (with_u : rer.unicode_sets ≡ true → rer.unicode ≡ true) where
   upper-same : (c : ℕ) → upper_case table rer c ≡ table.uppercase c
@@ -315,10 +313,10 @@ module _ (table : Table) (maps : HasCaseDataOfUnicode table) (rer : Flags) (with
           let found = found_gives (dot_set table rer) ch h in
           not_line rer.dot_all found.0 ch (any_of_member found.0 found.1) (λ line. line-closed e ch found.0 line found.2))
           (λ h.
-          let found = dot_found e ch (scalar-le ch scalar') h rer.unicode_sets refl in
+          let found = dot_found e ch (scalar_in_range ch scalar') h rer.unicode_sets refl in
           found_from (dot_set table rer) ch found.0 found.1 found.2)
       by_test false e =
-          found_plain e (dot_set table rer) ch ∙ dot_member ch (scalar-le ch scalar')
+          found_plain e (dot_set table rer) ch ∙ dot_member ch (scalar_in_range ch scalar')
           ∙ ap (λ (b : Bool). (not b || (table.fold ch == ch)) && is_any rer ch) (plain_sets e)
 
   -- ---- word characters
@@ -382,7 +380,7 @@ module _ (table : Table) (maps : HasCaseDataOfUnicode table) (rer : Flags) (with
   word_member ch scalar' = by_test rer.icase refl rer.unicode refl
     where
       le : ch ≤ code_point_max
-      le = scalar-le ch scalar'
+      le = scalar_in_range ch scalar'
 
       and-false : (u : Bool) → (u && false) ≡ false
       and-false true = refl
@@ -436,7 +434,7 @@ module _ (table : Table) (maps : HasCaseDataOfUnicode table) (rer : Flags) (with
   pub complement_is_set : rer.icase ≡ false → (members : CharSet) →
       IsSetOf table rer (character_complement table rer members) false (is_in_class table rer true members)
   complement_is_set e members ch scalar' =
-      found_plain e (character_complement table rer members) ch ∙ complement-plain e members ch (scalar-le ch scalar')
+      found_plain e (character_complement table rer members) ch ∙ complement-plain e members ch (scalar_in_range ch scalar')
       ∙ negated (is_member members ch) ∙ sym (in_class-plain e true members ch)
     where
       negated : (b : Bool) → not b ≡ differ true b
