@@ -1,0 +1,73 @@
+-- Examples: what ECMA-262's algorithm returns, computed from its transcription. Patterns, texts and results are those of
+-- the notes of the standard (22.2.2.3 CompileSubpattern, 22.2.2.3.1 RepeatMatcher, 22.2.2.4 CompileAssertion); `{2,3}`,
+-- `(d*)` and the lookbehind are those of V8 11.3.
+use Rattle.std.proofs.Common.{◌≡◌, ℕ, ◌+◌, List, [], ◌∷◌, length, Option, Some, None, option_map, refl, codes}
+use Rattle.regress_base.specs.Intervals.{is_member, is_within}
+use Rattle.regress_tree.specs.Setting.{Setting}
+use Rattle.regress_lexer.specs.Source.{Source}
+use Rattle.regress_ecma.specs.Notation.{CaptureRange, MatchState, MatchResult}
+use Rattle.regress_ecma.specs.Repetition.{repeat_matcher}
+use Rattle.regress_ecma.specs.CharacterMatchers.{character_set_matcher, backreference_matcher}
+use Rattle.regress_ecma.specs.Compile.{compile_pattern}
+use Rattle.example_definitions.proofs.Meanings.{plain, pattern_of, unset, span}
+
+-- the match of the pattern at an index of the text
+unfoldable match_at : Setting → Source → List ℕ → (index : ℕ) → Option MatchResult
+unfolding pattern_of repeat_matcher character_set_matcher backreference_matcher is_member is_within
+match_at setting source text index =
+    option_map (λ p. compile_pattern (length text + 1) setting.table setting.flags p text index) (pattern_of setting source)
+
+-- The source is a pattern, which matches the text from one index to another, with these captures.
+unfoldable Matches : Source → List ℕ → (index end : ℕ) → List (Option CaptureRange) → Type 0
+unfolding match_at
+Matches source text index end captures =
+    match_at plain source text index ≡ Some (Some (record { input = text; end_index = end; captures = captures }))
+
+-- The source is a pattern, which does not match the text from the index.
+unfoldable Fails : Source → List ℕ → (index : ℕ) → Type 0
+unfolding match_at
+Fails source text index = match_at plain source text index ≡ Some None
+
+an_iteration_of_the_empty_text_is_not_taken : Matches (codes "(a*)*") (codes "b") 0 0 (unset ∷ [])
+unfolding Matches
+an_iteration_of_the_empty_text_is_not_taken = refl
+
+an_empty_iteration_of_the_minimum_is_taken : Matches (codes "(a*){2,3}") (codes "b") 0 0 (span 0 0 ∷ [])
+unfolding Matches
+an_empty_iteration_of_the_minimum_is_taken = refl
+
+alternatives_are_tried_in_order : Matches (codes "((a)|(ab))((c)|(bc))") (codes "abc") 0 3
+    (span 0 1 ∷ span 0 1 ∷ unset ∷ span 1 3 ∷ unset ∷ span 1 3 ∷ [])
+unfolding Matches
+alternatives_are_tried_in_order = refl
+
+what_follows_an_alternative_takes_the_rest : Matches (codes "(?:a|ab)(?:c|bcd)(d*)") (codes "abcd") 0 4 (span 4 4 ∷ [])
+unfolding Matches
+what_follows_an_alternative_takes_the_rest = refl
+
+each_iteration_begins_with_its_captures_undefined : Matches (codes "(z)((a+)?(b+)?(c))*") (codes "zaacbbbcac") 0 10
+    (span 0 1 ∷ span 8 10 ∷ span 8 9 ∷ unset ∷ span 9 10 ∷ [])
+unfolding Matches
+each_iteration_begins_with_its_captures_undefined = refl
+
+a_lookahead_takes_nothing : Matches (codes "(?=(a+))") (codes "baaabac") 1 1 (span 1 4 ∷ [])
+unfolding Matches
+a_lookahead_takes_nothing = refl
+
+nothing_goes_back_into_a_lookahead : Fails (codes "(?=(a+))a*b\\1") (codes "baaabac") 0
+    × Fails (codes "(?=(a+))a*b\\1") (codes "baaabac") 1 × Fails (codes "(?=(a+))a*b\\1") (codes "baaabac") 2
+unfolding Fails
+nothing_goes_back_into_a_lookahead = (refl, refl, refl)
+
+a_reference_matches_what_a_lookahead_captured : Matches (codes "(?=(a+))a*b\\1") (codes "baaabac") 3 6 (span 3 4 ∷ [])
+unfolding Matches
+a_reference_matches_what_a_lookahead_captured = refl
+
+a_negative_lookahead_leaves_its_captures_undefined : Matches (codes "(.*?)a(?!(a+)b\\2c)\\2(.*)") (codes "baaabaac") 0 8
+    (span 0 2 ∷ unset ∷ span 3 8 ∷ [])
+unfolding Matches
+a_negative_lookahead_leaves_its_captures_undefined = refl
+
+a_lookbehind_is_matched_backwards : Matches (codes "(?<=(\\d+)(\\d+))$") (codes "1053") 4 4 (span 0 1 ∷ span 1 4 ∷ [])
+unfolding Matches
+a_lookbehind_is_matched_backwards = refl

@@ -1,0 +1,211 @@
+-- The syntax trees of the grammar have the flags in force, and quantifiers in order.
+use Rattle.std.proofs.Common.{◌≡◌, ℕ, ◌≤◌, nat_le, Bool, true, false, ◌&&◌, ◌==◌, [], ◌∷◌, drop, Option, Some, None, if◌then◌else◌, refl, ap, subst, ◌∙◌, arith}
+use Rattle.std.specs.Prelude.{IfSome}
+use Rattle.std.proofs.lemmas.Bool.Decides.{nat_tests}
+use Rattle.std.proofs.lemmas.Option.{none-some, same_Some}
+use Rattle.regress_base.specs.declared.charclasses.CharacterClassType.{CharacterClassType}
+use Rattle.regress_base.specs.declared.types.Flags.{Flags}
+use Rattle.regress_base.specs.declared.types.Quantifier.{Quantifier}
+use Rattle.regress_lexer.specs.Digits.{is_decimal, number, front}
+use Rattle.regress_lexer.specs.Escapes.{escape_at}
+use Rattle.regress_lexer.specs.Modifiers.{Change, changed, modifiers_at, switched as switched_to}
+use Rattle.regress_lexer.specs.Source.{Source, Found, ◌>>=◌, found_map, first_production, is_at, opening, colon, question_mark}
+use Rattle.regress_lexer.proofs.lemmas.Sources.{EachProduction, no_more, ◌also◌, first_production-has}
+use Rattle.regress_classes.specs.ClassProductions.{class_letter, class_at}
+use Rattle.regress_classes.specs.ClassSets.{class_set_at}
+use Rattle.regress_classes.specs.Properties.{Property, of_points, of_strings, property_at}
+use Rattle.regress_syntax.specs.Grammar.{IsPattern, AreTerms, IsItem}
+use Rattle.regress_syntax.specs.Names.{group_name_at}
+use Rattle.regress_syntax.specs.Productions.{Context, context_inside, Head, single, opens, head_of_item, allows, head_at, optional_quantifier_at, character_at, property_atom, number_reference_at, name_reference_at, has_name, escape_productions, escaped_by, escaped_at, brackets_at, atom_productions, atom_by, angle_at, after_question_mark_at}
+use Rattle.regress_syntax.specs.Syntax.{Atom, class_escape, class, Group, grouping, modified, capture, look, Pattern, Terms, Item, one, either, no_terms, more_terms, atom, group}
+use Rattle.regress_syntax.proofs.lemmas.Productions.{optional_quantifier_at-ordered}
+use Rattle.regress_tree.specs.Reading.{forwards, backwards}
+use Rattle.regress_ecma.specs.Characters.{switched, update_modifiers}
+use Rattle.regress_ecma.specs.Compile.{flags_inside}
+use Rattle.regress_ecma.specs.Differences.{flags_of, IsInOrder, IsProper, AreProper, IsProperItem}
+
+-- What is found has the property.
+record Holds {A : Type 0} (P : A → Type 0) (found : Found A) : Type 0 where
+  each : (x : A × Source) → found ≡ Some x → P x.0
+
+module _ {A : Type 0} (P : A → Type 0) where
+  holds_none : Holds P None
+  holds_none = record { each = λ x e. absurd (none-some x e) }
+
+  holds_some : (x : A) (t : Source) → P x → Holds P (Some (x, t))
+  holds_some x t h = record { each = λ y e. subst (λ (z : A × Source). P z.0) (same_Some (x, t) y e) h }
+
+  holds_if : (b : Bool) (f g : Found A) → Holds P f → Holds P g → Holds P (if b then f else g)
+  holds_if true f g first second = first
+  holds_if false f g first second = second
+
+holds_then : {A B : Type 0} (P : B → Type 0) (found : Found A) (next : A × Source → Found B) → ((x : A × Source) → Holds P (next x)) → Holds P (found >>= next)
+holds_then P None next h = holds_none P
+holds_then P (Some x) next h = h x
+
+holds_map : {A B : Type 0} (P : B → Type 0) (f : A → B) (found : Found A) → ((a : A) → P (f a)) → Holds P (found_map f found)
+holds_map P f None h = holds_none P
+holds_map P f (Some (a, t)) h = holds_some P (f a) t (h a)
+
+module _ (ctx : Context) where
+  abbrev HasFlags : Atom → Type 0
+  HasFlags a = flags_of a ≡ ctx.setting.flags
+
+  character_holds : (c : ℕ) (t : Source) → Holds HasFlags (character_at ctx c t)
+  character_holds c t = holds_map HasFlags _ (escape_at ctx.setting.flags.unicode (c ∷ t)) (λ a. refl)
+
+  class_if : (b : Bool) (members others : _) (negated : Bool) →
+      flags_of (if b then class ctx.setting.flags false members else class ctx.setting.flags negated others) ≡ ctx.setting.flags
+  class_if true members others negated = refl
+  class_if false members others negated = refl
+
+  property_holds : (negated : Bool) (x : Property × Source) → Holds HasFlags (property_atom ctx negated x)
+  property_holds negated (of_points members, t) = holds_some HasFlags _ t (class_if (negated && ctx.setting.flags.icase) _ members negated)
+  property_holds negated (of_strings written, t) = holds_if HasFlags negated _ _ (holds_none HasFlags) (holds_some HasFlags _ t refl)
+
+  number_holds : (c : ℕ) (t : Source) → Holds HasFlags (number_reference_at ctx c t)
+  number_holds c t =
+      holds_if HasFlags (nat_le (number 10 (front is_decimal (c ∷ t))) ctx.groups) _ _ (holds_some HasFlags _ _ refl)
+      (holds_if HasFlags ctx.setting.flags.unicode _ _ (holds_none HasFlags) (character_holds c t))
+
+  name_holds : (t : Source) → Holds HasFlags (name_reference_at ctx t)
+  name_holds t =
+      holds_then HasFlags (group_name_at ctx.setting.table t) _
+      (λ x. holds_if HasFlags (has_name x.0 ctx.names) _ _ (holds_some HasFlags _ x.1 refl) (holds_none HasFlags))
+
+  escapes_hold : (c : ℕ) (t : Source) → EachProduction (Holds HasFlags) (escape_productions ctx c t)
+  escapes_hold c t =
+      (λ _. holds_some HasFlags _ _ refl)
+      also (λ _. holds_some HasFlags _ _ refl)
+      also (λ _. holds_some HasFlags _ _ refl)
+      also (λ _. holds_then HasFlags (property_at ctx.setting.flags.unicode_sets ctx.setting.table t) _ (property_holds _))
+      also (λ _. number_holds c t)
+      also (λ _. name_holds t)
+      also (λ _. character_holds c t)
+      also no_more
+
+  escaped_by-holds : (c : ℕ) (t : Source) → Holds HasFlags (escaped_by ctx c t)
+  escaped_by-holds c t = by (class_letter c)
+    where
+      by : (letter : Option (CharacterClassType × Bool)) →
+          Holds HasFlags (elim letter as (λ _. Found Atom) [
+            | Some named ↦ Some (class_escape ctx.setting.flags named.0 named.1, t)
+            | None ↦ first_production (escape_productions ctx c t)
+          ])
+      by (Some named) = holds_some HasFlags _ t refl
+      by None = first_production-has (Holds HasFlags) (escape_productions ctx c t) (holds_none HasFlags) (escapes_hold c t)
+
+  escaped_holds : (t : Source) → Holds HasFlags (escaped_at ctx t)
+  escaped_holds [] = holds_none HasFlags
+  escaped_holds (c ∷ t) = escaped_by-holds c t
+
+  brackets_hold : (t : Source) → Holds HasFlags (brackets_at ctx t)
+  brackets_hold t =
+      holds_if HasFlags ctx.setting.flags.unicode_sets _ _
+      (holds_map HasFlags _ (class_set_at ctx.setting.table ctx.setting.flags.unicode t) (λ a. refl))
+      (holds_map HasFlags _ (class_at ctx.setting.table ctx.setting.flags.unicode t) (λ a. refl))
+
+  atoms_hold : (c : ℕ) (t : Source) → EachProduction (Holds HasFlags) (atom_productions ctx c t)
+  atoms_hold c t =
+      (λ _. holds_some HasFlags _ t refl)
+      also (λ _. holds_some HasFlags _ t refl)
+      also (λ _. holds_some HasFlags _ t refl)
+      also (λ _. escaped_holds t)
+      also (λ _. brackets_hold t)
+      also (λ _. holds_if HasFlags _ _ _ (holds_none HasFlags) (holds_some HasFlags _ t refl))
+      also (λ _. holds_some HasFlags _ t refl)
+      also no_more
+
+  abbrev HeadHasFlags : Head → Type 0
+  HeadHasFlags (single a) = HasFlags a
+  HeadHasFlags (opens kind) = Unit {0}
+
+  single_holds : (found : Found Atom) → Holds HasFlags found → Holds HeadHasFlags (found_map single found)
+  single_holds None h = holds_none HeadHasFlags
+  single_holds (Some (a, t)) h = holds_some HeadHasFlags (single a) t (h.each (a, t) refl)
+
+  opens_hold : (kind : Group) (t : Source) → Holds HeadHasFlags (Some (opens kind, t))
+  opens_hold kind t = holds_some HeadHasFlags (opens kind) t tt
+
+  map_opens : {A : Type 0} (kind : A → Group) (found : Found A) → Holds HeadHasFlags (found_map (λ a. opens (kind a)) found)
+  map_opens kind found = holds_map HeadHasFlags (λ a. opens (kind a)) found (λ a. tt)
+
+  angle_holds : (t : Source) → Holds HeadHasFlags (angle_at ctx.setting.table t)
+  angle_holds t =
+      holds_if HeadHasFlags (is_at 61 (drop 1 t)) _ _ (opens_hold (look false backwards) (drop 2 t))
+      (holds_if HeadHasFlags (is_at 33 (drop 1 t)) _ _ (opens_hold (look true backwards) (drop 2 t))
+      (map_opens (λ name. capture (Some name)) (group_name_at ctx.setting.table t)))
+
+  question_mark_holds : (t : Source) → Holds HeadHasFlags (after_question_mark_at ctx.setting.table t)
+  question_mark_holds t =
+      holds_if HeadHasFlags (is_at colon t) _ _ (opens_hold grouping (drop 1 t))
+      (holds_if HeadHasFlags (is_at 61 t) _ _ (opens_hold (look false forwards) (drop 1 t))
+      (holds_if HeadHasFlags (is_at 33 t) _ _ (opens_hold (look true forwards) (drop 1 t))
+      (holds_if HeadHasFlags (is_at 60 t) _ _ (angle_holds t) (map_opens modified (modifiers_at t)))))
+
+  head_holds : (t : Source) → Holds HeadHasFlags (head_at ctx t)
+  unfolding head_at
+  head_holds [] = holds_none HeadHasFlags
+  head_holds (c ∷ t) =
+      holds_if HeadHasFlags (c == opening) _ _
+      (holds_if HeadHasFlags (is_at question_mark t) _ _ (question_mark_holds (drop 1 t)) (opens_hold (capture None) t))
+      (single_holds (atom_by ctx c t) (first_production-has (Holds HasFlags) (atom_productions ctx c t) (holds_none HasFlags) (atoms_hold c t)))
+
+-- ---- quantifiers and modifiers
+
+in_order : (ctx : Context) (allowed : Bool) (t : Source) (q : Option Quantifier) (rest : Source) →
+    optional_quantifier_at ctx allowed t ≡ Some (q, rest) → IsInOrder q
+in_order ctx allowed t None rest e = tt
+in_order ctx allowed t (Some q) rest e = by q.max ((optional_quantifier_at-ordered ctx allowed t q rest e).1)
+  where
+    by : (max : Option ℕ) → elim max as (λ _. Bool) [ None ↦ true | Some most ↦ nat_le q.min most ] ≡ true → IfSome max (λ most. q.min ≤ most)
+    by None h = tt
+    by (Some most) h = grind (arith, nat_tests, h)
+
+switched_same : (change : Option Bool) (old : Bool) → switched_to change old ≡ switched change old
+switched_same None old = refl
+switched_same (Some new) old = refl
+
+modified_same : (change : Change) (flags : Flags) → changed change flags ≡ update_modifiers flags change
+modified_same change flags =
+    ap (λ (i : Bool). record flags {
+      icase = i;
+      multiline = switched_to change.multiline flags.multiline;
+      dot_all = switched_to change.dot_all flags.dot_all;
+    }) (switched_same change.icase flags.icase)
+    ∙ ap (λ (m : Bool). record flags {
+      icase = switched change.icase flags.icase;
+      multiline = m;
+      dot_all = switched_to change.dot_all flags.dot_all;
+    }) (switched_same change.multiline flags.multiline)
+    ∙ ap (λ (s : Bool). record flags {
+      icase = switched change.icase flags.icase;
+      multiline = switched change.multiline flags.multiline;
+      dot_all = s;
+    }) (switched_same change.dot_all flags.dot_all)
+
+inside_same : (kind : Group) (ctx : Context) → (context_inside kind ctx).setting.flags ≡ flags_inside kind ctx.setting.flags
+inside_same grouping ctx = refl
+inside_same (modified change) ctx = modified_same change ctx.setting.flags
+inside_same (capture name) ctx = refl
+inside_same (look negate direction) ctx = refl
+
+-- ---- patterns
+
+mutual
+  pub derived_proper : (ctx : Context) (p : Pattern) (t rest : Source) → IsPattern ctx p t rest → IsProper ctx.setting.flags p
+  derived_proper ctx (one ts) t rest derived = terms_proper ctx ts t rest derived.0
+  derived_proper ctx (either ts p) t rest derived = (terms_proper ctx ts t _ derived.1, derived_proper ctx p derived.0 rest derived.2)
+
+  terms_proper : (ctx : Context) (ts : Terms) (t rest : Source) → AreTerms ctx ts t rest → AreProper ctx.setting.flags ts
+  terms_proper ctx no_terms t rest derived = tt
+  terms_proper ctx (more_terms x q xs) t rest derived = (
+    item_proper ctx x t derived.0 derived.2,
+    in_order ctx (allows ctx.setting.flags.unicode (head_of_item x)) derived.0 q derived.1 derived.3,
+    terms_proper ctx xs derived.1 rest derived.4,
+  )
+
+  item_proper : (ctx : Context) (x : Item) (t rest : Source) → IsItem ctx x t rest → IsProperItem ctx.setting.flags x
+  item_proper ctx (atom a) t rest derived = (head_holds ctx t).each (single a, rest) derived
+  item_proper ctx (group kind p) t rest derived =
+      subst (λ (flags : Flags). IsProper flags p) (inside_same kind ctx) (derived_proper (context_inside kind ctx) p derived.0 _ derived.2)

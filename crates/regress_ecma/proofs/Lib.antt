@@ -1,0 +1,8 @@
+mod Bridge
+mod Groups
+mod CharacterSets
+mod Sets
+mod Theorem
+mod BackReferences
+mod Strings
+mod Derived

@@ -1,0 +1,92 @@
+-- For which syntax trees, flags and tables the dialect is compared with ECMA-262.
+use Rattle.std.specs.Prelude.{◌&&◌, ◌==◌, not, length, ◌≡◌, ℕ, ◌≤◌, Bool, true, false, ◌||◌, List, Option, Some, None, IfSome}
+use Rattle.regress_base.specs.Classes.{line_terminators, word_characters}
+use Rattle.regress_base.specs.Intervals.{Bounds, code_point_max, is_member}
+use Rattle.regress_base.specs.Table.{Table, IsIdempotent}
+use Rattle.regress_base.specs.declared.types.Flags.{Flags}
+use Rattle.regress_base.specs.declared.types.Quantifier.{Quantifier}
+use Rattle.regress_classes.specs.ClassSets.{has_strings}
+use Rattle.regress_syntax.specs.Syntax.{Name, by_number, by_name, Atom, literal, dot, anchor, boundary, class_escape, class, class_set, string_property, back_reference, Pattern, Terms, Item, one, either, no_terms, more_terms, atom, group}
+use Rattle.regress_ecma.specs.Atoms.{numbers_of}
+use Rattle.regress_ecma.specs.Compile.{flags_inside}
+
+-- What maps to the same character as a member of the set is a member.
+abbrev pub IsClosed : (ℕ → ℕ) → List Bounds → Type 0
+IsClosed f set = (a b : ℕ) → is_member set a ≡ true → f b ≡ f a → is_member set b ≡ true
+
+-- Facts about the case mappings of Unicode that a table need not have. Those about the upper case make the last steps of
+-- 22.2.2.7.3 Canonicalize, and the assertion of 22.2.2.9.3 WordCharacters, true of the table's map.
+pub record HasCaseDataOfUnicode (table : Table) : Type 0 where
+  pub idempotent : IsIdempotent table.fold
+  pub in_range : (c : ℕ) → c ≤ code_point_max → table.fold c ≤ code_point_max
+  pub upper_ascii : (c : ℕ) → 128 ≤ c → 128 ≤ table.uppercase c
+  pub upper_words : (c : ℕ) → is_member word_characters (table.uppercase c) ≡ true → is_member word_characters c ≡ true
+  pub folded_words : (c : ℕ) → is_member word_characters c ≡ true → is_member word_characters (table.fold c) ≡ true
+  pub folded_lines : IsClosed table.fold line_terminators
+  pub upper_lines : IsClosed table.uppercase line_terminators
+
+-- ---- syntax trees of accepted patterns
+
+abbrev pub flags_of : Atom → Flags
+flags_of (literal flags c) = flags
+flags_of (dot flags) = flags
+flags_of (anchor flags kind) = flags
+flags_of (boundary flags inverted) = flags
+flags_of (class_escape flags kind negated) = flags
+flags_of (class flags inverted members) = flags
+flags_of (class_set flags negated value) = flags
+flags_of (string_property flags written) = flags
+flags_of (back_reference flags to) = flags
+
+-- no quantifier, or one whose minimum is at most its maximum
+abbrev pub IsInOrder : Option Quantifier → Type 0
+IsInOrder None = Unit {0}
+IsInOrder (Some q) = IfSome q.max (λ max. q.min ≤ max)
+
+-- Each atom has the flags in force, and each quantifier is in order, as the grammar has it.
+abbrev mutual
+  pub IsProper : Flags → Pattern → Type 0
+  IsProper rer (one ts) = AreProper rer ts
+  IsProper rer (either ts p) = AreProper rer ts × IsProper rer p
+
+  pub AreProper : Flags → Terms → Type 0
+  AreProper rer no_terms = Unit {0}
+  AreProper rer (more_terms x q ts) = IsProperItem rer x × IsInOrder q × AreProper rer ts
+
+  pub IsProperItem : Flags → Item → Type 0
+  IsProperItem rer (atom a) = flags_of a ≡ rer
+  IsProperItem rer (group kind p) = IsProper (flags_inside kind rer) p
+
+-- ---- differing constructs
+
+module _ (names : List (Option Name)) where
+  -- An atom that may match something else than in ECMA-262 (docs/differences.md), or that is not compared.
+  abbrev pub differs_at_atom : Flags → Atom → Bool
+  differs_at_atom rer (literal flags c) = false
+  differs_at_atom rer (dot flags) = false
+  differs_at_atom rer (anchor flags kind) = false
+  differs_at_atom rer (boundary flags inverted) = false
+  -- `\w` with i, without u. With u it is not compared.
+  differs_at_atom rer (class_escape flags kind negated) = rer.icase
+  -- `[k]` with i, without u; `[\W]` and `\P{Lu}` with u, whose members the tree does not tell from those of other classes
+  differs_at_atom rer (class flags inverted members) = rer.icase
+  -- with i, `[[^A]]` and `[[A-Z]&&[a-z]]`, likewise. The grammar has no strings in a negated class.
+  differs_at_atom rer (class_set flags negated value) = rer.icase || (negated && has_strings value)
+  -- not compared
+  differs_at_atom rer (string_property flags written) = true
+  differs_at_atom rer (back_reference flags (by_number n)) = false
+  -- a reference to several groups of one name
+  differs_at_atom rer (back_reference flags (by_name name)) = not (length (numbers_of name 1 names) == 1)
+
+  abbrev mutual
+    pub differs : Flags → Pattern → Bool
+    differs rer (one ts) = differs_in_terms rer ts
+    differs rer (either ts p) = differs_in_terms rer ts || differs rer p
+
+    pub differs_in_terms : Flags → Terms → Bool
+    differs_in_terms rer no_terms = false
+    differs_in_terms rer (more_terms x q ts) = differs_in_item rer x || differs_in_terms rer ts
+
+    pub differs_in_item : Flags → Item → Bool
+    differs_in_item rer (atom a) = differs_at_atom rer a
+    differs_in_item rer (group kind p) = differs (flags_inside kind rer) p

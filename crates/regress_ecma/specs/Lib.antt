@@ -1,0 +1,9 @@
+pub mod Notation
+pub mod Characters
+pub mod Repetition
+pub mod CharacterMatchers
+pub mod Assertions
+pub mod Atoms
+pub mod Compile
+pub mod Differences
+pub mod Compared

@@ -1,0 +1,44 @@
+//! The theorem that the first outcome of a pattern is the match of ECMA-262.
+ghost use Rattle.std.specs.Prelude.{◌≡◌, ◌<◌, ◌≤◌, ℕ, List, None, length, option_map, replicate, slice_get, []};
+ghost use Rattle.regress_tree.specs.Reading.{Direction, forwards, IsText};
+ghost use Rattle.regress_tree.specs.Setting.{Setting};
+ghost use Rattle.regress_tree.specs.Steps.{MatchState, IsStateOf};
+ghost use Rattle.regress_lexer.specs.Source.{Source};
+ghost use Rattle.regress_syntax.specs.Grammar.{IsPattern};
+ghost use Rattle.regress_syntax.specs.Meaning.{meaning};
+ghost use Rattle.regress_syntax.specs.Productions.{Context};
+ghost use Rattle.regress_syntax.specs.Syntax.{Pattern, names};
+ghost use Rattle.regress_ecma.specs.Assertions.{accept};
+ghost use Rattle.regress_ecma.specs.Compared.{IsComparable, state_on};
+ghost use Rattle.regress_ecma.specs.Compile.{compile_disjunction, compile_pattern};
+ghost use Rattle.regress_ecma.specs.Differences.{IsProper};
+ghost use Rattle.regress_ecma.specs.Notation.{failure};
+
+/// States the theorem that the matcher of ECMA-262 (section 22.2.2) returns the first outcome of a pattern, and fails if
+/// there is none.
+///
+/// It is about syntax trees without a differing construct, and texts of characters. Fuel greater than the length of the
+/// text is enough.
+///
+/// The function does nothing at run time; call it where a proof needs the theorem.
+pub fn first_outcome_is_the_match()
+    // From any state of the text, in both directions.
+    ensures same { (setting : Setting) (p : Pattern) → IsComparable setting p → (text : List ℕ) → IsText text →
+        (fuel : ℕ) → length text < fuel → (d : Direction) (s : MatchState) → IsStateOf text s →
+        compile_disjunction setting.table (names p) fuel setting.flags d 0 p (state_on text s) accept
+        ≡ option_map (state_on text) (slice_get (meaning setting text d p s) 0) }
+    ensures fails { (setting : Setting) (p : Pattern) → IsComparable setting p → (text : List ℕ) → IsText text →
+        (fuel : ℕ) → length text < fuel → (d : Direction) (s : MatchState) → IsStateOf text s →
+        compile_disjunction setting.table (names p) fuel setting.flags d 0 p (state_on text s) accept ≡ failure →
+        meaning setting text d p s ≡ [] }
+
+    // Each syntax tree of the grammar has the flags in force, and quantifiers in order.
+    ensures proper { (ctx : Context) (p : Pattern) (t rest : Source) → IsPattern ctx p t rest → IsProper ctx.setting.flags p }
+
+    // From an index, with all groups unset, as RegExpBuiltinExec begins.
+    ensures pattern { (setting : Setting) (p : Pattern) → IsComparable setting p → (text : List ℕ) → IsText text →
+        (fuel : ℕ) → length text < fuel → (index : ℕ) → index ≤ length text →
+        compile_pattern fuel setting.table setting.flags p text index
+        ≡ option_map (state_on text) (slice_get
+        (meaning setting text forwards p (record { position = index; captures = replicate (length (names p)) None })) 0) }
+{}
