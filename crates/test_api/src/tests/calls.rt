@@ -6,6 +6,7 @@ use example_callers::caret::pointed_at;
 use example_callers::quickstart::{compile, find_matches};
 use example_callers::slice::{SearchError, first_match};
 use example_callers::underline::underlined_loop;
+use regress_ecma::first_outcome_is_the_match;
 use regress_escape::escaped_texts_match_themselves;
 use regress_front::codepointset::canonical_form_is_unique;
 use regress_front::parse::FaultKind;
@@ -17,6 +18,7 @@ use std::test::Fail;
 fn functions_that_state_theorems_return(_rt: HostRuntime) {
     canonical_form_is_unique();
     escaped_texts_match_themselves();
+    first_outcome_is_the_match();
     limits_are_as_defined();
 }
 
