@@ -12,6 +12,7 @@ mod matchers;
 mod passes;
 mod programs;
 mod regular_expressions;
+mod schemas;
 mod walks;
 
 use regress_front::ir::Regex;
