@@ -10,6 +10,7 @@ mod lengths;
 mod linting;
 mod matchers;
 mod passes;
+mod pictures;
 mod programs;
 mod regular_expressions;
 mod schemas;
