@@ -1,3 +1,4 @@
 //! Tests.
 
 mod examples;
+mod theorems;

@@ -6,21 +6,10 @@ use example_callers::caret::pointed_at;
 use example_callers::quickstart::{compile, find_matches};
 use example_callers::slice::{SearchError, first_match};
 use example_callers::underline::underlined_loop;
-use regress_ecma::first_outcome_is_the_match;
-use regress_escape::escaped_texts_match_themselves;
-use regress_front::codepointset::canonical_form_is_unique;
 use regress_front::parse::FaultKind;
-use regress_front::types::{Flags, limits_are_as_defined};
+use regress_front::types::Flags;
 use regress_front::unicode::Tables;
 use std::test::Fail;
-
-#[test]
-fn functions_that_state_theorems_return(_rt: HostRuntime) {
-    canonical_form_is_unique();
-    escaped_texts_match_themselves();
-    first_outcome_is_the_match();
-    limits_are_as_defined();
-}
 
 #[test]
 fn another_crate_calls_the_library(rt: HostRuntime) -> Result<(), Fail> {
