@@ -1,4 +1,5 @@
 pub mod OwnedLemmas
+pub mod CandidateLemmas
 pub mod LeafLemmas
 pub mod MachineLemmas
 pub mod StepLemmas

@@ -16,6 +16,7 @@ use Rattle.regress_backtrack.specs.declared.backtracker.Backtracker.{Backtracker
 use Rattle.regress_backtrack.specs.declared.code.Code.{Code}
 use Rattle.regress_backtrack.specs.declared.input.Input.{Input}
 use Rattle.regress_backtrack.specs.declared.machine.Machine.{Machine}
+use Rattle.regress_backtrack.specs.declared.outcome.Outcome.{Outcome}
 use Rattle.regress_backtrack.specs.declared.outcome.Outcome.TheVariants as outcomes
 use Rattle.regress_backtrack.specs.declared.run.Response.{Response}
 use Rattle.regress_backtrack.specs.declared.run.Response.TheVariants as responses
@@ -23,7 +24,7 @@ use Rattle.regress_backtrack.specs.Backtracker.{AreOutcomes, SameRuns, outcomes_
 use Rattle.regress_backtrack.specs.Code.{code_groups, code_routines, outcomes_from, setting_with, tree_outcomes_from}
 use Rattle.regress_backtrack.specs.Machine.{state}
 use Rattle.regress_backtrack.specs.Run.{Answers}
-use Rattle.regress_backtrack.specs.Searched.{IsFirst, IsFor}
+use Rattle.regress_backtrack.specs.Searched.{Finds, IsFirst, IsFor}
 use Rattle.regress_backtrack.proofs.RunLemmas.{same_answers}
 
 -- what is so for each solution is so for each tree of the program
@@ -33,6 +34,28 @@ pub of_tree : (code : Code) (tables : Tables) (text : List ℕ) (k : ℕ) → k 
 of_tree code tables text k le P all t pattern =
     let some = solution (setting_with code tables) text (code_routines code) code.is_program in
     subst P (pattern.means (setting_with code tables) text some.0 some.1 (no_groups (code_groups code) k) le) (all some.0 some.1)
+
+-- outcomes that are the same inside the text
+same_finds : (text : List ℕ) (at at' : ℕ → List MatchState) (origin : ℕ) (outcome : Outcome) → ((k : ℕ) → k ≤ length text → at k ≡ at' k) →
+    Finds text at origin outcome → Finds text at' origin outcome
+same_finds text at at' origin (outcomes.Matched m) same is = record {
+  from = is.from;
+  boundary = is.boundary;
+  first = (is.first.0, sym (same (start_of m) is.boundary.0) ∙ is.first.1);
+  least = λ p low high on. sym (same p on.0) ∙ is.least p low high on;
+}
+same_finds text at at' origin outcomes.NoMatch same is = λ p low on. sym (same p on.0) ∙ is p low on
+same_finds text at at' origin outcomes.OutOfSteps same is = tt
+
+-- what a search finds for each solution it finds for each tree of the program
+pub tree_finds : (b : Backtracker) (origin : ℕ) (outcome : Outcome) →
+    ((outs : ℕ → Out) → AreOutcomes b outs → Finds (run_text b) (outcomes_at b outs) origin outcome) →
+    (t : Tree) → IsPattern (code_routines (run_code b)) t → Finds (run_text b) (tree_outcomes_at b t) origin outcome
+tree_finds b origin outcome all t pattern =
+    let setting = setting_with (run_code b) (run_tables b) in
+    let some = solution setting (run_text b) (code_routines (run_code b)) b.code.now.is_program in
+    same_finds (run_text b) (outcomes_at b some.0) (tree_outcomes_at b t) origin outcome
+    (λ k le. pattern.means setting (run_text b) some.0 some.1 (no_groups (code_groups (run_code b)) k) le) (all some.0 some.1)
 
 -- the result of a run, for another run of the same program in the same text
 pub same_solved : (a b : Backtracker) (P : List MatchState → Type 0) (k : ℕ) → SameRuns a b →

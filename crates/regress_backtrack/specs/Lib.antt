@@ -1,4 +1,5 @@
 pub mod Backtracker
+pub mod Candidates
 pub mod Code
 pub mod Machine
 pub mod Next

@@ -4,13 +4,15 @@ ghost use Rattle.regress_program.specs.Compiled.{total};
 ghost use Rattle.regress_program.specs.Linear.{is_linear};
 ghost use Rattle.regress_program.specs.Shape.{IsForwards, IsProgram};
 ghost use Rattle.regress_program.specs.Unique.{forwards-prop, program-prop};
+ghost use Rattle.regress_backtrack.specs.Candidates.{BeginsAt, BeginsAt-prop};
 ghost use Rattle.regress_backtrack.specs.Views.{program_in};
 
 use crate::instruction::Routine;
 use crate::test::Test;
 use regress_base::types::Flags;
+use regress_prefilter::candidates::Candidates;
 
-/// A program that owns what it runs. It is made of a [`Program`](regress_program::Program), and refers neither to the
+/// A program that owns what it runs. It is a copy of a [`Program`](regress_program::Program), and refers neither to the
 /// tree nor to the case mappings.
 #[derive(Drop)]
 pub struct Code {
@@ -26,10 +28,13 @@ pub struct Code {
     pub(crate) instructions: usize,
     /// Whether it can be searched in linear time, by tables.
     pub(crate) linear: bool,
+    /// Where matches can begin.
+    pub(crate) candidates: Candidates,
     ghost some: { 0 < length routines.items },
     ghost is_program: { IsProgram (program_in tests.items routines.items) } by { program-prop (program_in tests.items routines.items) },
     ghost forwards: { IsForwards (program_in tests.items routines.items) } by { forwards-prop (program_in tests.items routines.items) },
     ghost counted: { instructions ≡ min (total (program_in tests.items routines.items)) 18446744073709551615 },
+    ghost begins: { BeginsAt candidates (program_in tests.items routines.items) } by { BeginsAt-prop candidates (program_in tests.items routines.items) },
     ghost linear_if: { linear ≡ is_linear (program_in tests.items routines.items) },
 }
 

@@ -1,9 +1,14 @@
 //! Copies of programs that own their leaves.
-ghost use Rattle.std.specs.Prelude.{◌≡◌, [], ◌∷◌, IfOk};
+ghost use Rattle.std.specs.Prelude.{◌≡◌, ◌≤◌, ◌<◌, [], ◌∷◌, Err, IfOk, length, min};
 ghost use Rattle.regress_tree.specs.Tree.{leaf, string_set, tree};
+ghost use Rattle.regress_tree.specs.WellFormed.{captures};
+ghost use Rattle.regress_program.specs.Compiled.{IsPattern, total};
 ghost use Rattle.regress_program.specs.Program.{part};
 ghost use Rattle.regress_program.specs.Search.{groups_of, routines_of, setting_of};
+ghost use Rattle.regress_program.specs.Size.{program_size};
+ghost use Rattle.regress_program.specs.declared.fault.CompileFault.TheVariants.{TooLong};
 ghost use Rattle.regress_program.specs.Views.{op_of, ops_of, program_of, routine_of};
+ghost use Rattle.regress_backtrack.specs.Candidates.{BeginsAt};
 ghost use Rattle.regress_backtrack.specs.Code.{code_flags, code_groups, code_routines};
 ghost use Rattle.regress_backtrack.specs.Owned.{Grown, Means};
 ghost use Rattle.regress_backtrack.specs.Views.{op_in, ops_in, program_in, routine_in};
@@ -12,38 +17,70 @@ use crate::code::Code;
 use crate::instruction::{Instruction, Routine};
 use crate::start::start_of;
 use crate::test::Test;
-use regress_program::Program;
+use regress_prefilter::candidates::{Candidates, candidates_of};
 use regress_program::instruction::{
     Instruction as BorrowedInstruction, Routine as BorrowedRoutine,
 };
-use regress_tree::ir::Node;
+use regress_program::{CompileFault, Program};
+use regress_tree::ir::{Node, Regex};
+use regress_unicode::Tables;
 use std::alloc::{AllocError, Global};
 use std::boxed::BoxedSlice;
 
 impl Code {
-    /// Returns the same program, as one that owns what it runs.
+    /// Compiles a pattern into a program of at most `limit` instructions that owns what it runs.
     ///
     /// # Complexity
-    /// Linear in the size of the program, where the size of a leaf counts for each instruction that matches it.
+    /// That of [`Program::compile`], where the size of a leaf counts for each instruction that matches it, and two passes
+    /// over the tree.
     ///
     /// # Errors
-    /// Returns [`AllocError`] if an allocation fails.
-    pub fn new(alloc: Global, program: &Program<'_, '_>) -> Result<Code, AllocError>
-        ensures routines { IfOk result (λ code. code_routines code ≡ routines_of program.now) }
-        ensures flags { IfOk result (λ code. code_flags code ≡ (setting_of program.now).flags) }
-        ensures groups { IfOk result (λ code. code_groups code ≡ groups_of program.now) }
+    /// Returns [`CompileFault::TooLong`] only if the program would have more than `limit` instructions, and
+    /// [`CompileFault::Memory`] if an allocation fails.
+    pub fn compile(
+        alloc: Global,
+        regex: &Regex,
+        tables: &Tables,
+        limit: usize,
+    ) -> Result<Code, CompileFault>
+        ensures pattern { IfOk result (λ code. IsPattern (code_routines code) (tree regex.now.node)) }
+        ensures flags { IfOk result (λ code. code_flags code ≡ regex.now.flags) }
+        ensures groups { IfOk result (λ code. code_groups code ≡ min (length (captures (tree regex.now.node))) usize.MAX) }
+        ensures size { IfOk result (λ code. total (code_routines code) ≡ program_size (tree regex.now.node)) }
+        ensures within { IfOk result (λ code. total (code_routines code) ≤ limit) }
+        ensures too_long { result ≡ Err TooLong → limit < program_size (tree regex.now.node) }
     {
-        let mut tests = Vec::new(alloc);
-        let routines = own_routines(alloc, program.routines(), &mut tests)?;
-        Ok(Code {
-            tests,
-            routines,
-            flags: program.rules(false).flags,
-            groups: program.groups(),
-            instructions: program.instructions(),
-            linear: program.is_linear(),
-        })
+        let program = Program::compile(alloc, regex, tables, limit)?;
+        let candidates = candidates_of(&regex.node);
+        let code = own(alloc, &program, candidates)?;
+        Ok(code)
     }
+}
+
+/// Returns the same program, as one that owns what it runs.
+///
+/// # Preconditions
+/// Every match of the program begins at a candidate.
+///
+/// # Errors
+/// Returns [`AllocError`] if an allocation fails.
+fn own(alloc: Global, program: &Program<'_, '_>, candidates: Candidates) -> Result<Code, AllocError>
+    requires { BeginsAt candidates (routines_of program.now) }
+    ensures routines { IfOk result (λ code. code_routines code ≡ routines_of program.now) }
+    ensures flags { IfOk result (λ code. code_flags code ≡ (setting_of program.now).flags) }
+    ensures groups { IfOk result (λ code. code_groups code ≡ groups_of program.now) }
+{
+    let mut tests = Vec::new(alloc);
+    let routines = own_routines(alloc, program.routines(), &mut tests)?;
+    Ok(Code {
+        tests,
+        routines,
+        flags: program.rules(false).flags,
+        groups: program.groups(),
+        instructions: program.instructions(),
+        linear: program.is_linear(),
+        candidates,
+    })
 }
 
 /// Returns copies of routines, and adds their leaves.

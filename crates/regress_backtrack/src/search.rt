@@ -3,7 +3,7 @@ ghost use Rattle.std.specs.Prelude.{◌≡◌, ◌≤◌, ℕ, IfOk, length};
 ghost use Rattle.regress_tree.specs.Tree.{Tree};
 ghost use Rattle.regress_program.specs.Compiled.{IsPattern};
 ghost use Rattle.regress_program.specs.Program.{IsSolution, Out};
-ghost use Rattle.regress_backtrack.specs.Backtracker.{AreOutcomes, outcomes_at, run_code, run_text, tree_outcomes_at};
+ghost use Rattle.regress_backtrack.specs.Backtracker.{AreOutcomes, SameRuns, outcomes_at, run_code, run_text, tree_outcomes_at};
 ghost use Rattle.regress_backtrack.specs.Code.{code_routines, outcomes_from, setting_with, tree_outcomes_from};
 ghost use Rattle.regress_backtrack.specs.Searched.{Finds, IsFirst};
 ghost use Rattle.regress_backtrack.specs.declared.outcome.Outcome.TheVariants.{OutOfSteps};
@@ -11,6 +11,7 @@ ghost use Rattle.regress_backtrack.specs.declared.outcome.Outcome.TheVariants.{O
 use crate::backtracker::Backtracker;
 use crate::code::Code;
 use crate::outcome::{Found, Outcome};
+use regress_prefilter::candidates::next_candidate_from;
 use regress_unicode::Tables;
 use std::alloc::{AllocError, Global};
 
@@ -19,12 +20,14 @@ impl Code {
     ///
     /// # Complexity
     /// A step is an instruction. It counts 1, and also 1 for each byte by which it moves the position, and for each byte
-    /// of the capture that a back reference is compared with. Each byte offset up to the match counts 1 more. The result
-    /// is [`Outcome::OutOfSteps`] as soon as `steps` are used up. A step that is begun is completed, even if it counts
-    /// more than remains.
+    /// of the capture that a back reference is compared with. Each byte offset up to the match counts 1 more, also where
+    /// the first byte shows that no match begins. The result is [`Outcome::OutOfSteps`] as soon as `steps` are used up,
+    /// and with 0 steps for each `from` in `text`. A step that is begun is completed, even if it counts more than
+    /// remains. If the first bytes show that no match begins in the rest of the text, that rest counts nothing.
     ///
-    /// So the limit bounds the time: it is at most `steps` times a factor that depends only on the program. The memory
-    /// is bounded in the same way. Recursion is as deep as lookarounds are nested.
+    /// So the limit bounds the time: it is at most `steps` and the length of `text` together, times a factor that depends
+    /// only on the program. The memory is at most `steps` times such a factor. Recursion is as deep as lookarounds are
+    /// nested.
     ///
     /// # Errors
     /// Returns [`AllocError`] if an allocation fails.
@@ -91,24 +94,40 @@ impl Code {
 }
 
 impl Backtracker<'_, '_> {
-    /// Searches for the leftmost match, and subtracts the steps from `left`.
+    /// Returns the leftmost match that starts at the byte offset `from` or later, on a character boundary, and subtracts
+    /// the steps from `left`.
+    ///
+    /// # Complexity
+    /// The steps are counted as in [`Code::find`]. The memory of the search is kept for the next one.
     ///
     /// # Errors
     /// Returns [`AllocError`] if an allocation fails.
-    fn find(&mut self, alloc: Global, from: usize, left: &mut u64) -> Result<Outcome, AllocError>
+    pub fn find(
+        &mut self,
+        alloc: Global,
+        from: usize,
+        left: &mut u64,
+    ) -> Result<Outcome, AllocError>
         ensures solved { IfOk result (λ outcome. (outs : ℕ → Out) → AreOutcomes self.old outs →
             Finds (run_text self.old) (outcomes_at self.old outs) from outcome) }
         ensures finds { IfOk result (λ outcome. (t : Tree) → IsPattern (code_routines (run_code self.old)) t →
             Finds (run_text self.old) (tree_outcomes_at self.old t) from outcome) }
         ensures left { IfOk result (λ _. left.new ≤ left.old) }
         ensures spent { IfOk result (λ outcome. outcome ≡ OutOfSteps → left.new ≡ 0) }
+        ensures same { SameRuns self.old self.new }
     {
+        let code = self.code;
         let text = self.text;
-        for position in from..text.len() + 1 {
+        let mut from = from;
+        while from <= text.len() {
             if *left == 0 {
                 return Ok(Outcome::OutOfSteps);
             }
-            *left -= 1;
+            let Some(position) = next_candidate_from(&code.candidates, text, from) else {
+                return Ok(Outcome::NoMatch);
+            };
+            // the bytes that are skipped, and the position that is tried
+            *left = left.saturating_sub((position - from) as u64 + 1);
             if text.is_char_boundary(position) {
                 match self.match_at(alloc, position, left)? {
                     Outcome::Matched(found) => return Ok(Outcome::Matched(found)),
@@ -116,6 +135,7 @@ impl Backtracker<'_, '_> {
                     Outcome::OutOfSteps => return Ok(Outcome::OutOfSteps),
                 }
             }
+            from = position + 1;
         }
         Ok(Outcome::NoMatch)
     }

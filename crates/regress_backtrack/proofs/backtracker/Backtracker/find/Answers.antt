@@ -1,72 +1,91 @@
-use Rattle.std.proofs.Common.{rules, arith, length, ap, subst}
+use Rattle.std.proofs.Common.{rules, arith, ◌≡◌, ◌≤◌, ℕ, [], length, ap, subst, IfSome}
 use Rattle.std.specs.Str.{IsCharBoundary}
-use Rattle.regress_backtrack.specs.Backtracker.{outcomes_at, run_text, tree_outcomes_at}
+use Rattle.regress_prefilter.specs.Candidates.{Skips}
+use Rattle.regress_program.specs.Found.{NoneBefore, no_groups}
+use Rattle.regress_program.specs.Program.{Out}
+use Rattle.regress_backtrack.specs.Backtracker.{AreOutcomes, outcomes_at, run_code, run_tables, run_text}
+use Rattle.regress_backtrack.specs.Candidates.{IsCandidate}
+use Rattle.regress_backtrack.specs.Code.{code_groups, setting_with}
 use Rattle.regress_backtrack.specs.Searched.{IsFirst}
-use Rattle.regress_backtrack.proofs.SearchLemmas.{SameRuns-trans, found_leftmost, none_more, not_true, same_first, same_solved}
+use Rattle.regress_backtrack.specs.declared.backtracker.Backtracker.{Backtracker}
+use Rattle.regress_backtrack.specs.declared.outcome.Outcome.TheVariants as outcomes
+use Rattle.regress_backtrack.proofs.CandidateLemmas.{none_after, none_before}
+use Rattle.regress_backtrack.proofs.SearchLemmas.{SameRuns-trans, found_leftmost, none_more, not_true, same_solved, tree_finds}
 use Rattle.regress_backtrack.proofs.backtracker.Backtracker.find.Goals as goal
 use Rattle.regress_backtrack.proofs.backtracker.Backtracker.find.Goals.{then-is_char_boundary+in_ok-found+in-NoMatch, else-is_char_boundary}
 
+-- no outcome begins where no candidate is
+begins : (b : Backtracker) (outs : ℕ → Out) → AreOutcomes b outs → (k : ℕ) → k ≤ length (run_text b) →
+    (IsCandidate (run_code b).candidates (run_text b) k → ⊥) → outcomes_at b outs k ≡ []
+begins b outs are k le not =
+    (run_code b).begins (setting_with (run_code b) (run_tables b)) (run_text b) outs are (no_groups (code_groups (run_code b)) k) le not
+
 pub match_at-requires : goal.match_at-requires
 match_at-requires c =
-    let on : IsCharBoundary (run_text c.args.self.now) c.loop-position.position = search rules in
-    omega (arith, on.0, ap length c.loop-position.invariant.same.text)
+    let on : IsCharBoundary (run_text c.args.self.now) c.in-Some.position = search rules in
+    omega (arith, on.0, ap length c.loop-from.invariant.same.text)
+
+pub returns-clause-solved : goal.returns-clause-solved
+returns-clause-solved c = λ outs are p low on. c.loop-from.invariant.solved outs are p low (omega (arith, on.0, c.loop-from-test.false)) on
+
+pub returns-clause-finds : goal.returns-clause-finds
+returns-clause-finds c = tree_finds c.args.self.now c.args.from outcomes.NoMatch (returns-clause-solved c)
+
+pub returns-in_default-clause-solved : goal.returns-in_default-clause-solved
+returns-in_default-clause-solved c = λ outs are.
+    let a = c.args.self.now in
+    none_after (run_code a).candidates (run_text a) (outcomes_at a outs) (begins a outs are) c.args.from c.loop-from.from
+    (c.loop-from.invariant.solved outs are)
+    (subst (Skips (run_code a).candidates (run_text a) c.loop-from.from) c.in_default.is c.next_candidate_from.ensures.skips)
+
+pub returns-in_default-clause-finds : goal.returns-in_default-clause-finds
+returns-in_default-clause-finds c = tree_finds c.args.self.now c.args.from outcomes.NoMatch (returns-in_default-clause-solved c)
 
 pub returns-in-Matched-clause-solved : goal.returns-in-Matched-clause-solved
 returns-in-Matched-clause-solved c = λ outs are.
     let a = c.args.self.now in
-    let b = c.loop-position.self in
-    let k = c.loop-position.position in
+    let b = c.loop-from.self in
+    let k = c.in-Some.position in
     let on : IsCharBoundary (run_text a) k = search rules in
-    found_leftmost (run_text a) (outcomes_at a outs) c.args.from k c.in-Matched.found c.loop-position.auto.position on
+    let within = subst (λ r. IfSome r (λ (p : ℕ). (c.loop-from.from ≤ p) × (p ≤ length (run_text a)))) c.in-Some.is c.next_candidate_from.ensures.within in
+    found_leftmost (run_text a) (outcomes_at a outs) c.args.from k c.in-Matched.found (omega (arith, c.loop-from.invariant.from, within.0)) on
     (subst (IsFirst k (outcomes_at a outs k)) c.in-Matched.is
-    (same_solved a b (λ states. IsFirst k states c.in_ok-found.field-0) k c.loop-position.invariant.same c.in_ok-found.ensures.solved outs are))
-    (c.loop-position.invariant.solved outs are)
+    (same_solved a b (λ states. IsFirst k states c.in_ok-found.field-0) k c.loop-from.invariant.same c.in_ok-found.ensures.solved outs are))
+    (none_before (run_code a).candidates (run_text a) (outcomes_at a outs) (begins a outs are) c.args.from c.loop-from.from
+    (c.loop-from.invariant.solved outs are) k
+    (subst (Skips (run_code a).candidates (run_text a) c.loop-from.from) c.in-Some.is c.next_candidate_from.ensures.skips))
 
 pub returns-in-Matched-clause-finds : goal.returns-in-Matched-clause-finds
-returns-in-Matched-clause-finds c = λ t pattern.
-    let a = c.args.self.now in
-    let b = c.loop-position.self in
-    let k = c.loop-position.position in
-    let on : IsCharBoundary (run_text a) k = search rules in
-    found_leftmost (run_text a) (tree_outcomes_at a t) c.args.from k c.in-Matched.found c.loop-position.auto.position on
-    (subst (IsFirst k (tree_outcomes_at a t k)) c.in-Matched.is
-    (same_first a b (λ states. IsFirst k states c.in_ok-found.field-0) k c.loop-position.invariant.same c.in_ok-found.ensures.first t pattern))
-    (c.loop-position.invariant.finds t pattern)
+returns-in-Matched-clause-finds c =
+    tree_finds c.args.self.now c.args.from (outcomes.Matched c.in-Matched.found) (returns-in-Matched-clause-solved c)
 
-pub loop-position-preserved : goal.loop-position-preserved
-loop-position-preserved c =
+pub loop-from-preserved : goal.loop-from-preserved
+loop-from-preserved c =
     let a = c.args.self.now in
-    let b = c.loop-position.self in
+    let b = c.loop-from.self in
     let text = run_text a in
-    let k = c.loop-position.position in
-    let so_far = c.loop-position.invariant in
+    let k = c.in-Some.position in
+    let so_far = c.loop-from.invariant in
+    let within = subst (λ r. IfSome r (λ (p : ℕ). (c.loop-from.from ≤ p) × (p ≤ length text))) c.in-Some.is c.next_candidate_from.ensures.within in
+    let none : (outs : ℕ → Out) → AreOutcomes a outs → NoneBefore text (outcomes_at a outs) c.args.from k = λ outs are.
+    none_before (run_code a).candidates text (outcomes_at a outs) (begins a outs are) c.args.from c.loop-from.from (so_far.solved outs are) k
+    (subst (Skips (run_code a).candidates text c.loop-from.from) c.in-Some.is c.next_candidate_from.ensures.skips) in
     elim c.if-is_char_boundary.branch [
       | then-is_char_boundary+in_ok-found+in-NoMatch w ↦ record {
         same = rw w.self-is (SameRuns-trans a b w.match_at.new.self so_far.same w.match_at.ensures.same);
-        left = omega (arith, w.left-is, w.in_ok-found.ensures.left, so_far.left);
+        from = omega (arith, so_far.from, within.0);
+        left = omega (arith, w.left-is, w.in_ok-found.ensures.left, c.saturating_sub.ensures, so_far.left);
         solved = λ outs are.
-            none_more text (outcomes_at a outs) c.args.from k (so_far.solved outs are)
+            none_more text (outcomes_at a outs) c.args.from k (none outs are)
             (λ on. subst (IsFirst k (outcomes_at a outs k)) w.in-NoMatch.is
             (same_solved a b (λ states. IsFirst k states w.in_ok-found.field-0) k so_far.same w.in_ok-found.ensures.solved outs are));
-        finds = λ t pattern.
-            none_more text (tree_outcomes_at a t) c.args.from k (so_far.finds t pattern)
-            (λ on. subst (IsFirst k (tree_outcomes_at a t k)) w.in-NoMatch.is
-            (same_first a b (λ states. IsFirst k states w.in_ok-found.field-0) k so_far.same w.in_ok-found.ensures.first t pattern));
       }
       | else-is_char_boundary w ↦ record {
         same = rw w.self-is so_far.same;
-        left = omega (arith, w.left-is, so_far.left);
+        from = omega (arith, so_far.from, within.0);
+        left = omega (arith, w.left-is, c.saturating_sub.ensures, so_far.left);
         solved = λ outs are.
-            none_more text (outcomes_at a outs) c.args.from k (so_far.solved outs are)
-            (λ on. absurd (not_true c.is_char_boundary.result w.if-is_char_boundary.false (c.is_char_boundary.ensures.test.1 on)));
-        finds = λ t pattern.
-            none_more text (tree_outcomes_at a t) c.args.from k (so_far.finds t pattern)
+            none_more text (outcomes_at a outs) c.args.from k (none outs are)
             (λ on. absurd (not_true c.is_char_boundary.result w.if-is_char_boundary.false (c.is_char_boundary.ensures.test.1 on)));
       }
     ]
-
-pub returns-clause-solved : goal.returns-clause-solved
-returns-clause-solved c = λ outs are p low on. c.loop-position.invariant.solved outs are p low (omega (arith, on.0, c.loop-position-test.false)) on
-
-pub returns-clause-finds : goal.returns-clause-finds
-returns-clause-finds c = λ t pattern p low on. c.loop-position.invariant.finds t pattern p low (omega (arith, on.0, c.loop-position-test.false)) on

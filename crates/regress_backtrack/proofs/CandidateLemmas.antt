@@ -1,0 +1,64 @@
+-- The positions at which matches of a program can begin.
+use Rattle.std.proofs.Common.{◌≡◌, ℕ, ◌≤◌, ◌<◌, List, [], length, Some, None, ◌==◌, if◌then◌else◌, ◌∙◌, subst, arith, inl, inr}
+use Rattle.std.proofs.lemmas.Bool.{cases_lt}
+use Rattle.regress_tree.specs.Matching.{steps}
+use Rattle.regress_tree.specs.Reading.{forwards}
+use Rattle.regress_tree.specs.Setting.{Setting}
+use Rattle.regress_tree.specs.Steps.{MatchState}
+use Rattle.regress_tree.specs.Tree.{Tree}
+use Rattle.regress_prefilter.specs.Candidates.{AreCandidates, Skips}
+use Rattle.regress_prefilter.specs.declared.candidates.Candidates.{Candidates}
+use Rattle.regress_prefilter.specs.declared.candidates.Candidates.TheVariants as candidates
+use Rattle.regress_program.specs.Compiled.{IsPattern}
+use Rattle.regress_program.specs.Found as found
+use Rattle.regress_program.specs.Found.{NoneBefore}
+use Rattle.regress_program.specs.Program.{Routine}
+use Rattle.regress_backtrack.specs.Candidates.{BeginsAt, IsCandidate}
+use Rattle.regress_backtrack.proofs.StartLemmas.{bytes_fail}
+
+-- the tree has no match elsewhere
+tree_fails : (c : Candidates) (t : Tree) (setting : Setting) (text : List ℕ) (s : MatchState) → AreCandidates c t →
+    (IsCandidate c text s.position → ⊥) → steps setting text forwards t s ≡ []
+tree_fails candidates.Anywhere t setting text s are not = absurd (not tt)
+tree_fails candidates.Start t setting text s are not = are setting text s not
+tree_fails (candidates.Bytes set) t setting text s are not = bytes_fail set t setting text s are not
+
+-- the candidates of a tree are those of its program
+pub pattern_begins : (c : Candidates) (program : List Routine) (t : Tree) → IsPattern program t → AreCandidates c t → BeginsAt c program
+pattern_begins c program t pattern are = λ setting text outs solution s le not.
+    pattern.means setting text outs solution s le ∙ tree_fails c t setting text s are not
+
+module _ (text : List ℕ) (from : ℕ) where
+  -- a position that is skipped is no candidate
+  passes : (c : Candidates) (to : ℕ) → Skips c text from (Some to) → (k : ℕ) → from ≤ k → k < to → IsCandidate c text k → ⊥
+  passes candidates.Anywhere to skips k low high here = let same : to ≡ from = cc in omega (arith, same, low, high)
+  passes candidates.Start to skips k low high here =
+      let first : from ≡ 0 = omega (arith, low, here) in
+      let is : Some to ≡ Some 0 = subst (λ f. Some to ≡ (if f == 0 then Some 0 else None)) first skips in
+      let same : to ≡ 0 = cc in
+      omega (arith, same, high)
+  passes (candidates.Bytes set) to skips k low high here = skips.2 k low high here
+
+  passes_all : (c : Candidates) → Skips c text from None → (k : ℕ) → from ≤ k → IsCandidate c text k → ⊥
+  passes_all candidates.Anywhere skips k low here = let bad : ⊥ = cc in bad
+  passes_all candidates.Start skips k low here =
+      let first : from ≡ 0 = omega (arith, low, here) in
+      let is : Skips candidates.Start text 0 None = subst (λ f. Skips candidates.Start text f None) first skips in
+      let bad : ⊥ = cc in
+      bad
+  passes_all (candidates.Bytes set) skips k low here = skips k low here
+
+module _ (c : Candidates) (text : List ℕ) (at : ℕ → List MatchState) (begins : (k : ℕ) → k ≤ length text → (IsCandidate c text k → ⊥) → at k ≡ [])
+    (origin from : ℕ) (none : NoneBefore text at origin from) where
+  -- no position before the next candidate has an outcome
+  pub none_before : (to : ℕ) → Skips c text from (Some to) → NoneBefore text at origin to
+  none_before to skips = λ k low high on. elim (cases_lt k from) [
+    | inl before ↦ none k low before on
+    | inr after ↦ begins k on.0 (passes text from c to skips k after high)
+  ]
+
+  pub none_after : Skips c text from None → found.Finds text at origin None
+  none_after skips = λ k low on. elim (cases_lt k from) [
+    | inl before ↦ none k low before on
+    | inr after ↦ begins k on.0 (passes_all text from c skips k after)
+  ]

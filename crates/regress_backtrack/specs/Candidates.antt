@@ -1,0 +1,26 @@
+-- The positions at which matches of a program can begin.
+use Rattle.std.specs.Prelude.{◌≡◌, ℕ, ◌≤◌, ◌-◌, List, [], length}
+use Rattle.std.proofs.Props.{props}
+use Rattle.regress_base.specs.ByteBitmap.{contains}
+use Rattle.regress_base.specs.Positions.{IsMemberAt}
+use Rattle.regress_tree.specs.Setting.{Setting}
+use Rattle.regress_tree.specs.Steps.{MatchState}
+use Rattle.regress_prefilter.specs.declared.candidates.Candidates.{Candidates}
+use Rattle.regress_prefilter.specs.declared.candidates.Candidates.TheVariants as candidates
+use Rattle.regress_program.specs.Program.{IsSolution, Out, Routine, matcher_of}
+
+-- The position is a candidate.
+abbrev pub IsCandidate : Candidates → (text : List ℕ) → (position : ℕ) → Type 0
+IsCandidate candidates.Anywhere text position = Unit {0}
+IsCandidate candidates.Start text position = position ≡ 0
+IsCandidate (candidates.Bytes set) text position = IsMemberAt (contains set) text position
+
+-- Every match of the program begins at a candidate.
+abbrev pub BeginsAt : Candidates → (program : List Routine) → Type 0
+BeginsAt candidates program = (setting : Setting) (text : List ℕ) (outs : ℕ → Out) → IsSolution setting text program outs →
+    (s : MatchState) → s.position ≤ length text → (IsCandidate candidates text s.position → ⊥) →
+    matcher_of setting text program outs (length program - 1) s ≡ []
+
+-- The property has at most one proof.
+pub BeginsAt-prop : (candidates : Candidates) (program : List Routine) → IsProp (BeginsAt candidates program)
+BeginsAt-prop candidates program = hlevel props
