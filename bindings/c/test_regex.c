@@ -238,6 +238,8 @@ static void errors(void) {
     CHECK(regress_compile((const uint8_t *)"(a*)*b", 6, SMALL, 1, 0, &regex, &kind, &position) == REGRESS_OK);
     CHECK(found(&regex, "aaaaaaaaaaaaaaaaaaaaaaaaaaaaaaaa", 0, ROOM) == REGRESS_OUT_OF_STEPS && needed == 0
           && spans[0] == MARK);
+    /* the default limit would be enough */
+    CHECK(found(&regex, "aab", 0, ROOM) == REGRESS_OUT_OF_STEPS && needed == 0 && spans[0] == MARK);
     CHECK(found(&regex, "\xFF", 0, ROOM) == REGRESS_BAD_INPUT && needed == 0 && spans[0] == MARK);
     CHECK(regress_is_match(&regex, (const uint8_t *)"\xFF", 1) == REGRESS_BAD_INPUT);
     regress_free(&regex);
