@@ -1,5 +1,6 @@
 pub mod OwnedLemmas
 pub mod CandidateLemmas
+pub mod FrontLemmas
 pub mod LeafLemmas
 pub mod MachineLemmas
 pub mod StepLemmas

@@ -1,8 +1,12 @@
 -- Tables of leaves that grow.
-use Rattle.std.proofs.Common.{◌≡◌, List, [], ◌∷◌, ◌++◌, sym, ap, ap₂, ◌∙◌, append-nil, append_assoc}
+use Rattle.std.proofs.Common.{◌≡◌, ℕ, zero, suc, List, [], ◌∷◌, ◌++◌, length, slice_get, Some, sym, ap, ap₂, ◌∙◌, subst, append-nil, append_assoc}
 use Rattle.std.proofs.lemmas.List.{map-append}
 use Rattle.regress_backtrack.specs.declared.test.Test.{Test}
-use Rattle.regress_backtrack.specs.Owned.{Grown, Means, each}
+use Rattle.regress_tree.specs.Reading.{direction_if}
+use Rattle.regress_backtrack.specs.declared.instruction.Routine as declared
+use Rattle.regress_backtrack.specs.Fronts.{AreFrontsOf, HaveFronts}
+use Rattle.regress_backtrack.specs.Owned.{Grown, KeepsFronts, Means, each}
+use Rattle.regress_backtrack.specs.Views.{ops_in}
 
 pub Grown-trans : {a b c : List Test} → Grown a b → Grown b c → Grown a c
 Grown-trans {a} {b} {c} one two = record {
@@ -25,3 +29,24 @@ pub one_more : {X Y : Type 0} (view : List Test → X → Y) (old new : List Tes
 one_more view old new xs ys x y grown means also = λ more.
     map-append (view (new ++ more)) xs (x ∷ [])
     ∙ ap₂ ◌++◌ (still_means (each view) old new xs ys grown means more) (ap (λ z. z ∷ []) (also more))
+
+-- ---- fronts
+
+-- what holds of each element with its index, and of one more
+pub pushed : {X : Type 0} (P : ℕ → X → Type 0) (xs : List X) (y : X) → ((i : ℕ) (x : X) → slice_get xs i ≡ Some x → P i x) → P (length xs) y →
+    (i : ℕ) (x : X) → slice_get (xs ++ y ∷ []) i ≡ Some x → P i x
+pushed P [] y all last zero x is = let same : y ≡ x = cc in subst (P zero) same last
+pushed P [] y all last (suc i) x is = let bad : ⊥ = cc in absurd bad
+pushed P (z ∷ xs) y all last zero x is = all zero x is
+pushed P (z ∷ xs) y all last (suc i) x is = pushed (λ k v. P (suc k) v) xs y (λ k v h. all (suc k) v h) last i x is
+
+-- the fronts of one more routine
+pub fronts_more : (old new : List Test) (rs : List declared.Routine) (r : declared.Routine) → Grown old new →
+    ((more : List Test) → HaveFronts (old ++ more) rs) → KeepsFronts new r → (more : List Test) → HaveFronts (new ++ more) (rs ++ r ∷ [])
+fronts_more old new rs r grown have keeps = λ more.
+    pushed (λ i x. AreFrontsOf x.fronts.items (direction_if x.backwards) (ops_in (new ++ more) x.instructions.items)) rs r
+    (subst (λ tests. HaveFronts tests rs) (sym (ap (λ xs. xs ++ more) grown.is ∙ append_assoc old grown.added more)) (have (grown.added ++ more))) (keeps more)
+
+-- with this table itself
+pub fronts_settled : (tests : List Test) (rs : List declared.Routine) → ((more : List Test) → HaveFronts (tests ++ more) rs) → HaveFronts tests rs
+fronts_settled tests rs have = subst (λ x. HaveFronts x rs) (append-nil tests) (have [])

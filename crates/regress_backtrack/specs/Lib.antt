@@ -1,6 +1,7 @@
 pub mod Backtracker
 pub mod Candidates
 pub mod Code
+pub mod Fronts
 pub mod Machine
 pub mod Next
 pub mod Owned

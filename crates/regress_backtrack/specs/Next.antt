@@ -6,6 +6,7 @@ use Rattle.regress_program.specs.Program.{At, IsSolution, Op, look, Out, Routine
 use Rattle.regress_program.specs.Shape.{Fits}
 use Rattle.regress_leaves.specs.Subject.{subject}
 use Rattle.regress_backtrack.specs.Code.{code_routines}
+use Rattle.regress_backtrack.specs.Fronts.{AreFrontsOf}
 use Rattle.regress_backtrack.specs.Views.{ops_in}
 use Rattle.regress_backtrack.specs.declared.input.Input.{Input}
 use Rattle.regress_backtrack.specs.declared.machine.Machine.{Machine}
@@ -43,6 +44,7 @@ pub record IsInput (input : Input) : Type 0 where
   pub ops : ops_in input.code.now.tests.items input.instructions.now ≡ routine.ops
   pub direction : direction_if input.rules.backwards ≡ routine.direction
   pub first : input.first ≡ routine.entry
+  pub fronts : AreFrontsOf input.fronts.now routine.direction routine.ops
 
 -- A run is at this instruction.
 pub record CanStep (input : Input) (op : Op) (p : Place) : Type 0 where

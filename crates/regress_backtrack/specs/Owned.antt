@@ -1,6 +1,10 @@
 -- Instructions whose leaves are kept in a table that grows.
 use Rattle.std.specs.Prelude.{◌≡◌, List, ◌++◌, map}
+use Rattle.regress_tree.specs.Reading.{direction_if}
+use Rattle.regress_backtrack.specs.declared.instruction.Routine as declared
 use Rattle.regress_backtrack.specs.declared.test.Test.{Test}
+use Rattle.regress_backtrack.specs.Fronts.{AreFrontsOf}
+use Rattle.regress_backtrack.specs.Views.{ops_in}
 
 -- The table has grown at its end.
 pub record Grown (old new : List Test) : Type 0 where
@@ -14,3 +18,7 @@ Means view tests x y = (more : List Test) → view (tests ++ more) x ≡ y
 -- with a table of leaves, each is seen so
 abbrev pub each : {X Y : Type 0} → (view : List Test → X → Y) → List Test → List X → List Y
 each view tests = map (view tests)
+
+-- The routine has its fronts with these leaves, and any that are added.
+abbrev pub KeepsFronts : List Test → declared.Routine → Type 0
+KeepsFronts tests r = (more : List Test) → AreFrontsOf r.fronts.items (direction_if r.backwards) (ops_in (tests ++ more) r.instructions.items)

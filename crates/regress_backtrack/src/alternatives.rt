@@ -5,8 +5,7 @@ ghost use Rattle.regress_backtrack.specs.Machine.{at, groups_of, points, rewound
 ghost use Rattle.regress_backtrack.specs.Next.{Fails, Inside, IsInput, Leads, Solve, ahead};
 ghost use Rattle.regress_backtrack.specs.declared.step.Next.TheVariants.{OutOfSteps};
 
-use crate::input::{Input, instruction_at, test_at};
-use crate::instruction::Instruction;
+use crate::input::{Input, front_at};
 use crate::machine::{Machine, Place};
 use crate::step::Next;
 use crate::sweep::sweep;
@@ -106,20 +105,14 @@ pub fn iterate(
     }
 }
 
-/// Returns whether a run is known to fail at a place, by the next byte of the text.
+/// Returns whether a run is known to fail at a place, by the byte next to it.
 #[inline(always)]
-fn fails(input: Input<'_, '_>, place: Place) -> bool
+pub fn fails(input: Input<'_, '_>, place: Place) -> bool
     requires input { IsInput input }
-    requires pc { place.pc < length input.instructions.now }
-    requires position { place.position ≤ length input.text.now }
     ensures { result ≡ true → Fails input.entry place }
 {
-    let Instruction::Leaf { leaf, .. } = instruction_at(input, place.pc) else {
-        return false;
-    };
-    let Some(test) = test_at(input, leaf) else {
-        return false;
-    };
-    test.start
-        .fails_at(input.text, input.rules.backwards, place.position)
+    match front_at(input, place.pc) {
+        Some(front) => front.excludes(input.text, input.rules.backwards, place.position),
+        None => false,
+    }
 }

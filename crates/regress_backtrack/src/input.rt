@@ -1,10 +1,11 @@
 //! What a run of a routine reads.
-ghost use Rattle.std.specs.Prelude.{◌≡◌, ◌<◌, MatchOption, None, Some, length, slice_get};
+ghost use Rattle.std.specs.Prelude.{◌≡◌, ◌<◌, IfSome, MatchOption, None, Some, length, slice_get};
 ghost use Rattle.regress_leaves.specs.Subject.{subject};
 ghost use Rattle.regress_backtrack.specs.Code.{code_routines};
 ghost use Rattle.regress_backtrack.specs.Next.{IsInput};
 
 use crate::code::Code;
+use crate::front::Front;
 use crate::instruction::Instruction;
 use crate::test::Test;
 use regress_leaves::rules::MatchContext;
@@ -22,6 +23,8 @@ pub struct Input<'c, 'x> {
     pub index: usize,
     /// The instructions of the routine.
     pub instructions: &'c [Instruction],
+    /// The fronts of the instructions.
+    pub fronts: &'c [Front],
     /// The index of the instruction at which a match starts.
     pub first: usize,
 }
@@ -53,6 +56,7 @@ pub fn input_for<'c, 'x>(
         code,
         index,
         instructions: &routine.instructions,
+        fronts: &routine.fronts,
         first: routine.entry,
     }
 }
@@ -78,6 +82,18 @@ pub fn test_at<'c>(input: Input<'c, '_>, leaf: usize) -> Option<&'c Test>
     let tests = &input.code.tests;
     if leaf < tests.len() {
         Some(&tests[leaf])
+    } else {
+        None
+    }
+}
+
+/// Returns the front of an instruction of the routine, or `None` if there is none with this index.
+#[inline(always)]
+pub fn front_at<'c>(input: Input<'c, '_>, pc: usize) -> Option<&'c Front>
+    ensures { IfSome result (λ front. slice_get input.entry.fronts.now pc ≡ Some front.now) }
+{
+    if pc < input.fronts.len() {
+        Some(&input.fronts[pc])
     } else {
         None
     }

@@ -1,5 +1,7 @@
 //! Instructions and routines that borrow nothing.
 
+use crate::front::Front;
+
 /// An instruction of a routine, as [`regress_program::instruction::Instruction`], which names its leaf by an index. It
 /// names the instructions after it by their indices in the routine.
 #[derive(Clone, Copy)]
@@ -86,4 +88,6 @@ pub struct Routine {
     pub entry: usize,
     /// Whether it matches backwards, as in a lookbehind.
     pub backwards: bool,
+    /// The fronts of the instructions.
+    pub fronts: Vec<Front>,
 }

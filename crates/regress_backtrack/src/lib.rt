@@ -5,6 +5,7 @@ mod alternatives;
 mod ascii;
 mod backtracker;
 mod code;
+mod front;
 mod input;
 mod instruction;
 mod leaf;

@@ -10,10 +10,12 @@ ghost use Rattle.regress_program.specs.declared.fault.CompileFault.TheVariants.{
 ghost use Rattle.regress_program.specs.Views.{op_of, ops_of, program_of, routine_of};
 ghost use Rattle.regress_backtrack.specs.Candidates.{BeginsAt};
 ghost use Rattle.regress_backtrack.specs.Code.{code_flags, code_groups, code_routines};
-ghost use Rattle.regress_backtrack.specs.Owned.{Grown, Means};
+ghost use Rattle.regress_backtrack.specs.Fronts.{HaveFronts};
+ghost use Rattle.regress_backtrack.specs.Owned.{Grown, KeepsFronts, Means};
 ghost use Rattle.regress_backtrack.specs.Views.{op_in, ops_in, program_in, routine_in};
 
 use crate::code::Code;
+use crate::front::fronts_of;
 use crate::instruction::{Instruction, Routine};
 use crate::start::start_of;
 use crate::test::Test;
@@ -92,7 +94,8 @@ fn own_routines(
     routines: &[BorrowedRoutine<'_>],
     tests: &mut Vec<Test>,
 ) -> Result<Vec<Routine>, AllocError>
-    ensures { IfOk result (λ owned. program_in tests.new.items owned.items ≡ program_of routines.now) }
+    ensures program { IfOk result (λ owned. program_in tests.new.items owned.items ≡ program_of routines.now) }
+    ensures fronts { IfOk result (λ owned. HaveFronts tests.new.items owned.items) }
 {
     let mut owned = Vec::with_capacity(alloc, routines.len())?;
     for routine in routines {
@@ -113,12 +116,15 @@ fn own_routine(
 ) -> Result<Routine, AllocError>
     ensures grown { IfOk result (λ _. Grown tests.old.items tests.new.items) }
     ensures means { IfOk result (λ owned. Means routine_in tests.new.items owned (routine_of routine.now)) }
+    ensures fronts { IfOk result (KeepsFronts tests.new.items) }
 {
     let instructions = own_instructions(alloc, &routine.instructions, tests)?;
+    let fronts = fronts_of(alloc, tests, &instructions, routine.backwards)?;
     Ok(Routine {
         instructions,
         entry: routine.entry,
         backwards: routine.backwards,
+        fronts,
     })
 }
 

@@ -1,11 +1,19 @@
-use Rattle.std.proofs.Common.{Some, ap, ◌∙◌}
-use Rattle.regress_tree.specs.Tree.{tree}
-use Rattle.regress_backtrack.proofs.RunLemmas.{leaf_fails}
+use Rattle.std.proofs.Common.{refl, subst, sym}
+use Rattle.regress_leaves.specs.Subject.{subject}
+use Rattle.regress_program.specs.Program.{matcher_of}
+use Rattle.regress_backtrack.specs.Code.{code_routines}
+use Rattle.regress_backtrack.specs.Fronts.{Bounds}
+use Rattle.regress_backtrack.specs.Machine.{at}
 use Rattle.regress_backtrack.proofs.alternatives.fails.Goals as goal
 
-pub returns : goal.returns
-returns c = λ known.
-    let t = c.in-Some.test.now in
-    leaf_fails c.args.input c.requires.input c.args.place c.in-Leaf.leaf c.in-Leaf.next t c.requires.pc (c.instruction_at.ensures ∙ ap Some c.in-Leaf.is)
-    c.in-Some.ensures c.requires.position
-    (c.fails_at.ensures known (tree t.node) t.begins)
+pub returns-in-Some : goal.returns-in-Some
+returns-in-Some c = λ known outs g solve.
+    let input = c.args.input in
+    let is = c.requires.input in
+    let u = subject input.rules input.text.now in
+    let p = c.args.place in
+    let front = c.in-Some.front.now in
+    c.excludes.ensures known (outs input.index (at p g))
+    (subst (λ d. Bounds front d input.text.now p.position (outs input.index (at p g))) (sym is.direction)
+    (is.fronts u.setting input.text.now (matcher_of u.setting input.text.now (code_routines input.code.now) outs) (outs input.index)
+    (solve input.index is.routine is.is) p.pc front c.in-Some.ensures (at p g) refl))

@@ -1,6 +1,8 @@
-use Rattle.std.proofs.Common.{◌<◌, length, option_map, refl, ap, ◌∙◌, arith}
+use Rattle.std.proofs.Common.{◌<◌, length, option_map, refl, sym, ap, ◌∙◌, subst, arith}
 use Rattle.std.proofs.lemmas.List.{length-map}
 use Rattle.std.proofs.lemmas.Option.{slice_get-map, slice_get_read}
+use Rattle.regress_tree.specs.Reading.{direction_if}
+use Rattle.regress_backtrack.specs.Fronts.{AreFrontsOf}
 use Rattle.regress_backtrack.specs.Views.{ops_in, routine_in}
 use Rattle.regress_backtrack.proofs.input.input_for.Goals as goal
 
@@ -20,4 +22,7 @@ returns-clause-input c =
       ops = ap (ops_in tests) c.deref.ensures.value;
       direction = refl;
       first = refl;
+      fronts = subst (λ fs. AreFrontsOf fs (direction_if c.index-routine.result.now.backwards) (ops_in tests c.index-routine.result.now.instructions.items))
+          (sym c.deref-2.ensures.value)
+          (c.args.code.now.fronted i c.index-routine.result.now (slice_get_read routines _ i _ refl lt c.index-routine.ensures));
     }

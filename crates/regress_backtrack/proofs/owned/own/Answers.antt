@@ -6,19 +6,22 @@ use Rattle.regress_backtrack.specs.Candidates.{BeginsAt}
 use Rattle.regress_backtrack.proofs.owned.own.Goals as goal
 
 pub invariant_of-result-clause-begins : goal.invariant_of-result-clause-begins
-invariant_of-result-clause-begins c = subst (BeginsAt c.args.candidates) (sym (c.in_ok-routines.ensures ∙ c.routines.ensures.routines)) c.requires
+invariant_of-result-clause-begins c = subst (BeginsAt c.args.candidates) (sym (c.in_ok-routines.ensures.program ∙ c.routines.ensures.routines)) c.requires
 
 pub invariant_of-result-clause-is_program : goal.invariant_of-result-clause-is_program
-invariant_of-result-clause-is_program c = subst IsProgram (sym (c.in_ok-routines.ensures ∙ c.routines.ensures.routines)) c.routines.ensures.program
+invariant_of-result-clause-is_program c = subst IsProgram (sym (c.in_ok-routines.ensures.program ∙ c.routines.ensures.routines)) c.routines.ensures.program
 
 pub invariant_of-result-clause-forwards : goal.invariant_of-result-clause-forwards
-invariant_of-result-clause-forwards c = subst IsForwards (sym (c.in_ok-routines.ensures ∙ c.routines.ensures.routines)) c.args.program.now.forwards
+invariant_of-result-clause-forwards c = subst IsForwards (sym (c.in_ok-routines.ensures.program ∙ c.routines.ensures.routines)) c.args.program.now.forwards
 
 pub invariant_of-result-clause-counted : goal.invariant_of-result-clause-counted
-invariant_of-result-clause-counted c = c.instructions.ensures ∙ ap (λ program. min (total program) 18446744073709551615) (sym (c.in_ok-routines.ensures ∙ c.routines.ensures.routines))
+invariant_of-result-clause-counted c = c.instructions.ensures ∙ ap (λ program. min (total program) 18446744073709551615) (sym (c.in_ok-routines.ensures.program ∙ c.routines.ensures.routines))
 
 pub invariant_of-result-clause-linear_if : goal.invariant_of-result-clause-linear_if
-invariant_of-result-clause-linear_if c = c.is_linear.ensures ∙ ap is_linear (sym (c.in_ok-routines.ensures ∙ c.routines.ensures.routines))
+invariant_of-result-clause-linear_if c = c.is_linear.ensures ∙ ap is_linear (sym (c.in_ok-routines.ensures.program ∙ c.routines.ensures.routines))
 
 pub returns-clause-flags : goal.returns-clause-flags
 returns-clause-flags c = ap (λ u. u.setting.flags) (c.rules.ensures [])
+
+pub invariant_of-result-clause-fronted : goal.invariant_of-result-clause-fronted
+invariant_of-result-clause-fronted c = c.in_ok-routines.ensures.fronts

@@ -1,9 +1,20 @@
-use Rattle.std.proofs.Common.{ap, ◌∙◌}
+use Rattle.std.proofs.Common.{sym, ap, ap₂, ◌∙◌, subst}
 use Rattle.regress_tree.specs.Reading.{direction_if}
 use Rattle.regress_program.specs.Views.{ops_of}
+use Rattle.regress_backtrack.specs.Fronts.{AreFrontsOf}
+use Rattle.regress_backtrack.specs.Views.{ops_in}
+use Rattle.regress_backtrack.proofs.OwnedLemmas.{settled}
 use Rattle.regress_backtrack.proofs.owned.own_routine.Goals as goal
 
 pub returns-clause-means : goal.returns-clause-means
 returns-clause-means c = λ more.
     ap (λ ops. record { ops = ops; entry = c.args.routine.now.entry; direction = direction_if c.args.routine.now.backwards })
     (c.in_ok-instructions.ensures.means more ∙ ap ops_of c.deref.ensures.value)
+
+pub returns-clause-fronts : goal.returns-clause-fronts
+returns-clause-fronts c = λ more.
+    let tests = c.own_instructions.new.tests.items in
+    let instructions = c.in_ok-instructions.instructions.items in
+    let means = c.in_ok-instructions.ensures.means in
+    subst (AreFrontsOf c.in_ok-fronts.fronts.items (direction_if c.args.routine.now.backwards))
+    (ap₂ ops_in c.deref-2.ensures.value c.deref-3.ensures.value ∙ settled ops_in tests instructions _ means ∙ sym (means more)) c.in_ok-fronts.ensures

@@ -1,8 +1,9 @@
-use Rattle.std.proofs.Common.{◌≡◌, ◌+◌, ◌++◌, ◌∷◌, [], take, sym, ap, ◌∙◌}
+use Rattle.std.proofs.Common.{◌≡◌, ◌+◌, ◌++◌, ◌∷◌, [], take, sym, ap, ◌∙◌, subst}
 use Rattle.std.proofs.lemmas.List.{map-append, take_all, take_more}
 use Rattle.regress_program.specs.Views.{program_of, routine_of}
+use Rattle.regress_backtrack.specs.Fronts.{HaveFronts}
 use Rattle.regress_backtrack.specs.Views.{program_in, routine_in}
-use Rattle.regress_backtrack.proofs.OwnedLemmas.{one_more, settled}
+use Rattle.regress_backtrack.proofs.OwnedLemmas.{fronts_more, fronts_settled, one_more, settled}
 use Rattle.regress_backtrack.proofs.owned.own_routines.Goals as goal
 
 pub loop-routine-preserved : goal.loop-routine-preserved
@@ -15,13 +16,22 @@ loop-routine-preserved c =
     let last : program_of (take (i + 1) xs) ≡ program_of (take i xs) ++ routine_of x ∷ [] =
     ap program_of (take_more xs i x c.loop-routine-test.true ∙ ap (λ y. take i xs ++ y ∷ []) (sym c.routine-item.is))
     ∙ map-append routine_of (take i xs) (x ∷ []) in
-    λ more.
-    ap (program_in (new ++ more)) c.in_ok-push.ensures.items
-    ∙ one_more routine_in old new c.loop-routine.owned.items (program_of (take i xs)) c.in_ok-copy.copy (routine_of x) c.in_ok-copy.ensures.grown
-    c.loop-routine.invariant c.in_ok-copy.ensures.means more
-    ∙ sym last
+    record {
+      means = λ more.
+          ap (program_in (new ++ more)) c.in_ok-push.ensures.items
+          ∙ one_more routine_in old new c.loop-routine.owned.items (program_of (take i xs)) c.in_ok-copy.copy (routine_of x) c.in_ok-copy.ensures.grown
+          c.loop-routine.invariant.means c.in_ok-copy.ensures.means more
+          ∙ sym last;
+      fronts = λ more.
+          subst (HaveFronts (new ++ more)) (sym c.in_ok-push.ensures.items)
+          (fronts_more old new c.loop-routine.owned.items c.in_ok-copy.copy c.in_ok-copy.ensures.grown c.loop-routine.invariant.fronts
+          c.in_ok-copy.ensures.fronts more);
+    }
 
-pub returns : goal.returns
-returns c =
-    settled program_in c.loop-routine.tests.items c.loop-routine.owned.items _ c.loop-routine.invariant
+pub returns-clause-fronts : goal.returns-clause-fronts
+returns-clause-fronts c = fronts_settled c.loop-routine.tests.items c.loop-routine.owned.items c.loop-routine.invariant.fronts
+
+pub returns-clause-program : goal.returns-clause-program
+returns-clause-program c =
+    settled program_in c.loop-routine.tests.items c.loop-routine.owned.items _ c.loop-routine.invariant.means
     ∙ ap program_of (take_all c.loop-routine.routine-index c.args.routines.now c.loop-routine-test.false)

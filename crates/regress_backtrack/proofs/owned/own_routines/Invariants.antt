@@ -1,9 +1,14 @@
 -- The routines so far.
-use Rattle.std.proofs.Common.{take}
+use Rattle.std.proofs.Common.{List, ◌++◌, take}
 use Rattle.regress_program.specs.Views.{program_of}
+use Rattle.regress_backtrack.specs.declared.test.Test.{Test}
+use Rattle.regress_backtrack.specs.Fronts.{HaveFronts}
 use Rattle.regress_backtrack.specs.Owned.{Means}
 use Rattle.regress_backtrack.specs.Views.{program_in}
 use Rattle.regress_backtrack.proofs.owned.own_routines.Given as goal
 
 abbrev pub invariant-loop-routine : goal.invariant-loop-routine
-invariant-loop-routine l = Means program_in l.tests.items l.owned.items (program_of (take l.routine-index l.routines))
+invariant-loop-routine l = record {
+  means : Means program_in l.tests.items l.owned.items (program_of (take l.routine-index l.routines));
+  fronts : (more : List Test) → HaveFronts (l.tests.items ++ more) l.owned.items;
+}

@@ -1,0 +1,195 @@
+-- Fronts: where instructions have no outcome.
+use Rattle.std.proofs.Common.{◌≡◌, ℕ, ◌+◌, ◌-◌, ◌≤◌, ◌<◌, ◌==◌, ◌||◌, Bool, true, false, List, [], ◌∷◌, ◌++◌, flat_map, length, get_or, Option, Some, option_map, slice_get, if◌then◌else◌, refl, sym, ap, ap₂, ◌∙◌, subst, append-nil, arith, inl, inr}
+use Rattle.std.proofs.lemmas.Bool.{cases_eq, cases_lt, false≢true}
+use Rattle.std.proofs.lemmas.Option.{slice_get-map, slice_get_within}
+use Rattle.regress_base.specs.ByteBitmap.{contains}
+use Rattle.regress_base.specs.declared.bytesearch.bitmap.ByteBitmap.{ByteBitmap}
+use Rattle.regress_base.specs.declared.types.AnchorType.{AnchorType}
+use Rattle.regress_base.specs.declared.types.AnchorType.TheVariants.{StartOfLine, EndOfLine}
+use Rattle.regress_tree.specs.Assertions.{at_anchor}
+use Rattle.regress_tree.specs.Lookaround.{looked, lookaround_matcher}
+use Rattle.regress_tree.specs.Matching.{steps}
+use Rattle.regress_tree.specs.Reading.{Direction, forwards, backwards, of_bytes, read_before}
+use Rattle.regress_tree.specs.Setting.{Setting}
+use Rattle.regress_tree.specs.Steps.{MatchState, Matcher, hold_at}
+use Rattle.regress_tree.specs.Tree.{Tree, leaf, anchor, word_boundary}
+use Rattle.regress_prefilter.specs.FirstSets.{BeginsWithByteOf}
+use Rattle.regress_prefilter.specs.OneCharacter.{takes_one, test_of}
+use Rattle.regress_leaves.proofs.ReadingLemmas.{ascii_after, ascii_before}
+use Rattle.regress_program.specs.Program.{At, Out, Solves, either, ended, outcomes_at, outcomes_by, reach}
+use Rattle.regress_backtrack.specs.declared.instruction.Instruction.{Instruction}
+use Rattle.regress_backtrack.specs.declared.test.Test.{Test}
+use Rattle.regress_backtrack.specs.Views.{op_in, ops_in}
+use Rattle.regress_backtrack.specs.declared.front.Front.{Front}
+use Rattle.regress_backtrack.specs.declared.front.Front.TheVariants as kinds
+use Rattle.regress_backtrack.specs.Fronts.{Bounds, IsFront, IsOutside}
+use Rattle.regress_backtrack.proofs.StartLemmas.{ascii_fails, bytes_fail, no_member}
+
+or_left : (a b : Bool) → (a || b) ≡ false → a ≡ false
+or_left true b is = let bad : ⊥ = cc in absurd bad
+or_left false b is = refl
+
+or_right : (a b : Bool) → (a || b) ≡ false → b ≡ false
+or_right true b is = let bad : ⊥ = cc in absurd bad
+or_right false b is = is
+
+-- outside of a union is outside of each of two sets
+pub outside_first : (d : Direction) (text : List ℕ) (k : ℕ) (all one two : ByteBitmap) → ((b : ℕ) → contains all b ≡ (contains one b || contains two b)) →
+    IsOutside d all text k → IsOutside d one text k
+outside_first d text k all one two union is = record {
+  after = is.after;
+  before = is.before;
+  byte = is.byte;
+  out = or_left _ _ (sym (union _) ∙ is.out);
+}
+
+pub outside_second : (d : Direction) (text : List ℕ) (k : ℕ) (all one two : ByteBitmap) → ((b : ℕ) → contains all b ≡ (contains one b || contains two b)) →
+    IsOutside d all text k → IsOutside d two text k
+outside_second d text k all one two union is = record {
+  after = is.after;
+  before = is.before;
+  byte = is.byte;
+  out = or_right _ _ (sym (union _) ∙ is.out);
+}
+
+or_true : (a : Bool) → (a || true) ≡ true
+or_true true = refl
+or_true false = refl
+
+is_same : (a b : ℕ) → a ≡ b → (a == b) ≡ true
+is_same a b is = grind arith
+
+-- one more member
+pub kept_more : (f g h : ℕ → Bool) (v : ℕ) → ((b : ℕ) → g b ≡ (b == v || f b)) → ((b : ℕ) → f b ≡ false → h b ≡ false) → (b : ℕ) → g b ≡ false → h b ≡ false
+kept_more f g h v step kept b is = kept b (or_right _ _ (sym (step b) ∙ is))
+
+pub added_more : (f g : ℕ → Bool) (low n v : ℕ) → v ≡ low + n → ((b : ℕ) → g b ≡ (b == v || f b)) →
+    ((b : ℕ) → low ≤ b → b < low + n → f b ≡ true) → (b : ℕ) → low ≤ b → b < low + (n + 1) → g b ≡ true
+added_more f g low n v at step all b above below =
+    elim (cases_eq b v) [
+      | inl same ↦ step b ∙ ap (λ x. x || f b) (is_same b v same)
+      | inr other ↦ step b ∙ ap (λ x. b == v || x) (all b above (omega (arith, at, below, other))) ∙ or_true (b == v)
+    ]
+
+pub below_of : (f : ℕ → Bool) (low high : ℕ) → ((b : ℕ) → low ≤ b → b < high → f b ≡ true) → (b : ℕ) → b < high → f b ≡ false → b < low
+below_of f low high all b lt is =
+    elim (cases_lt b low) [
+      | inl below ↦ below
+      | inr above ↦ let bad : true ≡ false = sym (all b above lt) ∙ is in absurd (false≢true (sym bad))
+    ]
+
+pub both_none : (xs ys : List MatchState) → xs ≡ [] → ys ≡ [] → xs ++ ys ≡ []
+both_none xs ys x y = ap₂ ◌++◌ x y
+
+-- no outcomes are bounded by each front
+pub none_bounds : (front : Front) (d : Direction) (text : List ℕ) (k : ℕ) → Bounds front d text k []
+none_bounds kinds.Any d text k = tt
+none_bounds (kinds.Bytes set) d text k = λ out. refl
+
+pub cond_bounds : (front : Front) (d : Direction) (text : List ℕ) (k : ℕ) (b : Bool) (states : List MatchState) → Bounds front d text k states →
+    Bounds front d text k (if b then states else [])
+cond_bounds front d text k true states is = is
+cond_bounds front d text k false states is = none_bounds front d text k
+
+pub either_bounds : (front : Front) (d : Direction) (text : List ℕ) (k : ℕ) (out : Out) (greedy : Bool) (a b : At) →
+    Bounds front d text k (out a ++ out b) → Bounds front d text k (out b ++ out a) → Bounds front d text k (either out greedy a b)
+either_bounds front d text k out true a b one two = one
+either_bounds front d text k out false a b one two = two
+
+-- the outcomes inside the text alone matter
+pub inside_bounds : (front : Front) (d : Direction) (text : List ℕ) (k : ℕ) (states : List MatchState) → (k ≤ length text → Bounds front d text k states) →
+    Bounds front d text k states
+inside_bounds kinds.Any d text k states is = tt
+inside_bounds (kinds.Bytes set) d text k states is = λ out. let within : k < length text = out.before in is (omega (arith, within)) out
+
+module _ (front : Front) (d : Direction) (text : List ℕ) (s : MatchState) (g : Matcher)
+    (holds : (t : MatchState) → t.position ≡ s.position → Bounds front d text s.position (g t)) where
+  one_bounds : (t : MatchState) → t.position ≡ s.position → Bounds front d text s.position (flat_map g (t ∷ []))
+  one_bounds t same = subst (Bounds front d text s.position) (sym (append-nil (g t))) (holds t same)
+
+  if_bounds : (b : Bool) → Bounds front d text s.position (flat_map g (if b then s ∷ [] else []))
+  if_bounds true = one_bounds s refl
+  if_bounds false = none_bounds front d text s.position
+
+  pub stay_bounds : Bounds front d text s.position (flat_map g (s ∷ []))
+  stay_bounds = one_bounds s refl
+
+  -- an assertion keeps the position
+  pub hold_bounds : (test : ℕ → Bool) → Bounds front d text s.position (flat_map g (hold_at test s))
+  unfolding hold_at
+  hold_bounds test = if_bounds (test s.position)
+
+  looked_bounds : (negate : Bool) (states : List MatchState) → Bounds front d text s.position (flat_map g (looked negate s states))
+  looked_bounds false [] = none_bounds front d text s.position
+  looked_bounds false (t ∷ later) = one_bounds (record t { position = s.position }) refl
+  looked_bounds true [] = one_bounds s refl
+  looked_bounds true (t ∷ later) = none_bounds front d text s.position
+
+  -- and so does a lookaround
+  pub look_bounds : (negate : Bool) (f : Matcher) → Bounds front d text s.position (flat_map g (lookaround_matcher negate f s))
+  unfolding lookaround_matcher
+  look_bounds negate f = looked_bounds negate (f s)
+
+-- ---- the instruction after another
+
+module _ (front : Front) (d : Direction) (text : List ℕ) (out : Out) (next : ℕ) (is : IsFront front d text out next) (a : At) where
+  pub reach_bounds : (t : MatchState) → t.position ≡ a.state.position → Bounds front d text a.state.position (out (reach next a t))
+  reach_bounds t same = subst (λ k. Bounds front d text k (out (reach next a t))) same (is (reach next a t) refl)
+
+  pub ended_bounds : (id : ℕ) (begins : List ℕ) → Bounds front d text a.state.position (out (ended id next a begins))
+  ended_bounds id [] = is (ended id next a []) refl
+  ended_bounds id (from ∷ begins) = is (ended id next a (from ∷ begins)) refl
+
+-- the front of the instruction with this index
+pub front_next : (tests : List Test) (instructions : List Instruction) (i : ℕ) (x : Instruction) → slice_get instructions i ≡ Some x → (setting : Setting)
+    (text : List ℕ) (d : Direction) (body_of : ℕ → Matcher) (out : Out) →
+    Solves setting text d body_of out (ops_in tests instructions) 0 (length (ops_in tests instructions)) → (front : Front) →
+    ((a : At) → Bounds front d text a.state.position (outcomes_by setting text d body_of out (op_in tests x) a)) → IsFront front d text out i
+front_next tests instructions i x is setting text d body_of out solves front bounds = λ a at.
+    let ops = ops_in tests instructions in
+    let here : slice_get ops a.pc ≡ Some (op_in tests x) =
+    ap (slice_get ops) at ∙ slice_get-map (op_in tests) instructions i ∙ ap (option_map (op_in tests)) is in
+    let lt : a.pc < length ops = slice_get_within ops a.pc (op_in tests x) here in
+    inside_bounds front d text a.state.position (out a)
+    (λ le. subst (Bounds front d text a.state.position)
+    (sym (solves a (omega arith) lt le ∙ ap (λ o. outcomes_at setting text d body_of out o a) here)) (bounds a))
+
+-- ---- leaves
+
+is_inside : (k n : ℕ) → 0 < k → k < n → ((k == 0) ≡ false) × ((k == n) ≡ false)
+is_inside k n low high = (grind arith, grind arith)
+
+held_not : (test : ℕ → Bool) (s : MatchState) → test s.position ≡ false → hold_at test s ≡ []
+unfolding hold_at
+held_not test s is = ap (λ (b : Bool). if b then s ∷ [] else []) is
+
+-- an anchor that is not multiline holds only at the start or the end of the text
+pub anchor_outside : (kind : AnchorType) (setting : Setting) (d : Direction) (set : ByteBitmap) (text : List ℕ) (s : MatchState) → IsOutside d set text s.position →
+    steps setting text d (leaf (anchor kind false)) s ≡ []
+anchor_outside StartOfLine setting d set text s out =
+    held_not (at_anchor (of_bytes text) StartOfLine false) s (ap (λ b. b || false) (is_inside s.position (length text) out.after out.before).0)
+anchor_outside EndOfLine setting d set text s out =
+    held_not (at_anchor (of_bytes text) EndOfLine false) s (ap (λ b. b || false) (is_inside s.position (length text) out.after out.before).1)
+
+-- a leaf that matches one character
+pub ascii_outside : (set all : ByteBitmap) (t : Tree) → takes_one t ≡ true → ((b : ℕ) → b < 128 → contains set b ≡ test_of t b) →
+    ((b : ℕ) → b < 256 → contains all b ≡ false → (b < 128) × (contains set b ≡ false)) →
+    (setting : Setting) (text : List ℕ) (d : Direction) (s : MatchState) → IsOutside d all text s.position → steps setting text d t s ≡ []
+ascii_outside set all t takes tests others setting text forwards s out =
+    let b = get_or text s.position 0 in
+    let no = others b out.byte out.out in
+    ascii_fails set t takes tests setting text forwards s b (s.position + 1) no.0 (ascii_after text s.position b no.0 out.before refl) no.1
+ascii_outside set all t takes tests others setting text backwards s out =
+    let k = s.position - 1 in
+    let b = get_or text k 0 in
+    let no = others b out.byte out.out in
+    let low : 0 < s.position = out.after in
+    let high : s.position < length text = out.before in
+    let number : s.position ≡ k + 1 = omega (arith, low) in
+    ascii_fails set t takes tests setting text backwards s b k no.0
+    (ap (read_before text) number ∙ ascii_before text k b no.0 (omega (arith, high)) refl) no.1
+
+-- a leaf whose first bytes are known
+pub bytes_outside : (set : ByteBitmap) (t : Tree) → BeginsWithByteOf set t → (setting : Setting) (text : List ℕ) (s : MatchState) →
+    IsOutside forwards set text s.position → steps setting text forwards t s ≡ []
+bytes_outside set t begins setting text s out = bytes_fail set t setting text s begins (no_member set text s.position out.out)
