@@ -24,7 +24,7 @@ use Rattle.regress_backtrack.specs.declared.run.Response.TheVariants as response
 use Rattle.regress_backtrack.specs.declared.step.Next.{Next}
 use Rattle.regress_backtrack.specs.declared.step.Next.TheVariants as nexts
 use Rattle.regress_backtrack.specs.Machine.{Groups, at, groups_of, points, state}
-use Rattle.regress_backtrack.specs.Next.{CanStep, Fails, IsInput, Inside, ahead, Leads}
+use Rattle.regress_backtrack.specs.Next.{CanStep, Fails, IsInput, Inside, Solve, ahead, Leads}
 use Rattle.regress_backtrack.specs.Run.{Answers, IsAfter}
 use Rattle.regress_backtrack.specs.declared.instruction.Instruction.TheVariants as insts
 use Rattle.regress_backtrack.proofs.MachineLemmas.{points-none}
@@ -148,6 +148,17 @@ same_answers m r outs k s s' b b' p p' i i' cs cs' answers es eb ep ei ec =
     (subst (λ x. IsSolution s' b' x outs → Answers (matcher_of s' b' x outs i (state cs k)) m r) ep
     (subst (λ x. IsSolution s' b' p' outs → Answers (matcher_of s' b' p' outs x (state cs k)) m r) ei
     (subst (λ x. IsSolution s' b' p' outs → Answers (matcher_of s' b' p' outs i' (state x k)) m r) ec answers))))
+
+-- a run that fails where it starts has no outcome
+pub fails_answers : (input : Input) → IsInput input → (m : Machine) (captures : List (Option CaptureSpan)) (k : ℕ) (outs : ℕ → Out) →
+    Fails input (record { pc = input.first; moved = true; position = k }) → Solve input outs →
+    Answers (matcher_of (subject input.rules input.text.now).setting input.text.now (code_routines input.code.now) outs input.index (state captures k)) m
+    responses.NoMatch
+fails_answers input is m captures k outs none solve =
+    let u = subject input.rules input.text.now in
+    ap (λ o. outs input.index (start u.setting input.text.now o (state captures k))) is.is
+    ∙ ap (λ pc. outs input.index (record { pc = pc; moved = true; state = state captures k; begins = [] })) (sym is.first)
+    ∙ none outs (record { captures = captures; begins = [] }) solve
 
 -- ---- lookarounds
 

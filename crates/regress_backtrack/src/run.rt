@@ -1,15 +1,16 @@
 //! Runs of routines, within a step limit.
-ghost use Rattle.std.specs.Prelude.{◌≡◌, ◌≤◌, ◌<◌, ◌∷◌, ◌++◌, ℕ, All, IfOk, flat_map, if◌then◌else◌, length, take};
+ghost use Rattle.std.specs.Prelude.{◌≡◌, ◌≤◌, ◌<◌, ◌∷◌, ◌++◌, [], ℕ, All, IfOk, IfSome, MatchOption, flat_map, if◌then◌else◌, length, take, true};
 ghost use Rattle.regress_leaves.specs.Subject.{subject};
 ghost use Rattle.regress_program.specs.Program.{IsSolution, Out, goto, look, matcher_of, outcomes_by};
 ghost use Rattle.regress_program.specs.Shape.{IsProgram};
 ghost use Rattle.regress_backtrack.specs.Code.{code_routines};
 ghost use Rattle.regress_backtrack.specs.Machine.{at, groups_of, points, rewound, state};
-ghost use Rattle.regress_backtrack.specs.Next.{Inside, IsInput, Leads, ahead};
+ghost use Rattle.regress_backtrack.specs.Next.{Inside, IsInput, Leads, Solve, ahead};
 ghost use Rattle.regress_backtrack.specs.Run.{Answers, IsAfter};
 ghost use Rattle.regress_backtrack.specs.declared.run.Response.TheVariants.{NoMatch, OutOfSteps};
 ghost use Rattle.regress_backtrack.specs.declared.step.Next.TheVariants as nexts;
 
+use crate::alternatives::fails;
 use crate::input::{Input, input_for, instruction_at};
 use crate::instruction::Instruction;
 use crate::machine::{Machine, Place};
@@ -82,7 +83,7 @@ pub fn run(
         *left -= 1;
         match advance(alloc, input, here, machine, left)? {
             Next::On(to) => here = to,
-            Next::Back => match machine.backtrack()? {
+            Next::Back => match resume(input, machine)? {
                 Some(to) => here = to,
                 None => return Ok(Response::NoMatch),
             },
@@ -91,6 +92,40 @@ pub fn run(
         }
     }
     Ok(Response::OutOfSteps)
+}
+
+/// Returns the place at which a run starts.
+#[inline(always)]
+fn start_place(input: Input<'_, '_>, position: usize) -> Place
+    ensures { result ≡ record { pc = input.entry.first; moved = true; position = position } }
+{
+    Place {
+        pc: input.first,
+        moved: true,
+        position,
+    }
+}
+
+/// Backtracks to the latest backtrack point that is not known to fail. Returns `None` if there is none.
+///
+/// # Errors
+/// Returns [`AllocError`] if an allocation fails.
+fn resume(input: Input<'_, '_>, machine: &mut Machine) -> Result<Option<Place>, AllocError>
+    requires { IsInput input }
+    ensures leads { IfOk result (λ to. (outs : ℕ → Out) → Solve input.entry outs → (let out = outs input.entry.index in
+        MatchOption to (flat_map out (points machine.old) ≡ []) (λ p. flat_map out (points machine.old)
+        ≡ flat_map out (at p (groups_of machine.new) ∷ points machine.new)))) }
+    ensures inside { IfOk result (λ to. IfSome to (λ p. All (Inside input.entry) (points machine.old) →
+        All (Inside input.entry) (at p (groups_of machine.new) ∷ points machine.new))) }
+    ensures rewound { IfOk result (λ _. rewound machine.new ≡ rewound machine.old) }
+    ensures all { IfOk result (λ to. MatchOption to (groups_of machine.new ≡ rewound machine.old) (λ _. Unit)) }
+{
+    while let Some(to) = machine.backtrack()? {
+        if !fails(input, to) {
+            return Ok(Some(to));
+        }
+    }
+    Ok(None)
 }
 
 /// Runs one instruction.
@@ -159,14 +194,17 @@ fn look(
     ensures left { IfOk result (λ _. left.new ≤ left.old) }
     ensures spent { IfOk result (λ next. next ≡ nexts.OutOfSteps → left.new ≡ 0) }
 {
-    let inside = input_for(input.text, input.rules, input.code, looking.routine);
-    let outer = machine.enter(alloc);
-    let response = run(alloc, inside, here.position, machine, left)?;
-    machine.leave(outer)?;
     let after = Place {
         pc: looking.next,
         ..here
     };
+    let inside = input_for(input.text, input.rules, input.code, looking.routine);
+    if fails(inside, start_place(inside, here.position)) {
+        return Ok(on_if(looking.negate, after));
+    }
+    let outer = machine.enter(alloc);
+    let response = run(alloc, inside, here.position, machine, left)?;
+    machine.leave(outer)?;
     Ok(next_after(response, looking.negate, after))
 }
 

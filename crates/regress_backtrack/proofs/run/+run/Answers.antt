@@ -1,4 +1,4 @@
-use Rattle.std.proofs.Common.{◌≡◌, ◌++◌, ◌∷◌, [], All, flat_map, length, reverse, refl, sym, ap, ◌∙◌, subst, arith}
+use Rattle.std.proofs.Common.{◌≡◌, ◌++◌, ◌∷◌, [], All, IfSome, MatchOption, true, flat_map, length, reverse, refl, sym, ap, ◌∙◌, subst, arith}
 use Rattle.std.proofs.lemmas.List.{length-take}
 use Rattle.std.proofs.lemmas.List.Elements.{All-head, All-tail}
 use Rattle.regress_leaves.specs.Subject.{subject}
@@ -7,11 +7,12 @@ use Rattle.regress_program.specs.Shape.{IsProgram}
 use Rattle.regress_backtrack.specs.Code.{code_routines}
 use Rattle.regress_backtrack.specs.Views.{op_in}
 use Rattle.regress_backtrack.specs.Machine.{Groups, at, changes_of, groups_of, points, rewound, state}
-use Rattle.regress_backtrack.specs.Next.{Inside}
+use Rattle.regress_backtrack.specs.declared.run.Response.TheVariants as responses
+use Rattle.regress_backtrack.specs.Next.{Fails, Inside}
 use Rattle.regress_backtrack.specs.Run.{Answers}
 use Rattle.regress_backtrack.proofs.MachineLemmas.{left-lookaround, rewound-none}
 use Rattle.regress_backtrack.proofs.StepLemmas.{Goes, not_look, ok_map}
-use Rattle.regress_backtrack.proofs.RunLemmas.{can_step, advanced, look_fits, on_same, back_same, accept_same, on_all, back_all, begins-inside, begins-same, same_answers, look_goes, look_inside}
+use Rattle.regress_backtrack.proofs.RunLemmas.{fails_answers, can_step, advanced, look_fits, on_same, back_same, accept_same, on_all, back_all, begins-inside, begins-same, same_answers, look_goes, look_inside}
 use Rattle.regress_backtrack.proofs.run.+run.Goals as goal
 
 -- ---- one instruction
@@ -101,6 +102,32 @@ look-run-requires t c =
         ),
       ),
     )
+
+pub look-fails-requires : goal.look-fails-requires
+look-fails-requires t c = record { input = c.input_for-inside.ensures.input }
+
+pub look-returns-then-fails-clause-leads : goal.look-returns-then-fails-clause-leads
+look-returns-then-fails-clause-leads t c = λ outs out solution.
+    let input = c.args.input in
+    let u = subject input.rules input.text.now in
+    let m = c.args.machine.now in
+    let inside = c.input_for-inside.ensures in
+    let none : Fails c.input_for-inside.result (record { pc = c.input_for-inside.result.first; moved = true; position = c.args.here.position }) =
+    subst (Fails c.input_for-inside.result) c.start_place.ensures (c.fails.ensures c.if-fails.true) in
+    let answers : Answers (matcher_of u.setting u.bytes (code_routines input.code.now) outs c.args.looking.routine
+    (state m.captures.items c.args.here.position)) m responses.NoMatch =
+    same_answers m responses.NoMatch outs c.args.here.position _ _ _ _ _ _ _ _ _ _
+    (fails_answers c.input_for-inside.result inside.input m m.captures.items c.args.here.position outs none) inside.setting
+    inside.text
+    (ap code_routines inside.code) inside.index refl solution in
+    look_goes out m m refl refl c.args.here c.args.looking.next
+    c.args.looking.negate (matcher_of u.setting u.bytes (code_routines input.code.now) outs c.args.looking.routine) m responses.NoMatch
+    c.on_if.result answers refl (λ none. refl) c.on_if.ensures
+
+pub look-returns-then-fails-clause-inside : goal.look-returns-then-fails-clause-inside
+look-returns-then-fails-clause-inside t c = λ lt.
+    let m = c.args.machine.now in
+    look_inside c.args.input m m responses.NoMatch c.args.looking.negate _ c.on_if.result refl c.on_if.ensures lt c.requires.inside.position
 
 pub look-returns-clause-leads : goal.look-returns-clause-leads
 look-returns-clause-leads t c = λ outs out solution.
@@ -204,17 +231,19 @@ run-loop-left-preserved t c =
     let m' = c.advance.new.machine in
     let a = at c.loop-left.here (groups_of m) in
     let n = c.in_ok-to.field-0 in
-    let back : points m' ≡ at c.in-Some.to (groups_of c.backtrack.new.self) ∷ points c.backtrack.new.self =
-    rw c.in-Some.is at c.in_ok-to-in-Back.ensures.points in
+    let to = c.in-Some.to in
+    let m'' = c.resume.new.machine in
     record {
       left = omega (arith, c.in_ok-to.ensures.left, so_far.left);
       undo = captures-same _ _ (c.in_ok-to-in-Back.ensures.rewound ∙ c.in_ok-to.ensures.rewound) ∙ so_far.undo;
-      inside = subst (All (Inside input)) back
+      inside = subst (λ o. IfSome o (λ p. All (Inside input) (points m') → All (Inside input) (at p (groups_of m'') ∷ points m''))) c.in-Some.is
+          c.in_ok-to-in-Back.ensures.inside
           (back_all input m' n c.in-Back.is (c.in_ok-to.ensures.inside (All-tail (Inside input) a (points m) so_far.inside)));
       same = λ outs solution.
           so_far.same outs solution
           ∙ back_same (flat_map (outs input.index) (a ∷ points m)) (outs input.index) m' n c.in-Back.is (c.in_ok-to.ensures.leads outs solution)
-          ∙ ap (flat_map (outs input.index)) back;
+          ∙ subst (λ o. MatchOption o (flat_map (outs input.index) (points m') ≡ []) (λ p. flat_map (outs input.index) (points m')
+          ≡ flat_map (outs input.index) (at p (groups_of m'') ∷ points m''))) c.in-Some.is (c.in_ok-to-in-Back.ensures.leads outs solution);
     }
 
 pub run-returns-in-None-clause-answers : goal.run-returns-in-None-clause-answers
@@ -223,10 +252,11 @@ run-returns-in-None-clause-answers t c = λ outs solution.
     let m = c.loop-left.machine in
     let m' = c.advance.new.machine in
     let a = at c.loop-left.here (groups_of m) in
-    let none : points m' ≡ [] = rw c.in-None.is at c.in_ok-to-in-Back.ensures.points in
     c.loop-left.invariant.same outs solution
     ∙ back_same (flat_map (outs input.index) (a ∷ points m)) (outs input.index) m' c.in_ok-to.field-0 c.in-Back.is (c.in_ok-to.ensures.leads outs solution)
-    ∙ ap (flat_map (outs input.index)) none
+    ∙ subst (λ o. MatchOption o (flat_map (outs input.index) (points m') ≡ []) (λ p. flat_map (outs input.index) (points m')
+    ≡ flat_map (outs input.index) (at p (groups_of c.resume.new.machine) ∷ points c.resume.new.machine))) c.in-None.is
+    (c.in_ok-to-in-Back.ensures.leads outs solution)
 
 pub run-returns-in-None-clause-undo : goal.run-returns-in-None-clause-undo
 run-returns-in-None-clause-undo t c =
@@ -234,7 +264,7 @@ run-returns-in-None-clause-undo t c =
 
 pub run-returns-in-None-clause-none : goal.run-returns-in-None-clause-none
 run-returns-in-None-clause-none t c = λ is.
-    let all : groups_of c.backtrack.new.self ≡ rewound c.advance.new.machine = rw c.in-None.is at c.in_ok-to-in-Back.ensures.all in
+    let all : groups_of c.resume.new.machine ≡ rewound c.advance.new.machine = rw c.in-None.is at c.in_ok-to-in-Back.ensures.all in
     captures-same _ _ (all ∙ c.in_ok-to.ensures.rewound) ∙ c.loop-left.invariant.undo
 
 pub run-returns-in-None-clause-left : goal.run-returns-in-None-clause-left

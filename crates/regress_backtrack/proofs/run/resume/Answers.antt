@@ -1,0 +1,29 @@
+use Rattle.std.proofs.lemmas.Grind.{common_steps}
+use Rattle.std.proofs.Common.{rules, arith, ◌≡◌, ◌∷◌, ◌++◌, All, true, flat_map, ap, ◌∙◌, subst}
+use Rattle.std.proofs.lemmas.List.Elements.{All-tail}
+use Rattle.regress_backtrack.specs.Machine.{at, groups_of, points}
+use Rattle.regress_backtrack.specs.Next.{Inside}
+use Rattle.regress_backtrack.proofs.run.resume.Goals as goal
+
+pub returns-then-not-fails-clause-inside : goal.returns-then-not-fails-clause-inside
+returns-then-not-fails-clause-inside c = λ all.
+    let m' = c.backtrack.new.self in
+    let back : points c.loop-to.machine ≡ at c.in-Some.to (groups_of m') ∷ points m' = rw c.in-Some.is at c.in_ok-to.ensures.points in
+    subst (All (Inside c.args.input)) back (c.loop-to.invariant.inside all)
+
+pub loop-to-preserved : goal.loop-to-preserved
+loop-to-preserved c =
+    let input = c.args.input in
+    let m' = c.backtrack.new.self in
+    let to = at c.in-Some.to (groups_of m') in
+    let known : c.fails.result ≡ true = first_of (search rules, grind (arith, common_steps)) in
+    let back : points c.loop-to.machine ≡ to ∷ points m' = rw c.in-Some.is at c.in_ok-to.ensures.points in
+    record {
+      same = λ outs solve.
+          c.loop-to.invariant.same outs solve
+          ∙ ap (flat_map (outs input.index)) back
+          ∙ ap (λ xs. xs ++ flat_map (outs input.index) (points m'))
+          (c.fails.ensures known outs (groups_of m') solve);
+      inside = λ all. All-tail (Inside input) to (points m') (subst (All (Inside input)) back (c.loop-to.invariant.inside all));
+      rewound = c.in_ok-to.ensures.rewound ∙ c.loop-to.invariant.rewound;
+    }
