@@ -30,7 +30,7 @@ pattern_begins c program t pattern are = λ setting text outs solution s le not.
 
 module _ (text : List ℕ) (from : ℕ) where
   -- a position that is skipped is no candidate
-  passes : (c : Candidates) (to : ℕ) → Skips c text from (Some to) → (k : ℕ) → from ≤ k → k < to → IsCandidate c text k → ⊥
+  pub passes : (c : Candidates) (to : ℕ) → Skips c text from (Some to) → (k : ℕ) → from ≤ k → k < to → IsCandidate c text k → ⊥
   passes candidates.Anywhere to skips k low high here = let same : to ≡ from = cc in omega (arith, same, low, high)
   passes candidates.Start to skips k low high here =
       let first : from ≡ 0 = omega (arith, low, here) in
@@ -39,7 +39,7 @@ module _ (text : List ℕ) (from : ℕ) where
       omega (arith, same, high)
   passes (candidates.Bytes set) to skips k low high here = skips.2 k low high here
 
-  passes_all : (c : Candidates) → Skips c text from None → (k : ℕ) → from ≤ k → IsCandidate c text k → ⊥
+  pub passes_all : (c : Candidates) → Skips c text from None → (k : ℕ) → from ≤ k → IsCandidate c text k → ⊥
   passes_all candidates.Anywhere skips k low here = let bad : ⊥ = cc in bad
   passes_all candidates.Start skips k low here =
       let first : from ≡ 0 = omega (arith, low, here) in
@@ -48,17 +48,16 @@ module _ (text : List ℕ) (from : ℕ) where
       bad
   passes_all (candidates.Bytes set) skips k low here = skips k low here
 
-module _ (c : Candidates) (text : List ℕ) (at : ℕ → List MatchState) (begins : (k : ℕ) → k ≤ length text → (IsCandidate c text k → ⊥) → at k ≡ [])
-    (origin from : ℕ) (none : NoneBefore text at origin from) where
-  -- no position before the next candidate has an outcome
-  pub none_before : (to : ℕ) → Skips c text from (Some to) → NoneBefore text at origin to
-  none_before to skips = λ k low high on. elim (cases_lt k from) [
+module _ (text : List ℕ) (at : ℕ → List MatchState) (origin from : ℕ) (none : NoneBefore text at origin from) where
+  -- no position before the next start has an outcome
+  pub none_before : (to : ℕ) → ((k : ℕ) → from ≤ k → k ≤ length text → k < to → at k ≡ []) → NoneBefore text at origin to
+  none_before to passed = λ k low high on. elim (cases_lt k from) [
     | inl before ↦ none k low before on
-    | inr after ↦ begins k on.0 (passes text from c to skips k after high)
+    | inr after ↦ passed k after on.0 high
   ]
 
-  pub none_after : Skips c text from None → found.Finds text at origin None
-  none_after skips = λ k low on. elim (cases_lt k from) [
+  pub none_after : ((k : ℕ) → from ≤ k → k ≤ length text → at k ≡ []) → found.Finds text at origin None
+  none_after passed = λ k low on. elim (cases_lt k from) [
     | inl before ↦ none k low before on
-    | inr after ↦ begins k on.0 (passes_all text from c skips k after)
+    | inr after ↦ passed k after on.0
   ]

@@ -20,6 +20,13 @@ use Rattle.regress_program.specs.Program.{At, Out, Solves, either, ended, outcom
 use Rattle.regress_backtrack.specs.declared.instruction.Instruction.{Instruction}
 use Rattle.regress_backtrack.specs.declared.test.Test.{Test}
 use Rattle.regress_backtrack.specs.Views.{op_in, ops_in}
+use Rattle.regress_program.specs.Found.{no_groups}
+use Rattle.regress_program.specs.Program.{IsSolution, matcher_of, start}
+use Rattle.regress_unicode.specs.declared.Tables.{Tables}
+use Rattle.regress_backtrack.specs.declared.code.Code.{Code}
+use Rattle.regress_backtrack.specs.declared.input.Input.{Input}
+use Rattle.regress_backtrack.specs.Code.{code_groups, code_routines, outcomes_from, setting_with}
+use Rattle.regress_backtrack.specs.Searched.{IsFor}
 use Rattle.regress_backtrack.specs.declared.front.Front.{Front}
 use Rattle.regress_backtrack.specs.declared.front.Front.TheVariants as kinds
 use Rattle.regress_backtrack.specs.Fronts.{Bounds, IsFront, IsOutside}
@@ -153,6 +160,24 @@ front_next tests instructions i x is setting text d body_of out solves front bou
     inside_bounds front d text a.state.position (out a)
     (λ le. subst (Bounds front d text a.state.position)
     (sym (solves a (omega arith) lt le ∙ ap (λ o. outcomes_at setting text d body_of out o a) here)) (bounds a))
+
+-- ---- the first instruction
+
+pub entry_bounds : (code : Code) (tables : Tables) (text : List ℕ) (input : Input) → IsFor code tables text input → (front : Front) →
+    slice_get input.fronts.now input.first ≡ Some front → (outs : ℕ → Out) → IsSolution (setting_with code tables) text (code_routines code) outs → (k : ℕ) →
+    Bounds front forwards text k (outcomes_from code tables text outs k)
+entry_bounds code tables text input for front is outs solution k =
+    let program = code_routines code in
+    let setting = setting_with code tables in
+    let i = length program - 1 in
+    let r = for.is.routine in
+    let s = no_groups (code_groups code) k in
+    let here : slice_get program i ≡ Some r = ap₂ (λ c j. slice_get (code_routines c) j) (sym for.code) (sym for.index) ∙ for.is.is in
+    let first : At = record { pc = r.entry; moved = true; state = s; begins = [] } in
+    let bounds : Bounds front r.direction text k (outs i first) =
+    for.is.fronts setting text (matcher_of setting text program outs) (outs i) (solution i r here) input.first front is first (sym for.is.first) in
+    subst (λ d. Bounds front d text k (outcomes_from code tables text outs k)) (code.forwards r here)
+    (subst (Bounds front r.direction text k) (sym (ap (λ o. outs i (start setting text o s)) here)) bounds)
 
 -- ---- leaves
 

@@ -159,7 +159,8 @@ impl<'c, 'x> Backtracker<'c, 'x> {
 }
 
 /// Returns the input for the pattern of a program.
-fn input_of<'c, 'x>(code: &'c Code, known: Known<'x>, text: &'x str) -> Input<'c, 'x>
+#[inline(always)]
+pub(crate) fn input_of<'c, 'x>(code: &'c Code, known: Known<'x>, text: &'x str) -> Input<'c, 'x>
     ensures { IsFor code.now known.entry.tables.now text.now result }
 {
     let rules = MatchContext {

@@ -2,7 +2,7 @@
 ghost use Rattle.std.specs.Prelude.{◌≡◌, ◌<◌, ◌≤◌, ◌++◌, ℕ, [], Bool, IfOk, List, false, flat_map, length, true};
 ghost use Rattle.regress_base.specs.ByteBitmap.{contains};
 ghost use Rattle.regress_tree.specs.Matching.{steps};
-ghost use Rattle.regress_tree.specs.Reading.{Direction, direction_if};
+ghost use Rattle.regress_tree.specs.Reading.{Direction, direction_if, forwards};
 ghost use Rattle.regress_tree.specs.Setting.{Setting};
 ghost use Rattle.regress_tree.specs.Steps.{MatchState, Matcher};
 ghost use Rattle.regress_tree.specs.Tree.{tree};
@@ -170,5 +170,19 @@ impl Front {
         }
         let next = if backwards { position - 1 } else { position };
         !set.contains(bytes[next])
+    }
+
+    /// Returns the least position, `from` or later, that is not known to have no outcome in the forward direction.
+    pub fn next_from(&self, text: &str, from: usize) -> usize
+        requires { from ≤ length text.now }
+        ensures low { from ≤ result }
+        ensures high { result ≤ length text.now }
+        ensures passed { (k : ℕ) → from ≤ k → k < result → (states : List MatchState) → Bounds self.now forwards text.now k states → states ≡ [] }
+    {
+        let mut position = from;
+        while position < text.len() && self.excludes(text, false, position) {
+            position += 1;
+        }
+        position
     }
 }

@@ -1,5 +1,5 @@
 //! Searching a text from left to right.
-ghost use Rattle.std.specs.Prelude.{◌≡◌, ◌≤◌, ℕ, IfOk, length};
+ghost use Rattle.std.specs.Prelude.{◌≡◌, ◌≤◌, ◌<◌, [], ℕ, IfOk, IfSome, MatchOption, length};
 ghost use Rattle.regress_tree.specs.Tree.{Tree};
 ghost use Rattle.regress_program.specs.Compiled.{IsPattern};
 ghost use Rattle.regress_program.specs.Program.{IsSolution, Out};
@@ -8,9 +8,11 @@ ghost use Rattle.regress_backtrack.specs.Code.{code_routines, outcomes_from, set
 ghost use Rattle.regress_backtrack.specs.Searched.{Finds, IsFirst};
 ghost use Rattle.regress_backtrack.specs.declared.outcome.Outcome.TheVariants.{OutOfSteps};
 
-use crate::backtracker::Backtracker;
+use crate::backtracker::{Backtracker, input_of};
 use crate::code::Code;
+use crate::input::front_at;
 use crate::outcome::{Found, Outcome};
+use regress_leaves::known::Known;
 use regress_prefilter::candidates::next_candidate_from;
 use regress_unicode::Tables;
 use std::alloc::{AllocError, Global};
@@ -117,13 +119,14 @@ impl Backtracker<'_, '_> {
         ensures same { SameRuns self.old self.new }
     {
         let code = self.code;
+        let known = self.known;
         let text = self.text;
         let mut from = from;
         while from <= text.len() {
             if *left == 0 {
                 return Ok(Outcome::OutOfSteps);
             }
-            let Some(position) = next_candidate_from(&code.candidates, text, from) else {
+            let Some(position) = next_start(code, known, text, from) else {
                 return Ok(Outcome::NoMatch);
             };
             // the bytes that are skipped, and the position that is tried
@@ -138,5 +141,37 @@ impl Backtracker<'_, '_> {
             from = position + 1;
         }
         Ok(Outcome::NoMatch)
+    }
+}
+
+/// Returns the least byte offset, `from` or later, at which a match is not known to fail, or `None`.
+///
+/// # Preconditions
+/// `from` is inside the text.
+fn next_start(code: &Code, known: Known<'_>, text: &str, from: usize) -> Option<usize>
+    requires { from ≤ length text.now }
+    ensures within { IfSome result (λ position. (from ≤ position) × (position ≤ length text.now)) }
+    ensures passed { (outs : ℕ → Out) → IsSolution (setting_with code.now known.entry.tables.now) text.now (code_routines code.now) outs →
+        (k : ℕ) → from ≤ k → k ≤ length text.now → MatchOption result Unit (λ position. k < position) →
+        outcomes_from code.now known.entry.tables.now text.now outs k ≡ [] }
+{
+    match next_candidate_from(&code.candidates, text, from) {
+        Some(position) => Some(next_by_front(code, known, text, position)),
+        None => None,
+    }
+}
+
+/// Returns the same by the front of the first instruction alone.
+fn next_by_front(code: &Code, known: Known<'_>, text: &str, from: usize) -> usize
+    requires { from ≤ length text.now }
+    ensures low { from ≤ result }
+    ensures high { result ≤ length text.now }
+    ensures passed { (outs : ℕ → Out) → IsSolution (setting_with code.now known.entry.tables.now) text.now (code_routines code.now) outs →
+        (k : ℕ) → from ≤ k → k < result → outcomes_from code.now known.entry.tables.now text.now outs k ≡ [] }
+{
+    let input = input_of(code, known, text);
+    match front_at(input, input.first) {
+        Some(front) => front.next_from(text, from),
+        None => from,
     }
 }

@@ -1,10 +1,8 @@
-use Rattle.std.proofs.Common.{rules, arith, ◌≡◌, ◌≤◌, ℕ, [], length, ap, subst, IfSome}
+use Rattle.std.proofs.Common.{rules, arith, ◌≡◌, ◌≤◌, ◌<◌, ℕ, [], length, sym, ap, subst, IfSome, MatchOption}
 use Rattle.std.specs.Str.{IsCharBoundary}
-use Rattle.regress_prefilter.specs.Candidates.{Skips}
 use Rattle.regress_program.specs.Found.{NoneBefore, no_groups}
 use Rattle.regress_program.specs.Program.{Out}
 use Rattle.regress_backtrack.specs.Backtracker.{AreOutcomes, outcomes_at, run_code, run_tables, run_text}
-use Rattle.regress_backtrack.specs.Candidates.{IsCandidate}
 use Rattle.regress_backtrack.specs.Code.{code_groups, setting_with}
 use Rattle.regress_backtrack.specs.Searched.{IsFirst}
 use Rattle.regress_backtrack.specs.declared.backtracker.Backtracker.{Backtracker}
@@ -13,12 +11,6 @@ use Rattle.regress_backtrack.proofs.CandidateLemmas.{none_after, none_before}
 use Rattle.regress_backtrack.proofs.SearchLemmas.{SameRuns-trans, found_leftmost, none_more, not_true, same_solved, tree_finds}
 use Rattle.regress_backtrack.proofs.backtracker.Backtracker.find.Goals as goal
 use Rattle.regress_backtrack.proofs.backtracker.Backtracker.find.Goals.{then-is_char_boundary+in_ok-found+in-NoMatch, else-is_char_boundary}
-
--- no outcome begins where no candidate is
-begins : (b : Backtracker) (outs : ℕ → Out) → AreOutcomes b outs → (k : ℕ) → k ≤ length (run_text b) →
-    (IsCandidate (run_code b).candidates (run_text b) k → ⊥) → outcomes_at b outs k ≡ []
-begins b outs are k le not =
-    (run_code b).begins (setting_with (run_code b) (run_tables b)) (run_text b) outs are (no_groups (code_groups (run_code b)) k) le not
 
 pub match_at-requires : goal.match_at-requires
 match_at-requires c =
@@ -34,9 +26,8 @@ returns-clause-finds c = tree_finds c.args.self.now c.args.from outcomes.NoMatch
 pub returns-in_default-clause-solved : goal.returns-in_default-clause-solved
 returns-in_default-clause-solved c = λ outs are.
     let a = c.args.self.now in
-    none_after (run_code a).candidates (run_text a) (outcomes_at a outs) (begins a outs are) c.args.from c.loop-from.from
-    (c.loop-from.invariant.solved outs are)
-    (subst (Skips (run_code a).candidates (run_text a) c.loop-from.from) c.in_default.is c.next_candidate_from.ensures.skips)
+    none_after (run_text a) (outcomes_at a outs) c.args.from c.loop-from.from (c.loop-from.invariant.solved outs are)
+    (λ k low le. c.next_start.ensures.passed outs are k low le (subst (λ r. MatchOption r Unit (λ p. k < p)) (sym c.in_default.is) tt))
 
 pub returns-in_default-clause-finds : goal.returns-in_default-clause-finds
 returns-in_default-clause-finds c = tree_finds c.args.self.now c.args.from outcomes.NoMatch (returns-in_default-clause-solved c)
@@ -47,13 +38,12 @@ returns-in-Matched-clause-solved c = λ outs are.
     let b = c.loop-from.self in
     let k = c.in-Some.position in
     let on : IsCharBoundary (run_text a) k = search rules in
-    let within = subst (λ r. IfSome r (λ (p : ℕ). (c.loop-from.from ≤ p) × (p ≤ length (run_text a)))) c.in-Some.is c.next_candidate_from.ensures.within in
+    let within = subst (λ r. IfSome r (λ (p : ℕ). (c.loop-from.from ≤ p) × (p ≤ length (run_text a)))) c.in-Some.is c.next_start.ensures.within in
     found_leftmost (run_text a) (outcomes_at a outs) c.args.from k c.in-Matched.found (omega (arith, c.loop-from.invariant.from, within.0)) on
     (subst (IsFirst k (outcomes_at a outs k)) c.in-Matched.is
     (same_solved a b (λ states. IsFirst k states c.in_ok-found.field-0) k c.loop-from.invariant.same c.in_ok-found.ensures.solved outs are))
-    (none_before (run_code a).candidates (run_text a) (outcomes_at a outs) (begins a outs are) c.args.from c.loop-from.from
-    (c.loop-from.invariant.solved outs are) k
-    (subst (Skips (run_code a).candidates (run_text a) c.loop-from.from) c.in-Some.is c.next_candidate_from.ensures.skips))
+    (none_before (run_text a) (outcomes_at a outs) c.args.from c.loop-from.from (c.loop-from.invariant.solved outs are) k
+    (λ p low le lt. c.next_start.ensures.passed outs are p low le (subst (λ r. MatchOption r Unit (λ q. p < q)) (sym c.in-Some.is) lt)))
 
 pub returns-in-Matched-clause-finds : goal.returns-in-Matched-clause-finds
 returns-in-Matched-clause-finds c =
@@ -66,10 +56,10 @@ loop-from-preserved c =
     let text = run_text a in
     let k = c.in-Some.position in
     let so_far = c.loop-from.invariant in
-    let within = subst (λ r. IfSome r (λ (p : ℕ). (c.loop-from.from ≤ p) × (p ≤ length text))) c.in-Some.is c.next_candidate_from.ensures.within in
+    let within = subst (λ r. IfSome r (λ (p : ℕ). (c.loop-from.from ≤ p) × (p ≤ length text))) c.in-Some.is c.next_start.ensures.within in
     let none : (outs : ℕ → Out) → AreOutcomes a outs → NoneBefore text (outcomes_at a outs) c.args.from k = λ outs are.
-    none_before (run_code a).candidates text (outcomes_at a outs) (begins a outs are) c.args.from c.loop-from.from (so_far.solved outs are) k
-    (subst (Skips (run_code a).candidates text c.loop-from.from) c.in-Some.is c.next_candidate_from.ensures.skips) in
+    none_before text (outcomes_at a outs) c.args.from c.loop-from.from (so_far.solved outs are) k
+    (λ p low le lt. c.next_start.ensures.passed outs are p low le (subst (λ r. MatchOption r Unit (λ q. p < q)) (sym c.in-Some.is) lt)) in
     elim c.if-is_char_boundary.branch [
       | then-is_char_boundary+in_ok-found+in-NoMatch w ↦ record {
         same = rw w.self-is (SameRuns-trans a b w.match_at.new.self so_far.same w.match_at.ensures.same);

@@ -1,0 +1,25 @@
+use Rattle.std.proofs.Common.{◌≡◌, ◌≤◌, ◌<◌, ℕ, [], length, sym, subst, inl, inr}
+use Rattle.std.proofs.lemmas.Bool.{cases_lt}
+use Rattle.regress_program.specs.Found.{no_groups}
+use Rattle.regress_prefilter.specs.Candidates.{Skips}
+use Rattle.regress_backtrack.specs.Code.{code_groups, setting_with}
+use Rattle.regress_backtrack.proofs.CandidateLemmas.{passes, passes_all}
+use Rattle.regress_backtrack.proofs.search.next_start.Goals as goal
+
+pub returns-in-Some-clause-passed : goal.returns-in-Some-clause-passed
+returns-in-Some-clause-passed c = λ outs solution k low le lt.
+    let code = c.args.code.now in
+    let text = c.args.text.now in
+    let position = c.in-Some.position in
+    elim (cases_lt k position) [
+      | inl before ↦ code.begins (setting_with code c.args.known.tables.now) text outs solution (no_groups (code_groups code) k) le
+          (passes text c.args.from code.candidates position (subst (Skips code.candidates text c.args.from) c.in-Some.is c.next_candidate_from.ensures.skips) k low before)
+      | inr after ↦ c.next_by_front.ensures.passed outs solution k after lt
+    ]
+
+pub returns-in-None-clause-passed : goal.returns-in-None-clause-passed
+returns-in-None-clause-passed c = λ outs solution k low le any.
+    let code = c.args.code.now in
+    let text = c.args.text.now in
+    code.begins (setting_with code c.args.known.tables.now) text outs solution (no_groups (code_groups code) k) le
+    (passes_all text c.args.from code.candidates (subst (Skips code.candidates text c.args.from) c.in-None.is c.next_candidate_from.ensures.skips) k low)
