@@ -30,18 +30,18 @@ pub struct Looping {
 /// # Errors
 /// Returns [`AllocError`] if an allocation fails.
 pub fn fork(
-    input: Input<'_, '_>,
+    input: &Input<'_, '_>,
     first: Place,
     second: Place,
     machine: &mut Machine,
 ) -> Result<Next, AllocError>
-    requires input { IsInput input }
-    requires first { Inside input (at first (groups_of machine.old)) }
-    requires second { Inside input (at second (groups_of machine.old)) }
-    ensures leads { IfOk result (λ next. (outs : ℕ → Out) → Solve input.entry outs → (let out = outs input.entry.index in
+    requires input { IsInput input.now }
+    requires first { Inside input.now (at first (groups_of machine.old)) }
+    requires second { Inside input.now (at second (groups_of machine.old)) }
+    ensures leads { IfOk result (λ next. (outs : ℕ → Out) → Solve input.now outs → (let out = outs input.now.index in
         Leads ((out (at first (groups_of machine.old)) ++ out (at second (groups_of machine.old))) ++ flat_map out (points machine.old))
         out machine.new next)) }
-    ensures inside { IfOk result (λ next. All (Inside input.entry) (points machine.old) → All (Inside input.entry) (ahead machine.new next)) }
+    ensures inside { IfOk result (λ next. All (Inside input.now) (points machine.old) → All (Inside input.now) (ahead machine.new next)) }
     ensures rewound { IfOk result (λ _. rewound machine.new ≡ rewound machine.old) }
     ensures goes { IfOk result (λ next. next ≡ OutOfSteps → ⊥) }
 {
@@ -66,22 +66,22 @@ pub fn fork(
 /// # Errors
 /// Returns [`AllocError`] if an allocation fails.
 pub fn iterate(
-    input: Input<'_, '_>,
+    input: &Input<'_, '_>,
     looping: Looping,
     here: Place,
     machine: &mut Machine,
     left: &mut u64,
 ) -> Result<Next, AllocError>
-    requires input { IsInput input }
-    requires body { looping.body < length input.instructions.now }
-    requires next { looping.next < length input.instructions.now }
-    requires position { here.position ≤ length input.text.now }
-    ensures leads { IfOk result (λ to. (outs : ℕ → Out) → Solve input.entry outs → (let out = outs input.entry.index in
+    requires input { IsInput input.now }
+    requires body { looping.body < length input.now.instructions.now }
+    requires next { looping.next < length input.now.instructions.now }
+    requires position { here.position ≤ length input.now.text.now }
+    ensures leads { IfOk result (λ to. (outs : ℕ → Out) → Solve input.now outs → (let out = outs input.now.index in
         let again : Place = record { pc = looping.body; moved = false; position = here.position } in
         let after : Place = record here { pc = looping.next } in
         Leads (either out looping.greedy (at again (groups_of machine.old)) (at after (groups_of machine.old)) ++ flat_map out (points machine.old))
         out machine.new to)) }
-    ensures inside { IfOk result (λ to. All (Inside input.entry) (points machine.old) → All (Inside input.entry) (ahead machine.new to)) }
+    ensures inside { IfOk result (λ to. All (Inside input.now) (points machine.old) → All (Inside input.now) (ahead machine.new to)) }
     ensures rewound { IfOk result (λ _. rewound machine.new ≡ rewound machine.old) }
     ensures left { IfOk result (λ _. left.new ≤ left.old) }
     ensures goes { IfOk result (λ to. to ≡ OutOfSteps → ⊥) }
@@ -107,9 +107,9 @@ pub fn iterate(
 
 /// Returns whether a run is known to fail at a place, by the byte next to it.
 #[inline(always)]
-pub fn fails(input: Input<'_, '_>, place: Place) -> bool
-    requires input { IsInput input }
-    ensures { result ≡ true → Fails input.entry place }
+pub fn fails(input: &Input<'_, '_>, place: Place) -> bool
+    requires input { IsInput input.now }
+    ensures { result ≡ true → Fails input.now place }
 {
     match front_at(input, place.pc) {
         Some(front) => front.excludes(input.text, input.rules.backwards, place.position),

@@ -138,7 +138,7 @@ impl<'c, 'x> Backtracker<'c, 'x> {
         self.unset_all(alloc)?;
         self.unset = false;
         let input = input_of(self.code, self.known, self.text);
-        let response = run(alloc, input, position, &mut self.machine, left)?;
+        let response = run(alloc, &input, position, &mut self.machine, left)?;
         self.unset = is_no_match(response);
         Ok(response)
     }

@@ -66,18 +66,18 @@ pub fn input_for<'c, 'x>(
 /// # Preconditions
 /// There is an instruction with this index.
 #[inline(always)]
-pub fn instruction_at(input: Input<'_, '_>, pc: usize) -> Instruction
-    requires { pc < length input.instructions.now }
-    ensures { slice_get input.entry.instructions.now pc ≡ Some result }
+pub fn instruction_at(input: &Input<'_, '_>, pc: usize) -> Instruction
+    requires { pc < length input.now.instructions.now }
+    ensures { slice_get input.now.instructions.now pc ≡ Some result }
 {
     input.instructions[pc]
 }
 
 /// Returns a leaf of the program, or `None` if it has none with this index.
 #[inline(always)]
-pub fn test_at<'c>(input: Input<'c, '_>, leaf: usize) -> Option<&'c Test>
-    ensures { MatchOption result (slice_get input.entry.code.now.tests.items leaf ≡ None)
-        (λ test. slice_get input.entry.code.now.tests.items leaf ≡ Some test.now) }
+pub fn test_at<'c>(input: &Input<'c, '_>, leaf: usize) -> Option<&'c Test>
+    ensures { MatchOption result (slice_get input.now.code.now.tests.items leaf ≡ None)
+        (λ test. slice_get input.now.code.now.tests.items leaf ≡ Some test.now) }
 {
     let tests = &input.code.tests;
     if leaf < tests.len() {
@@ -89,8 +89,8 @@ pub fn test_at<'c>(input: Input<'c, '_>, leaf: usize) -> Option<&'c Test>
 
 /// Returns the front of an instruction of the routine, or `None` if there is none with this index.
 #[inline(always)]
-pub fn front_at<'c>(input: Input<'c, '_>, pc: usize) -> Option<&'c Front>
-    ensures { IfSome result (λ front. slice_get input.entry.fronts.now pc ≡ Some front.now) }
+pub fn front_at<'c>(input: &Input<'c, '_>, pc: usize) -> Option<&'c Front>
+    ensures { IfSome result (λ front. slice_get input.now.fronts.now pc ≡ Some front.now) }
 {
     if pc < input.fronts.len() {
         Some(&input.fronts[pc])

@@ -56,18 +56,18 @@ pub struct Looking {
 #[cycle(run)]
 pub fn run(
     alloc: Global,
-    input: Input<'_, '_>,
+    input: &Input<'_, '_>,
     start: usize,
     machine: &mut Machine,
     left: &mut u64,
 ) -> Result<Response, AllocError>
-    requires program { IsProgram (code_routines input.code.now) }
-    requires input { IsInput input }
-    requires start { start ≤ length input.text.now }
-    ensures answers { IfOk result (λ response. (outs : ℕ → Out) → (let u = subject input.entry.rules input.entry.text.now in
-        let program = code_routines input.entry.code.now in
+    requires program { IsProgram (code_routines input.now.code.now) }
+    requires input { IsInput input.now }
+    requires start { start ≤ length input.now.text.now }
+    ensures answers { IfOk result (λ response. (outs : ℕ → Out) → (let u = subject input.now.rules input.now.text.now in
+        let program = code_routines input.now.code.now in
         IsSolution u.setting u.bytes program outs →
-        Answers (matcher_of u.setting u.bytes program outs input.entry.index (state machine.old.captures.items start)) machine.new response)) }
+        Answers (matcher_of u.setting u.bytes program outs input.now.index (state machine.old.captures.items start)) machine.new response)) }
     ensures undo { IfOk result (λ _. (rewound machine.new).captures ≡ machine.old.captures.items) }
     ensures none { IfOk result (λ response. response ≡ NoMatch → machine.new.captures.items ≡ machine.old.captures.items) }
     ensures left { IfOk result (λ _. left.new ≤ left.old) }
@@ -96,8 +96,8 @@ pub fn run(
 
 /// Returns the place at which a run starts.
 #[inline(always)]
-fn start_place(input: Input<'_, '_>, position: usize) -> Place
-    ensures { result ≡ record { pc = input.entry.first; moved = true; position = position } }
+fn start_place(input: &Input<'_, '_>, position: usize) -> Place
+    ensures { result ≡ record { pc = input.now.first; moved = true; position = position } }
 {
     Place {
         pc: input.first,
@@ -110,13 +110,13 @@ fn start_place(input: Input<'_, '_>, position: usize) -> Place
 ///
 /// # Errors
 /// Returns [`AllocError`] if an allocation fails.
-fn resume(input: Input<'_, '_>, machine: &mut Machine) -> Result<Option<Place>, AllocError>
-    requires { IsInput input }
-    ensures leads { IfOk result (λ to. (outs : ℕ → Out) → Solve input.entry outs → (let out = outs input.entry.index in
+fn resume(input: &Input<'_, '_>, machine: &mut Machine) -> Result<Option<Place>, AllocError>
+    requires { IsInput input.now }
+    ensures leads { IfOk result (λ to. (outs : ℕ → Out) → Solve input.now outs → (let out = outs input.now.index in
         MatchOption to (flat_map out (points machine.old) ≡ []) (λ p. flat_map out (points machine.old)
         ≡ flat_map out (at p (groups_of machine.new) ∷ points machine.new)))) }
-    ensures inside { IfOk result (λ to. IfSome to (λ p. All (Inside input.entry) (points machine.old) →
-        All (Inside input.entry) (at p (groups_of machine.new) ∷ points machine.new))) }
+    ensures inside { IfOk result (λ to. IfSome to (λ p. All (Inside input.now) (points machine.old) →
+        All (Inside input.now) (at p (groups_of machine.new) ∷ points machine.new))) }
     ensures rewound { IfOk result (λ _. rewound machine.new ≡ rewound machine.old) }
     ensures all { IfOk result (λ to. MatchOption to (groups_of machine.new ≡ rewound machine.old) (λ _. Unit)) }
 {
@@ -133,19 +133,19 @@ fn resume(input: Input<'_, '_>, machine: &mut Machine) -> Result<Option<Place>, 
 #[inline(always)]
 fn advance(
     alloc: Global,
-    input: Input<'_, '_>,
+    input: &Input<'_, '_>,
     here: Place,
     machine: &mut Machine,
     left: &mut u64,
 ) -> Result<Next, AllocError>
-    requires program { IsProgram (code_routines input.code.now) }
-    requires input { IsInput input }
-    requires inside { Inside input (at here (groups_of machine.old)) }
-    ensures leads { IfOk result (λ next. (outs : ℕ → Out) → (let u = subject input.entry.rules input.entry.text.now in
-        let out = outs input.entry.index in
-        IsSolution u.setting u.bytes (code_routines input.entry.code.now) outs →
+    requires program { IsProgram (code_routines input.now.code.now) }
+    requires input { IsInput input.now }
+    requires inside { Inside input.now (at here (groups_of machine.old)) }
+    ensures leads { IfOk result (λ next. (outs : ℕ → Out) → (let u = subject input.now.rules input.now.text.now in
+        let out = outs input.now.index in
+        IsSolution u.setting u.bytes (code_routines input.now.code.now) outs →
         Leads (flat_map out (at here (groups_of machine.old) ∷ points machine.old)) out machine.new next)) }
-    ensures inside { IfOk result (λ next. All (Inside input.entry) (points machine.old) → All (Inside input.entry) (ahead machine.new next)) }
+    ensures inside { IfOk result (λ next. All (Inside input.now) (points machine.old) → All (Inside input.now) (ahead machine.new next)) }
     ensures rewound { IfOk result (λ _. rewound machine.new ≡ rewound machine.old) }
     ensures left { IfOk result (λ _. left.new ≤ left.old) }
     ensures spent { IfOk result (λ next. next ≡ nexts.OutOfSteps → left.new ≡ 0) }
@@ -172,24 +172,24 @@ fn advance(
 #[cycle(run)]
 fn look(
     alloc: Global,
-    input: Input<'_, '_>,
+    input: &Input<'_, '_>,
     looking: Looking,
     here: Place,
     machine: &mut Machine,
     left: &mut u64,
 ) -> Result<Next, AllocError>
-    requires program { IsProgram (code_routines input.code.now) }
-    requires input { IsInput input }
-    requires routine { looking.routine < length (take input.index (code_routines input.code.now)) }
-    requires inside { Inside input (at here (groups_of machine.old)) }
-    ensures leads { IfOk result (λ next. (outs : ℕ → Out) (out : Out) → (let u = subject input.entry.rules input.entry.text.now in
-        let program = code_routines input.entry.code.now in
+    requires program { IsProgram (code_routines input.now.code.now) }
+    requires input { IsInput input.now }
+    requires routine { looking.routine < length (take input.now.index (code_routines input.now.code.now)) }
+    requires inside { Inside input.now (at here (groups_of machine.old)) }
+    ensures leads { IfOk result (λ next. (outs : ℕ → Out) (out : Out) → (let u = subject input.now.rules input.now.text.now in
+        let program = code_routines input.now.code.now in
         IsSolution u.setting u.bytes program outs →
         Leads (outcomes_by u.setting u.bytes u.direction (matcher_of u.setting u.bytes program outs) out
         (look looking.negate looking.routine looking.next) (at here (groups_of machine.old)) ++ flat_map out (points machine.old))
         out machine.new next)) }
-    ensures inside { IfOk result (λ next. looking.next < length input.entry.instructions.now →
-        All (Inside input.entry) (points machine.old) → All (Inside input.entry) (ahead machine.new next)) }
+    ensures inside { IfOk result (λ next. looking.next < length input.now.instructions.now →
+        All (Inside input.now) (points machine.old) → All (Inside input.now) (ahead machine.new next)) }
     ensures rewound { IfOk result (λ _. rewound machine.new ≡ rewound machine.old) }
     ensures left { IfOk result (λ _. left.new ≤ left.old) }
     ensures spent { IfOk result (λ next. next ≡ nexts.OutOfSteps → left.new ≡ 0) }
@@ -199,11 +199,11 @@ fn look(
         ..here
     };
     let inside = input_for(input.text, input.rules, input.code, looking.routine);
-    if fails(inside, start_place(inside, here.position)) {
+    if fails(&inside, start_place(&inside, here.position)) {
         return Ok(on_if(looking.negate, after));
     }
     let outer = machine.enter(alloc);
-    let response = run(alloc, inside, here.position, machine, left)?;
+    let response = run(alloc, &inside, here.position, machine, left)?;
     machine.leave(outer)?;
     Ok(next_after(response, looking.negate, after))
 }

@@ -170,7 +170,7 @@ fn next_by_front(code: &Code, known: Known<'_>, text: &str, from: usize) -> usiz
         (k : ℕ) → from ≤ k → k < result → outcomes_from code.now known.entry.tables.now text.now outs k ≡ [] }
 {
     let input = input_of(code, known, text);
-    match front_at(input, input.first) {
+    match front_at(&input, input.first) {
         Some(front) => front.next_from(text, from),
         None => from,
     }

@@ -48,21 +48,21 @@ pub enum Next {
 #[inline(always)]
 pub fn step(
     alloc: Global,
-    input: Input<'_, '_>,
+    input: &Input<'_, '_>,
     instruction: Instruction,
     here: Place,
     machine: &mut Machine,
     left: &mut u64,
 ) -> Result<Next, AllocError>
-    requires can { CanStep input (op_in input.code.now.tests.items instruction) here }
-    requires input { IsInput input }
-    requires no_look { is_look (op_in input.code.now.tests.items instruction) ≡ false }
-    ensures leads { IfOk result (λ next. (outs : ℕ → Out) → Solve input.entry outs → (let u = subject input.entry.rules input.entry.text.now in
-        let out = outs input.entry.index in
-        Leads (outcomes_by u.setting u.bytes u.direction (matcher_of u.setting u.bytes (code_routines input.entry.code.now) outs) out
-        (op_in input.entry.code.now.tests.items instruction) (at here (groups_of machine.old)) ++ flat_map out (points machine.old))
+    requires can { CanStep input.now (op_in input.now.code.now.tests.items instruction) here }
+    requires input { IsInput input.now }
+    requires no_look { is_look (op_in input.now.code.now.tests.items instruction) ≡ false }
+    ensures leads { IfOk result (λ next. (outs : ℕ → Out) → Solve input.now outs → (let u = subject input.now.rules input.now.text.now in
+        let out = outs input.now.index in
+        Leads (outcomes_by u.setting u.bytes u.direction (matcher_of u.setting u.bytes (code_routines input.now.code.now) outs) out
+        (op_in input.now.code.now.tests.items instruction) (at here (groups_of machine.old)) ++ flat_map out (points machine.old))
         out machine.new next)) }
-    ensures inside { IfOk result (λ next. All (Inside input.entry) (points machine.old) → All (Inside input.entry) (ahead machine.new next)) }
+    ensures inside { IfOk result (λ next. All (Inside input.now) (points machine.old) → All (Inside input.now) (ahead machine.new next)) }
     ensures rewound { IfOk result (λ _. rewound machine.new ≡ rewound machine.old) }
     ensures left { IfOk result (λ _. left.new ≤ left.old) }
     ensures goes { IfOk result (λ next. next ≡ OutOfSteps → ⊥) }
@@ -120,18 +120,18 @@ pub fn step(
 #[inline(always)]
 fn match_leaf(
     alloc: Global,
-    input: Input<'_, '_>,
+    input: &Input<'_, '_>,
     leaf: usize,
     next: usize,
     here: Place,
     machine: &Machine,
     left: &mut u64,
 ) -> Result<Next, AllocError>
-    requires { CanStep input (part_of (slice_get input.code.now.tests.items leaf) next) here }
-    ensures leads { IfOk result (λ to. (body_of : ℕ → Matcher) (out : Out) → (let u = subject input.entry.rules input.entry.text.now in
-        Leads (outcomes_by u.setting u.bytes u.direction body_of out (part_of (slice_get input.entry.code.now.tests.items leaf) next)
+    requires { CanStep input.now (part_of (slice_get input.now.code.now.tests.items leaf) next) here }
+    ensures leads { IfOk result (λ to. (body_of : ℕ → Matcher) (out : Out) → (let u = subject input.now.rules input.now.text.now in
+        Leads (outcomes_by u.setting u.bytes u.direction body_of out (part_of (slice_get input.now.code.now.tests.items leaf) next)
         (at here (groups_of machine.now)) ++ flat_map out (points machine.now)) out machine.now to)) }
-    ensures inside { IfOk result (λ to. All (Inside input.entry) (points machine.now) → All (Inside input.entry) (ahead machine.now to)) }
+    ensures inside { IfOk result (λ to. All (Inside input.now) (points machine.now) → All (Inside input.now) (ahead machine.now to)) }
     ensures left { IfOk result (λ _. left.new ≤ left.old) }
     ensures goes { IfOk result (λ to. to ≡ OutOfSteps → ⊥) }
 {
@@ -153,14 +153,14 @@ fn match_leaf(
 #[inline(always)]
 fn test_end(
     alloc: Global,
-    input: Input<'_, '_>,
+    input: &Input<'_, '_>,
     test: &Test,
     position: usize,
     captures: &[Option<(usize, usize)>],
     left: &mut u64,
 ) -> Result<Option<usize>, AllocError>
     requires { IsPart (tree test.now.node) }
-    ensures to { IfOk result (λ to. let u = subject input.entry.rules input.entry.text.now in
+    ensures to { IfOk result (λ to. let u = subject input.now.rules input.now.text.now in
         steps u.setting u.bytes u.direction (tree test.now.node) (state captures.now position) ≡ put (state captures.now position) to) }
     ensures left { IfOk result (λ _. left.new ≤ left.old) }
 {

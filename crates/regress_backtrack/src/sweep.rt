@@ -35,25 +35,25 @@ struct Swept<'c> {
 /// # Errors
 /// Returns [`AllocError`] if an allocation fails.
 pub fn sweep(
-    input: Input<'_, '_>,
+    input: &Input<'_, '_>,
     looping: Looping,
     here: Place,
     machine: &mut Machine,
     left: &mut u64,
 ) -> Result<Option<Place>, AllocError>
-    requires input { IsInput input }
-    requires body { looping.body < length input.instructions.now }
-    requires next { looping.next < length input.instructions.now }
-    requires position { here.position ≤ length input.text.now }
+    requires input { IsInput input.now }
+    requires body { looping.body < length input.now.instructions.now }
+    requires next { looping.next < length input.now.instructions.now }
+    requires position { here.position ≤ length input.now.text.now }
     requires greedy { looping.greedy ≡ true }
     ensures leads { IfOk result (λ found. MatchOption found (machine.new ≡ machine.old)
-        (λ to. (outs : ℕ → Out) → Solve input.entry outs → (let out = outs input.entry.index in
+        (λ to. (outs : ℕ → Out) → Solve input.now outs → (let out = outs input.now.index in
         let again : Place = record { pc = looping.body; moved = false; position = here.position } in
         let after : Place = record here { pc = looping.next } in
         (out (at again (groups_of machine.old)) ++ out (at after (groups_of machine.old))) ++ flat_map out (points machine.old)
         ≡ flat_map out (at to (groups_of machine.new) ∷ points machine.new)))) }
     ensures inside { IfOk result (λ found. IfSome found (λ to.
-        All (Inside input.entry) (points machine.old) → All (Inside input.entry) (at to (groups_of machine.new) ∷ points machine.new))) }
+        All (Inside input.now) (points machine.old) → All (Inside input.now) (at to (groups_of machine.new) ∷ points machine.new))) }
     ensures rewound { IfOk result (λ _. rewound machine.new ≡ rewound machine.old) }
     ensures left { IfOk result (λ _. left.new ≤ left.old) }
 {
@@ -78,9 +78,9 @@ pub fn sweep(
 }
 
 /// Returns the leaf of a loop and the end of an iteration, if the body is a leaf that matches one character forwards.
-fn sole_leaf<'c>(input: Input<'c, '_>, looping: Looping) -> Option<Swept<'c>>
-    requires { looping.body < length input.instructions.now }
-    ensures { IfSome result (λ s. IsSwept input.entry looping s.set.now s.turn) }
+fn sole_leaf<'c>(input: &Input<'c, '_>, looping: Looping) -> Option<Swept<'c>>
+    requires { looping.body < length input.now.instructions.now }
+    ensures { IfSome result (λ s. IsSwept input.now looping s.set.now s.turn) }
 {
     if input.rules.backwards {
         return None;

@@ -8,7 +8,7 @@ use Rattle.regress_backtrack.proofs.alternatives.fails.Goals as goal
 
 pub returns-in-Some : goal.returns-in-Some
 returns-in-Some c = λ known outs g solve.
-    let input = c.args.input in
+    let input = c.args.input.now in
     let is = c.requires.input in
     let u = subject input.rules input.text.now in
     let p = c.args.place in

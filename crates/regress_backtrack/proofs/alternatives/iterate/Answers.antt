@@ -8,7 +8,7 @@ use Rattle.regress_backtrack.proofs.alternatives.iterate.Goals as goal
 
 pub returns-in-None-clause-leads : goal.returns-in-None-clause-leads
 returns-in-None-clause-leads c =
-    let input = c.args.input in
+    let input = c.args.input.now in
     let m = c.args.machine.now in
     let g = groups_of m in
     let again : Place = record { pc = c.args.looping.body; moved = false; position = c.args.here.position } in
@@ -24,7 +24,7 @@ returns-in-None-clause-leads c =
 
 pub returns-else-looping-clause-leads : goal.returns-else-looping-clause-leads
 returns-else-looping-clause-leads c =
-    let input = c.args.input in
+    let input = c.args.input.now in
     let m = c.args.machine.now in
     let g = groups_of m in
     let again : Place = record { pc = c.args.looping.body; moved = false; position = c.args.here.position } in

@@ -19,7 +19,7 @@ use Rattle.regress_backtrack.proofs.run.+run.Goals as goal
 
 pub advance-look-requires : goal.advance-look-requires
 advance-look-requires t c =
-    let input = c.args.input in
+    let input = c.args.input.now in
     let i = c.instruction_at-instruction.result in
     let read = c.instruction_at-instruction.ensures in
     let can = can_step input c.requires.input c.args.here i c.requires.inside.pc read c.requires.program c.requires.inside.position in
@@ -30,7 +30,7 @@ advance-look-requires t c =
 
 pub advance-step-requires : goal.advance-step-requires
 advance-step-requires t c =
-    let input = c.args.input in
+    let input = c.args.input.now in
     let i = c.instruction_at-instruction.result in
     let read = c.instruction_at-instruction.ensures in
     record {
@@ -41,7 +41,7 @@ advance-step-requires t c =
 
 pub advance-returns-in-Look-clause-leads : goal.advance-returns-in-Look-clause-leads
 advance-returns-in-Look-clause-leads t c =
-    let input = c.args.input in
+    let input = c.args.input.now in
     let u = subject input.rules input.text.now in
     let m = c.args.machine.now in
     let i = c.instruction_at-instruction.result in
@@ -57,7 +57,7 @@ advance-returns-in-Look-clause-leads t c =
 
 pub advance-returns-in-Look-clause-inside : goal.advance-returns-in-Look-clause-inside
 advance-returns-in-Look-clause-inside t c =
-    let input = c.args.input in
+    let input = c.args.input.now in
     let i = c.instruction_at-instruction.result in
     let read = c.instruction_at-instruction.ensures in
     let can = can_step input c.requires.input c.args.here i c.requires.inside.pc read c.requires.program c.requires.inside.position in
@@ -66,7 +66,7 @@ advance-returns-in-Look-clause-inside t c =
 
 pub advance-returns-in_default : goal.advance-returns-in_default
 advance-returns-in_default t c =
-    let input = c.args.input in
+    let input = c.args.input.now in
     let u = subject input.rules input.text.now in
     let m = c.args.machine.now in
     let i = c.instruction_at-instruction.result in
@@ -108,7 +108,7 @@ look-fails-requires t c = record { input = c.input_for-inside.ensures.input }
 
 pub look-returns-then-fails-clause-leads : goal.look-returns-then-fails-clause-leads
 look-returns-then-fails-clause-leads t c = λ outs out solution.
-    let input = c.args.input in
+    let input = c.args.input.now in
     let u = subject input.rules input.text.now in
     let m = c.args.machine.now in
     let inside = c.input_for-inside.ensures in
@@ -127,11 +127,11 @@ look-returns-then-fails-clause-leads t c = λ outs out solution.
 pub look-returns-then-fails-clause-inside : goal.look-returns-then-fails-clause-inside
 look-returns-then-fails-clause-inside t c = λ lt.
     let m = c.args.machine.now in
-    look_inside c.args.input m m responses.NoMatch c.args.looking.negate _ c.on_if.result refl c.on_if.ensures lt c.requires.inside.position
+    look_inside c.args.input.now m m responses.NoMatch c.args.looking.negate _ c.on_if.result refl c.on_if.ensures lt c.requires.inside.position
 
 pub look-returns-clause-leads : goal.look-returns-clause-leads
 look-returns-clause-leads t c = λ outs out solution.
-    let input = c.args.input in
+    let input = c.args.input.now in
     let u = subject input.rules input.text.now in
     let m = c.args.machine.now in
     let inner = c.run.new.machine in
@@ -160,7 +160,7 @@ look-returns-clause-inside t c = λ lt.
     let kept = left-lookaround m inner m' (c.in_ok-response.ensures.undo ∙ c.enter-outer.ensures.captures)
     (c.in_ok-leave.ensures.entries ∙ ap (λ s. s.entries.items ++ changes_of inner.stack.entries.items) c.enter-outer.ensures.stack)
     (c.in_ok-leave.ensures.begins ∙ ap (λ s. s.begins.items) c.enter-outer.ensures.stack) c.in_ok-leave.ensures.captures in
-    look_inside c.args.input m m' c.in_ok-response.response c.args.looking.negate _ c.next_after.result kept.points c.next_after.ensures lt
+    look_inside c.args.input.now m m' c.in_ok-response.response c.args.looking.negate _ c.next_after.result kept.points c.next_after.ensures lt
     c.requires.inside.position
 
 pub look-returns-clause-rewound : goal.look-returns-clause-rewound
@@ -182,10 +182,10 @@ run-loop-left-init t c =
     record {
       left = omega arith;
       undo = captures-same _ _ (rewound-none _ c.clear.ensures.entries);
-      inside = begins-inside c.args.input c.requires.input _ c.args.start c.requires.program c.clear.ensures.entries c.requires.start;
+      inside = begins-inside c.args.input.now c.requires.input _ c.args.start c.requires.program c.clear.ensures.entries c.requires.start;
       same = λ outs solution.
-          begins-same c.args.input c.requires.input _ c.args.machine.now.captures.items c.args.start
-          (subject c.args.input.rules c.args.input.text.now).setting c.args.input.text.now outs c.clear.ensures.entries c.clear.ensures.begins refl;
+          begins-same c.args.input.now c.requires.input _ c.args.machine.now.captures.items c.args.start
+          (subject c.args.input.now.rules c.args.input.now.text.now).setting c.args.input.now.text.now outs c.clear.ensures.entries c.clear.ensures.begins refl;
     }
 
 pub run-advance-requires : goal.run-advance-requires
@@ -195,7 +195,7 @@ run-advance-requires t c = (
     c.requires.program,
     (
       c.requires.input,
-      All-head (Inside c.args.input) (at c.loop-left.here (groups_of c.loop-left.machine)) (points c.loop-left.machine) c.loop-left.invariant.inside,
+      All-head (Inside c.args.input.now) (at c.loop-left.here (groups_of c.loop-left.machine)) (points c.loop-left.machine) c.loop-left.invariant.inside,
     ),
   ),
 )
@@ -203,7 +203,7 @@ run-advance-requires t c = (
 pub run-loop-left-preserved-in-On : goal.run-loop-left-preserved-in-On
 run-loop-left-preserved-in-On t c =
     let so_far = c.loop-left.invariant in
-    let input = c.args.input in
+    let input = c.args.input.now in
     let m = c.loop-left.machine in
     let m' = c.advance.new.machine in
     let a = at c.loop-left.here (groups_of m) in
@@ -226,7 +226,7 @@ run-loop-left-smaller t c = omega (arith, c.in_ok-to.ensures.left, c.loop-left-t
 pub run-loop-left-preserved : goal.run-loop-left-preserved
 run-loop-left-preserved t c =
     let so_far = c.loop-left.invariant in
-    let input = c.args.input in
+    let input = c.args.input.now in
     let m = c.loop-left.machine in
     let m' = c.advance.new.machine in
     let a = at c.loop-left.here (groups_of m) in
@@ -248,7 +248,7 @@ run-loop-left-preserved t c =
 
 pub run-returns-in-None-clause-answers : goal.run-returns-in-None-clause-answers
 run-returns-in-None-clause-answers t c = λ outs solution.
-    let input = c.args.input in
+    let input = c.args.input.now in
     let m = c.loop-left.machine in
     let m' = c.advance.new.machine in
     let a = at c.loop-left.here (groups_of m) in
@@ -272,7 +272,7 @@ run-returns-in-None-clause-left t c = omega (arith, c.in_ok-to.ensures.left, c.l
 
 pub run-returns-in-Accept-clause-answers : goal.run-returns-in-Accept-clause-answers
 run-returns-in-Accept-clause-answers t c = λ outs solution.
-    let input = c.args.input in
+    let input = c.args.input.now in
     let m = c.loop-left.machine in
     let a = at c.loop-left.here (groups_of m) in
     let found = accept_same (flat_map (outs input.index) (a ∷ points m)) (outs input.index) c.advance.new.machine c.in_ok-to.field-0 c.in-Accept.end

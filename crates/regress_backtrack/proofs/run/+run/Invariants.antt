@@ -8,10 +8,10 @@ use Rattle.regress_backtrack.specs.Next.{Inside}
 use Rattle.regress_backtrack.proofs.run.+run.Given as goal
 
 abbrev pub decreases-run : goal.decreases-run
-decreases-run l = 3 * l.input.index + 2
+decreases-run l = 3 * l.input.now.index + 2
 
 abbrev pub decreases-advance : goal.decreases-advance
-decreases-advance l = 3 * l.input.index + 1
+decreases-advance l = 3 * l.input.now.index + 1
 
 abbrev pub decreases-look : goal.decreases-look
 decreases-look l = 3 * l.looking.routine + 3

@@ -9,11 +9,11 @@ pub returns-then-not-fails-clause-inside : goal.returns-then-not-fails-clause-in
 returns-then-not-fails-clause-inside c = λ all.
     let m' = c.backtrack.new.self in
     let back : points c.loop-to.machine ≡ at c.in-Some.to (groups_of m') ∷ points m' = rw c.in-Some.is at c.in_ok-to.ensures.points in
-    subst (All (Inside c.args.input)) back (c.loop-to.invariant.inside all)
+    subst (All (Inside c.args.input.now)) back (c.loop-to.invariant.inside all)
 
 pub loop-to-preserved : goal.loop-to-preserved
 loop-to-preserved c =
-    let input = c.args.input in
+    let input = c.args.input.now in
     let m' = c.backtrack.new.self in
     let to = at c.in-Some.to (groups_of m') in
     let known : c.fails.result ≡ true = first_of (search rules, grind (arith, common_steps)) in

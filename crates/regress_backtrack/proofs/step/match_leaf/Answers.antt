@@ -9,7 +9,7 @@ use Rattle.regress_backtrack.proofs.step.match_leaf.Goals as goal
 
 pub returns-clause-inside : goal.returns-clause-inside
 returns-clause-inside c =
-    let input = c.args.input in
+    let input = c.args.input.now in
     let u = subject input.rules input.text.now in
     let t = c.in-Some.test.now in
     leaf_inside input c.args.machine.now (slice_get input.code.now.tests.items c.args.leaf) c.args.next c.args.here c.reach.result t c.in_ok-to.to u.setting

@@ -10,7 +10,7 @@ use Rattle.regress_backtrack.proofs.step.step.Goals as goal
 
 pub returns-in-Accept-clause-leads : goal.returns-in-Accept-clause-leads
 returns-in-Accept-clause-leads c = λ outs solves.
-    let input = c.args.input in
+    let input = c.args.input.now in
     let u = subject input.rules input.text.now in
     let out = outs input.index in
     let m = c.args.machine.now in (
@@ -22,7 +22,7 @@ returns-in-Accept-clause-leads c = λ outs solves.
 
 pub returns-in-Leaf-clause-leads : goal.returns-in-Leaf-clause-leads
 returns-in-Leaf-clause-leads c =
-    let input = c.args.input in
+    let input = c.args.input.now in
     let u = subject input.rules input.text.now in
     let m = c.args.machine.now in
     ok_map c.match_leaf.result _ _
@@ -35,7 +35,7 @@ returns-in-Leaf-clause-leads c =
 
 pub returns-in-Split-clause-leads : goal.returns-in-Split-clause-leads
 returns-in-Split-clause-leads c =
-    let input = c.args.input in
+    let input = c.args.input.now in
     let u = subject input.rules input.text.now in
     let m = c.args.machine.now in
     let g = groups_of m in
@@ -54,7 +54,7 @@ returns-in-Split-clause-leads c =
 
 pub returns-in-BeginLoop-clause-leads : goal.returns-in-BeginLoop-clause-leads
 returns-in-BeginLoop-clause-leads c =
-    let input = c.args.input in
+    let input = c.args.input.now in
     let u = subject input.rules input.text.now in
     let m = c.args.machine.now in
     let g = groups_of m in
@@ -68,7 +68,7 @@ returns-in-BeginLoop-clause-leads c =
 
 pub returns-then-here-clause-leads : goal.returns-then-here-clause-leads
 returns-then-here-clause-leads c =
-    let input = c.args.input in
+    let input = c.args.input.now in
     let u = subject input.rules input.text.now in
     let m = c.args.machine.now in
     let g = groups_of m in

@@ -6,6 +6,6 @@ use Rattle.regress_backtrack.proofs.step.test_end.Goals as goal
 
 pub returns-in-Some-clause-to : goal.returns-in-Some-clause-to
 returns-in-Some-clause-to c =
-    let u = subject c.args.input.rules c.args.input.text.now in
+    let u = subject c.args.input.now.rules c.args.input.now.text.now in
     let t = c.args.test.now in
     c.in-Some.ensures (tree t.node) t.begins u.setting (state c.args.captures.now c.args.position) refl

@@ -7,7 +7,7 @@ use Rattle.regress_backtrack.proofs.sweep.sweep.Goals as goal
 
 pub returns-clause-leads : goal.returns-clause-leads
 returns-clause-leads c = λ outs solve.
-    let input = c.args.input in
+    let input = c.args.input.now in
     let here = c.args.here in
     let m = c.args.machine.now in
     let g = groups_of m in
@@ -32,6 +32,6 @@ returns-clause-inside c =
     let count = c.count_of-count.result in
     let first : Place = record { pc = c.args.looping.next; moved = here.moved; position = here.position } in
     let to : Place = record { pc = c.in-Some.swept.turn; moved = true; position = here.position + count } in
-    let within : here.position + count ≤ length c.args.input.text.now = c.count_of-count.ensures.within in
-    swept_inside c.args.input c.args.machine.now c.choose_range.new.self first to (count - 1) c.in_ok-choose_range.ensures c.requires.next
+    let within : here.position + count ≤ length c.args.input.now.text.now = c.count_of-count.ensures.within in
+    swept_inside c.args.input.now c.args.machine.now c.choose_range.new.self first to (count - 1) c.in_ok-choose_range.ensures c.requires.next
     (omega (arith, within)) c.in-Some.ensures.turn_in within
