@@ -29,6 +29,7 @@ pub struct Looping {
 ///
 /// # Errors
 /// Returns [`AllocError`] if an allocation fails.
+#[inline(always)]
 pub fn fork(
     input: &Input<'_, '_>,
     first: Place,
@@ -65,6 +66,7 @@ pub fn fork(
 ///
 /// # Errors
 /// Returns [`AllocError`] if an allocation fails.
+#[inline(always)]
 pub fn iterate(
     input: &Input<'_, '_>,
     looping: Looping,

@@ -182,6 +182,7 @@ fn test_end(
 }
 
 /// Returns the place with another instruction.
+#[inline(always)]
 fn goto(pc: usize, here: Place) -> Place
     ensures { result ≡ record here { pc = pc } }
 {
@@ -190,6 +191,7 @@ fn goto(pc: usize, here: Place) -> Place
 
 /// Goes on from where a part ends, and subtracts from the remaining steps the bytes that it has matched. Backtracks if
 /// it fails.
+#[inline(always)]
 fn reach(here: Place, next: usize, to: Option<usize>, left: &mut u64) -> Next
     ensures next { MatchOption to (result ≡ Back)
         (λ q. result ≡ On (record { pc = next; moved = here.moved || not (q == here.position); position = q })) }
