@@ -1,11 +1,12 @@
 //! Alternatives, and the iterations of loops.
-ghost use Rattle.std.specs.Prelude.{◌≡◌, ◌≤◌, ◌<◌, ◌++◌, ℕ, All, IfOk, false, flat_map, length, true};
+ghost use Rattle.std.specs.Prelude.{◌≡◌, ◌≤◌, ◌<◌, ◌++◌, ℕ, All, IfOk, IfSome, false, flat_map, length, true};
 ghost use Rattle.regress_program.specs.Program.{Out, either};
-ghost use Rattle.regress_backtrack.specs.Machine.{at, groups_of, points, rewound};
+ghost use Rattle.regress_backtrack.specs.Machine.{Groups, at, groups_of, points, rewound};
 ghost use Rattle.regress_backtrack.specs.Next.{Fails, Inside, IsInput, Leads, Solve, ahead};
 ghost use Rattle.regress_backtrack.specs.declared.step.Next.TheVariants.{OutOfSteps};
 
-use crate::input::{Input, front_at};
+use crate::input::{Input, front_at, instruction_at};
+use crate::instruction::Instruction;
 use crate::machine::{Machine, Place};
 use crate::step::Next;
 use crate::sweep::sweep;
@@ -46,11 +47,11 @@ pub fn fork(
     ensures rewound { IfOk result (λ _. rewound machine.new ≡ rewound machine.old) }
     ensures goes { IfOk result (λ next. next ≡ OutOfSteps → ⊥) }
 {
+    if fails(input, first) {
+        return Ok(Next::On(pass_over(input, second)));
+    }
     if fails(input, second) {
         return Ok(Next::On(first));
-    }
-    if fails(input, first) {
-        return Ok(Next::On(second));
     }
     machine.choose(second)?;
     Ok(Next::On(first))
@@ -104,6 +105,50 @@ pub fn iterate(
         }
     } else {
         fork(input, after, again, machine)
+    }
+}
+
+/// Passes over the choices at a place whose preferred alternatives are known to fail.
+///
+/// # Preconditions
+/// The place is inside the routine and the text.
+#[inline(always)]
+fn pass_over(input: &Input<'_, '_>, place: Place) -> Place
+    requires input { IsInput input.now }
+    requires pc { place.pc < length input.now.instructions.now }
+    requires position { place.position ≤ length input.now.text.now }
+    ensures pc { result.pc < length input.now.instructions.now }
+    ensures position { result.position ≡ place.position }
+    ensures same { (outs : ℕ → Out) (g : Groups) → Solve input.now outs → outs input.now.index (at result g) ≡ outs input.now.index (at place g) }
+{
+    let mut here = place;
+    while let Some(second) = other_alternative(input, here) {
+        here = Place { pc: second, ..here };
+    }
+    here
+}
+
+/// Returns the other alternative of a choice whose preferred one is known to fail.
+///
+/// # Preconditions
+/// The place is inside the routine and the text.
+#[inline(always)]
+fn other_alternative(input: &Input<'_, '_>, place: Place) -> Option<usize>
+    requires input { IsInput input.now }
+    requires pc { place.pc < length input.now.instructions.now }
+    requires position { place.position ≤ length input.now.text.now }
+    ensures earlier { IfSome result (λ second. second < place.pc) }
+    ensures same { IfSome result (λ second. (outs : ℕ → Out) (g : Groups) → Solve input.now outs →
+        outs input.now.index (at (record place { pc = second }) g) ≡ outs input.now.index (at place g)) }
+{
+    let Instruction::Split { first, second } = instruction_at(input, place.pc) else {
+        return None;
+    };
+    let preferred = Place { pc: first, ..place };
+    if fails(input, preferred) {
+        Some(second)
+    } else {
+        None
     }
 }
 

@@ -1,9 +1,15 @@
-use Rattle.regress_backtrack.specs.Machine.{groups_of}
+use Rattle.std.proofs.Common.{◌++◌, flat_map, ap, sym, ◌∙◌}
+use Rattle.regress_backtrack.specs.Machine.{at, groups_of, points}
 use Rattle.regress_backtrack.proofs.RunLemmas.{only_first, only_second}
 use Rattle.regress_backtrack.proofs.alternatives.fork.Goals as goal
 
 pub returns-then-fails-clause-leads : goal.returns-then-fails-clause-leads
-returns-then-fails-clause-leads c = λ outs solve. only_first _ _ _ (c.fails.ensures c.if-fails.true outs (groups_of c.args.machine.now) solve)
+returns-then-fails-clause-leads c = λ outs solve.
+    let out = outs c.args.input.now.index in
+    let m = c.args.machine.now in
+    let g = groups_of m in
+    only_second _ _ _ (c.fails.ensures c.if-fails.true outs g solve)
+    ∙ ap (λ xs. xs ++ flat_map out (points m)) (sym (c.pass_over.ensures.same outs g solve))
 
 pub returns-then-fails-2-clause-leads : goal.returns-then-fails-2-clause-leads
-returns-then-fails-2-clause-leads c = λ outs solve. only_second _ _ _ (c.fails-2.ensures c.if-fails-2.true outs (groups_of c.args.machine.now) solve)
+returns-then-fails-2-clause-leads c = λ outs solve. only_first _ _ _ (c.fails-2.ensures c.if-fails-2.true outs (groups_of c.args.machine.now) solve)
