@@ -34,6 +34,7 @@ struct Swept<'c> {
 ///
 /// # Errors
 /// Returns [`AllocError`] if an allocation fails.
+#[inline(always)]
 pub fn sweep(
     input: &Input<'_, '_>,
     looping: Looping,
@@ -78,6 +79,7 @@ pub fn sweep(
 }
 
 /// Returns the leaf of a loop and the end of an iteration, if the body is a leaf that matches one character forwards.
+#[inline(always)]
 fn sole_leaf<'c>(input: &Input<'c, '_>, looping: Looping) -> Option<Swept<'c>>
     requires { looping.body < length input.now.instructions.now }
     ensures { IfSome result (λ s. IsSwept input.now looping s.set.now s.turn) }
