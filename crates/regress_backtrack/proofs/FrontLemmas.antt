@@ -1,5 +1,5 @@
 -- Fronts: where instructions have no outcome.
-use Rattle.std.proofs.Common.{◌≡◌, ℕ, ◌+◌, ◌-◌, ◌≤◌, ◌<◌, ◌==◌, ◌||◌, Bool, true, false, List, [], ◌∷◌, ◌++◌, flat_map, length, get_or, Option, Some, option_map, slice_get, if◌then◌else◌, refl, sym, ap, ap₂, ◌∙◌, subst, append-nil, arith, inl, inr}
+use Rattle.std.proofs.Common.{◌≡◌, ℕ, ◌+◌, ◌-◌, ◌≤◌, ◌<◌, ◌==◌, ◌||◌, Bool, true, false, List, [], ◌∷◌, ◌++◌, flat_map, length, get_or, Some, option_map, slice_get, if◌then◌else◌, refl, sym, ap, ap₂, ◌∙◌, subst, append-nil, arith, inl, inr}
 use Rattle.std.proofs.lemmas.Bool.{cases_eq, cases_lt, false≢true}
 use Rattle.std.proofs.lemmas.Option.{slice_get-map, slice_get_within}
 use Rattle.regress_base.specs.ByteBitmap.{contains}
@@ -12,7 +12,7 @@ use Rattle.regress_tree.specs.Matching.{steps}
 use Rattle.regress_tree.specs.Reading.{Direction, forwards, backwards, of_bytes, read_before}
 use Rattle.regress_tree.specs.Setting.{Setting}
 use Rattle.regress_tree.specs.Steps.{MatchState, Matcher, hold_at}
-use Rattle.regress_tree.specs.Tree.{Tree, leaf, anchor, word_boundary}
+use Rattle.regress_tree.specs.Tree.{Tree, leaf, anchor}
 use Rattle.regress_prefilter.specs.FirstSets.{BeginsWithByteOf}
 use Rattle.regress_prefilter.specs.OneCharacter.{takes_one, test_of}
 use Rattle.regress_leaves.proofs.ReadingLemmas.{ascii_after, ascii_before}

@@ -5,19 +5,16 @@ use Rattle.std.proofs.lemmas.List.Elements.{All-nil, All-cons}
 use Rattle.std.proofs.lemmas.Option.{slice_get-map}
 use Rattle.regress_tree.specs.Lookaround.{looked, lookaround_matcher}
 use Rattle.regress_leaves.specs.Subject.{subject}
-use Rattle.regress_tree.specs.Matching.{steps}
-use Rattle.regress_tree.specs.Reading.{Direction, direction_if}
+use Rattle.regress_tree.specs.Reading.{Direction}
 use Rattle.regress_tree.specs.Setting.{Setting}
 use Rattle.regress_tree.specs.Steps.{MatchState, Matcher, CaptureSpan}
 use Rattle.regress_backtrack.specs.declared.instruction.Instruction.{Instruction}
-use Rattle.regress_tree.specs.Tree.{tree}
 use Rattle.regress_program.specs.Program.{Out, Routine, reach, start, matcher_of, outcomes_by, outcomes_at, IsSolution}
 use Rattle.regress_program.specs.Shape.{Fits, IsProgram}
 use Rattle.regress_backtrack.specs.Code.{code_routines}
-use Rattle.regress_backtrack.specs.Views.{op_in, part_of}
+use Rattle.regress_backtrack.specs.Views.{op_in}
 use Rattle.regress_backtrack.specs.declared.input.Input.{Input}
 use Rattle.regress_backtrack.specs.declared.machine.Machine.{Machine}
-use Rattle.regress_backtrack.specs.declared.test.Test.{Test}
 use Rattle.regress_backtrack.specs.declared.machine.Place.{Place}
 use Rattle.regress_backtrack.specs.declared.run.Response.{Response}
 use Rattle.regress_backtrack.specs.declared.run.Response.TheVariants as responses
@@ -65,20 +62,6 @@ module _ (input : Input) (is : IsInput input) (p : Place) (i : Instruction) (lt 
       (at p (groups_of m))) n → Leads (flat_map (outs input.index) (at p (groups_of m) ∷ points m)) (outs input.index) m' n
   advanced m m' n setting bytes outs d solution direction le goes =
       subst (λ ss. Goes (outs input.index) m m' ss n) (sym (solved setting bytes outs d (groups_of m) solution direction le)) goes
-
--- a leaf that has no match at a position
-pub leaf_fails : (input : Input) → IsInput input → (p : Place) (leaf next : ℕ) (t : Test) → p.pc < length input.instructions.now →
-    slice_get input.instructions.now p.pc ≡ Some (insts.Leaf leaf next) → slice_get input.code.now.tests.items leaf ≡ Some t →
-    p.position ≤ length input.text.now →
-    ((setting : Setting) (s : MatchState) → s.position ≡ p.position → steps setting input.text.now (direction_if input.rules.backwards) (tree t.node) s ≡ []) →
-    Fails input p
-leaf_fails input is p leaf next t lt read some le none = λ outs g solve.
-    let u = subject input.rules input.text.now in
-    let body_of = matcher_of u.setting u.bytes (code_routines input.code.now) outs in
-    let out = outs input.index in
-    solved input is p (insts.Leaf leaf next) lt read u.setting u.bytes outs u.direction g solve is.direction le
-    ∙ ap (λ o. outcomes_by u.setting u.bytes u.direction body_of out (part_of o next) (at p g)) some
-    ∙ ap (flat_map (λ s. out (reach next (at p g) s))) (none u.setting (state g.captures p.position) refl)
 
 -- of two alternatives, one that has no outcome is left out
 pub only_first : (first second rest : List MatchState) → second ≡ [] → (first ++ second) ++ rest ≡ first ++ rest

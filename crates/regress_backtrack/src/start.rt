@@ -1,5 +1,5 @@
 //! How a match of a leaf begins.
-ghost use Rattle.std.specs.Prelude.{◌≡◌, ◌<◌, ◌≤◌, ℕ, [], IfSome, MatchOption, get_or, length, true};
+ghost use Rattle.std.specs.Prelude.{◌≡◌, ◌<◌, ℕ, IfSome};
 ghost use Rattle.regress_base.specs.ByteBitmap.{contains};
 ghost use Rattle.regress_tree.specs.Matching.{steps};
 ghost use Rattle.regress_tree.specs.Reading.{direction_if};
@@ -54,28 +54,6 @@ fn ascii_of(node: &Node) -> ByteBitmap
 }
 
 impl Start {
-    /// Returns whether a leaf is known to fail at a position, by the next byte of the text.
-    #[inline(always)]
-    pub fn fails_at(&self, text: &str, backwards: bool, position: usize) -> bool
-        ensures { result ≡ true → (t : Tree) → IsStart self.now t → (setting : Setting) (s : MatchState) → s.position ≡ position →
-            steps setting text.now (direction_if backwards) t s ≡ [] }
-    {
-        if backwards {
-            return false;
-        }
-        match self {
-            Start::Any => false,
-            Start::Bytes(set) => match byte_at(text, position) {
-                Some(b) => !set.contains(b),
-                None => true,
-            },
-            Start::Ascii(set) => match byte_at(text, position) {
-                Some(b) => b < 128 && !set.contains(b),
-                None => true,
-            },
-        }
-    }
-
     /// Returns where a leaf ends, or `Some(None)` if it fails; `None` if the leaf may match more or less than one
     /// character, or if the next one is not ASCII.
     #[inline(always)]
@@ -92,18 +70,5 @@ impl Start {
         } else {
             Some(None)
         }
-    }
-}
-
-/// Returns the byte at an offset, or `None` at the end of the text.
-#[inline(always)]
-fn byte_at(text: &str, position: usize) -> Option<u8>
-    ensures { MatchOption result (length text.now ≤ position) (λ b. (position < length text.now) × (get_or text.now position 0 ≡ b)) }
-{
-    let bytes = text.as_bytes();
-    if position < bytes.len() {
-        Some(bytes[position])
-    } else {
-        None
     }
 }

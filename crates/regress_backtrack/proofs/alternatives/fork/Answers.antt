@@ -1,5 +1,5 @@
 use Rattle.std.proofs.Common.{◌++◌, flat_map, ap, sym, ◌∙◌}
-use Rattle.regress_backtrack.specs.Machine.{at, groups_of, points}
+use Rattle.regress_backtrack.specs.Machine.{groups_of, points}
 use Rattle.regress_backtrack.proofs.RunLemmas.{only_first, only_second}
 use Rattle.regress_backtrack.proofs.alternatives.fork.Goals as goal
 

@@ -1,11 +1,8 @@
-use Rattle.std.proofs.Common.{◌≡◌, ◌++◌, Some, length, take, sym, ap, ◌∙◌, subst}
+use Rattle.std.proofs.Common.{◌++◌, Some, sym, ap, ◌∙◌}
 use Rattle.regress_leaves.specs.Subject.{subject}
 use Rattle.regress_program.specs.Program.{goto}
-use Rattle.regress_program.specs.Shape.{Fits}
 use Rattle.regress_backtrack.specs.declared.instruction.Instruction.TheVariants as insts
-use Rattle.regress_backtrack.specs.Code.{code_routines}
 use Rattle.regress_backtrack.specs.Machine.{at}
-use Rattle.regress_backtrack.specs.Views.{op_in}
 use Rattle.regress_backtrack.proofs.RunLemmas.{can_step, solved}
 use Rattle.regress_backtrack.proofs.alternatives.other_alternative.Goals as goal
 

@@ -1,8 +1,7 @@
-use Rattle.std.proofs.Common.{◌≡◌, Some, slice_get, flat_map, refl, sym, ap, ◌∙◌, subst}
+use Rattle.std.proofs.Common.{◌≡◌, Some, slice_get, refl, sym, subst}
 use Rattle.std.proofs.lemmas.Option.{slice_get_read}
 use Rattle.regress_tree.specs.Reading.{direction_if}
 use Rattle.regress_program.specs.Program.{goto, outcomes_by, reach}
-use Rattle.regress_backtrack.specs.declared.instruction.Instruction.TheVariants as insts
 use Rattle.regress_backtrack.specs.Fronts.{Bounds}
 use Rattle.regress_backtrack.specs.Views.{op_in, part_of}
 use Rattle.regress_backtrack.proofs.FrontLemmas.{cond_bounds, ended_bounds, look_bounds, reach_bounds}

@@ -1,9 +1,8 @@
-use Rattle.std.proofs.Common.{◌≡◌, Some, slice_get, length, refl, sym, ap, ◌∙◌, subst, arith}
+use Rattle.std.proofs.Common.{length, sym, ap, subst, arith}
 use Rattle.std.proofs.lemmas.List.{length_push}
 use Rattle.std.proofs.lemmas.Option.{slice_get-get_or}
 use Rattle.regress_tree.specs.Reading.{direction_if}
-use Rattle.regress_backtrack.specs.Fronts.{AreFronts, AreFrontsOf, IsFront}
-use Rattle.regress_backtrack.specs.Views.{ops_in}
+use Rattle.regress_backtrack.specs.Fronts.{AreFronts, IsFront}
 use Rattle.regress_backtrack.proofs.FrontLemmas.{front_next}
 use Rattle.regress_backtrack.proofs.OwnedLemmas.{pushed}
 use Rattle.regress_backtrack.proofs.front.fronts_of.Goals as goal

@@ -1,9 +1,6 @@
 -- The fronts of the instructions so far.
-use Rattle.std.proofs.Common.{◌≡◌, ℕ, List, length}
+use Rattle.std.proofs.Common.{◌≡◌, length}
 use Rattle.regress_tree.specs.Reading.{direction_if}
-use Rattle.regress_tree.specs.Setting.{Setting}
-use Rattle.regress_tree.specs.Steps.{Matcher}
-use Rattle.regress_program.specs.Program.{Out, Solves}
 use Rattle.regress_backtrack.specs.Fronts.{AreFrontsOf}
 use Rattle.regress_backtrack.specs.Views.{ops_in}
 use Rattle.regress_backtrack.proofs.front.fronts_of.Given as goal

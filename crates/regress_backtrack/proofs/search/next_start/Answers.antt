@@ -1,4 +1,4 @@
-use Rattle.std.proofs.Common.{◌≡◌, ◌≤◌, ◌<◌, ℕ, [], length, sym, subst, inl, inr}
+use Rattle.std.proofs.Common.{subst, inl, inr}
 use Rattle.std.proofs.lemmas.Bool.{cases_lt}
 use Rattle.regress_program.specs.Found.{no_groups}
 use Rattle.regress_prefilter.specs.Candidates.{Skips}

@@ -1,11 +1,9 @@
-use Rattle.std.proofs.Common.{rules, arith, ◌≡◌, ◌≤◌, ◌<◌, ℕ, [], length, sym, ap, subst, IfSome, MatchOption}
+use Rattle.std.proofs.Common.{rules, arith, ◌≤◌, ◌<◌, ℕ, length, sym, ap, subst, IfSome, MatchOption}
 use Rattle.std.specs.Str.{IsCharBoundary}
-use Rattle.regress_program.specs.Found.{NoneBefore, no_groups}
+use Rattle.regress_program.specs.Found.{NoneBefore}
 use Rattle.regress_program.specs.Program.{Out}
-use Rattle.regress_backtrack.specs.Backtracker.{AreOutcomes, outcomes_at, run_code, run_tables, run_text}
-use Rattle.regress_backtrack.specs.Code.{code_groups, setting_with}
+use Rattle.regress_backtrack.specs.Backtracker.{AreOutcomes, outcomes_at, run_text}
 use Rattle.regress_backtrack.specs.Searched.{IsFirst}
-use Rattle.regress_backtrack.specs.declared.backtracker.Backtracker.{Backtracker}
 use Rattle.regress_backtrack.specs.declared.outcome.Outcome.TheVariants as outcomes
 use Rattle.regress_backtrack.proofs.CandidateLemmas.{none_after, none_before}
 use Rattle.regress_backtrack.proofs.SearchLemmas.{SameRuns-trans, found_leftmost, none_more, not_true, same_solved, tree_finds}
