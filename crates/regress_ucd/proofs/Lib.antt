@@ -1,3 +1,4 @@
+pub mod lemmas
 pub mod DataLemmas
 pub mod ConstantsLemmas
 pub mod WholeLemmas
