@@ -6,3 +6,4 @@ mod Theorem
 mod BackReferences
 mod Strings
 mod Derived
+mod CaseData

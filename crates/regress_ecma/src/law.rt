@@ -8,17 +8,18 @@ ghost use Rattle.regress_syntax.specs.Grammar.{IsPattern};
 ghost use Rattle.regress_syntax.specs.Meaning.{meaning};
 ghost use Rattle.regress_syntax.specs.Productions.{Context};
 ghost use Rattle.regress_syntax.specs.Syntax.{Pattern, names};
+ghost use Rattle.regress_ucd.specs.UnicodeTable.{unicode_table};
 ghost use Rattle.regress_ecma.specs.Assertions.{accept};
 ghost use Rattle.regress_ecma.specs.Compared.{IsComparable, state_on};
 ghost use Rattle.regress_ecma.specs.Compile.{compile_disjunction, compile_pattern};
-ghost use Rattle.regress_ecma.specs.Differences.{IsProper};
+ghost use Rattle.regress_ecma.specs.Differences.{HasCaseDataOfUnicode, IsProper};
 ghost use Rattle.regress_ecma.specs.Notation.{failure};
 
 /// States the theorem that the matcher of ECMA-262 (section 22.2.2) returns the first outcome of a pattern, and fails if
 /// there is none.
 ///
-/// It is about syntax trees without a differing construct, and texts of characters. Fuel greater than the length of the
-/// text is enough.
+/// It is about syntax trees without a differing construct, tables with the case data of Unicode, such as that of all of
+/// Unicode, and texts of characters. Fuel greater than the length of the text is enough.
 ///
 /// The function does nothing at run time; call it where a proof needs the theorem.
 pub fn first_outcome_is_the_match()
@@ -34,6 +35,9 @@ pub fn first_outcome_is_the_match()
 
     // Each syntax tree of the grammar has the flags in force, and quantifiers in order.
     ensures proper { (ctx : Context) (p : Pattern) (t rest : Source) → IsPattern ctx p t rest → IsProper ctx.setting.flags p }
+
+    // The table of `unicode_tables` can be compared.
+    ensures unicode { HasCaseDataOfUnicode unicode_table }
 
     // From an index, with all groups unset, as RegExpBuiltinExec begins.
     ensures pattern { (setting : Setting) (p : Pattern) → IsComparable setting p → (text : List ℕ) → IsText text →

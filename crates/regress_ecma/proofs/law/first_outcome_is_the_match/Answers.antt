@@ -1,3 +1,4 @@
+use Rattle.regress_ecma.proofs.CaseData.{unicode_case_data}
 use Rattle.regress_ecma.proofs.Derived.{derived_proper}
 use Rattle.regress_ecma.proofs.Theorem.{first_outcome, none_at_all, pattern_outcome}
 use Rattle.regress_ecma.proofs.law.first_outcome_is_the_match.Goals as goal
@@ -13,3 +14,6 @@ returns-clause-pattern c = pattern_outcome
 
 pub returns-clause-proper : goal.returns-clause-proper
 returns-clause-proper c = derived_proper
+
+pub returns-clause-unicode : goal.returns-clause-unicode
+returns-clause-unicode c = unicode_case_data
