@@ -1,3 +1,4 @@
+pub mod lemmas
 mod Bridge
 mod Groups
 mod CharacterSets

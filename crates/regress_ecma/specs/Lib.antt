@@ -5,5 +5,6 @@ pub mod CharacterMatchers
 pub mod Assertions
 pub mod Atoms
 pub mod Compile
+pub mod Exec
 pub mod Differences
 pub mod Compared
