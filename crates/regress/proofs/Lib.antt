@@ -1,4 +1,5 @@
 mod CompiledLemmas
+mod EcmaLemmas
 mod FoundLemmas
 mod LettersLemmas
 mod ReplacedLemmas

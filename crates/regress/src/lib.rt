@@ -6,6 +6,7 @@
 #![tactic(auto)]
 
 mod compiling;
+mod ecma;
 mod failure;
 mod found;
 mod groups;
@@ -16,6 +17,7 @@ mod replacing;
 mod search;
 mod splitting;
 
+pub use ecma::find_returns_the_match_of_ecma;
 pub use failure::{Error, SearchError};
 pub use found::Match;
 pub use groups::{GroupNames, Groups, NamedGroups};

@@ -14,6 +14,7 @@ mod pictures;
 mod programs;
 mod regular_expressions;
 mod schemas;
+mod theorems;
 mod walks;
 
 use regress_front::ir::Regex;

@@ -1,0 +1,60 @@
+-- A search finds the match of ECMA-262.
+use Rattle.std.proofs.Common.{◌≡◌, ℕ, ◌≤◌, List, length, Option, Some, None, option_map, encode_utf8_all, sym, ap, subst, ◌∙◌, arith}
+use Rattle.std.specs.Prelude.{chars}
+use Rattle.std.specs.Str.{IsUtf8}
+use Rattle.std.proofs.lemmas.Str.{encodes-chars}
+use Rattle.regress_front.specs.Reading.{IsText, byte_position}
+use Rattle.regress_front.specs.Setting.{Setting}
+use Rattle.regress_front.specs.Syntax.{Pattern}
+use Rattle.regress_front.specs.Tree.{Tree}
+use Rattle.regress_ecma.specs.Compared.{IsComparable}
+use Rattle.regress_ecma.specs.Exec.{builtin_exec, found_in_bytes}
+use Rattle.regress_ecma.proofs.lemmas.Searches.{HasMeaning, outcomes_from, decoded, leftmost, nowhere}
+use Rattle.regress_match.specs.Matched.{outcomes_at}
+use Rattle.regress_parse.proofs.lemmas.{length-names, length-captures-tree_of}
+use Rattle.regress_program.specs.Found.{Finds, start_of, state_of}
+use Rattle.regress_program.specs.declared.found.Match.{Match}
+use Rattle.regress_tree.proofs.lemmas.Characters.{byte_position-zero}
+use Rattle.regress.specs.Accepted.{IsTreeOf}
+use Rattle.regress.specs.Compiled.{IsCompiled, outcomes_of, tree_of}
+use Rattle.regress.specs.declared.pattern.Regex.{Regex}
+
+-- what a search finds is what RegExpBuiltinExec finds, in byte offsets
+abbrev IsMatchOf : Setting → Pattern → (input : List ℕ) → (index : ℕ) → Option Match → Type 0
+IsMatchOf setting p input index found =
+    option_map (λ m. (start_of m, state_of m)) found ≡ option_map found_in_bytes (builtin_exec setting p input index)
+
+has_meaning : (setting : Setting) (source : List ℕ) (t : Tree) (is : IsTreeOf setting source t) → HasMeaning setting t is.pattern
+has_meaning setting source t is = record {
+  outcomes = is.meaning;
+  groups = ap length is.captures ∙ length-captures-tree_of setting.table is.pattern ∙ sym (length-names is.pattern);
+}
+
+over_characters : (setting : Setting) (p : Pattern) → IsComparable setting p → (t : Tree) → HasMeaning setting t p →
+    (text : List ℕ) → IsText text → (index : ℕ) → index ≤ length text → (found : Option Match) →
+    Finds (encode_utf8_all text) (outcomes_from setting (encode_utf8_all text) t) (byte_position text index) found →
+    IsMatchOf setting p text index found
+over_characters setting p comparable t means text is_text index within None finds =
+    sym (ap (option_map found_in_bytes) (nowhere setting p comparable t means text is_text index within finds))
+over_characters setting p comparable t means text is_text index within (Some m) finds =
+    sym (leftmost setting p comparable t means text is_text index (start_of m) within finds.from finds.boundary (state_of m) finds.first.0
+    finds.first.1 finds.least)
+
+pub finds_match_from : (setting : Setting) (pattern : List ℕ) (r : Regex) (compiled : IsCompiled setting pattern r) →
+    IsComparable setting compiled.tree.pattern → (text : List ℕ) → IsUtf8 text → (index : ℕ) → index ≤ length (chars text) →
+    (found : Option Match) → Finds text (outcomes_of r text) (byte_position (chars text) index) found →
+    IsMatchOf setting compiled.tree.pattern (chars text) index found
+finds_match_from setting pattern r compiled comparable text utf8 index within found finds =
+    let means = has_meaning setting (chars pattern) (tree_of r) compiled.tree in
+    let start = byte_position (chars text) index in
+    let under_setting : Finds text (outcomes_from setting text (tree_of r)) start found =
+    subst (λ (s : Setting). Finds text (outcomes_at s text (tree_of r)) start found) compiled.setting finds in
+    over_characters setting compiled.tree.pattern comparable (tree_of r) means (chars text) (decoded text utf8) index within found
+    (subst (λ (bytes : List ℕ). Finds bytes (outcomes_from setting bytes (tree_of r)) start found) (sym (encodes-chars text utf8)) under_setting)
+
+pub finds_match : (setting : Setting) (pattern : List ℕ) (r : Regex) (compiled : IsCompiled setting pattern r) →
+    IsComparable setting compiled.tree.pattern → (text : List ℕ) → IsUtf8 text → (found : Option Match) →
+    Finds text (outcomes_of r text) 0 found → IsMatchOf setting compiled.tree.pattern (chars text) 0 found
+finds_match setting pattern r compiled comparable text utf8 found finds =
+    finds_match_from setting pattern r compiled comparable text utf8 0 (omega arith) found
+    (subst (λ (o : ℕ). Finds text (outcomes_of r text) o found) (sym (byte_position-zero (chars text))) finds)
