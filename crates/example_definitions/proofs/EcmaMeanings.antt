@@ -1,14 +1,17 @@
 -- Examples: what ECMA-262's algorithm returns, computed from its transcription. Patterns, texts and results are those of
 -- the notes of the standard (22.2.2.3 CompileSubpattern, 22.2.2.3.1 RepeatMatcher, 22.2.2.4 CompileAssertion); `{2,3}`,
--- `(d*)` and the lookbehind are those of V8 11.3.
+-- `(d*)`, the lookbehind and the searches are those of V8 11.3.
 use Rattle.std.proofs.Common.{◌≡◌, ℕ, ◌+◌, List, [], ◌∷◌, length, Option, Some, None, option_map, refl, codes}
+use lib.Utf8.{encode}
 use Rattle.regress_base.specs.Intervals.{is_member, is_within}
+use Rattle.regress_tree.specs.Reading.{byte_position}
 use Rattle.regress_tree.specs.Setting.{Setting}
 use Rattle.regress_lexer.specs.Source.{Source}
-use Rattle.regress_ecma.specs.Notation.{CaptureRange, MatchState, MatchResult}
+use Rattle.regress_ecma.specs.Notation.{CaptureRange, MatchResult}
 use Rattle.regress_ecma.specs.Repetition.{repeat_matcher}
 use Rattle.regress_ecma.specs.CharacterMatchers.{character_set_matcher, backreference_matcher}
 use Rattle.regress_ecma.specs.Compile.{compile_pattern}
+use Rattle.regress_ecma.specs.Exec.{Found, first_match, builtin_exec, found_in_bytes}
 use Rattle.example_definitions.proofs.Meanings.{plain, pattern_of, unset, span}
 
 -- the match of the pattern at an index of the text
@@ -71,3 +74,35 @@ a_negative_lookahead_leaves_its_captures_undefined = refl
 a_lookbehind_is_matched_backwards : Matches (codes "(?<=(\\d+)(\\d+))$") (codes "1053") 4 4 (span 0 1 ∷ span 1 4 ∷ [])
 unfolding Matches
 a_lookbehind_is_matched_backwards = refl
+
+-- ---- searches
+
+-- what RegExpBuiltinExec finds from an index on
+unfoldable searched : Setting → Source → List ℕ → (last_index : ℕ) → Option (Option Found)
+unfolding pattern_of first_match repeat_matcher character_set_matcher backreference_matcher is_member is_within
+searched setting source text last_index =
+    option_map (λ p. builtin_exec setting p text last_index) (pattern_of setting source)
+
+-- The source is a pattern, whose first match from an index on is from one index to another, with these captures.
+unfoldable Finds : Source → List ℕ → (last_index index end : ℕ) → List (Option CaptureRange) → Type 0
+unfolding searched
+Finds source text last_index index end captures =
+    searched plain source text last_index ≡ Some (Some (index, record { input = text; end_index = end; captures = captures }))
+
+a_search_tries_each_index : Finds (codes "(?=(a+))a*b\\1") (codes "baaabac") 0 3 6 (span 3 4 ∷ [])
+unfolding Finds
+a_search_tries_each_index = refl
+
+a_search_begins_at_the_last_index : Finds (codes "a+") (codes "baaabac") 2 2 4 [] × Finds (codes "a+") (codes "baaabac") 4 5 6 []
+unfolding Finds
+a_search_begins_at_the_last_index = (refl, refl)
+
+the_end_of_the_text_is_tried_last : Finds (codes "$") (codes "ab") 2 2 2 [] × (searched plain (codes "b") (codes "ab") 2 ≡ Some None)
+unfolding Finds searched
+the_end_of_the_text_is_tried_last = (refl, refl)
+
+-- The first character of the text is U+00E9, which has two bytes.
+offsets_count_bytes : option_map (option_map found_in_bytes) (searched plain (codes "(a)") (233 ∷ codes "a") 0)
+    ≡ Some (Some (2, record { position = 3; captures = span 2 3 ∷ [] }))
+unfolding searched byte_position encode
+offsets_count_bytes = refl
