@@ -1,0 +1,161 @@
+//! Searches the lines of an input.
+ghost use Rattle.std.specs.Prelude.{◌≡◌, ◌⊎◌, ◌×◌, Bool, ℕ, List, IfOk, IfErr, OnOk, string_bytes};
+ghost use Rattle.std.specs.Io.KnownBytes.{Appends};
+ghost use Rattle.regex_command.specs.Reply.{IsReply};
+ghost use Rattle.regex_command.specs.Reading.{IsRead};
+ghost use Rattle.regress_arguments.specs.Output.{Took};
+ghost use Rattle.regex_command.specs.Ending.{IsLate, OrOutput};
+ghost use Rattle.regex_command.specs.Searched.{SearchesAll, SearchesFirst, front_of, has_numbers, name_of, written_at_end};
+ghost use Rattle.regex_command.specs.declared.failure.Failure.TheVariants.{Output};
+
+use crate::failure::Failure;
+use crate::place::Place;
+use crate::reading::{Next, read_line};
+use crate::reply::{Reply, reply};
+use crate::task::{Shown, Task};
+use regress::Regex;
+use std::alloc::{AllocError, Global};
+use std::io::{self, BufRead, ErrorKind, Write};
+use std::str;
+
+/// Writes what a task shows of each line of an input, and returns how many lines are selected.
+pub(crate) fn search_lines<'a, B: BufRead, W: Write>(
+    alloc: Global,
+    regex: &Regex,
+    task: Task<'_>,
+    place: Place<'a>,
+    reader: &mut B,
+    out: &mut W,
+) -> Result<u64, Failure<'a>>
+    ensures all { IfOk result (SearchesAll regex.now task place (B.Read.remaining reader.old) (W.contents out.old) (W.contents out.new)) }
+    ensures first { IfErr result (OrOutput (SearchesFirst regex.now task place (B.Read.remaining reader.old) (W.contents out.old) (W.contents out.new))) }
+    ensures late { IfErr result IsLate }
+{
+    let mut bytes = Vec::new(alloc);
+    let mut number: u64 = 0;
+    let mut selected: u64 = 0;
+    while number < u64::MAX {
+        let next = next_line(reader, place, &mut bytes)?;
+        if let Next::End = next {
+            return Ok(selected);
+        }
+        number += 1;
+        let is_selected = write_reply(alloc, regex, task, place, number, &bytes, out)?;
+        selected += u64::from(is_selected);
+        if let Next::LastLine = next {
+            return Ok(selected);
+        }
+    }
+    Err(Failure::TooLong(place.name))
+}
+
+/// Reads the next line.
+fn next_line<'a, B: BufRead>(
+    reader: &mut B,
+    place: Place<'a>,
+    line: &mut Vec<u8>,
+) -> Result<Next, Failure<'a>>
+    ensures read { IfOk result (IsRead (B.Read.remaining reader.old) (B.Read.remaining reader.new) line.new.items) }
+    ensures late { IfErr result IsLate }
+{
+    read_line(reader, line).map_err(|error| unread(error, place))
+}
+
+/// Converts an error of an input.
+fn unread<'a>(error: io::Error, place: Place<'a>) -> Failure<'a>
+    ensures { IsLate result }
+{
+    match error.kind() {
+        ErrorKind::OutOfMemory => Failure::Memory,
+        _ => Failure::Unreadable(place.name),
+    }
+}
+
+/// Writes what a task shows of the line with this number, and returns whether it is selected.
+fn write_reply<'a, W: Write>(
+    alloc: Global,
+    regex: &Regex,
+    task: Task<'_>,
+    place: Place<'a>,
+    number: u64,
+    line: &[u8],
+    out: &mut W,
+) -> Result<bool, Failure<'a>>
+    ensures reply { IfOk result (λ selected. Took (W.contents out.old) (W.contents out.new)
+        (IsReply regex.now line.now task (front_of task place number) selected)) }
+    ensures late { IfErr result IsLate }
+    ensures untouched { IfErr result (OrOutput (out.new ≡ out.old)) }
+{
+    let Ok(line) = str::from_utf8(line) else {
+        return Err(Failure::NotUtf8(place.name));
+    };
+    let front = front(alloc, task, place, number)?;
+    let Reply { selected, text } = reply(alloc, regex, task, &front, line)?;
+    out.write_all(text.as_bytes()).map_err(|_| Failure::Output)?;
+    Ok(selected)
+}
+
+/// Returns what is in front of what is shown of a line.
+fn front(alloc: Global, task: Task<'_>, place: Place<'_>, number: u64) -> Result<String, AllocError>
+    ensures { IfOk result (λ front. string_bytes front ≡ front_of task place number) }
+{
+    let mut front = name_in_front(alloc, place)?;
+    if has_numbers(task) {
+        front.push_str(&format!(in alloc; "{number}:")?)?;
+    }
+    Ok(front)
+}
+
+/// Returns the name of an input and a colon, if it is shown in front.
+fn name_in_front(alloc: Global, place: Place<'_>) -> Result<String, AllocError>
+    ensures { IfOk result (λ front. string_bytes front ≡ name_of place) }
+{
+    if place.in_front {
+        Ok(format!(in alloc; "{}:", place.name)?)
+    } else {
+        Ok(String::new(alloc))
+    }
+}
+
+fn has_numbers(task: Task<'_>) -> bool
+    ensures { result ≡ has_numbers task }
+{
+    match task {
+        Task::Match(selection) => selection.numbers,
+        Task::Replace(_) | Task::Split => false,
+    }
+}
+
+/// Writes what a task shows at the end of an input with so many selected lines.
+pub(crate) fn write_end<'a, W: Write>(
+    alloc: Global,
+    task: Task<'_>,
+    place: Place<'a>,
+    selected: u64,
+    out: &mut W,
+) -> Result<(), Failure<'a>>
+    ensures end { OnOk result (Appends (W.contents out.old) (W.contents out.new) (written_at_end task place selected)) }
+    ensures late { IfErr result IsLate }
+    ensures untouched { IfErr result (OrOutput (out.new ≡ out.old)) }
+{
+    let end = end(alloc, task, place, selected)?;
+    out.write_all(end.as_bytes()).map_err(|_| Failure::Output)?;
+    Ok(())
+}
+
+fn end(alloc: Global, task: Task<'_>, place: Place<'_>, selected: u64) -> Result<String, AllocError>
+    ensures { IfOk result (λ end. string_bytes end ≡ written_at_end task place selected) }
+{
+    let Task::Match(selection) = task else {
+        return Ok(String::new(alloc));
+    };
+    match selection.shown {
+        Shown::Count => {
+            let mut end = name_in_front(alloc, place)?;
+            end.push_str(&format!(in alloc; "{selected}\n")?)?;
+            Ok(end)
+        }
+        Shown::Names if selected > 0 => Ok(format!(in alloc; "{}\n", place.name)?),
+        Shown::Lines | Shown::Matches | Shown::Names => Ok(String::new(alloc)),
+    }
+}

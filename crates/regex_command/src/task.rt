@@ -1,0 +1,34 @@
+//! What to do with each line.
+
+/// A task for the lines of a text.
+#[derive(Clone, Copy)]
+pub(crate) enum Task<'a> {
+    /// Show the lines that match, or what the options select.
+    Match(Selection),
+    /// Replace each match by the expansion of this template.
+    Replace(&'a str),
+    /// Write each piece between matches on a line.
+    Split,
+}
+
+/// Which lines are selected, and what is shown of them.
+#[derive(Clone, Copy)]
+pub(crate) struct Selection {
+    /// Whether the lines without a match are selected.
+    pub(crate) invert: bool,
+    /// Whether the number of a line is shown.
+    pub(crate) numbers: bool,
+    pub(crate) shown: Shown,
+}
+
+/// What is shown of the selected lines.
+#[derive(Clone, Copy)]
+pub(crate) enum Shown {
+    Lines,
+    /// Each match that is not empty, on a line of its own.
+    Matches,
+    /// Only how many there are.
+    Count,
+    /// Only the name of the input, if there is one.
+    Names,
+}
