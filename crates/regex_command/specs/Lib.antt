@@ -1,5 +1,7 @@
 pub mod Asked
 pub mod Ending
+pub mod Inputs
+pub mod Job
 pub mod Lines
 pub mod Options
 pub mod Printed

@@ -1,6 +1,5 @@
 -- What is written for a line.
 use Rattle.std.specs.Prelude.{◌≡◌, ◌↔◌, ℕ, Bool, true, false, not, IsTrue, List, [], ◌∷◌, ◌++◌, flat_map, length, Option, Some, None, if◌then◌else◌, ◌==◌, codes}
-use Rattle.std.specs.Fmt.{decimal}
 use Rattle.regress_match.specs.Matched.{Match}
 use Rattle.regress_match.specs.Searched.{AreAllMatches}
 use Rattle.regress_replace.specs.Expansion.{expansion, matched_text}
@@ -8,24 +7,13 @@ use Rattle.regress.specs.Compiled.{groups_of, outcomes_of}
 use Rattle.regress.specs.Found.{MatchesSomewhere}
 use Rattle.regress.specs.Replaced.{IsSplit, ReplacesAll}
 use Rattle.regress.specs.declared.pattern.Regex.{Regex}
-use Rattle.regex_command.specs.declared.task.Selection.{Selection}
 use Rattle.regex_command.specs.declared.task.Shown.{Shown}
 use Rattle.regex_command.specs.declared.task.Shown.TheVariants.{Lines, Matches, Count, Names}
-use Rattle.regex_command.specs.declared.task.Task as tasks
-use Rattle.regex_command.specs.declared.task.Task.TheVariants as task
+use Rattle.regex_command.specs.Job.{Job, matching, replacing, splitting}
 
 -- the bytes and a line feed
 abbrev pub ended : List ℕ → List ℕ
 ended bytes = bytes ++ codes "\n"
-
--- the name of the input and a colon, if it is shown
-abbrev pub name_in_front : Option (List ℕ) → List ℕ
-name_in_front None = []
-name_in_front (Some name) = name ++ codes ":"
-
--- the number of the line and a colon, if it is shown
-abbrev pub number_in_front : (shown : Bool) → ℕ → List ℕ
-number_in_front shown number = if shown then decimal number ++ codes ":" else []
 
 -- a match that is not empty on a line of its own
 abbrev pub shown_match : (front line : List ℕ) → Match → List ℕ
@@ -63,7 +51,7 @@ module _ (r : Regex) (line : List ℕ) where
       (out : List ℕ) × ReplacesAll line (outcomes_of r line) (λ m. expansion line m (groups_of r) template) out × (bytes ≡ ended out)
 
   -- Whether the line is selected, and what is written for it.
-  abbrev pub IsReply : tasks.Task → (front : List ℕ) → (selected : Bool) → (bytes : List ℕ) → Type 0
-  IsReply (task.Match s) front selected bytes = IsSelected s.invert selected × ShowsIf selected s.shown front bytes
-  IsReply (task.Replace template) front selected bytes = (selected ≡ true) × ShowsReplaced template.now bytes
-  IsReply task.Split front selected bytes = (selected ≡ true) × ShowsPieces bytes
+  abbrev pub IsReply : Job → (front : List ℕ) → (selected : Bool) → (bytes : List ℕ) → Type 0
+  IsReply (matching s) front selected bytes = IsSelected s.invert selected × ShowsIf selected s.shown front bytes
+  IsReply (replacing template) front selected bytes = (selected ≡ true) × ShowsReplaced template bytes
+  IsReply splitting front selected bytes = (selected ≡ true) × ShowsPieces bytes

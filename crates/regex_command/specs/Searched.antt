@@ -1,17 +1,14 @@
 -- What is written for an input, and for all inputs.
-use Rattle.std.specs.Prelude.{◌≡◌, ◌⊎◌, ℕ, ◌+◌, Bool, true, false, ◌||◌, List, [], ◌∷◌, ◌++◌, length, map, Option, None, if◌then◌else◌, codes, nat_lt, String, string_bytes}
+use Rattle.std.specs.Prelude.{◌≡◌, ℕ, ◌+◌, Bool, true, false, List, [], ◌++◌, Option, if◌then◌else◌, codes, nat_lt}
 use Rattle.std.specs.Fmt.{decimal}
 use Rattle.std.specs.Io.KnownBytes.{Appends}
 use Rattle.std.specs.List.{FoldsTo}
-use Rattle.std.specs.declared.alloc.Global.{Global}
 use Rattle.regress.specs.declared.pattern.Regex.{Regex}
 use Rattle.regex_command.specs.Lines.{AreLinesOf}
 use Rattle.regex_command.specs.Reply.{IsReply, ended}
-use Rattle.regex_command.specs.declared.place.Place.{Place}
+use Rattle.regex_command.specs.Job.{Job, Named, matching, replacing, splitting}
 use Rattle.regex_command.specs.declared.task.Shown.{Shown}
 use Rattle.regex_command.specs.declared.task.Shown.TheVariants.{Lines, Matches, Count, Names}
-use Rattle.regex_command.specs.declared.task.Task.{Task}
-use Rattle.regex_command.specs.declared.task.Task.TheVariants.{Match, Replace, Split}
 
 -- how far an input is searched: the number of lines, the number of selected lines, and what was written for them
 pub record Progress : Type 0 where
@@ -27,51 +24,51 @@ abbrev pub one_if : Bool → ℕ
 one_if b = if b then 1 else 0
 
 -- whether lines are numbered
-abbrev pub has_numbers : Task → Bool
-has_numbers (Match s) = s.numbers
-has_numbers (Replace template) = false
-has_numbers Split = false
+abbrev pub has_numbers : Job → Bool
+has_numbers (matching s) = s.numbers
+has_numbers (replacing template) = false
+has_numbers splitting = false
 
 -- the name of the input and a colon, if it is shown in front
-abbrev pub name_of : Place → List ℕ
-name_of place = if place.in_front then place.name.now ++ codes ":" else []
+abbrev pub name_of : Named → List ℕ
+name_of place = if place.in_front then place.name ++ codes ":" else []
 
 -- what is in front of what is shown of the line with this number
-abbrev pub front_of : Task → Place → (number : ℕ) → List ℕ
-front_of task place number = name_of place ++ (if has_numbers task then decimal number ++ codes ":" else [])
+abbrev pub front_of : Job → Named → (number : ℕ) → List ℕ
+front_of job place number = name_of place ++ (if has_numbers job then decimal number ++ codes ":" else [])
 
 -- what is written at the end of an input for the number of selected lines
-abbrev pub shown_at_end : Shown → Place → (selected : ℕ) → List ℕ
+abbrev pub shown_at_end : Shown → Named → (selected : ℕ) → List ℕ
 shown_at_end Lines place selected = []
 shown_at_end Matches place selected = []
 shown_at_end Count place selected = name_of place ++ ended (decimal selected)
-shown_at_end Names place selected = if nat_lt 0 selected then ended place.name.now else []
+shown_at_end Names place selected = if nat_lt 0 selected then ended place.name else []
 
 -- the same, where only lines that match are counted
-abbrev pub written_at_end : Task → Place → (selected : ℕ) → List ℕ
-written_at_end (Match s) place selected = shown_at_end s.shown place selected
-written_at_end (Replace template) place selected = []
-written_at_end Split place selected = []
+abbrev pub written_at_end : Job → Named → (selected : ℕ) → List ℕ
+written_at_end (matching s) place selected = shown_at_end s.shown place selected
+written_at_end (replacing template) place selected = []
+written_at_end splitting place selected = []
 
-module _ (r : Regex) (task : Task) where
+module _ (r : Regex) (job : Job) where
   -- One line further.
-  pub record IsStep (place : Place) (p : Progress) (line : List ℕ) (q : Progress) : Type 0 where
+  pub record IsStep (place : Named) (p : Progress) (line : List ℕ) (q : Progress) : Type 0 where
     pub selected : Bool
     pub bytes : List ℕ
-    pub reply : IsReply r line task (front_of task place (p.lines + 1)) selected bytes
+    pub reply : IsReply r line job (front_of job place (p.lines + 1)) selected bytes
     pub next : q ≡ record { lines = p.lines + 1; selected = p.selected + one_if selected; written = p.written ++ bytes }
 
   -- The lines of an input were searched in order: all of them, or the first ones.
-  pub record IsSearched (place : Place) (input : Option (List ℕ)) (all : Bool) (p : Progress) : Type 0 where
+  pub record IsSearched (place : Named) (input : Option (List ℕ)) (all : Bool) (p : Progress) : Type 0 where
     pub lines : List (List ℕ)
     pub are : AreLinesOf input all lines
     pub steps : FoldsTo (IsStep place) at_start lines p
 
   -- all lines of an input were searched, so many were selected, and their output was written
-  abbrev pub SearchesAll : Place → (input old new : Option (List ℕ)) → (selected : ℕ) → Type 0
+  abbrev pub SearchesAll : Named → (input old new : Option (List ℕ)) → (selected : ℕ) → Type 0
   SearchesAll place input old new selected =
       (p : Progress) × IsSearched place input true p × (p.selected ≡ selected) × Appends old new p.written
 
   -- the first lines of an input were searched
-  abbrev pub SearchesFirst : Place → (input old new : Option (List ℕ)) → Type 0
+  abbrev pub SearchesFirst : Named → (input old new : Option (List ℕ)) → Type 0
   SearchesFirst place input old new = (p : Progress) × IsSearched place input false p × Appends old new p.written

@@ -1,11 +1,182 @@
+//! `regex` searches in lines of text: `regex match`, `regex replace`, `regex split` and `regex escape`. It exits with
+//! the status that `run_regex` returns, and with 2 if an argument is not UTF-8 or an allocation for the arguments or the
+//! output buffer fails.
 #![tactic(auto)]
 
+mod asked;
+mod compiling;
+mod failure;
+mod inputs;
 mod options;
+mod place;
 mod reading;
+mod reply;
+mod searching;
 mod task;
 
+use asked::{Asked, Request, read_asked};
+use compiling::compiled;
+use failure::{Failure, report};
+use inputs::search_all;
+use regress_arguments::{ArgumentsError, arguments};
+use regress_escape::escape;
+use std::alloc::Global;
+use std::env::Env;
+use std::fs::Files;
+use std::io::{BufWriter, Read, Write};
 use std::process::ExitCode;
+use task::Task;
 
 fn main(rt: HostRuntime) -> ExitCode {
-    ExitCode::from(0)
+    ExitCode::from(run(&rt, rt.stdin(), rt.stdout(), &mut rt.stderr()))
 }
+
+/// Runs the program with the arguments of its environment.
+fn run<R: Env + Files + AllocGlobal, I: Read + Drop, W: Write + Drop, E: Write>(
+    rt: &R,
+    input: I,
+    out: W,
+    err: &mut E,
+) -> u8
+    ensures known { result ≤ 2 }
+{
+    match arguments(rt) {
+        Ok(args) => run_buffered(rt, rt.alloc(), &args, input, out, err),
+        Err(ArgumentsError::NotUtf8) => report(Failure::Usage, err),
+        Err(ArgumentsError::OutOfMemory) => report(Failure::Memory, err),
+    }
+}
+
+/// Runs `run_regex` with a buffered output, and returns the exit status.
+fn run_buffered<R: Files, I: Read + Drop, W: Write + Drop, E: Write>(
+    rt: &R,
+    alloc: Global,
+    args: &[String],
+    input: I,
+    out: W,
+    err: &mut E,
+) -> u8
+    ensures known { result ≤ 2 }
+{
+    match BufWriter::new(alloc, out) {
+        Ok(mut buffered) => run_regex(rt, alloc, args, input, &mut buffered, err),
+        Err(_) => report(Failure::Memory, err),
+    }
+}
+
+/// Runs the program on its arguments, without its own name, and returns its exit status:
+/// - 0: a line is selected, or the output of `replace`, `split`, `escape` or the help is written to `out`;
+/// - 1: no line is selected;
+/// - 2: a failure, whose message is written to `err`.
+///
+/// With 2, the output for the first lines may have been written to `out`. An error of a write to `err` is ignored.
+pub fn run_regex<R: Files, I: Read + Drop, W: Write, E: Write>(
+    rt: &R,
+    alloc: Global,
+    args: &[String],
+    input: I,
+    out: &mut W,
+    err: &mut E,
+) -> u8
+    ensures known { result ≤ 2 }
+{
+    match response(rt, alloc, args, input, out) {
+        Ok(true) => 0,
+        Ok(false) => 1,
+        Err(failure) => report(failure, err),
+    }
+}
+
+/// Writes what the arguments ask for, and returns whether it is found.
+fn response<'a, R: Files, I: Read + Drop, W: Write>(
+    rt: &R,
+    alloc: Global,
+    args: &'a [String],
+    input: I,
+    out: &mut W,
+) -> Result<bool, Failure<'a>> {
+    match read_asked(args) {
+        None => Err(Failure::Usage),
+        Some(Asked::Help) => print_help(out),
+        Some(Asked::Escape(text)) => print_escaped(alloc, text, out),
+        Some(Asked::Search(request)) => print_search(rt, alloc, request, input, out),
+    }
+}
+
+/// Searches for what a request asks, and returns whether a line is selected, or the task changes lines.
+fn print_search<'a, R: Files, I: Read + Drop, W: Write>(
+    rt: &R,
+    alloc: Global,
+    request: Request<'a>,
+    input: I,
+    out: &mut W,
+) -> Result<bool, Failure<'a>> {
+    let regex = compiled(alloc, request)?;
+    let any = search_all(rt, alloc, &regex, request.task, request.files, input, out);
+    out.flush().map_err(|_| Failure::Output)?;
+    Ok(any? || changes(request.task))
+}
+
+fn changes(task: Task<'_>) -> bool {
+    match task {
+        Task::Match(_) => false,
+        Task::Replace(_) | Task::Split => true,
+    }
+}
+
+/// Writes a text, escaped, on a line.
+fn print_escaped<'a, W: Write>(
+    alloc: Global,
+    text: &'a str,
+    out: &mut W,
+) -> Result<bool, Failure<'a>> {
+    let mut pattern = escape(alloc, text)?;
+    pattern.push_str("\n")?;
+    print(&pattern, out)?;
+    Ok(true)
+}
+
+/// Writes the help.
+fn print_help<'a, W: Write>(out: &mut W) -> Result<bool, Failure<'a>> {
+    print(HELP, out)?;
+    Ok(true)
+}
+
+/// Writes a text.
+fn print<'a, W: Write>(text: &str, out: &mut W) -> Result<(), Failure<'a>> {
+    out.write_all(text.as_bytes()).map_err(|_| Failure::Output)?;
+    out.flush().map_err(|_| Failure::Output)?;
+    Ok(())
+}
+
+/// The help: usage, options and exit statuses.
+const HELP: &str = "\
+usage: regex match [OPTION..] [--] PATTERN [FILE..]
+       regex replace [OPTION..] [--] PATTERN TEMPLATE [FILE..]
+       regex split [OPTION..] [--] PATTERN [FILE..]
+       regex escape TEXT
+
+Searches in the lines of files, or of standard input, for PATTERN, a regular expression in ECMAScript
+syntax, over all of Unicode.
+  match    writes the lines with a match
+  replace  writes the lines with each match replaced by TEMPLATE, in which $& is the match, $1 a group,
+           $<name> a group with a name, and $$ a dollar sign
+  split    writes each piece of a line between matches on a line
+  escape   writes a pattern that matches TEXT
+
+  -i               ignore case
+  --flags=LETTERS  flags of JavaScript, of imsuv; none without this option
+  -h, --help       this help
+  --               end of the options: PATTERN may begin with a hyphen
+Of match only:
+  -v  select the lines without a match
+  -n  write the number of each line before it
+  -o  write each match that is not empty on a line, instead of the lines
+  -c  write only how many lines are selected
+  -l  write only the names of the files in which a line is selected
+
+exit status:
+  0  a line is selected, or the output of replace, split or escape is written
+  1  no line is selected
+  2  a failure: its message is written to standard error, and no more lines are searched
+";

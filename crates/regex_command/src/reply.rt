@@ -1,6 +1,7 @@
 //! What is written for a line.
 ghost use Rattle.std.specs.Prelude.{◌≡◌, ◌↔◌, ◌++◌, IfOk, IsTrue, string_bytes};
 ghost use Rattle.regress.specs.Compiled.{outcomes_of};
+ghost use Rattle.regex_command.specs.Job.{job};
 ghost use Rattle.regex_command.specs.Reply.{IsReply, IsSelected, Shows, ShowsIf, ShowsMatches, ShowsPieces, ShowsReplaced};
 
 use crate::task::{Selection, Shown, Task};
@@ -22,7 +23,7 @@ pub(crate) fn reply(
     front: &str,
     line: &str,
 ) -> Result<Reply, SearchError>
-    ensures { IfOk result (λ reply. IsReply regex.now line.now task front.now reply.selected (string_bytes reply.text)) }
+    ensures { IfOk result (λ reply. IsReply regex.now line.now (job task) front.now reply.selected (string_bytes reply.text)) }
 {
     match task {
         Task::Match(selection) => selected(alloc, regex, selection, front, line),

@@ -5,6 +5,7 @@ ghost use Rattle.regex_command.specs.Reply.{IsReply};
 ghost use Rattle.regex_command.specs.Reading.{IsRead};
 ghost use Rattle.regress_arguments.specs.Output.{Took};
 ghost use Rattle.regex_command.specs.Ending.{IsLate, OrOutput};
+ghost use Rattle.regex_command.specs.Job.{job, named};
 ghost use Rattle.regex_command.specs.Searched.{SearchesAll, SearchesFirst, front_of, has_numbers, name_of, written_at_end};
 ghost use Rattle.regex_command.specs.declared.failure.Failure.TheVariants.{Output};
 
@@ -27,8 +28,8 @@ pub(crate) fn search_lines<'a, B: BufRead, W: Write>(
     reader: &mut B,
     out: &mut W,
 ) -> Result<u64, Failure<'a>>
-    ensures all { IfOk result (SearchesAll regex.now task place (B.Read.remaining reader.old) (W.contents out.old) (W.contents out.new)) }
-    ensures first { IfErr result (OrOutput (SearchesFirst regex.now task place (B.Read.remaining reader.old) (W.contents out.old) (W.contents out.new))) }
+    ensures all { IfOk result (SearchesAll regex.now (job task) (named place) (B.Read.remaining reader.old) (W.contents out.old) (W.contents out.new)) }
+    ensures first { IfErr result (OrOutput (SearchesFirst regex.now (job task) (named place) (B.Read.remaining reader.old) (W.contents out.old) (W.contents out.new))) }
     ensures late { IfErr result IsLate }
 {
     let mut bytes = Vec::new(alloc);
@@ -82,7 +83,7 @@ fn write_reply<'a, W: Write>(
     out: &mut W,
 ) -> Result<bool, Failure<'a>>
     ensures reply { IfOk result (λ selected. Took (W.contents out.old) (W.contents out.new)
-        (IsReply regex.now line.now task (front_of task place number) selected)) }
+        (IsReply regex.now line.now (job task) (front_of (job task) (named place) number) selected)) }
     ensures late { IfErr result IsLate }
     ensures untouched { IfErr result (OrOutput (out.new ≡ out.old)) }
 {
@@ -97,7 +98,7 @@ fn write_reply<'a, W: Write>(
 
 /// Returns what is in front of what is shown of a line.
 fn front(alloc: Global, task: Task<'_>, place: Place<'_>, number: u64) -> Result<String, AllocError>
-    ensures { IfOk result (λ front. string_bytes front ≡ front_of task place number) }
+    ensures { IfOk result (λ front. string_bytes front ≡ front_of (job task) (named place) number) }
 {
     let mut front = name_in_front(alloc, place)?;
     if has_numbers(task) {
@@ -108,7 +109,7 @@ fn front(alloc: Global, task: Task<'_>, place: Place<'_>, number: u64) -> Result
 
 /// Returns the name of an input and a colon, if it is shown in front.
 fn name_in_front(alloc: Global, place: Place<'_>) -> Result<String, AllocError>
-    ensures { IfOk result (λ front. string_bytes front ≡ name_of place) }
+    ensures { IfOk result (λ front. string_bytes front ≡ name_of (named place)) }
 {
     if place.in_front {
         Ok(format!(in alloc; "{}:", place.name)?)
@@ -118,7 +119,7 @@ fn name_in_front(alloc: Global, place: Place<'_>) -> Result<String, AllocError>
 }
 
 fn has_numbers(task: Task<'_>) -> bool
-    ensures { result ≡ has_numbers task }
+    ensures { result ≡ has_numbers (job task) }
 {
     match task {
         Task::Match(selection) => selection.numbers,
@@ -134,7 +135,7 @@ pub(crate) fn write_end<'a, W: Write>(
     selected: u64,
     out: &mut W,
 ) -> Result<(), Failure<'a>>
-    ensures end { OnOk result (Appends (W.contents out.old) (W.contents out.new) (written_at_end task place selected)) }
+    ensures end { OnOk result (Appends (W.contents out.old) (W.contents out.new) (written_at_end (job task) (named place) selected)) }
     ensures late { IfErr result IsLate }
     ensures untouched { IfErr result (OrOutput (out.new ≡ out.old)) }
 {
@@ -144,7 +145,7 @@ pub(crate) fn write_end<'a, W: Write>(
 }
 
 fn end(alloc: Global, task: Task<'_>, place: Place<'_>, selected: u64) -> Result<String, AllocError>
-    ensures { IfOk result (λ end. string_bytes end ≡ written_at_end task place selected) }
+    ensures { IfOk result (λ end. string_bytes end ≡ written_at_end (job task) (named place) selected) }
 {
     let Task::Match(selection) = task else {
         return Ok(String::new(alloc));

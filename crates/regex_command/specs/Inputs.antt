@@ -1,0 +1,68 @@
+-- What is written for all inputs.
+use Rattle.std.specs.Prelude.{◌≡◌, ℕ, Bool, true, false, ◌||◌, List, [], ◌∷◌, ◌++◌, length, map, Option, None, codes, nat_lt}
+use Rattle.std.specs.Io.KnownBytes.{Appends}
+use Rattle.std.specs.List.{FoldsTo}
+use Rattle.regress_arguments.specs.Output.{Took}
+use Rattle.regress.specs.declared.pattern.Regex.{Regex}
+use Rattle.regex_command.specs.Job.{Job, Named}
+use Rattle.regex_command.specs.Searched.{IsSearched, Progress, SearchesFirst, written_at_end}
+
+-- an input: its name, and its bytes if they are known
+abbrev pub Input : Type 0
+Input = Named × Option (List ℕ)
+
+-- The files with these names. Their names are in front of lines if there are several. Nothing is known of their bytes.
+abbrev pub named_files : List (List ℕ) → List Input
+named_files files = map (λ name. (record { name = name; in_front = nat_lt 1 (length files) }, None)) files
+
+-- the files, or standard input if there are none
+abbrev pub inputs_of : (files : List (List ℕ)) → (input : Option (List ℕ)) → List Input
+inputs_of [] input = (record { name = codes "(standard input)"; in_front = false }, input) ∷ []
+inputs_of (file ∷ files) input = named_files (file ∷ files)
+
+-- whether a line was selected, and what was written
+pub record Result : Type 0 where
+  pub any : Bool
+  pub written : List ℕ
+
+module _ (r : Regex) (job : Job) where
+  -- what is written for an input: what its lines yield, and what is shown at its end
+  pub record IsWritten (place : Named) (input : Option (List ℕ)) (any : Bool) (bytes : List ℕ) : Type 0 where
+    pub progress : Progress
+    pub searched : IsSearched r job place input true progress
+    pub some : any ≡ nat_lt 0 progress.selected
+    pub is : bytes ≡ progress.written ++ written_at_end job place progress.selected
+
+  abbrev pub WritesInput : Named → (input old new : Option (List ℕ)) → (any : Bool) → Type 0
+  WritesInput place input old new any = Took old new (IsWritten place input any)
+
+  -- One input further.
+  pub record IsInputStep (before : Result) (input : Input) (after : Result) : Type 0 where
+    pub any : Bool
+    pub bytes : List ℕ
+    pub written : IsWritten input.0 input.1 any bytes
+    pub next : after ≡ record { any = before.any || any; written = before.written ++ bytes }
+
+  -- all inputs in order
+  abbrev pub WritesInputs : List Input → (old new : Option (List ℕ)) → (any : Bool) → Type 0
+  WritesInputs inputs old new any =
+      (bytes : List ℕ) × FoldsTo IsInputStep (record { any = false; written = [] }) inputs (record { any = any; written = bytes }) × Appends old new bytes
+
+  -- what is written for the first lines of the first input, if there is one
+  abbrev pub IsBegun : List Input → (bytes : List ℕ) → Type 0
+  IsBegun [] bytes = bytes ≡ []
+  IsBegun (input ∷ others) bytes = (p : Progress) × IsSearched r job input.0 input.1 false p × (bytes ≡ p.written)
+
+  -- what is written for the first inputs, and the first lines of the next one
+  pub record IsFirst (inputs : List Input) (bytes : List ℕ) : Type 0 where
+    pub before : List Input
+    pub others : List Input
+    pub parts : inputs ≡ before ++ others
+    pub result : Result
+    pub steps : FoldsTo IsInputStep (record { any = false; written = [] }) before result
+    pub more : List ℕ
+    pub begun : IsBegun others more
+    pub is : bytes ≡ result.written ++ more
+
+  abbrev pub WritesSomeOf : List Input → (old new : Option (List ℕ)) → Type 0
+  WritesSomeOf inputs old new = Took old new (IsFirst inputs)

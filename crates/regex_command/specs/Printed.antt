@@ -1,0 +1,44 @@
+-- What the program writes for a request.
+use Rattle.std.specs.Prelude.{◌≡◌, ℕ, Bool, true, false, ◌||◌, List, ◌++◌, Option, Some, None, Result, Ok, Err, chars, codes}
+use Rattle.std.specs.Io.KnownBytes.{Appends}
+use Rattle.regress_arguments.specs.Output.{Took}
+use Rattle.regress_escape.specs.Escape.{escaped}
+use Rattle.regress_front.specs.Accepted.{NoneIsAccepted}
+use Rattle.regress_front.specs.Setting.{Setting}
+use Rattle.regress_ucd.specs.UnicodeTable.{unicode_table}
+use Rattle.regress.specs.Compiled.{IsCompiled}
+use Rattle.regress.specs.declared.pattern.Regex.{Regex}
+use Rattle.regex_command.specs.Asked.{Ask, Request, escape, help, search}
+use Rattle.regex_command.specs.Ending.{IsLate}
+use Rattle.regex_command.specs.Inputs.{WritesInputs, WritesSomeOf, inputs_of}
+use Rattle.regex_command.specs.Job.{Job, matching, replacing, splitting}
+use Rattle.regex_command.specs.declared.failure.Failure.{Failure}
+use Rattle.regex_command.specs.declared.failure.Failure.TheVariants.{Usage, Memory, Output, Syntax, TooLarge, OutOfSteps, Unreadable, NotUtf8, TooLong}
+
+-- the request's flags, and the table of all of Unicode
+abbrev pub setting_of : Request → Setting
+setting_of request = record { flags = request.flags; table = unicode_table }
+
+-- The regular expression is that of the request.
+abbrev pub IsRegexOf : Request → Regex → Type 0
+IsRegexOf request r = IsCompiled (setting_of request) request.pattern r
+
+-- a job that changes lines
+abbrev pub changes : Job → Bool
+changes (matching s) = false
+changes (replacing template) = true
+changes splitting = true
+
+-- All inputs were searched, and `found` states whether a line was selected, or the job changes lines.
+abbrev pub PrintsAll : (input old new : Option (List ℕ)) → (found : Bool) → Request → Type 0
+PrintsAll input old new found request =
+    (r : Regex) × IsRegexOf request r × ((any : Bool) × (found ≡ any || changes request.job) × WritesInputs r request.job (inputs_of request.files input) old new any)
+
+-- The first lines of the inputs were searched.
+abbrev pub PrintsFirst : (input old new : Option (List ℕ)) → Request → Type 0
+PrintsFirst input old new request =
+    (r : Regex) × IsRegexOf request r × WritesSomeOf r request.job (inputs_of request.files input) old new
+
+-- a text, escaped, on a line
+abbrev pub PrintsEscaped : (old new : Option (List ℕ)) → (text : List ℕ) → Type 0
+PrintsEscaped old new text = Took old new (λ bytes. (pattern : List ℕ) × (chars pattern ≡ escaped (chars text)) × (bytes ≡ pattern ++ codes "\n"))

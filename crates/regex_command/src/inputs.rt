@@ -1,0 +1,104 @@
+//! The files that are searched, or standard input.
+ghost use Rattle.std.specs.Prelude.{IfOk, IfErr, None, map, string_bytes};
+ghost use Rattle.regex_command.specs.Ending.{IsLate, OrOutput};
+ghost use Rattle.regex_command.specs.Inputs.{WritesInput, WritesInputs, WritesSomeOf, all_inputs, inputs_of, named_files};
+ghost use Rattle.regex_command.specs.Job.{job, named};
+ghost use Rattle.regex_command.specs.Searched.{SearchesFirst};
+
+use crate::failure::Failure;
+use crate::place::Place;
+use crate::searching::{search_lines, write_end};
+use crate::task::Task;
+use regress::Regex;
+use std::alloc::Global;
+use std::fs::{File, Files};
+use std::io::{BufReader, Read, Write};
+
+/// Searches files in order, or `input` if there are none, and returns whether a line is selected.
+pub(crate) fn search_all<'a, R: Files, I: Read + Drop, W: Write>(
+    rt: &R,
+    alloc: Global,
+    regex: &Regex,
+    task: Task<'_>,
+    files: &'a [String],
+    input: I,
+    out: &mut W,
+) -> Result<bool, Failure<'a>>
+    ensures all { IfOk result (WritesInputs regex.now (job task) (inputs_of (map string_bytes files.now) (I.remaining input)) (W.contents out.old) (W.contents out.new)) }
+    ensures first { IfErr result (OrOutput (WritesSomeOf regex.now (job task) (inputs_of (map string_bytes files.now) (I.remaining input))
+        (W.contents out.old) (W.contents out.new))) }
+    ensures late { IfErr result IsLate }
+{
+    if files.is_empty() {
+        let place = Place {
+            name: "(standard input)",
+            in_front: false,
+        };
+        search_input(alloc, regex, task, place, input, out)
+    } else {
+        search_files(rt, alloc, regex, task, files, out)
+    }
+}
+
+/// Searches files in order.
+fn search_files<'a, R: Files, W: Write>(
+    rt: &R,
+    alloc: Global,
+    regex: &Regex,
+    task: Task<'_>,
+    files: &'a [String],
+    out: &mut W,
+) -> Result<bool, Failure<'a>>
+    ensures all { IfOk result (WritesInputs regex.now (job task) (named_files (map string_bytes files.now)) (W.contents out.old) (W.contents out.new)) }
+    ensures first { IfErr result (OrOutput (WritesSomeOf regex.now (job task) (named_files (map string_bytes files.now)) (W.contents out.old) (W.contents out.new))) }
+    ensures late { IfErr result IsLate }
+{
+    let in_front = files.len() > 1;
+    let mut any = false;
+    for file in files {
+        let place = Place {
+            name: file.as_str(),
+            in_front,
+        };
+        any |= search_file(rt, alloc, regex, task, place, out)?;
+    }
+    Ok(any)
+}
+
+/// Searches a file.
+fn search_file<'a, R: Files, W: Write>(
+    rt: &R,
+    alloc: Global,
+    regex: &Regex,
+    task: Task<'_>,
+    place: Place<'a>,
+    out: &mut W,
+) -> Result<bool, Failure<'a>>
+    ensures all { IfOk result (WritesInput regex.now (job task) (named place) None (W.contents out.old) (W.contents out.new)) }
+    ensures first { IfErr result (OrOutput (SearchesFirst regex.now (job task) (named place) None (W.contents out.old) (W.contents out.new))) }
+    ensures late { IfErr result IsLate }
+{
+    match File::open(rt, place.name) {
+        Ok(file) => search_input(alloc, regex, task, place, file, out),
+        Err(_) => Err(Failure::Unreadable(place.name)),
+    }
+}
+
+/// Searches an input to its end.
+fn search_input<'a, I: Read + Drop, W: Write>(
+    alloc: Global,
+    regex: &Regex,
+    task: Task<'_>,
+    place: Place<'a>,
+    input: I,
+    out: &mut W,
+) -> Result<bool, Failure<'a>>
+    ensures all { IfOk result (WritesInput regex.now (job task) (named place) (I.remaining input) (W.contents out.old) (W.contents out.new)) }
+    ensures first { IfErr result (OrOutput (SearchesFirst regex.now (job task) (named place) (I.remaining input) (W.contents out.old) (W.contents out.new))) }
+    ensures late { IfErr result IsLate }
+{
+    let mut reader = BufReader::new(alloc, input).map_err(|_| Failure::Memory)?;
+    let selected = search_lines(alloc, regex, task, place, &mut reader, out)?;
+    write_end(alloc, task, place, selected, out)?;
+    Ok(selected > 0)
+}
