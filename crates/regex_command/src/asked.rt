@@ -106,7 +106,7 @@ fn search<'a>(
     pattern: &'a String,
     files: &'a [String],
 ) -> Asked<'a>
-    ensures { ask result ≡ search_with options (job task) pattern.now files.now }
+    ensures { ask result ≡ search_with options (job task.entry) pattern.now files.now }
 {
     Asked::Search(Request {
         pattern: pattern.as_str(),

@@ -63,9 +63,9 @@ impl<'a, T: Drop> From<AllocFailed<T>> for Failure<'a> {
 }
 
 impl<'a> From<SearchError> for Failure<'a> {
-    ghost use Rattle.regex_command.specs.Ending.{IsSearchFailure};
+    ghost use Rattle.regex_command.specs.Ending.{IsLate};
 
-    ghost from_gives = { λ _ failure. IsSearchFailure failure };
+    ghost from_gives = { λ _ failure. IsLate failure };
 
     fn from(error: SearchError) -> Failure<'a> {
         match error {

@@ -1,7 +1,7 @@
 //! The files that are searched, or standard input.
 ghost use Rattle.std.specs.Prelude.{IfOk, IfErr, None, map, string_bytes};
 ghost use Rattle.regex_command.specs.Ending.{IsLate, OrOutput};
-ghost use Rattle.regex_command.specs.Inputs.{WritesInput, WritesInputs, WritesSomeOf, all_inputs, inputs_of, named_files};
+ghost use Rattle.regex_command.specs.Inputs.{WritesInput, WritesInputs, WritesSomeOf, inputs_of, named_files};
 ghost use Rattle.regex_command.specs.Job.{job, named};
 ghost use Rattle.regex_command.specs.Searched.{SearchesFirst};
 
@@ -24,8 +24,8 @@ pub(crate) fn search_all<'a, R: Files, I: Read + Drop, W: Write>(
     input: I,
     out: &mut W,
 ) -> Result<bool, Failure<'a>>
-    ensures all { IfOk result (WritesInputs regex.now (job task) (inputs_of (map string_bytes files.now) (I.remaining input)) (W.contents out.old) (W.contents out.new)) }
-    ensures first { IfErr result (OrOutput (WritesSomeOf regex.now (job task) (inputs_of (map string_bytes files.now) (I.remaining input))
+    ensures all { IfOk result (WritesInputs regex.now (job task.entry) (inputs_of (map string_bytes files.now) (I.remaining input)) (W.contents out.old) (W.contents out.new)) }
+    ensures first { IfErr result (OrOutput (WritesSomeOf regex.now (job task.entry) (inputs_of (map string_bytes files.now) (I.remaining input))
         (W.contents out.old) (W.contents out.new))) }
     ensures late { IfErr result IsLate }
 {
@@ -49,8 +49,8 @@ fn search_files<'a, R: Files, W: Write>(
     files: &'a [String],
     out: &mut W,
 ) -> Result<bool, Failure<'a>>
-    ensures all { IfOk result (WritesInputs regex.now (job task) (named_files (map string_bytes files.now)) (W.contents out.old) (W.contents out.new)) }
-    ensures first { IfErr result (OrOutput (WritesSomeOf regex.now (job task) (named_files (map string_bytes files.now)) (W.contents out.old) (W.contents out.new))) }
+    ensures all { IfOk result (WritesInputs regex.now (job task.entry) (named_files (map string_bytes files.now)) (W.contents out.old) (W.contents out.new)) }
+    ensures first { IfErr result (OrOutput (WritesSomeOf regex.now (job task.entry) (named_files (map string_bytes files.now)) (W.contents out.old) (W.contents out.new))) }
     ensures late { IfErr result IsLate }
 {
     let in_front = files.len() > 1;
@@ -74,8 +74,8 @@ fn search_file<'a, R: Files, W: Write>(
     place: Place<'a>,
     out: &mut W,
 ) -> Result<bool, Failure<'a>>
-    ensures all { IfOk result (WritesInput regex.now (job task) (named place) None (W.contents out.old) (W.contents out.new)) }
-    ensures first { IfErr result (OrOutput (SearchesFirst regex.now (job task) (named place) None (W.contents out.old) (W.contents out.new))) }
+    ensures all { IfOk result (WritesInput regex.now (job task.entry) (named place.entry) None (W.contents out.old) (W.contents out.new)) }
+    ensures first { IfErr result (OrOutput (SearchesFirst regex.now (job task.entry) (named place.entry) None (W.contents out.old) (W.contents out.new))) }
     ensures late { IfErr result IsLate }
 {
     match File::open(rt, place.name) {
@@ -93,8 +93,8 @@ fn search_input<'a, I: Read + Drop, W: Write>(
     input: I,
     out: &mut W,
 ) -> Result<bool, Failure<'a>>
-    ensures all { IfOk result (WritesInput regex.now (job task) (named place) (I.remaining input) (W.contents out.old) (W.contents out.new)) }
-    ensures first { IfErr result (OrOutput (SearchesFirst regex.now (job task) (named place) (I.remaining input) (W.contents out.old) (W.contents out.new))) }
+    ensures all { IfOk result (WritesInput regex.now (job task.entry) (named place.entry) (I.remaining input) (W.contents out.old) (W.contents out.new)) }
+    ensures first { IfErr result (OrOutput (SearchesFirst regex.now (job task.entry) (named place.entry) (I.remaining input) (W.contents out.old) (W.contents out.new))) }
     ensures late { IfErr result IsLate }
 {
     let mut reader = BufReader::new(alloc, input).map_err(|_| Failure::Memory)?;

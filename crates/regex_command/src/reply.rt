@@ -16,14 +16,14 @@ pub(crate) struct Reply {
 }
 
 /// Returns what a task writes for a line, each line of it with `front` in front where the task selects lines.
-pub(crate) fn reply(
+pub(crate) fn reply_to(
     alloc: Global,
     regex: &Regex,
     task: Task<'_>,
     front: &str,
     line: &str,
 ) -> Result<Reply, SearchError>
-    ensures { IfOk result (λ reply. IsReply regex.now line.now (job task) front.now reply.selected (string_bytes reply.text)) }
+    ensures { IfOk result (λ reply. IsReply regex.now line.now (job task.entry) front.now reply.selected (string_bytes reply.text)) }
 {
     match task {
         Task::Match(selection) => selected(alloc, regex, selection, front, line),

@@ -1,5 +1,5 @@
 //! Searches the lines of an input.
-ghost use Rattle.std.specs.Prelude.{◌≡◌, ◌⊎◌, ◌×◌, Bool, ℕ, List, IfOk, IfErr, OnOk, string_bytes};
+ghost use Rattle.std.specs.Prelude.{◌≡◌, IfOk, IfErr, OnOk, string_bytes};
 ghost use Rattle.std.specs.Io.KnownBytes.{Appends};
 ghost use Rattle.regex_command.specs.Reply.{IsReply};
 ghost use Rattle.regex_command.specs.Reading.{IsRead};
@@ -12,7 +12,7 @@ ghost use Rattle.regex_command.specs.declared.failure.Failure.TheVariants.{Outpu
 use crate::failure::Failure;
 use crate::place::Place;
 use crate::reading::{Next, read_line};
-use crate::reply::{Reply, reply};
+use crate::reply::{Reply, reply_to};
 use crate::task::{Shown, Task};
 use regress::Regex;
 use std::alloc::{AllocError, Global};
@@ -28,8 +28,8 @@ pub(crate) fn search_lines<'a, B: BufRead, W: Write>(
     reader: &mut B,
     out: &mut W,
 ) -> Result<u64, Failure<'a>>
-    ensures all { IfOk result (SearchesAll regex.now (job task) (named place) (B.Read.remaining reader.old) (W.contents out.old) (W.contents out.new)) }
-    ensures first { IfErr result (OrOutput (SearchesFirst regex.now (job task) (named place) (B.Read.remaining reader.old) (W.contents out.old) (W.contents out.new))) }
+    ensures all { IfOk result (SearchesAll regex.now (job task.entry) (named place.entry) (B.Read.remaining reader.old) (W.contents out.old) (W.contents out.new)) }
+    ensures first { IfErr result (OrOutput (SearchesFirst regex.now (job task.entry) (named place.entry) (B.Read.remaining reader.old) (W.contents out.old) (W.contents out.new))) }
     ensures late { IfErr result IsLate }
 {
     let mut bytes = Vec::new(alloc);
@@ -59,7 +59,10 @@ fn next_line<'a, B: BufRead>(
     ensures read { IfOk result (IsRead (B.Read.remaining reader.old) (B.Read.remaining reader.new) line.new.items) }
     ensures late { IfErr result IsLate }
 {
-    read_line(reader, line).map_err(|error| unread(error, place))
+    match read_line(reader, line) {
+        Ok(next) => Ok(next),
+        Err(error) => Err(unread(error, place)),
+    }
 }
 
 /// Converts an error of an input.
@@ -83,7 +86,7 @@ fn write_reply<'a, W: Write>(
     out: &mut W,
 ) -> Result<bool, Failure<'a>>
     ensures reply { IfOk result (λ selected. Took (W.contents out.old) (W.contents out.new)
-        (IsReply regex.now line.now (job task) (front_of (job task) (named place) number) selected)) }
+        (IsReply regex.now line.now (job task.entry) (front_of (job task.entry) (named place.entry) number) selected)) }
     ensures late { IfErr result IsLate }
     ensures untouched { IfErr result (OrOutput (out.new ≡ out.old)) }
 {
@@ -91,14 +94,14 @@ fn write_reply<'a, W: Write>(
         return Err(Failure::NotUtf8(place.name));
     };
     let front = front(alloc, task, place, number)?;
-    let Reply { selected, text } = reply(alloc, regex, task, &front, line)?;
+    let Reply { selected, text } = reply_to(alloc, regex, task, &front, line)?;
     out.write_all(text.as_bytes()).map_err(|_| Failure::Output)?;
     Ok(selected)
 }
 
 /// Returns what is in front of what is shown of a line.
 fn front(alloc: Global, task: Task<'_>, place: Place<'_>, number: u64) -> Result<String, AllocError>
-    ensures { IfOk result (λ front. string_bytes front ≡ front_of (job task) (named place) number) }
+    ensures { IfOk result (λ front. string_bytes front ≡ front_of (job task.entry) (named place.entry) number) }
 {
     let mut front = name_in_front(alloc, place)?;
     if has_numbers(task) {
@@ -109,7 +112,7 @@ fn front(alloc: Global, task: Task<'_>, place: Place<'_>, number: u64) -> Result
 
 /// Returns the name of an input and a colon, if it is shown in front.
 fn name_in_front(alloc: Global, place: Place<'_>) -> Result<String, AllocError>
-    ensures { IfOk result (λ front. string_bytes front ≡ name_of (named place)) }
+    ensures { IfOk result (λ front. string_bytes front ≡ name_of (named place.entry)) }
 {
     if place.in_front {
         Ok(format!(in alloc; "{}:", place.name)?)
@@ -119,7 +122,7 @@ fn name_in_front(alloc: Global, place: Place<'_>) -> Result<String, AllocError>
 }
 
 fn has_numbers(task: Task<'_>) -> bool
-    ensures { result ≡ has_numbers (job task) }
+    ensures { result ≡ has_numbers (job task.entry) }
 {
     match task {
         Task::Match(selection) => selection.numbers,
@@ -135,7 +138,7 @@ pub(crate) fn write_end<'a, W: Write>(
     selected: u64,
     out: &mut W,
 ) -> Result<(), Failure<'a>>
-    ensures end { OnOk result (Appends (W.contents out.old) (W.contents out.new) (written_at_end (job task) (named place) selected)) }
+    ensures end { OnOk result (Appends (W.contents out.old) (W.contents out.new) (written_at_end (job task.entry) (named place.entry) selected)) }
     ensures late { IfErr result IsLate }
     ensures untouched { IfErr result (OrOutput (out.new ≡ out.old)) }
 {
@@ -145,7 +148,7 @@ pub(crate) fn write_end<'a, W: Write>(
 }
 
 fn end(alloc: Global, task: Task<'_>, place: Place<'_>, selected: u64) -> Result<String, AllocError>
-    ensures { IfOk result (λ end. string_bytes end ≡ written_at_end (job task) (named place) selected) }
+    ensures { IfOk result (λ end. string_bytes end ≡ written_at_end (job task.entry) (named place.entry) selected) }
 {
     let Task::Match(selection) = task else {
         return Ok(String::new(alloc));

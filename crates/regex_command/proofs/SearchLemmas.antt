@@ -1,0 +1,138 @@
+-- The lines of an input are searched one after another.
+use mir.Val.{bool_byte}
+use Rattle.std.proofs.Common.{◌≡◌, ◌∙◌, ◌⊎◌, inl, inr, ℕ, ◌+◌, ◌≤◌, Bool, true, false, List, [], ◌∷◌, ◌++◌, Option, Some, None, refl, sym, ap, subst, arith, append-nil}
+use Rattle.std.specs.Prelude.{Result, Ok, Err, IfErr}
+use Rattle.std.specs.Result.{IsErrAnd}
+use Rattle.std.specs.Io.KnownBytes.{Appends, IsAtEnd}
+use Rattle.std.specs.List.{FoldsTo}
+use Rattle.std.proofs.lemmas.Fn.{FoldsTo-push}
+use Rattle.regress_arguments.proofs.lemmas.Output.{appends_both}
+use Rattle.regress_arguments.specs.Output.{Took}
+use Rattle.regress.specs.declared.pattern.Regex.{Regex}
+use Rattle.regex_command.specs.Ending.{OrOutput}
+use Rattle.regex_command.specs.Job.{Job, Named}
+use Rattle.regex_command.specs.Lines.{AreLinesOf}
+use Rattle.regex_command.specs.Reading.{IsRead}
+use Rattle.regex_command.specs.Reply.{IsReply}
+use Rattle.regex_command.specs.Searched.{IsSearched, IsStep, Progress, SearchesAll, SearchesFirst, at_start, front_of, one_if}
+use Rattle.regex_command.specs.declared.failure.Failure.{Failure}
+use Rattle.regex_command.specs.declared.reading.Next.{Next}
+use Rattle.regex_command.specs.declared.reading.Next.TheVariants.{Line, LastLine, End}
+use Rattle.regex_command.proofs.LineLemmas.{HasRead, begins, goes_on, ended, ended_by_last, stopped}
+
+appends_nothing : (known : Option (List ℕ)) → Appends known known []
+appends_nothing None = tt
+appends_nothing (Some bytes) = sym (append-nil bytes)
+
+module _ (r : Regex) (job : Job) (place : Named) (old before : Option (List ℕ)) where
+  -- how far the search is: what the reader has lost, and what was written
+  pub record SoFar (now after : Option (List ℕ)) (number selected : ℕ) : Type 0 where
+    pub lines : List (List ℕ)
+    pub read : HasRead old now lines
+    pub progress : Progress
+    pub steps : FoldsTo (IsStep r job place) at_start lines progress
+    pub number_is : progress.lines ≡ number
+    pub selected_is : progress.selected ≡ selected
+    pub few : selected ≤ number
+    pub written : Appends before after progress.written
+
+  pub starts : SoFar old before 0 0
+  starts = record {
+    lines = [];
+    read = begins old;
+    progress = at_start;
+    steps = refl;
+    number_is = refl;
+    selected_is = refl;
+    few = omega arith;
+    written = appends_nothing before;
+  }
+
+  module _ (now between after : Option (List ℕ)) (number selected : ℕ) (sofar : SoFar now between number selected) (line : List ℕ) (is_selected : Bool)
+      (reply : Took between after (IsReply r line job (front_of job place (number + 1)) is_selected)) where
+    abbrev next : Progress
+    next = record {
+      lines = number + 1;
+      selected = selected + one_if is_selected;
+      written = sofar.progress.written ++ reply.0;
+    }
+
+    step : IsStep r job place sofar.progress line next
+    step = record {
+      selected = is_selected;
+      bytes = reply.0;
+      reply = subst (λ n. IsReply r line job (front_of job place (n + 1)) is_selected reply.0) (sym sofar.number_is) reply.1;
+      next = λ i. record {
+        lines = sym sofar.number_is i + 1;
+        selected = sym sofar.selected_is i + one_if is_selected;
+        written = sofar.progress.written ++ reply.0;
+      };
+    }
+
+    within : (b : Bool) → selected + one_if b ≤ number + 1
+    within true = omega (arith, sofar.few)
+    within false = omega (arith, sofar.few)
+
+    pub another : (new : Option (List ℕ)) → IsRead now new line Line → SoFar new after (number + 1) (selected + one_if is_selected)
+    another new read = record {
+      lines = sofar.lines ++ line ∷ [];
+      read = goes_on old now sofar.lines sofar.read new line read;
+      progress = next;
+      steps = FoldsTo-push (IsStep r job place) at_start sofar.lines sofar.progress line next sofar.steps step;
+      number_is = refl;
+      selected_is = refl;
+      few = within is_selected;
+      written = appends_both before between after sofar.progress.written reply.0 sofar.written reply.2;
+    }
+
+    pub last : (new : Option (List ℕ)) → IsRead now new line LastLine → SearchesAll r job place old before after (selected + one_if is_selected)
+    last new read = (
+      next,
+      record {
+        lines = sofar.lines ++ line ∷ [];
+        are = ended_by_last old now sofar.lines sofar.read new line read;
+        steps = FoldsTo-push (IsStep r job place) at_start sofar.lines sofar.progress line next sofar.steps step;
+      },
+      refl,
+      appends_both before between after sofar.progress.written reply.0 sofar.written reply.2,
+    )
+
+  module _ (now after : Option (List ℕ)) (number selected : ℕ) (sofar : SoFar now after number selected) where
+    pub all : IsAtEnd now → SearchesAll r job place old before after selected
+    all is = (
+      sofar.progress,
+      record { lines = sofar.lines; are = ended old now sofar.lines sofar.read is; steps = sofar.steps },
+      sofar.selected_is,
+      sofar.written,
+    )
+
+    pub first : SearchesFirst r job place old before after
+    first = (
+      sofar.progress,
+      record { lines = sofar.lines; are = stopped old now sofar.lines sofar.read; steps = sofar.steps },
+      sofar.written,
+    )
+
+    pub first_or_output : {X : Type 0} (result : Result X Failure) → IfErr result (OrOutput (SearchesFirst r job place old before after))
+    first_or_output (Ok x) = tt
+    first_or_output (Err failure) = inr first
+
+-- another variant than these two
+pub is_line : (old new : Option (List ℕ)) (line : List ℕ) (next : Next) → (next ≡ End → ⊥) → (next ≡ LastLine → ⊥) → IsRead old new line next →
+    IsRead old new line Line
+is_line old new line Line not_end not_last read = read
+is_line old new line LastLine not_end not_last read = absurd (not_last refl)
+is_line old new line End not_end not_last read = absurd (not_end refl)
+
+-- a failure that `?` passes on
+pub passed_on : {X : Type 0} (P : Failure → Type 0) (result : Result X Failure) (failure : Failure) → IsErrAnd result (λ f. f ≡ failure) → P failure → IfErr result P
+passed_on P (Ok x) failure is p = absurd is
+passed_on P (Err f) failure is p = subst P (sym is) p
+
+pub or_output : (P Q : Type 0) (failure : Failure) → OrOutput P failure → (P → Q) → OrOutput Q failure
+or_output P Q failure (inl output) more = inl output
+or_output P Q failure (inr p) more = inr (more p)
+
+pub byte_of : (b : Bool) → bool_byte b ≡ one_if b
+byte_of true = refl
+byte_of false = refl
