@@ -1,2 +1,3 @@
+pub mod InputLemmas
 pub mod LineLemmas
 pub mod SearchLemmas

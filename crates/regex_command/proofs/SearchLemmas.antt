@@ -1,7 +1,7 @@
 -- The lines of an input are searched one after another.
 use mir.Val.{bool_byte}
 use Rattle.std.proofs.Common.{◌≡◌, ◌∙◌, ◌⊎◌, inl, inr, ℕ, ◌+◌, ◌≤◌, Bool, true, false, List, [], ◌∷◌, ◌++◌, Option, Some, None, refl, sym, ap, subst, arith, append-nil}
-use Rattle.std.specs.Prelude.{Result, Ok, Err, IfErr}
+use Rattle.std.specs.Prelude.{Result, Ok, Err, IfErr, nat_lt}
 use Rattle.std.specs.Result.{IsErrAnd}
 use Rattle.std.specs.Io.KnownBytes.{Appends, IsAtEnd}
 use Rattle.std.specs.List.{FoldsTo}
@@ -10,11 +10,12 @@ use Rattle.regress_arguments.proofs.lemmas.Output.{appends_both}
 use Rattle.regress_arguments.specs.Output.{Took}
 use Rattle.regress.specs.declared.pattern.Regex.{Regex}
 use Rattle.regex_command.specs.Ending.{OrOutput}
+use Rattle.regex_command.specs.Inputs.{WritesInput}
 use Rattle.regex_command.specs.Job.{Job, Named}
 use Rattle.regex_command.specs.Lines.{AreLinesOf}
 use Rattle.regex_command.specs.Reading.{IsRead}
 use Rattle.regex_command.specs.Reply.{IsReply}
-use Rattle.regex_command.specs.Searched.{IsSearched, IsStep, Progress, SearchesAll, SearchesFirst, at_start, front_of, one_if}
+use Rattle.regex_command.specs.Searched.{IsSearched, IsStep, Progress, SearchesAll, SearchesFirst, at_start, front_of, one_if, written_at_end}
 use Rattle.regex_command.specs.declared.failure.Failure.{Failure}
 use Rattle.regex_command.specs.declared.reading.Next.{Next}
 use Rattle.regex_command.specs.declared.reading.Next.TheVariants.{Line, LastLine, End}
@@ -47,6 +48,41 @@ module _ (r : Regex) (job : Job) (place : Named) (old before : Option (List ℕ)
     few = omega arith;
     written = appends_nothing before;
   }
+
+  pub nothing_first : SearchesFirst r job place old before before
+  nothing_first = (at_start, record { lines = []; are = stopped old old [] (begins old); steps = refl }, appends_nothing before)
+
+  pub all_first : (between : Option (List ℕ)) (n : ℕ) → SearchesAll r job place old before between n → SearchesFirst r job place old before between
+  all_first between n all = (
+    all.0,
+    record {
+      lines = all.1.lines;
+      are = record {
+        text = all.1.are.text;
+        known = all.1.are.known;
+        others = all.1.are.others;
+        whole = all.1.are.whole;
+        all = λ is. let bad : ⊥ = cc in absurd bad;
+      };
+      steps = all.1.steps;
+    },
+    all.3,
+  )
+
+  pub whole : (between after : Option (List ℕ)) (n : ℕ) → SearchesAll r job place old before between n →
+      Appends between after (written_at_end job place n) → WritesInput r job place old before after (nat_lt 0 n)
+  whole between after n all end =
+      let p = all.0 in
+      let bytes = p.written ++ written_at_end job place n in (
+        bytes,
+        record {
+          progress = p;
+          searched = all.1;
+          some = ap (nat_lt 0) (sym all.2);
+          is = ap (λ k. p.written ++ written_at_end job place k) (sym all.2);
+        },
+        appends_both before between after p.written (written_at_end job place n) all.3 end,
+      )
 
   module _ (now between after : Option (List ℕ)) (number selected : ℕ) (sofar : SoFar now between number selected) (line : List ℕ) (is_selected : Bool)
       (reply : Took between after (IsReply r line job (front_of job place (number + 1)) is_selected)) where

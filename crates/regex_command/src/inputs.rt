@@ -12,7 +12,7 @@ use crate::task::Task;
 use regress::Regex;
 use std::alloc::Global;
 use std::fs::{File, Files};
-use std::io::{BufReader, Read, Write};
+use std::io::{BufRead, BufReader, Read, Write};
 
 /// Searches files in order, or `input` if there are none, and returns whether a line is selected.
 pub(crate) fn search_all<'a, R: Files, I: Read + Drop, W: Write>(
@@ -97,8 +97,26 @@ fn search_input<'a, I: Read + Drop, W: Write>(
     ensures first { IfErr result (OrOutput (SearchesFirst regex.now (job task.entry) (named place.entry) (I.remaining input) (W.contents out.old) (W.contents out.new))) }
     ensures late { IfErr result IsLate }
 {
-    let mut reader = BufReader::new(alloc, input).map_err(|_| Failure::Memory)?;
-    let selected = search_lines(alloc, regex, task, place, &mut reader, out)?;
+    match BufReader::new(alloc, input) {
+        Ok(mut reader) => search_reader(alloc, regex, task, place, &mut reader, out),
+        Err(_) => Err(Failure::Memory),
+    }
+}
+
+/// Searches the lines of a reader, and writes what is shown at the end.
+fn search_reader<'a, B: BufRead, W: Write>(
+    alloc: Global,
+    regex: &Regex,
+    task: Task<'_>,
+    place: Place<'a>,
+    reader: &mut B,
+    out: &mut W,
+) -> Result<bool, Failure<'a>>
+    ensures all { IfOk result (WritesInput regex.now (job task.entry) (named place.entry) (B.Read.remaining reader.old) (W.contents out.old) (W.contents out.new)) }
+    ensures first { IfErr result (OrOutput (SearchesFirst regex.now (job task.entry) (named place.entry) (B.Read.remaining reader.old) (W.contents out.old) (W.contents out.new))) }
+    ensures late { IfErr result IsLate }
+{
+    let selected = search_lines(alloc, regex, task, place, reader, out)?;
     write_end(alloc, task, place, selected, out)?;
     Ok(selected > 0)
 }

@@ -1,0 +1,80 @@
+-- Inputs are searched one after another.
+use Rattle.std.proofs.Common.{◌≡◌, ◌∙◌, ℕ, suc, ◌+◌, ◌<◌, ◌≤◌, Bool, true, false, ◌||◌, List, [], ◌∷◌, ◌++◌, Option, Some, None, length, map, take, drop, get_or, refl, sym, ap, subst, arith, append-nil, append_assoc, add-one, drop-cons, take-append-drop, take_all, inl, inr}
+use Rattle.std.specs.Prelude.{nat_lt, String, string_bytes}
+use Rattle.std.specs.Io.KnownBytes.{Appends}
+use Rattle.std.specs.List.{FoldsTo}
+use Rattle.std.specs.declared.alloc.Global.{Global}
+use Rattle.std.proofs.lemmas.Fn.{FoldsTo-push}
+use Rattle.std.proofs.lemmas.List.{get_or-map, length-map, take_more}
+use Rattle.regress_arguments.proofs.lemmas.Output.{appends_both}
+use Rattle.regress.specs.declared.pattern.Regex.{Regex}
+use Rattle.regex_command.specs.Inputs.{Input, IsInputStep, Result, WritesInput, WritesInputs, WritesSomeOf, named_files}
+use Rattle.regex_command.specs.Job.{Job, Named}
+use Rattle.regex_command.specs.Searched.{SearchesFirst}
+
+appends_nothing : (known : Option (List ℕ)) → Appends known known []
+appends_nothing None = tt
+appends_nothing (Some bytes) = sym (append-nil bytes)
+
+abbrev nothing : Result
+nothing = record { any = false; written = [] }
+
+module _ (r : Regex) (job : Job) (inputs : List Input) (before : Option (List ℕ)) where
+  -- what was written for the first i inputs
+  pub record FirstInputs (i : ℕ) (any : Bool) (after : Option (List ℕ)) : Type 0 where
+    pub bytes : List ℕ
+    pub steps : FoldsTo (IsInputStep r job) nothing (take i inputs) (record { any = any; written = bytes })
+    pub written : Appends before after bytes
+
+  pub none_yet : FirstInputs 0 false before
+  none_yet = record { bytes = []; steps = refl; written = appends_nothing before }
+
+  module _ (i : ℕ) (any : Bool) (between : Option (List ℕ)) (sofar : FirstInputs i any between) where
+    pub all_inputs : length inputs ≤ i → WritesInputs r job inputs before between any
+    all_inputs end = (
+      sofar.bytes,
+      subst (λ some. FoldsTo (IsInputStep r job) nothing some (record { any = any; written = sofar.bytes })) (take_all i inputs end) sofar.steps,
+      sofar.written,
+    )
+
+    module _ (input : Input) (within : i < length inputs) (here : get_or inputs i input ≡ input) (after : Option (List ℕ)) where
+      pub one_more : (is : Bool) → WritesInput r job input.0 input.1 between after is → FirstInputs (i + 1) (any || is) after
+      one_more is took = record {
+        bytes = sofar.bytes ++ took.0;
+        steps = subst (λ some. FoldsTo (IsInputStep r job) nothing some (record { any = any || is; written = sofar.bytes ++ took.0 }))
+            (sym (take_more inputs i input within ∙ ap (λ x. take i inputs ++ x ∷ []) here))
+            (FoldsTo-push (IsInputStep r job) nothing (take i inputs) (record { any = any; written = sofar.bytes }) input
+            (record { any = any || is; written = sofar.bytes ++ took.0 }) sofar.steps
+            (record { any = is; bytes = took.0; written = took.1; next = refl }));
+        written = appends_both before between after sofar.bytes took.0 sofar.written took.2;
+      }
+
+      pub some_of : SearchesFirst r job input.0 input.1 between after → WritesSomeOf r job inputs before after
+      some_of first = (
+        sofar.bytes ++ first.0.written,
+        record {
+          before = take i inputs;
+          others = input ∷ drop (suc i) inputs;
+          parts = sym (take-append-drop i inputs) ∙ ap (λ rest. take i inputs ++ rest) (drop-cons inputs i input within ∙ ap (λ x. x ∷ drop (suc i) inputs) here);
+          result = record { any = any; written = sofar.bytes };
+          steps = sofar.steps;
+          more = first.0.written;
+          begun = (first.0, first.1, refl);
+          is = refl;
+        },
+        appends_both before between after sofar.bytes first.0.written sofar.written first.2,
+      )
+
+-- the i-th file as an input
+pub input_at : (files : List (String Global)) (i : ℕ) (file : String Global) → i < length files → get_or files i file ≡ file →
+    get_or (named_files (map string_bytes files)) i (record { name = string_bytes file; in_front = nat_lt 1 (length files) }, None)
+    ≡ (record { name = string_bytes file; in_front = nat_lt 1 (length files) }, None)
+input_at files i file within here =
+    let names = map string_bytes files in
+    let many = ap (nat_lt 1) (length-map files string_bytes) in
+    get_or-map (λ name. (record { name = name; in_front = nat_lt 1 (length names) }, None)) names i (string_bytes file) _
+        (omega (arith, within, length-map files string_bytes))
+    ∙ (λ j. (record { name = (get_or-map string_bytes files i file (string_bytes file) within ∙ ap string_bytes here) j; in_front = many j }, None))
+
+pub inputs_length : (files : List (String Global)) → length (named_files (map string_bytes files)) ≡ length files
+inputs_length files = length-map (map string_bytes files) _ ∙ length-map files string_bytes

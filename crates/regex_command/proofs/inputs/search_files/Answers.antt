@@ -1,0 +1,43 @@
+use Rattle.std.proofs.Common.{◌≡◌, ◌∙◌, ℕ, List, None, length, map, arith, ap, sym, subst}
+use Rattle.std.specs.Prelude.{nat_lt, string_bytes}
+use Rattle.regex_command.specs.Ending.{OrOutput}
+use Rattle.regex_command.specs.Inputs.{Input, WritesInput, WritesSomeOf, named_files}
+use Rattle.regex_command.specs.Job.{job}
+use Rattle.regex_command.specs.Searched.{SearchesFirst}
+use Rattle.regex_command.proofs.InputLemmas.{input_at, inputs_length, one_more, some_of}
+use Rattle.regex_command.proofs.SearchLemmas.{or_output, passed_on}
+use Rattle.regex_command.proofs.inputs.search_files.Goals as goal
+
+pub returns-in_err-any-clause-first : goal.returns-in_err-any-clause-first
+returns-in_err-any-clause-first g c =
+    let files = c.args.files.now in
+    let inputs = named_files (map string_bytes files) in
+    let i = c.loop-file.file-index in
+    let file = c.file-item.result in
+    let input : Input = (record { name = string_bytes file; in_front = nat_lt 1 (length files) }, None) in
+    let between = g.W.Write.contents c.loop-file.out in
+    let after = g.W.Write.contents c.search_file.new.out in
+    let r = c.args.regex.now in
+    let task = job c.args.task in
+    passed_on (OrOutput (WritesSomeOf r task inputs (g.W.Write.contents c.args.out.now) after)) c.from_residual.result c.in_err-any.field-0.0 c.from_residual.ensures.1
+    (or_output (SearchesFirst r task input.0 None between after) _ c.in_err-any.field-0.0
+    (subst (λ name. OrOutput (SearchesFirst r task (record { name = name; in_front = nat_lt 1 (length files) }) None between after) c.in_err-any.field-0.0)
+        c.as_str.ensures.value c.in_err-any.ensures.first)
+    (some_of r task inputs (g.W.Write.contents c.args.out.now) i c.loop-file.any between c.loop-file.invariant input
+        (omega (arith, c.loop-file-test.true, inputs_length files)) (input_at files i file c.loop-file-test.true (sym c.file-item.is)) after))
+
+pub loop-file-preserved : goal.loop-file-preserved
+loop-file-preserved g c =
+    let files = c.args.files.now in
+    let inputs = named_files (map string_bytes files) in
+    let i = c.loop-file.file-index in
+    let file = c.file-item.result in
+    let input : Input = (record { name = string_bytes file; in_front = nat_lt 1 (length files) }, None) in
+    let between = g.W.Write.contents c.loop-file.out in
+    let after = g.W.Write.contents c.search_file.new.out in
+    let r = c.args.regex.now in
+    let task = job c.args.task in
+    one_more r task inputs (g.W.Write.contents c.args.out.now) i c.loop-file.any between c.loop-file.invariant input
+        (omega (arith, c.loop-file-test.true, inputs_length files)) (input_at files i file c.loop-file-test.true (sym c.file-item.is)) after c.in_ok-any.field-0
+        (subst (λ name. WritesInput r task (record { name = name; in_front = nat_lt 1 (length files) }) None between after c.in_ok-any.field-0)
+        c.as_str.ensures.value c.in_ok-any.ensures.all)

@@ -1,0 +1,8 @@
+use Rattle.std.proofs.Common.{inr, None}
+use Rattle.regex_command.specs.Job.{job, named}
+use Rattle.regex_command.proofs.SearchLemmas.{nothing_first}
+use Rattle.regex_command.proofs.inputs.search_input.Goals as goal
+
+pub returns-in-Err-clause-first : goal.returns-in-Err-clause-first
+returns-in-Err-clause-first g c =
+    inr (nothing_first c.args.regex.now (job c.args.task) (named c.args.place) (g.I.Read.remaining c.args.input) (g.W.Write.contents c.args.out.now))
