@@ -1,6 +1,6 @@
 -- Inputs are searched one after another.
 use Rattle.std.proofs.Common.{◌≡◌, ◌∙◌, ℕ, suc, ◌+◌, ◌<◌, ◌≤◌, Bool, true, false, ◌||◌, List, [], ◌∷◌, ◌++◌, Option, Some, None, length, map, take, drop, get_or, refl, sym, ap, subst, arith, append-nil, append_assoc, add-one, drop-cons, take-append-drop, take_all, inl, inr}
-use Rattle.std.specs.Prelude.{nat_lt, String, string_bytes}
+use Rattle.std.specs.Prelude.{nat_lt, String, string_bytes, codes}
 use Rattle.std.specs.Io.KnownBytes.{Appends}
 use Rattle.std.specs.List.{FoldsTo}
 use Rattle.std.specs.declared.alloc.Global.{Global}
@@ -8,7 +8,7 @@ use Rattle.std.proofs.lemmas.Fn.{FoldsTo-push}
 use Rattle.std.proofs.lemmas.List.{get_or-map, length-map, take_more}
 use Rattle.regress_arguments.proofs.lemmas.Output.{appends_both}
 use Rattle.regress.specs.declared.pattern.Regex.{Regex}
-use Rattle.regex_command.specs.Inputs.{Input, IsInputStep, Result, WritesInput, WritesInputs, WritesSomeOf, named_files}
+use Rattle.regex_command.specs.Inputs.{Input, IsInputStep, Result, WritesInput, WritesInputs, WritesSomeOf, inputs_of, named_files}
 use Rattle.regex_command.specs.Job.{Job, Named}
 use Rattle.regex_command.specs.Searched.{SearchesFirst}
 
@@ -78,3 +78,19 @@ input_at files i file within here =
 
 pub inputs_length : (files : List (String Global)) → length (named_files (map string_bytes files)) ≡ length files
 inputs_length files = length-map (map string_bytes files) _ ∙ length-map files string_bytes
+
+pub no_files : (files : List (String Global)) (input : Option (List ℕ)) → length files ≡ 0 →
+    inputs_of (map string_bytes files) input ≡ (record { name = codes "(standard input)"; in_front = false }, input) ∷ []
+no_files [] input none = refl
+no_files (file ∷ files) input none = absurd (omega (arith, none))
+
+pub some_files : (files : List (String Global)) (input : Option (List ℕ)) → (length files ≡ 0 → ⊥) → inputs_of (map string_bytes files) input ≡ named_files (map string_bytes files)
+some_files [] input some = absurd (some refl)
+some_files (file ∷ files) input some = refl
+
+module _ (r : Regex) (job : Job) (place : Named) (input before after : Option (List ℕ)) where
+  pub one_all : (any : Bool) → WritesInput r job place input before after any → WritesInputs r job ((place, input) ∷ []) before after any
+  one_all any took = (took.0, (record { any = any; written = took.0 }, record { any = any; bytes = took.0; written = took.1; next = refl }, refl), took.2)
+
+  pub one_some : SearchesFirst r job place input before after → WritesSomeOf r job ((place, input) ∷ []) before after
+  one_some first = some_of r job ((place, input) ∷ []) before 0 false before (none_yet r job ((place, input) ∷ []) before) (place, input) (omega arith) refl after first

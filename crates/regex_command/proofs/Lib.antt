@@ -1,3 +1,4 @@
 pub mod InputLemmas
 pub mod LineLemmas
+pub mod ReplyLemmas
 pub mod SearchLemmas

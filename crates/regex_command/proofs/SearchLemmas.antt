@@ -172,3 +172,7 @@ or_output P Q failure (inr p) more = inr (more p)
 pub byte_of : (b : Bool) → bool_byte b ≡ one_if b
 byte_of true = refl
 byte_of false = refl
+
+pub if_err_map : {X : Type 0} (P Q : Type 0) (result : Result X Failure) → IfErr result (OrOutput P) → (P → Q) → IfErr result (OrOutput Q)
+if_err_map P Q (Ok x) h more = tt
+if_err_map P Q (Err failure) h more = or_output P Q failure h more

@@ -1,5 +1,5 @@
 -- What the program writes for a request.
-use Rattle.std.specs.Prelude.{◌≡◌, ℕ, Bool, true, false, ◌||◌, List, ◌++◌, Option, Some, None, Result, Ok, Err, chars, codes}
+use Rattle.std.specs.Prelude.{◌≡◌, ℕ, Bool, true, false, ◌⊎◌, ◌||◌, List, ◌++◌, Option, ⊤, chars, codes}
 use Rattle.std.specs.Io.KnownBytes.{Appends}
 use Rattle.regress_arguments.specs.Output.{Took}
 use Rattle.regress_escape.specs.Escape.{escaped}
@@ -23,6 +23,22 @@ setting_of request = record { flags = request.flags; table = unicode_table }
 abbrev pub IsRegexOf : Request → Regex → Type 0
 IsRegexOf request r = IsCompiled (setting_of request) request.pattern r
 
+-- No pattern is accepted, or it is too large, or memory is short.
+abbrev pub IsRejected : Request → Failure → Type 0
+IsRejected request Usage = ⊥
+IsRejected request Memory = ⊤
+IsRejected request Output = ⊥
+IsRejected request (Syntax pattern text position) = NoneIsAccepted (setting_of request) (chars request.pattern)
+IsRejected request TooLarge = ⊤
+IsRejected request OutOfSteps = ⊥
+IsRejected request (Unreadable name) = ⊥
+IsRejected request (NotUtf8 name) = ⊥
+IsRejected request (TooLong name) = ⊥
+
+-- a syntax error is due only if no pattern is accepted
+abbrev pub IsDue : Request → Failure → Type 0
+IsDue request failure = IsRejected request failure ⊎ IsLate failure
+
 -- a job that changes lines
 abbrev pub changes : Job → Bool
 changes (matching s) = false
@@ -42,3 +58,21 @@ PrintsFirst input old new request =
 -- a text, escaped, on a line
 abbrev pub PrintsEscaped : (old new : Option (List ℕ)) → (text : List ℕ) → Type 0
 PrintsEscaped old new text = Took old new (λ bytes. (pattern : List ℕ) × (chars pattern ≡ escaped (chars text)) × (bytes ≡ pattern ++ codes "\n"))
+
+-- What is written: the help, an escaped text, or the output of a search. `found` states whether something is found.
+abbrev pub Prints : (help : List ℕ) → (input old new : Option (List ℕ)) → (found : Bool) → Ask → Type 0
+Prints text input old new found help = (found ≡ true) × Appends old new text
+Prints text input old new found (escape string) = (found ≡ true) × PrintsEscaped old new string
+Prints text input old new found (search request) = PrintsAll input old new found request
+
+-- What is written before a failure: nothing, or what a search writes for its first lines.
+abbrev pub PrintsSome : (input old new : Option (List ℕ)) → (nothing : Type 0) → Ask → Type 0
+PrintsSome input old new nothing help = nothing
+PrintsSome input old new nothing (escape string) = nothing
+PrintsSome input old new nothing (search request) = nothing ⊎ PrintsFirst input old new request
+
+-- A failure is due: a syntax error only for a search whose pattern is rejected, wrong usage never.
+abbrev pub MayFail : Ask → Failure → Type 0
+MayFail help failure = IsLate failure
+MayFail (escape string) failure = IsLate failure
+MayFail (search request) failure = IsDue request failure

@@ -1,5 +1,7 @@
 //! Compiles the pattern of a request.
 ghost use Rattle.std.specs.Prelude.{IfOk, IfErr};
+ghost use Rattle.regex_command.specs.Asked.{requested};
+ghost use Rattle.regex_command.specs.Printed.{IsRegexOf, IsRejected};
 
 use crate::asked::Request;
 use crate::failure::Failure;
@@ -9,23 +11,19 @@ use std::alloc::Global;
 use std::sync::Arc;
 
 /// Compiles the pattern of a request.
-pub(crate) fn compiled<'a>(alloc: Global, request: Request<'a>) -> Result<Regex, Failure<'a>> {
+pub(crate) fn compiled<'a>(alloc: Global, request: Request<'a>) -> Result<Regex, Failure<'a>>
+    ensures compiled { IfOk result (IsRegexOf (requested request.entry)) }
+    ensures failed { IfErr result (IsRejected (requested request.entry)) }
+{
     let tables = Arc::new(alloc, unicode_tables(alloc)?)?;
     match Regex::with_flags(alloc, request.pattern, request.flags, &tables) {
         Ok(regex) => Ok(regex),
-        Err(error) => Err(rejected(error, request.pattern)),
-    }
-}
-
-/// Converts an error of a pattern.
-fn rejected<'a>(error: Error, pattern: &'a str) -> Failure<'a> {
-    match error {
-        Error::Syntax { text, position, .. } => Failure::Syntax {
-            pattern,
+        Err(Error::Syntax { text, position, .. }) => Err(Failure::Syntax {
+            pattern: request.pattern,
             text,
             position,
-        },
-        Error::TooLarge => Failure::TooLarge,
-        Error::Memory => Failure::Memory,
+        }),
+        Err(Error::TooLarge) => Err(Failure::TooLarge),
+        Err(Error::Memory) => Err(Failure::Memory),
     }
 }

@@ -3,6 +3,14 @@
 //! output buffer fails.
 #![tactic(auto)]
 
+ghost use Rattle.std.specs.Prelude.{◌≡◌, ◌≤◌, ◌⊎◌, true, false, None, IfSome, IfOk, IfErr, OnOk, Err};
+ghost use Rattle.std.specs.Io.KnownBytes.{Appends};
+ghost use Rattle.regex_command.specs.Asked.{asked_of, requested};
+ghost use Rattle.regex_command.specs.Ending.{IsLate, OrOutput};
+ghost use Rattle.regex_command.specs.Job.{job};
+ghost use Rattle.regex_command.specs.Printed.{IsDue, MayFail, Prints, PrintsAll, PrintsEscaped, PrintsFirst, PrintsSome, changes};
+ghost use Rattle.regex_command.specs.declared.failure.Failure.TheVariants.{Output, Usage};
+
 mod asked;
 mod compiling;
 mod failure;
@@ -79,6 +87,13 @@ pub fn run_regex<R: Files, I: Read + Drop, W: Write, E: Write>(
     err: &mut E,
 ) -> u8
     ensures known { result ≤ 2 }
+    ensures found { result ≡ 0 → IfSome (asked_of args.now)
+        (Prints HELP.now (I.remaining input) (W.contents out.old) (W.contents out.new) true) }
+    ensures none { result ≡ 1 → IfSome (asked_of args.now)
+        (Prints HELP.now (I.remaining input) (W.contents out.old) (W.contents out.new) false) }
+    ensures usage { asked_of args.now ≡ None → result ≡ 2 }
+    ensures untouched { asked_of args.now ≡ None → out.new ≡ out.old }
+    ensures quiet { (result ≡ 0) ⊎ (result ≡ 1) → err.new ≡ err.old }
 {
     match response(rt, alloc, args, input, out) {
         Ok(true) => 0,
@@ -94,7 +109,15 @@ fn response<'a, R: Files, I: Read + Drop, W: Write>(
     args: &'a [String],
     input: I,
     out: &mut W,
-) -> Result<bool, Failure<'a>> {
+) -> Result<bool, Failure<'a>>
+    ensures usage { asked_of args.now ≡ None → result ≡ Err Usage }
+    ensures untouched { asked_of args.now ≡ None → out.new ≡ out.old }
+    ensures found { IfOk result (λ found. IfSome (asked_of args.now)
+        (Prints HELP.now (I.remaining input) (W.contents out.old) (W.contents out.new) found)) }
+    ensures first { IfErr result (OrOutput (IfSome (asked_of args.now)
+        (PrintsSome (I.remaining input) (W.contents out.old) (W.contents out.new) (out.new ≡ out.old)))) }
+    ensures due { IfErr result (λ failure. IfSome (asked_of args.now) (λ ask. MayFail ask failure)) }
+{
     match read_asked(args) {
         None => Err(Failure::Usage),
         Some(Asked::Help) => print_help(out),
@@ -110,14 +133,21 @@ fn print_search<'a, R: Files, I: Read + Drop, W: Write>(
     request: Request<'a>,
     input: I,
     out: &mut W,
-) -> Result<bool, Failure<'a>> {
+) -> Result<bool, Failure<'a>>
+    ensures all { IfOk result (λ found. PrintsAll (I.remaining input) (W.contents out.old) (W.contents out.new) found (requested request.entry)) }
+    ensures first { IfErr result (OrOutput ((out.new ≡ out.old) ⊎ PrintsFirst (I.remaining input) (W.contents out.old) (W.contents out.new) (requested request.entry))) }
+    ensures due { IfErr result (IsDue (requested request.entry)) }
+{
     let regex = compiled(alloc, request)?;
-    let any = search_all(rt, alloc, &regex, request.task, request.files, input, out);
+    let searched = search_all(rt, alloc, &regex, request.task, request.files, input, out);
     out.flush().map_err(|_| Failure::Output)?;
-    Ok(any? || changes(request.task))
+    let any = searched?;
+    Ok(any || changes(request.task))
 }
 
-fn changes(task: Task<'_>) -> bool {
+fn changes(task: Task<'_>) -> bool
+    ensures { result ≡ changes (job task.entry) }
+{
     match task {
         Task::Match(_) => false,
         Task::Replace(_) | Task::Split => true,
@@ -129,7 +159,12 @@ fn print_escaped<'a, W: Write>(
     alloc: Global,
     text: &'a str,
     out: &mut W,
-) -> Result<bool, Failure<'a>> {
+) -> Result<bool, Failure<'a>>
+    ensures escaped { IfOk result (λ _. PrintsEscaped (W.contents out.old) (W.contents out.new) text.now) }
+    ensures found { IfOk result (λ found. found ≡ true) }
+    ensures first { IfErr result (OrOutput (out.new ≡ out.old)) }
+    ensures late { IfErr result IsLate }
+{
     let mut pattern = escape(alloc, text)?;
     pattern.push_str("\n")?;
     print(&pattern, out)?;
@@ -137,13 +172,21 @@ fn print_escaped<'a, W: Write>(
 }
 
 /// Writes the help.
-fn print_help<'a, W: Write>(out: &mut W) -> Result<bool, Failure<'a>> {
+fn print_help<'a, W: Write>(out: &mut W) -> Result<bool, Failure<'a>>
+    ensures help { IfOk result (λ _. Appends (W.contents out.old) (W.contents out.new) HELP.now) }
+    ensures found { IfOk result (λ found. found ≡ true) }
+    ensures first { IfErr result (OrOutput (out.new ≡ out.old)) }
+    ensures late { IfErr result IsLate }
+{
     print(HELP, out)?;
     Ok(true)
 }
 
 /// Writes a text.
-fn print<'a, W: Write>(text: &str, out: &mut W) -> Result<(), Failure<'a>> {
+fn print<'a, W: Write>(text: &str, out: &mut W) -> Result<(), Failure<'a>>
+    ensures text { OnOk result (Appends (W.contents out.old) (W.contents out.new) text.now) }
+    ensures output { IfErr result (λ failure. failure ≡ Output) }
+{
     out.write_all(text.as_bytes()).map_err(|_| Failure::Output)?;
     out.flush().map_err(|_| Failure::Output)?;
     Ok(())

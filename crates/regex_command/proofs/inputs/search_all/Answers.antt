@@ -1,0 +1,22 @@
+use Rattle.std.proofs.Common.{◌≡◌, ℕ, List, map, length, rules, ap, sym, subst}
+use Rattle.std.specs.Prelude.{IfErr, codes, false, string_bytes}
+use Rattle.regex_command.specs.Ending.{OrOutput}
+use Rattle.regex_command.specs.Inputs.{WritesSomeOf, inputs_of}
+use Rattle.regex_command.specs.Job.{job}
+use Rattle.regex_command.specs.Searched.{SearchesFirst}
+use Rattle.regex_command.proofs.InputLemmas.{no_files, one_some}
+use Rattle.regex_command.proofs.SearchLemmas.{if_err_map}
+use Rattle.regex_command.proofs.inputs.search_all.Goals as goal
+
+pub returns-then-is_empty-clause-first : goal.returns-then-is_empty-clause-first
+returns-then-is_empty-clause-first g c =
+    let files = c.args.files.now in
+    let input = g.I.Read.remaining c.args.input in
+    let old = g.W.Write.contents c.args.out.now in
+    let new = g.W.Write.contents c.search_input.new.out in
+    let r = c.args.regex.now in
+    let task = job c.args.task in
+    let none : length files ≡ 0 = search rules in
+    subst (λ inputs. IfErr c.search_input.result (OrOutput (WritesSomeOf r task inputs old new))) (sym (no_files files input none))
+    (if_err_map (SearchesFirst r task (record { name = codes "(standard input)"; in_front = false }) input old new) _ c.search_input.result
+    c.search_input.ensures.first (one_some r task _ input old new))
