@@ -1,3 +1,4 @@
+pub mod BufferedLemmas
 pub mod InputLemmas
 pub mod LineLemmas
 pub mod ReplyLemmas

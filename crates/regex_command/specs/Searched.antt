@@ -64,7 +64,7 @@ module _ (r : Regex) (job : Job) where
     pub are : AreLinesOf input all lines
     pub steps : FoldsTo (IsStep place) at_start lines p
 
-  -- all lines of an input were searched, so many were selected, and their output was written
+  -- all lines of an input were searched, this many are selected, and their output was written
   abbrev pub SearchesAll : Named → (input old new : Option (List ℕ)) → (selected : ℕ) → Type 0
   SearchesAll place input old new selected =
       (p : Progress) × IsSearched place input true p × (p.selected ≡ selected) × Appends old new p.written

@@ -106,7 +106,7 @@ fn write_message<E: Write>(failure: Failure<'_>, err: &mut E) -> io::Result<()> 
     }
 }
 
-/// Writes a line with a caret after so many spaces.
+/// Writes a line with a caret after this many spaces.
 fn write_caret<E: Write>(position: usize, err: &mut E) -> io::Result<()> {
     for _ in 0..position {
         err.write_all(b" ")?;

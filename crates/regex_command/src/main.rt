@@ -49,13 +49,17 @@ fn run<R: Env + Files + AllocGlobal, I: Read + Drop, W: Write + Drop, E: Write>(
     ensures known { result ≤ 2 }
 {
     match arguments(rt) {
-        Ok(args) => run_buffered(rt, rt.alloc(), &args, input, out, err),
+        Ok(args) => {
+            let (status, _) = run_buffered(rt, rt.alloc(), &args, input, out, err);
+            status
+        }
         Err(ArgumentsError::NotUtf8) => report(Failure::Usage, err),
         Err(ArgumentsError::OutOfMemory) => report(Failure::Memory, err),
     }
 }
 
-/// Runs `run_regex` with a buffered output, and returns the exit status.
+/// Runs `run_regex` with a buffered output, and returns the exit status, and the output if it has all that was written.
+/// The status is 2 if the buffer cannot be allocated.
 fn run_buffered<R: Files, I: Read + Drop, W: Write + Drop, E: Write>(
     rt: &R,
     alloc: Global,
@@ -63,12 +67,21 @@ fn run_buffered<R: Files, I: Read + Drop, W: Write + Drop, E: Write>(
     input: I,
     out: W,
     err: &mut E,
-) -> u8
-    ensures known { result ≤ 2 }
+) -> (u8, Option<W>)
+    ensures known { result.0 ≤ 2 }
+    ensures found { result.0 ≡ 0 → IfSome (asked_of args.now) (λ ask. IfSome result.1 (λ new.
+        Prints HELP.now (I.remaining input) (W.contents out) (W.contents new) true ask)) }
+    ensures none { result.0 ≡ 1 → IfSome (asked_of args.now) (λ ask. IfSome result.1 (λ new.
+        Prints HELP.now (I.remaining input) (W.contents out) (W.contents new) false ask)) }
+    ensures usage { asked_of args.now ≡ None → result.0 ≡ 2 }
+    ensures quiet { (result.0 ≡ 0) ⊎ (result.0 ≡ 1) → err.new ≡ err.old }
 {
     match BufWriter::new(alloc, out) {
-        Ok(mut buffered) => run_regex(rt, alloc, args, input, &mut buffered, err),
-        Err(_) => report(Failure::Memory, err),
+        Ok(mut buffered) => {
+            let status = run_regex(rt, alloc, args, input, &mut buffered, err);
+            (status, buffered.into_inner().ok())
+        }
+        Err(_) => (report(Failure::Memory, err), None),
     }
 }
 
@@ -96,8 +109,13 @@ pub fn run_regex<R: Files, I: Read + Drop, W: Write, E: Write>(
     ensures quiet { (result ≡ 0) ⊎ (result ≡ 1) → err.new ≡ err.old }
 {
     match response(rt, alloc, args, input, out) {
-        Ok(true) => 0,
-        Ok(false) => 1,
+        Ok(found) => {
+            if found {
+                0
+            } else {
+                1
+            }
+        }
         Err(failure) => report(failure, err),
     }
 }

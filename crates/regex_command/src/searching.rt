@@ -130,7 +130,7 @@ fn has_numbers(task: Task<'_>) -> bool
     }
 }
 
-/// Writes what a task shows at the end of an input with so many selected lines.
+/// Writes what a task shows at the end of an input with this many selected lines.
 pub(crate) fn write_end<'a, W: Write>(
     alloc: Global,
     task: Task<'_>,

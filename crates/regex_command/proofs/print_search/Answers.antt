@@ -1,0 +1,36 @@
+use Rattle.std.proofs.Common.{◌≡◌, ◌∙◌, ◌⊎◌, ◌||◌, inr, ap, sym}
+use Rattle.regress_arguments.proofs.lemmas.Output.{appends_kept}
+use Rattle.regex_command.specs.Asked.{requested}
+use Rattle.regex_command.specs.Ending.{OrOutput}
+use Rattle.regex_command.specs.Inputs.{WritesSomeOf, inputs_of}
+use Rattle.regex_command.specs.Job.{job}
+use Rattle.regex_command.specs.Printed.{PrintsFirst, changes}
+use Rattle.regex_command.proofs.SearchLemmas.{or_output, passed_on}
+use Rattle.regex_command.proofs.print_search.Goals.{then-any, else-any}
+use Rattle.regex_command.proofs.print_search.Goals as goal
+
+pub returns-in_err-any-clause-first : goal.returns-in_err-any-clause-first
+returns-in_err-any-clause-first g c =
+    let request = requested c.args.request in
+    let input = g.I.Read.remaining c.args.input in
+    let old = g.W.Write.contents c.args.out.now in
+    let between = g.W.Write.contents c.search_all-searched.new.out in
+    let new = g.W.Write.contents c.flush.new.self in
+    let r = c.in_ok-regex.regex in
+    passed_on (OrOutput (c.flush.new.self ≡ c.args.out.now ⊎ PrintsFirst input old new request)) c.from_residual-in_err-any.result c.in_err-any.field-0.0
+    c.from_residual-in_err-any.ensures.1
+    (or_output (WritesSomeOf r request.job (inputs_of request.files input) old between) _ c.in_err-any.field-0.0 c.in_err-any.ensures.first
+    (λ some. inr (r, c.in_ok-regex.ensures.compiled, (some.0, some.1, appends_kept old between new some.0 some.2 c.flush.ensures.bytes))))
+
+pub returns-clause-all : goal.returns-clause-all
+returns-clause-all g c =
+    let task = job c.args.request.task in
+    let old = g.W.Write.contents c.args.out.now in
+    let between = g.W.Write.contents c.search_all-searched.new.out in
+    let new = g.W.Write.contents c.flush.new.self in
+    let all = c.in_ok-any.ensures.all in
+    let found : c.if-any.result ≡ (c.in_ok-any.any || changes task) = elim c.if-any.branch [
+      | then-any w ↦ w.result-is ∙ ap (λ b. b || changes task) (sym w.if-any.true)
+      | else-any w ↦ w.result-is ∙ w.changes.ensures ∙ ap (λ b. b || changes task) (sym w.if-any.false)
+    ] in
+    (c.in_ok-regex.regex, c.in_ok-regex.ensures.compiled, (c.in_ok-any.any, found, (all.0, all.1, appends_kept old between new all.0 all.2 c.flush.ensures.bytes)))
