@@ -30,7 +30,7 @@ returns-clause-all g c =
     let new = g.W.Write.contents c.flush.new.self in
     let all = c.in_ok-any.ensures.all in
     let found : c.if-any.result ≡ (c.in_ok-any.any || changes task) = elim c.if-any.branch [
-      | then-any w ↦ w.result-is ∙ ap (λ b. b || changes task) (sym w.if-any.true)
+      | then-any w ↦ w.result-is ∙ w.if-any.true ∙ ap (λ b. b || changes task) (sym w.if-any.true)
       | else-any w ↦ w.result-is ∙ w.changes.ensures ∙ ap (λ b. b || changes task) (sym w.if-any.false)
     ] in
     (c.in_ok-regex.regex, c.in_ok-regex.ensures.compiled, (c.in_ok-any.any, found, (all.0, all.1, appends_kept old between new all.0 all.2 c.flush.ensures.bytes)))
