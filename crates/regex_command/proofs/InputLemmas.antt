@@ -30,13 +30,6 @@ module _ (r : Regex) (job : Job) (inputs : List Input) (before : Option (List �
   none_yet = record { bytes = []; steps = refl; written = appends_nothing before }
 
   module _ (i : ℕ) (any : Bool) (between : Option (List ℕ)) (sofar : FirstInputs i any between) where
-    pub all_inputs : length inputs ≤ i → WritesInputs r job inputs before between any
-    all_inputs end = (
-      sofar.bytes,
-      subst (λ some. FoldsTo (IsInputStep r job) nothing some (record { any = any; written = sofar.bytes })) (take_all i inputs end) sofar.steps,
-      sofar.written,
-    )
-
     module _ (input : Input) (within : i < length inputs) (here : get_or inputs i input ≡ input) (after : Option (List ℕ)) where
       pub one_more : (is : Bool) → WritesInput r job input.0 input.1 between after is → FirstInputs (i + 1) (any || is) after
       one_more is took = record {
@@ -73,7 +66,7 @@ input_at files i file within here =
     let names = map string_bytes files in
     let many = ap (nat_lt 1) (length-map files string_bytes) in
     get_or-map (λ name. (record { name = name; in_front = nat_lt 1 (length names) }, None)) names i (string_bytes file) _
-        (omega (arith, within, length-map files string_bytes))
+    (omega (arith, within, length-map files string_bytes))
     ∙ (λ j. (record { name = (get_or-map string_bytes files i file (string_bytes file) within ∙ ap string_bytes here) j; in_front = many j }, None))
 
 pub inputs_length : (files : List (String Global)) → length (named_files (map string_bytes files)) ≡ length files
@@ -83,10 +76,6 @@ pub no_files : (files : List (String Global)) (input : Option (List ℕ)) → le
     inputs_of (map string_bytes files) input ≡ (record { name = codes "(standard input)"; in_front = false }, input) ∷ []
 no_files [] input none = refl
 no_files (file ∷ files) input none = absurd (omega (arith, none))
-
-pub some_files : (files : List (String Global)) (input : Option (List ℕ)) → (length files ≡ 0 → ⊥) → inputs_of (map string_bytes files) input ≡ named_files (map string_bytes files)
-some_files [] input some = absurd (some refl)
-some_files (file ∷ files) input some = refl
 
 module _ (r : Regex) (job : Job) (place : Named) (input before after : Option (List ℕ)) where
   pub one_all : (any : Bool) → WritesInput r job place input before after any → WritesInputs r job ((place, input) ∷ []) before after any

@@ -132,7 +132,7 @@ module _ (old now : Option (List ℕ)) (lines : List (List ℕ)) (sofar : HasRea
           sym (one ∙ ap (λ t. bytes ++ t) (two ∙ ap (λ t. line ++ t) is ∙ append-nil line))
 
   pub stopped : AreLinesOf old false lines
-  stopped = 
+  stopped =
       let rest = left old now sofar.bytes sofar.consumed in
       record {
         text = sofar.bytes ++ rest.0;

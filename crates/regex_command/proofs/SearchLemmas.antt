@@ -37,37 +37,8 @@ module _ (r : Regex) (job : Job) (place : Named) (old before : Option (List ℕ)
     pub few : selected ≤ number
     pub written : Appends before after progress.written
 
-  pub starts : SoFar old before 0 0
-  starts = record {
-    lines = [];
-    read = begins old;
-    progress = at_start;
-    steps = refl;
-    number_is = refl;
-    selected_is = refl;
-    few = omega arith;
-    written = appends_nothing before;
-  }
-
   pub nothing_first : SearchesFirst r job place old before before
   nothing_first = (at_start, record { lines = []; are = stopped old old [] (begins old); steps = refl }, appends_nothing before)
-
-  pub all_first : (between : Option (List ℕ)) (n : ℕ) → SearchesAll r job place old before between n → SearchesFirst r job place old before between
-  all_first between n all = (
-    all.0,
-    record {
-      lines = all.1.lines;
-      are = record {
-        text = all.1.are.text;
-        known = all.1.are.known;
-        others = all.1.are.others;
-        whole = all.1.are.whole;
-        all = λ is. let bad : ⊥ = cc in absurd bad;
-      };
-      steps = all.1.steps;
-    },
-    all.3,
-  )
 
   pub whole : (between after : Option (List ℕ)) (n : ℕ) → SearchesAll r job place old before between n →
       Appends between after (written_at_end job place n) → WritesInput r job place old before after (nat_lt 0 n)

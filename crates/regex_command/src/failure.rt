@@ -27,7 +27,11 @@ pub(crate) enum Failure<'a> {
     /// Standard output cannot be written.
     Output,
     /// The pattern is rejected, with a syntax error at a code-point index of the pattern or at its end.
-    Syntax { pattern: &'a str, text: String, position: usize },
+    Syntax {
+        pattern: &'a str,
+        text: String,
+        position: usize,
+    },
     /// The pattern is too large.
     TooLarge,
     /// The step limit was reached.

@@ -109,13 +109,7 @@ pub fn run_regex<R: Files, I: Read + Drop, W: Write, E: Write>(
     ensures quiet { (result ≡ 0) ⊎ (result ≡ 1) → err.new ≡ err.old }
 {
     match response(rt, alloc, args, input, out) {
-        Ok(found) => {
-            if found {
-                0
-            } else {
-                1
-            }
-        }
+        Ok(found) => { if found { 0 } else { 1 } }
         Err(failure) => report(failure, err),
     }
 }

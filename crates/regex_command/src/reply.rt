@@ -77,12 +77,7 @@ fn shown(
 }
 
 /// Returns a line for each match that is not empty.
-fn all_matches(
-    alloc: Global,
-    regex: &Regex,
-    front: &str,
-    line: &str,
-) -> Result<String, SearchError>
+fn all_matches(alloc: Global, regex: &Regex, front: &str, line: &str) -> Result<String, SearchError>
     ensures { IfOk result (λ text. ShowsMatches regex.now line.now front.now (string_bytes text)) }
 {
     let matches = regex.find_all(alloc, line)?;
@@ -99,12 +94,7 @@ fn all_matches(
 }
 
 /// Returns the line with its matches replaced.
-fn replaced(
-    alloc: Global,
-    regex: &Regex,
-    template: &str,
-    line: &str,
-) -> Result<String, SearchError>
+fn replaced(alloc: Global, regex: &Regex, template: &str, line: &str) -> Result<String, SearchError>
     ensures { IfOk result (λ text. ShowsReplaced regex.now line.now template.now (string_bytes text)) }
 {
     let mut text = regex.replace_all(alloc, line, template)?;

@@ -22,9 +22,9 @@ returns-in_err-any-clause-first g c =
     passed_on (OrOutput (WritesSomeOf r task inputs (g.W.Write.contents c.args.out.now) after)) c.from_residual.result c.in_err-any.field-0.0 c.from_residual.ensures.1
     (or_output (SearchesFirst r task input.0 None between after) _ c.in_err-any.field-0.0
     (subst (λ name. OrOutput (SearchesFirst r task (record { name = name; in_front = nat_lt 1 (length files) }) None between after) c.in_err-any.field-0.0)
-        c.as_str.ensures.value c.in_err-any.ensures.first)
+    c.as_str.ensures.value c.in_err-any.ensures.first)
     (some_of r task inputs (g.W.Write.contents c.args.out.now) i c.loop-file.any between c.loop-file.invariant input
-        (omega (arith, c.loop-file-test.true, inputs_length files)) (input_at files i file c.loop-file-test.true (sym c.file-item.is)) after))
+    (omega (arith, c.loop-file-test.true, inputs_length files)) (input_at files i file c.loop-file-test.true (sym c.file-item.is)) after))
 
 pub loop-file-preserved : goal.loop-file-preserved
 loop-file-preserved g c =
@@ -38,6 +38,6 @@ loop-file-preserved g c =
     let r = c.args.regex.now in
     let task = job c.args.task in
     one_more r task inputs (g.W.Write.contents c.args.out.now) i c.loop-file.any between c.loop-file.invariant input
-        (omega (arith, c.loop-file-test.true, inputs_length files)) (input_at files i file c.loop-file-test.true (sym c.file-item.is)) after c.in_ok-any.field-0
-        (subst (λ name. WritesInput r task (record { name = name; in_front = nat_lt 1 (length files) }) None between after c.in_ok-any.field-0)
-        c.as_str.ensures.value c.in_ok-any.ensures.all)
+    (omega (arith, c.loop-file-test.true, inputs_length files)) (input_at files i file c.loop-file-test.true (sym c.file-item.is)) after c.in_ok-any.field-0
+    (subst (λ name. WritesInput r task (record { name = name; in_front = nat_lt 1 (length files) }) None between after c.in_ok-any.field-0)
+    c.as_str.ensures.value c.in_ok-any.ensures.all)

@@ -2,7 +2,7 @@ use Rattle.std.proofs.Common.{◌≡◌, List, ℕ, ap, sym, subst}
 use Rattle.regex_command.specs.Ending.{OrOutput}
 use Rattle.regex_command.specs.Job.{job, named}
 use Rattle.regex_command.specs.Searched.{SearchesFirst}
-use Rattle.regex_command.proofs.SearchLemmas.{all_first, or_output, passed_on, whole}
+use Rattle.regex_command.proofs.SearchLemmas.{whole}
 use Rattle.regex_command.proofs.inputs.search_reader.Goals as goal
 
 pub returns-clause-all : goal.returns-clause-all

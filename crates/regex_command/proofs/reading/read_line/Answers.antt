@@ -13,6 +13,9 @@ returns-in-Some g c =
     let old = g.B.Read.remaining c.args.reader.now in
     let all = ap (λ l. drop (length l) new) c.clear.ensures.items in
     let none = no_line_feed new c.in-Some.field-0.now (subst (λ l. StopsAt l 10) all read.stops)
-        (subst (λ l. (d : ℕ) → c.in-Some.field-0.now ≡ get_or l (length l - 1) d) c.deref.ensures.value c.in-Some.ensures.item.3.1) c.in-Some.field-0-test.1 in
-    (none, search rules, subst (λ l. Consumes old (g.B.Read.remaining c.read_until.new.self) l) all read.none_lost,
-     at_end old _ new (subst (λ l. IfSome old (λ xs. new ≡ l ++ take_through 10 xs)) c.clear.ensures.items read.bytes) read.rest none)
+    (subst (λ l. (d : ℕ) → c.in-Some.field-0.now ≡ get_or l (length l - 1) d) c.deref.ensures.value c.in-Some.ensures.item.3.1) c.in-Some.field-0-test.1 in (
+      none,
+      search rules,
+      subst (λ l. Consumes old (g.B.Read.remaining c.read_until.new.self) l) all read.none_lost,
+      at_end old _ new (subst (λ l. IfSome old (λ xs. new ≡ l ++ take_through 10 xs)) c.clear.ensures.items read.bytes) read.rest none,
+    )

@@ -22,12 +22,12 @@ returns-in-End-clause-all g c =
 pub returns-in_err-is_selected-clause-first : goal.returns-in_err-is_selected-clause-first
 returns-in_err-is_selected-clause-first g c =
     let first_lines = first c.args.regex.now (job c.args.task) (named c.args.place) (g.B.Read.remaining c.args.reader.now) (g.W.Write.contents c.args.out.now)
-        (g.B.Read.remaining c.loop-number.reader) (g.W.Write.contents c.loop-number.out) c.loop-number.number c.loop-number.selected c.loop-number.invariant in
+    (g.B.Read.remaining c.loop-number.reader) (g.W.Write.contents c.loop-number.out) c.loop-number.number c.loop-number.selected c.loop-number.invariant in
     passed_on (OrOutput (SearchesFirst c.args.regex.now (job c.args.task) (named c.args.place) (g.B.Read.remaining c.args.reader.now) (g.W.Write.contents c.args.out.now) (g.W.Write.contents c.write_reply.new.out)))
     c.from_residual-in_err-is_selected.result c.in_err-is_selected.field-0.0 c.from_residual-in_err-is_selected.ensures.1
     (or_output (c.write_reply.new.out ≡ c.loop-number.out) _ c.in_err-is_selected.field-0.0 c.in_err-is_selected.ensures.untouched
     (λ same. subst (SearchesFirst c.args.regex.now (job c.args.task) (named c.args.place) (g.B.Read.remaining c.args.reader.now) (g.W.Write.contents c.args.out.now))
-        (ap g.W.Write.contents (sym same)) first_lines))
+    (ap g.W.Write.contents (sym same)) first_lines))
 
 pub returns-in-LastLine-clause-all : goal.returns-in-LastLine-clause-all
 returns-in-LastLine-clause-all g c =
