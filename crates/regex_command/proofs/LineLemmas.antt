@@ -1,5 +1,5 @@
 -- Lines that are read are the lines of the text.
-use Rattle.std.proofs.Common.{◌≤◌, ◌⊎◌, inl, inr, ◌≡◌, ◌≢◌, ◌∙◌, ℕ, zero, suc, ◌+◌, ◌-◌, ◌<◌, Bool, true, false, eqb, cond, List, [], ◌∷◌, ◌++◌, Option, Some, None, All, length, get_or, take, refl, sym, ap, subst, arith, append_assoc, append-nil, ne_eqb, eq-eqb, length-append}
+use Rattle.std.proofs.Common.{◌≤◌, ◌⊎◌, inl, inr, ◌≡◌, ◌≢◌, ◌∙◌, ℕ, ◌-◌, ◌<◌, Bool, true, false, eqb, cond, List, [], ◌∷◌, ◌++◌, Option, Some, None, All, length, get_or, take, refl, sym, ap, subst, arith, append_assoc, append-nil, ne_eqb, eq-eqb}
 use Rattle.std.specs.Prelude.{IfSome, OnSome}
 use Rattle.std.specs.Io.BufRead.{take_through, drop_through, DropsThrough}
 use Rattle.std.specs.Io.KnownBytes.{Consumes, IsAtEnd}
@@ -9,7 +9,7 @@ use Rattle.std.proofs.lemmas.List.{get_or-take, length-take}
 use Rattle.std.proofs.lemmas.List.Elements.{All-head, All-tail}
 use Rattle.regex_command.specs.Lines.{AreLinesOf, lines_of}
 use Rattle.regex_command.specs.Reading.{IsRead}
-use Rattle.regex_command.specs.declared.reading.Next.TheVariants.{Line, LastLine, End}
+use Rattle.regex_command.specs.declared.reading.Next.TheVariants.{Line, LastLine}
 
 -- no line feed is taken
 all_taken_of : (xs : List ℕ) → All (λ b. b ≢ 10) (take_through 10 xs) → drop_through 10 xs ≡ []

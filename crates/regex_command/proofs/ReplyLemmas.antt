@@ -1,8 +1,6 @@
 -- What loops over matches and pieces have written.
-use Rattle.std.proofs.Common.{◌≡◌, ◌∙◌, ℕ, ◌+◌, ◌<◌, ◌≤◌, Bool, true, false, cond, eqb, List, [], ◌∷◌, ◌++◌, All, flat_map, length, map, take, get_or, slice_range, refl, sym, ap, append_assoc, append-nil}
+use Rattle.std.proofs.Common.{ℕ, List, flat_map, map, take}
 use Rattle.std.specs.Borrow.{Bor}
-use Rattle.std.proofs.lemmas.List.{flat_map_more, map-append, take_more, take_all}
-use Rattle.regress_replace.specs.Expansion.{matched_text}
 use Rattle.regress.specs.Found.{match_of}
 use Rattle.regress.specs.declared.found.Match.{Match}
 use Rattle.regex_command.specs.Reply.{ended, shown_match}

@@ -1,6 +1,6 @@
 -- The lines of an input are searched one after another.
 use mir.Val.{bool_byte}
-use Rattle.std.proofs.Common.{◌≡◌, ◌∙◌, ◌⊎◌, inl, inr, ℕ, ◌+◌, ◌≤◌, Bool, true, false, List, [], ◌∷◌, ◌++◌, Option, Some, None, refl, sym, ap, subst, arith, append-nil}
+use Rattle.std.proofs.Common.{◌≡◌, inl, inr, ℕ, ◌+◌, ◌≤◌, Bool, true, false, List, [], ◌∷◌, ◌++◌, Option, Some, None, refl, sym, ap, subst, arith, append-nil}
 use Rattle.std.specs.Prelude.{Result, Ok, Err, IfErr, nat_lt}
 use Rattle.std.specs.Result.{IsErrAnd}
 use Rattle.std.specs.Io.KnownBytes.{Appends, IsAtEnd}
@@ -12,10 +12,9 @@ use Rattle.regress.specs.declared.pattern.Regex.{Regex}
 use Rattle.regex_command.specs.Ending.{OrOutput}
 use Rattle.regex_command.specs.Inputs.{WritesInput}
 use Rattle.regex_command.specs.Job.{Job, Named}
-use Rattle.regex_command.specs.Lines.{AreLinesOf}
 use Rattle.regex_command.specs.Reading.{IsRead}
 use Rattle.regex_command.specs.Reply.{IsReply}
-use Rattle.regex_command.specs.Searched.{IsSearched, IsStep, Progress, SearchesAll, SearchesFirst, at_start, front_of, one_if, written_at_end}
+use Rattle.regex_command.specs.Searched.{IsStep, Progress, SearchesAll, SearchesFirst, at_start, front_of, one_if, written_at_end}
 use Rattle.regex_command.specs.declared.failure.Failure.{Failure}
 use Rattle.regex_command.specs.declared.reading.Next.{Next}
 use Rattle.regex_command.specs.declared.reading.Next.TheVariants.{Line, LastLine, End}

@@ -1,7 +1,5 @@
 -- How a run of the program ends.
 use Rattle.std.specs.Prelude.{◌≡◌, ◌⊎◌, ⊤}
-use Rattle.regress.specs.Failures as regress
-use Rattle.regress.specs.declared.failure.Error.{Error}
 use Rattle.regex_command.specs.declared.failure.Failure.{Failure}
 use Rattle.regex_command.specs.declared.failure.Failure.TheVariants.{Usage, Memory, Output, Syntax, TooLarge, OutOfSteps, Unreadable, NotUtf8, TooLong}
 

@@ -5,7 +5,7 @@ use Rattle.std.specs.List.{FoldsTo}
 use Rattle.regress_arguments.specs.Output.{Took}
 use Rattle.regress.specs.declared.pattern.Regex.{Regex}
 use Rattle.regex_command.specs.Job.{Job, Named}
-use Rattle.regex_command.specs.Searched.{IsSearched, Progress, SearchesFirst, written_at_end}
+use Rattle.regex_command.specs.Searched.{IsSearched, Progress, written_at_end}
 
 -- an input: its name, and its bytes if they are known
 abbrev pub Input : Type 0

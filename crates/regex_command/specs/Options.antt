@@ -1,5 +1,5 @@
 -- The options before the pattern.
-use Rattle.std.specs.Prelude.{ℕ, Bool, true, false, ◌||◌, ◌&&◌, List, [], ◌∷◌, Option, Some, None, option_and_then, if◌then◌else◌, ◌==◌, bytes_eq, codes, drop, length, slice_index, String, string_bytes}
+use Rattle.std.specs.Prelude.{ℕ, true, false, ◌||◌, ◌&&◌, List, [], ◌∷◌, Option, Some, None, option_and_then, if◌then◌else◌, ◌==◌, bytes_eq, codes, drop, length, slice_index, String, string_bytes}
 use Rattle.std.specs.List.{starts_with}
 use Rattle.std.specs.declared.alloc.Global.{Global}
 use Rattle.regress_arguments.specs.Letters.{no_flags, with_letters}

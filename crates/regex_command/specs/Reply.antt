@@ -1,5 +1,5 @@
 -- What is written for a line.
-use Rattle.std.specs.Prelude.{◌≡◌, ◌↔◌, ℕ, Bool, true, false, not, IsTrue, List, [], ◌∷◌, ◌++◌, flat_map, length, Option, Some, None, if◌then◌else◌, ◌==◌, codes}
+use Rattle.std.specs.Prelude.{◌≡◌, ◌↔◌, ℕ, Bool, true, false, not, IsTrue, List, [], ◌++◌, flat_map, length, if◌then◌else◌, ◌==◌, codes}
 use Rattle.regress_match.specs.Matched.{Match}
 use Rattle.regress_match.specs.Searched.{AreAllMatches}
 use Rattle.regress_replace.specs.Expansion.{expansion, matched_text}

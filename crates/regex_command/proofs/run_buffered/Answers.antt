@@ -1,6 +1,6 @@
 -- The run goes through an empty buffer, which is written to the output at the end.
 use Rattle.std.proofs.Common.{◌≡◌, []}
-use Rattle.std.specs.Io.KnownBytes.{Keeps, append_known}
+use Rattle.std.specs.Io.KnownBytes.{append_known}
 use Rattle.std.specs.Io.Buffered.{writer_contents}
 use Rattle.std.proofs.lemmas.Option.{IfSome_then}
 use Rattle.regress_arguments.proofs.lemmas.Output.{ended}

@@ -1,7 +1,7 @@
-use Rattle.std.proofs.Common.{◌≡◌, ℕ, List, map, length, rules, ap, sym, subst}
-use Rattle.std.specs.Prelude.{IfErr, codes, false, string_bytes}
+use Rattle.std.proofs.Common.{◌≡◌, length, rules, sym, subst}
+use Rattle.std.specs.Prelude.{IfErr, codes, false}
 use Rattle.regex_command.specs.Ending.{OrOutput}
-use Rattle.regex_command.specs.Inputs.{WritesSomeOf, inputs_of}
+use Rattle.regex_command.specs.Inputs.{WritesSomeOf}
 use Rattle.regex_command.specs.Job.{job}
 use Rattle.regex_command.specs.Searched.{SearchesFirst}
 use Rattle.regex_command.proofs.InputLemmas.{no_files, one_some}

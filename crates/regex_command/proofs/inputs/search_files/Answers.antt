@@ -1,4 +1,4 @@
-use Rattle.std.proofs.Common.{◌≡◌, ◌∙◌, ℕ, List, None, length, map, arith, ap, sym, subst}
+use Rattle.std.proofs.Common.{None, length, map, arith, sym, subst}
 use Rattle.std.specs.Prelude.{nat_lt, string_bytes}
 use Rattle.regex_command.specs.Ending.{OrOutput}
 use Rattle.regex_command.specs.Inputs.{Input, WritesInput, WritesSomeOf, named_files}

@@ -1,4 +1,4 @@
-use Rattle.std.proofs.Common.{inr, None}
+use Rattle.std.proofs.Common.{inr}
 use Rattle.regex_command.specs.Job.{job, named}
 use Rattle.regex_command.proofs.SearchLemmas.{nothing_first}
 use Rattle.regex_command.proofs.inputs.search_input.Goals as goal

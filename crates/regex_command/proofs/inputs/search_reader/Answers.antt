@@ -1,7 +1,4 @@
-use Rattle.std.proofs.Common.{◌≡◌, List, ℕ, ap, sym, subst}
-use Rattle.regex_command.specs.Ending.{OrOutput}
 use Rattle.regex_command.specs.Job.{job, named}
-use Rattle.regex_command.specs.Searched.{SearchesFirst}
 use Rattle.regex_command.proofs.SearchLemmas.{whole}
 use Rattle.regex_command.proofs.inputs.search_reader.Goals as goal
 

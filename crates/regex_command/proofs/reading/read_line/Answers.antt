@@ -1,4 +1,4 @@
-use Rattle.std.proofs.Common.{get_or, rules, ◌≡◌, ◌≢◌, ◌∙◌, ◌-◌, ◌<◌, ◌++◌, All, List, ℕ, drop, take, length, sym, subst, ap, arith}
+use Rattle.std.proofs.Common.{get_or, rules, ◌≡◌, ◌-◌, ◌++◌, ℕ, drop, length, subst, ap}
 use Rattle.std.specs.Io.{StopsAt}
 use Rattle.std.specs.Io.KnownBytes.{Consumes}
 use Rattle.std.specs.Io.BufRead.{take_through}

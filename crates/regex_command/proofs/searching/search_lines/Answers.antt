@@ -1,5 +1,4 @@
-use Rattle.std.proofs.Common.{◌≡◌, ◌∙◌, inl, inr, List, ℕ, ap, sym, subst}
-use Rattle.std.specs.Prelude.{IfOk, IfErr}
+use Rattle.std.proofs.Common.{◌≡◌, inr, ap, sym, subst}
 use Rattle.regex_command.specs.Ending.{OrOutput}
 use Rattle.regex_command.specs.Reading.{IsRead}
 use Rattle.regex_command.specs.Searched.{SearchesFirst}
