@@ -8,7 +8,7 @@ use Rattle.std.proofs.lemmas.Fn.{FoldsTo-push}
 use Rattle.std.proofs.lemmas.List.{get_or-map, length-map, take_more}
 use Rattle.regress_arguments.proofs.lemmas.Output.{appends_both}
 use Rattle.regress.specs.declared.pattern.Regex.{Regex}
-use Rattle.regex_command.specs.Inputs.{Input, IsInputStep, Result, WritesInput, WritesInputs, WritesSomeOf, inputs_of, named_files}
+use Rattle.regex_command.specs.Inputs.{Input, IsInputStep, Result, WritesInput, WritesSomeOf, inputs_of, named_files}
 use Rattle.regex_command.specs.Job.{Job, Named}
 use Rattle.regex_command.specs.Searched.{SearchesFirst}
 
@@ -78,8 +78,5 @@ no_files [] input none = refl
 no_files (file ∷ files) input none = absurd (omega (arith, none))
 
 module _ (r : Regex) (job : Job) (place : Named) (input before after : Option (List ℕ)) where
-  pub one_all : (any : Bool) → WritesInput r job place input before after any → WritesInputs r job ((place, input) ∷ []) before after any
-  one_all any took = (took.0, (record { any = any; written = took.0 }, record { any = any; bytes = took.0; written = took.1; next = refl }, refl), took.2)
-
   pub one_some : SearchesFirst r job place input before after → WritesSomeOf r job ((place, input) ∷ []) before after
   one_some first = some_of r job ((place, input) ∷ []) before 0 false before (none_yet r job ((place, input) ∷ []) before) (place, input) (omega arith) refl after first
