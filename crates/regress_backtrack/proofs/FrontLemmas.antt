@@ -32,32 +32,9 @@ use Rattle.regress_backtrack.specs.declared.front.Front.TheVariants as kinds
 use Rattle.regress_backtrack.specs.Fronts.{Bounds, IsFront, IsOutside}
 use Rattle.regress_backtrack.proofs.StartLemmas.{ascii_fails, bytes_fail, no_member}
 
-or_left : (a b : Bool) → (a || b) ≡ false → a ≡ false
-or_left true b is = let bad : ⊥ = cc in absurd bad
-or_left false b is = refl
-
 or_right : (a b : Bool) → (a || b) ≡ false → b ≡ false
 or_right true b is = let bad : ⊥ = cc in absurd bad
 or_right false b is = is
-
--- outside of a union is outside of each of two sets
-pub outside_first : (d : Direction) (text : List ℕ) (k : ℕ) (all one two : ByteBitmap) → ((b : ℕ) → contains all b ≡ (contains one b || contains two b)) →
-    IsOutside d all text k → IsOutside d one text k
-outside_first d text k all one two union is = record {
-  after = is.after;
-  before = is.before;
-  byte = is.byte;
-  out = or_left _ _ (sym (union _) ∙ is.out);
-}
-
-pub outside_second : (d : Direction) (text : List ℕ) (k : ℕ) (all one two : ByteBitmap) → ((b : ℕ) → contains all b ≡ (contains one b || contains two b)) →
-    IsOutside d all text k → IsOutside d two text k
-outside_second d text k all one two union is = record {
-  after = is.after;
-  before = is.before;
-  byte = is.byte;
-  out = or_right _ _ (sym (union _) ∙ is.out);
-}
 
 or_true : (a : Bool) → (a || true) ≡ true
 or_true true = refl
@@ -85,9 +62,6 @@ below_of f low high all b lt is =
       | inr above ↦ let bad : true ≡ false = sym (all b above lt) ∙ is in absurd (false≢true (sym bad))
     ]
 
-pub both_none : (xs ys : List MatchState) → xs ≡ [] → ys ≡ [] → xs ++ ys ≡ []
-both_none xs ys x y = ap₂ ◌++◌ x y
-
 -- no outcomes are bounded by each front
 pub none_bounds : (front : Front) (d : Direction) (text : List ℕ) (k : ℕ) → Bounds front d text k []
 none_bounds kinds.Any d text k = tt
@@ -97,11 +71,6 @@ pub cond_bounds : (front : Front) (d : Direction) (text : List ℕ) (k : ℕ) (b
     Bounds front d text k (if b then states else [])
 cond_bounds front d text k true states is = is
 cond_bounds front d text k false states is = none_bounds front d text k
-
-pub either_bounds : (front : Front) (d : Direction) (text : List ℕ) (k : ℕ) (out : Out) (greedy : Bool) (a b : At) →
-    Bounds front d text k (out a ++ out b) → Bounds front d text k (out b ++ out a) → Bounds front d text k (either out greedy a b)
-either_bounds front d text k out true a b one two = one
-either_bounds front d text k out false a b one two = two
 
 -- the outcomes inside the text alone matter
 pub inside_bounds : (front : Front) (d : Direction) (text : List ℕ) (k : ℕ) (states : List MatchState) → (k ≤ length text → Bounds front d text k states) →
@@ -117,9 +86,6 @@ module _ (front : Front) (d : Direction) (text : List ℕ) (s : MatchState) (g :
   if_bounds : (b : Bool) → Bounds front d text s.position (flat_map g (if b then s ∷ [] else []))
   if_bounds true = one_bounds s refl
   if_bounds false = none_bounds front d text s.position
-
-  pub stay_bounds : Bounds front d text s.position (flat_map g (s ∷ []))
-  stay_bounds = one_bounds s refl
 
   -- an assertion keeps the position
   pub hold_bounds : (test : ℕ → Bool) → Bounds front d text s.position (flat_map g (hold_at test s))

@@ -153,6 +153,9 @@ fn other_alternative(input: &Input<'_, '_>, place: Place) -> Option<usize>
 }
 
 /// Returns whether a run is known to fail at a place, by the byte next to it.
+///
+/// # Preconditions
+/// The routines are a program.
 #[inline(always)]
 pub fn fails(input: &Input<'_, '_>, place: Place) -> bool
     requires input { IsInput input.now }

@@ -173,6 +173,9 @@ impl Front {
     }
 
     /// Returns the least position, `from` or later, that is not known to have no outcome in the forward direction.
+    ///
+    /// # Preconditions
+    /// `from` is inside the text.
     pub fn next_from(&self, text: &str, from: usize) -> usize
         requires { from ≤ length text.now }
         ensures low { from ≤ result }

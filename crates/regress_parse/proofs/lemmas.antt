@@ -1,6 +1,5 @@
 -- Lemmas on this crate's definitions, for the crates above.
 pub mod Scanned
 pub mod Reported
-
 -- Lemmas on the groups of a pattern. Their comments are where they are proved.
 pub use Rattle.regress_parse.proofs.GroupLemmas.{length-names, length-captures-tree_of}
