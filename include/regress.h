@@ -63,8 +63,10 @@ uint32_t regress_abi_version(void);
 
 /* Compiles a pattern, and writes `handle`. A handle that it had before is not freed.
 
-   `steps` is the number of steps that one search may take, and `nodes` the number of nodes that the tree of the pattern
-   may have; 0 is the default, a billion steps, about a minute at most, and a million nodes.
+   A search takes linear time if the pattern has neither a back reference nor a capture group in a lookaround that is not
+   negated, and is not too long: at most a thousand instructions. `steps` is the number of steps that any other search may
+   take, and `nodes` the number of nodes that the tree of the pattern may have; 0 is the default, a billion steps, about a
+   minute at most, and a million nodes.
 
    Returns OK, SYNTAX, TOO_LARGE, MEMORY or BAD_INPUT. With OK `handle` is written, else it is unchanged. With SYNTAX
    `kind` is the kind of the syntax error and `position` its position, from 0 to the number of code points of the

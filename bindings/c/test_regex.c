@@ -210,7 +210,7 @@ static void replaces(void) {
     CHECK(compiled("", SMALL, &regex) == REGRESS_OK);
     CHECK(all_replaced(&regex, "\xE2\x82\xAC", "-", ROOM) == REGRESS_OK && are_bytes("-\xE2\x82\xAC-"));
     regress_free(&regex);
-    CHECK(regress_compile((const uint8_t *)"(a*)*b", 6, SMALL, 1, 0, &regex, &kind, &position) == REGRESS_OK);
+    CHECK(regress_compile((const uint8_t *)"(a*)*\\1b", 8, SMALL, 1, 0, &regex, &kind, &position) == REGRESS_OK);
     CHECK(all_replaced(&regex, "aaaaaaaaaaaaaaaaaaaaaaaaaaaaaaaa", "c", ROOM) == REGRESS_OUT_OF_STEPS && are_none());
     CHECK(replaced(&regex, "aaaaaaaaaaaaaaaaaaaaaaaaaaaaaaaa", "c", ROOM) == REGRESS_OUT_OF_STEPS && are_none());
     regress_free(&regex);
@@ -235,13 +235,17 @@ static void errors(void) {
     CHECK(compiled("a", 64, &regex) == REGRESS_BAD_INPUT);
     CHECK(regress_compile((const uint8_t *)"abcdef", 6, SMALL, 0, 1, &regex, &kind, &position) == REGRESS_TOO_LARGE);
     CHECK(regex.inside == &mark_of_caller);
-    CHECK(regress_compile((const uint8_t *)"(a*)*b", 6, SMALL, 1, 0, &regex, &kind, &position) == REGRESS_OK);
+    CHECK(regress_compile((const uint8_t *)"(a*)*\\1b", 8, SMALL, 1, 0, &regex, &kind, &position) == REGRESS_OK);
     CHECK(found(&regex, "aaaaaaaaaaaaaaaaaaaaaaaaaaaaaaaa", 0, ROOM) == REGRESS_OUT_OF_STEPS && needed == 0
           && spans[0] == MARK);
     /* the default limit would be enough */
     CHECK(found(&regex, "aab", 0, ROOM) == REGRESS_OUT_OF_STEPS && needed == 0 && spans[0] == MARK);
     CHECK(found(&regex, "\xFF", 0, ROOM) == REGRESS_BAD_INPUT && needed == 0 && spans[0] == MARK);
     CHECK(regress_is_match(&regex, (const uint8_t *)"\xFF", 1) == REGRESS_BAD_INPUT);
+    regress_free(&regex);
+    /* a linear search has no step limit */
+    CHECK(regress_compile((const uint8_t *)"(a*)*b", 6, SMALL, 1, 0, &regex, &kind, &position) == REGRESS_OK);
+    CHECK(found(&regex, "aaaaaaaaaaaaaaaaaaaaaaaaaaaaaaaa", 0, ROOM) == REGRESS_NO_MATCH);
     regress_free(&regex);
 }
 

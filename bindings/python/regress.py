@@ -28,9 +28,11 @@ A pattern is a str or, in UTF-8, bytes, and searches for matches in texts of the
 a str or bytes of a bytes. A lone surrogate in a str raises UnicodeEncodeError, bytes that are not UTF-8 raise
 UnicodeDecodeError.
 
-A search backtracks within a limit of steps, so that it also ends for untrusted patterns and texts: at the limit it
-raises the exception error of the kind 'OutOfSteps'. Ctrl-C takes effect when the search has ended. Threads may search
-with a pattern at the same time; it is compiled once more at the first search of each.
+A search takes linear time, unless the pattern has a back reference, a group in a lookaround that is not negated, or
+more than a thousand instructions. Then it backtracks within a limit of steps, so that it also ends for untrusted
+patterns and texts: at the limit it raises the exception error of the kind 'OutOfSteps'. Ctrl-C takes effect when the
+search has ended. Threads may search with a pattern at the same time; it is compiled once more at the first search of
+each.
 
 The module calls the shared library libregress.so in its folder, or the file that the environment variable
 REGRESS_LIBRARY names. The searches of the library are proved to be right; this module is tested.
@@ -89,9 +91,9 @@ class error(Exception):
 def compile(pattern, flags='', *, steps=None, nodes=None):
     """Compiles a pattern to a Pattern.
 
-    flags are JavaScript's letters. steps limits the number of steps of one search, a billion by default, which takes
-    about a minute at most. nodes limits the size of the pattern, a million by default. A Pattern is returned as it is,
-    if no flags are given.
+    flags are JavaScript's letters. steps limits the number of steps of one search that does not take linear time, a
+    billion by default, which takes about a minute at most. nodes limits the size of the pattern, a million by default.
+    A Pattern is returned as it is, if no flags are given.
 
     Raises error if the pattern or the flags are rejected.
     """

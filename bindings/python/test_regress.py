@@ -212,7 +212,7 @@ class Calls(unittest.TestCase):
         with self.assertRaises(regress.error) as caught:
             regress.compile('a' * 1000, nodes=10)
         self.assertEqual(caught.exception.kind, 'TooLarge')
-        pattern = regress.compile('(a*)*b', steps=100)
+        pattern = regress.compile(r'(a*)*\1b', steps=100)
         for call in (pattern.search, pattern.findall, lambda text: pattern.sub('', text)):
             with self.assertRaises(regress.error) as caught:
                 call('a' * 1000)

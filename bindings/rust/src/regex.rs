@@ -59,8 +59,9 @@ struct Compiled {
 /// The limits of a regular expression, and its table of Unicode.
 #[derive(Clone, Copy, Debug, PartialEq, Eq)]
 pub struct Options {
-    /// The number of steps that one search may take; 0 is the default, a billion, which takes about a minute at most.
-    /// A call that is about all matches is one search.
+    /// The number of steps that one search may take if it does not take linear time: with a back reference, with a
+    /// capture group in a lookaround that is not negated, or with more than a thousand instructions. 0 is the default, a
+    /// billion, which takes about a minute at most. A call that is about all matches is one search.
     pub steps: u64,
     /// The number of nodes that the tree of the pattern may have; 0 is the default, a million.
     pub nodes: usize,

@@ -181,7 +181,7 @@ fn limits_are_kept() {
         Regex::with_options(&"a".repeat(1000), flags, options).unwrap_err(),
         Error::TooLarge
     );
-    let regex = Regex::with_options("(a*)*b", flags, options).unwrap();
+    let regex = Regex::with_options(r"(a*)*\1b", flags, options).unwrap();
     let text = "a".repeat(1000);
     assert_eq!(regex.is_match(&text), Err(SearchError::OutOfSteps));
     assert_eq!(regex.find(&text).unwrap_err(), SearchError::OutOfSteps);

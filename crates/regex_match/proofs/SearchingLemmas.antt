@@ -3,7 +3,7 @@ use Rattle.std.proofs.Common.{◌≡◌, ℕ, ◌<◌, Bool, true, false, List, 
 use Rattle.std.proofs.lemmas.List.{append-nil, flat_map_more, get_or-map, length-map}
 use Rattle.std.specs.Io.KnownBytes.{Appends, Keeps}
 use Rattle.std.specs.List.Sorted.{IsNonDecreasingBy, IsPermutation}
-use Rattle.std.specs.Prelude.{Result, Ok, Err, IfOk, IfErr, IfSome}
+use Rattle.std.specs.Prelude.{⊤, Result, Ok, Err, IfOk, IfErr, IfSome}
 use Rattle.regress_arguments.proofs.lemmas.Output.{appends_both, appends_kept}
 use Rattle.regress_arguments.specs.Output.{Took}
 use Rattle.regress_front.specs.Setting.{Setting}
@@ -14,15 +14,19 @@ use Rattle.regress_match.specs.Matched.{Finds, IsLeftmost, Match, outcomes_at}
 use Rattle.regress_match.specs.Matcher.{matcher_outcomes, matcher_setting, matcher_tree}
 use Rattle.regress_match.specs.Names.{capture_of}
 use Rattle.regress_match.specs.Searched.{AreMatches, next_offset}
-use Rattle.regress_match.specs.declared.matching.Outcome.TheVariants as outcomes
+use Rattle.regress_match.specs.Matched.outcomes
 use Rattle.regress_match.specs.declared.names.Group.{Group}
 use Rattle.regress_match.specs.declared.matcher.Matcher.{Matcher}
 use Rattle.regress_match.specs.declared.matcher_matches.MatcherMatches.{MatcherMatches}
 use Rattle.regress_match.proofs.lemmas.Iterated.{same_outcomes}
 use Rattle.regress_match.proofs.lemmas.Searched.{AreMatches-more}
 use Rattle.regex_match.specs.Lines.{line}
-use Rattle.regex_match.specs.Ending.{Leaves}
-use Rattle.regex_match.specs.Printed.{AreLines, AreLinesOf, WritesAll, WritesFirst, WritesRest, WritesSome, has_some}
+use Rattle.regress_arguments.specs.Request.{Request}
+use Rattle.regex_match.specs.Accepted.{IsAcceptedPattern, NoneIsAccepted, setting_of_request}
+use Rattle.regex_match.specs.Asked.{matches}
+use Rattle.regex_match.specs.Ending.{Ends, IsDue, Leaves}
+use Rattle.regex_match.specs.Found.{IsTreeOf}
+use Rattle.regex_match.specs.Printed.{AreLines, AreLinesOf, IsPrinted, PrintsAll, PrintsFirst, WritesAll, WritesFirst, WritesRest, WritesSome, has_some}
 use Rattle.regex_match.specs.declared.failure.Failure.{Failure}
 use Rattle.regex_match.specs.declared.failure.Failure.TheVariants.{Usage, Memory, Output, Syntax, OutOfSteps, Input}
 
@@ -156,3 +160,38 @@ module _ (setting : Setting) (t : Tree) (m : MatcherMatches) (groups : List Grou
       IfErr r (Leaves nothing (WritesFirst setting t input old new))
   first_of nothing (Ok any) h = tt
   first_of nothing (Err failure) h = left nothing failure h
+
+-- What is written of a tree of the pattern is what the request asks for.
+module _ (request : Request) (setting : Setting) (t : Tree) (input old new : Option (List ℕ)) (same : setting ≡ setting_of_request request)
+    (good : IsTreeOf (setting_of_request request) request.0 t) where
+  printed : (ended : Bool) (found : List Match) → Took old new (AreLinesOf setting t input ended found) →
+      Took old new (IsPrinted request input ended found)
+  printed ended found took = (
+    took.0,
+    record { tree = t; good = good; lines = subst (λ s. AreLinesOf s t input ended found took.0) same took.1 },
+    took.2,
+  )
+
+  due : (failure : Failure) → IsDue ⊤ ⊥ failure → IsDue (IsAcceptedPattern request) (NoneIsAccepted request) failure
+  due Usage h = absurd h
+  due Memory h = tt
+  due Output h = (good.pattern, good.accepted)
+  due (Syntax e position) h = absurd h
+  due OutOfSteps h = (good.pattern, good.accepted)
+  due Input h = (good.pattern, good.accepted)
+
+  leaves : (nothing : Type 0) (failure : Failure) → Leaves nothing (WritesFirst setting t input old new) failure →
+      Leaves nothing (PrintsFirst input old new request) failure
+  leaves nothing Usage h = h
+  leaves nothing Memory (inl h) = inl h
+  leaves nothing Memory (inr h) = inr (h.0, printed false h.0 h.1)
+  leaves nothing Output h = tt
+  leaves nothing (Syntax e position) h = h
+  leaves nothing OutOfSteps h = (h.0, printed false h.0 h.1)
+  leaves nothing Input h = h
+
+  pub ends : (helped nothing : Type 0) (r : Result Bool Failure) → IfOk r (WritesAll setting t input old new) → IfErr r (IsDue ⊤ ⊥) →
+      IfErr r (Leaves nothing (WritesFirst setting t input old new)) →
+      Ends helped (PrintsAll input old new) (PrintsFirst input old new) nothing (Some (matches request)) r
+  ends helped nothing (Ok any) all is_due is_left = (all.0, all.1, printed true all.0 all.2)
+  ends helped nothing (Err failure) all is_due is_left = (due failure is_due, leaves nothing failure is_left)

@@ -11,7 +11,7 @@ use Rattle.regress_front.specs.WellFormed.{Capture, captures}
 use Rattle.regress_match.specs.Iterated.{iterated_from, iterated_outcomes, iterated_text}
 use Rattle.regress_match.specs.Matched.{Finds, Match, outcomes_at}
 use Rattle.regress_match.specs.Searched.{AreMatches}
-use Rattle.regress_match.specs.declared.matching.Outcome.TheVariants as outcomes
+use Rattle.regress_match.specs.Matched.outcomes
 use Rattle.regress_match.specs.declared.matcher_matches.MatcherMatches.{MatcherMatches}
 use Rattle.regex_match.specs.Accepted.{setting_of_request}
 use Rattle.regex_match.specs.Asked.{Task, help, matches}

@@ -5,7 +5,7 @@ ghost use Rattle.regex_match.specs.Ending.{status_of};
 ghost use Rattle.regex_match.specs.declared.failure.Failure.TheVariants.{Output};
 
 use regress_front::parse::{Error, PlacedFault};
-use std::alloc::AllocError;
+use std::alloc::{AllocError, AllocFailed};
 use std::io::{self, Write};
 
 /// The text that a run with invalid arguments writes.
@@ -37,6 +37,17 @@ impl From<AllocError> for Failure {
     ghost from_gives = { λ _ failure. failure ≡ Memory };
 
     fn from(_: AllocError) -> Failure {
+        Failure::Memory
+    }
+}
+
+impl<T: Drop> From<AllocFailed<T>> for Failure {
+    ghost use Rattle.std.specs.Prelude.{◌≡◌};
+    ghost use Rattle.regex_match.specs.declared.failure.Failure.TheVariants.{Memory};
+
+    ghost from_gives = { λ _ failure. failure ≡ Memory };
+
+    fn from(_: AllocFailed<T>) -> Failure {
         Failure::Memory
     }
 }

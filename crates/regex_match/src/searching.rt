@@ -1,5 +1,6 @@
 //! Prints the matches in a text, one line each.
 ghost use Rattle.std.specs.Prelude.{◌≡◌, ◌⊎◌, ◌≤◌, All, Some, map, string_bytes, IfSome, IfOk, IfErr, OnOk, ⊤, chars};
+ghost use Rattle.std.specs.Arc.{arc_value};
 ghost use Rattle.std.specs.Io.KnownBytes.{Appends};
 ghost use Rattle.regress_front.specs.Accepted.{NoneIsAccepted};
 ghost use Rattle.regress_front.specs.SettingOf.{setting_of};
@@ -25,6 +26,7 @@ use regress_match::{Group, Match, Matcher, MatcherMatches, Outcome, groups};
 use regress_ucd::unicode_tables;
 use std::alloc::Global;
 use std::io::{self, ErrorKind, Read, Write};
+use std::sync::Arc;
 
 /// The largest number of instructions with which a pattern is searched in linear time.
 const INSTRUCTIONS: usize = 100_000;
@@ -47,7 +49,8 @@ pub(crate) fn print_matches<I: Read + Drop, W: Write>(
     let points = code_points(alloc, pattern)?;
     let tables = unicode_tables(alloc)?;
     let regex = prepared(alloc, &points, flags, &tables)?;
-    print_found(alloc, &regex, &tables, input, out)
+    let tables = Arc::new(alloc, tables)?;
+    print_found(alloc, regex, &tables, input, out)
 }
 
 /// Returns the optimized tree of a pattern.
@@ -65,18 +68,18 @@ fn prepared(alloc: Global, points: &[u32], flags: Flags, tables: &Tables) -> Res
 /// Prints the matches of a tree in the input, and returns whether there is one.
 fn print_found<I: Read + Drop, W: Write>(
     alloc: Global,
-    regex: &Regex,
-    tables: &Tables,
+    regex: Regex,
+    tables: &Arc<Tables>,
     input: I,
     out: &mut W,
 ) -> Result<bool, Failure>
-    ensures all { IfOk result (WritesAll (setting_of regex.now.flags tables.now) (tree regex.now.node) (I.remaining input)
+    ensures all { IfOk result (WritesAll (setting_of regex.flags (arc_value tables.now)) (tree regex.node) (I.remaining input)
         (W.contents out.old) (W.contents out.new)) }
     ensures due { IfErr result (IsDue ⊤ ⊥) }
-    ensures leaves { IfErr result (Leaves (out.new ≡ out.old) (WritesFirst (setting_of regex.now.flags tables.now)
-        (tree regex.now.node) (I.remaining input) (W.contents out.old) (W.contents out.new))) }
+    ensures leaves { IfErr result (Leaves (out.new ≡ out.old) (WritesFirst (setting_of regex.flags (arc_value tables.now))
+        (tree regex.node) (I.remaining input) (W.contents out.old) (W.contents out.new))) }
 {
-    let groups = groups(alloc, regex)?;
+    let groups = groups(alloc, &regex)?;
     let text = read_text(alloc, input)?;
     let matcher = Matcher::new(alloc, regex, tables, INSTRUCTIONS)?;
     let mut matches = matcher.find_iter(&text, 0, STEPS);

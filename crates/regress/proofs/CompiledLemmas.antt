@@ -23,6 +23,7 @@ use Rattle.regress_front.specs.declared.unicode.Tables.{Tables}
 use Rattle.regress_match.specs.Names.{capture_of}
 use Rattle.regress_match.specs.declared.names.Group.{Group}
 use Rattle.regress.specs.Accepted.{IsTreeOf}
+use Rattle.regress.specs.Compiled as regex
 use Rattle.regress.specs.Compiled.{IsCompiled, groups_of, source_of, tree_of}
 use Rattle.regress.specs.Failures.{IsDue, error_of}
 use Rattle.regress.specs.declared.failure.Error.{Error}
@@ -86,14 +87,14 @@ sorted-map (first ∷ groups) sorted = λ i j d up within.
     omega (arith, one, two, sorted i j first up in_all)
 
 -- A regular expression with the tree and the groups of an accepted pattern is compiled from its text.
-pub compiled : (flags : Flags) (tables : Tables) (text points : List ℕ) (r : Regex) → points ≡ chars text →
-    IsTreeOf (setting_of flags tables) points (tree_of r) → r.compiled.flags ≡ flags → arc_value r.tables ≡ tables →
-    IsPermutation (captures (tree_of r)) (groups_of r) → IsNonDecreasingBy (λ group. group.id) r.groups.items → source_of r ≡ text →
+pub compiled : (flags : Flags) (tables : Tables) (text points : List ℕ) (t : Tree) (r : Regex) → points ≡ chars text →
+    IsTreeOf (setting_of flags tables) points t → tree_of r ≡ t → regex.setting_of r ≡ setting_of flags tables →
+    IsPermutation (captures t) (groups_of r) → IsNonDecreasingBy (λ group. group.id) r.groups.items → source_of r ≡ text →
     IsCompiled (setting_of flags tables) text r
-compiled flags tables text points r is tree is_flags is_tables groups sorted source = record {
-  tree = subst (λ t. IsTreeOf (setting_of flags tables) t (tree_of r)) is tree;
-  groups = groups;
+compiled flags tables text points t r is tree same_tree same_setting groups sorted source = record {
+  tree = subst (IsTreeOf (setting_of flags tables) (chars text)) (sym same_tree) (subst (λ p. IsTreeOf (setting_of flags tables) p t) is tree);
+  groups = subst (λ u. IsPermutation (captures u) (groups_of r)) (sym same_tree) groups;
   sorted = sorted-map r.groups.items sorted;
   source = source;
-  setting = ap (λ f. setting_of f (arc_value r.tables)) is_flags ∙ ap (λ t. setting_of flags t) is_tables;
+  setting = same_setting;
 }

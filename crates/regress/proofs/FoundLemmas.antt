@@ -1,12 +1,15 @@
 -- The matches that an iteration has found.
 use Rattle.std.proofs.Common.{◌≡◌, ◌∙◌, ℕ, ◌<◌, false, List, [], ◌∷◌, ◌++◌, Option, Some, None, All, length, map, refl, subst, sym, option_map, arith}
-use Rattle.std.specs.Prelude.{◌↔◌, IsTrue, Ok, is_some}
+use Rattle.std.specs.Prelude.{◌↔◌, IfSome, IsSome, IsTrue, Ok, is_some}
 use Rattle.std.proofs.lemmas.List.{map-append}
 use Rattle.std.proofs.lemmas.List.Elements.{All-cons, All-head, All-nil, All-push, All-tail}
 use Rattle.regress_front.specs.Steps.{MatchState}
 use Rattle.regress_front.specs.WellFormed.{Capture}
 use Rattle.regress_match.specs.Matched as matcher
 use Rattle.regress_match.specs.Matched.{IsInside}
+use Rattle.regress_match.specs.Matched.{IfOutOfSteps, Outcome}
+use Rattle.regress_match.specs.Matched.outcomes
+use Rattle.regress_match.specs.Matcher.{IsLinear}
 use Rattle.regress_match.specs.Searched.{AreAllMatches, AreMatches}
 use Rattle.regress_match.proofs.lemmas.Searched.{AreMatches-more}
 use Rattle.regress_program.specs.Found as one
@@ -15,7 +18,7 @@ use Rattle.regress_replace.specs.Order.{AreInOrder}
 use Rattle.regress_replace.proofs.lemmas.Found.{AreMatches-in_order}
 use Rattle.regress.specs.Found.{MatchesSomewhere, groups_in, match_of}
 use Rattle.regress.specs.Replaced.{AreFirstMatches}
-use Rattle.regress.specs.Searched.{Advances, has_failed, next_from, searched_groups, searched_outcomes, searched_text}
+use Rattle.regress.specs.Searched.{Advances, has_failed, next_from, searched_factor, searched_groups, searched_outcomes, searched_text}
 use Rattle.regress.specs.declared.found.Match.{Match}
 use Rattle.regress.specs.declared.search.Matches.{Matches}
 
@@ -86,28 +89,31 @@ module _ (text : List ℕ) (at : ℕ → List MatchState) (now : Matches) (ms : 
   pub in_order : AreInOrder 0 ms
   in_order = AreMatches-in_order text at 0 (next_from now) ms sofar.found
 
--- The same for matches with the groups of the pattern.
-pub record HasFoundWith (text : List ℕ) (at : ℕ → List MatchState) (groups : List Capture) (now : Matches) (ms : List Match) : Type 0 where
+-- The same for matches with the groups of the pattern, with this bound for the steps if searches are linear.
+pub record HasFoundWith (text : List ℕ) (at : ℕ → List MatchState) (groups : List Capture) (factor : Option ℕ) (now : Matches) (ms : List Match) : Type 0 where
   pub found : HasFound text at now (map match_of ms)
   pub same_groups : searched_groups now ≡ groups
+  pub same_factor : searched_factor now ≡ factor
   pub named : All (λ m. groups_in m ≡ groups) ms
 
-pub begins_with : (text : List ℕ) (at : ℕ → List MatchState) (groups : List Capture) (now : Matches) → searched_text now ≡ text →
-    searched_outcomes now ≡ at → searched_groups now ≡ groups → has_failed now ≡ false → next_from now ≡ 0 →
-    HasFoundWith text at groups now []
-begins_with text at groups now same_text same_outcomes same_groups failed from = record {
+pub begins_with : (text : List ℕ) (at : ℕ → List MatchState) (groups : List Capture) (factor : Option ℕ) (now : Matches) →
+    searched_text now ≡ text → searched_outcomes now ≡ at → searched_groups now ≡ groups → searched_factor now ≡ factor →
+    has_failed now ≡ false → next_from now ≡ 0 → HasFoundWith text at groups factor now []
+begins_with text at groups factor now same_text same_outcomes same_groups same_factor failed from = record {
   found = begins text at now same_text same_outcomes failed from;
   same_groups = same_groups;
+  same_factor = same_factor;
   named = All-nil (λ m. groups_in m ≡ groups);
 }
 
-pub one_more_with : (text : List ℕ) (at : ℕ → List MatchState) (groups : List Capture) (now : Matches) (ms : List Match) →
-    HasFoundWith text at groups now ms → (new : Matches) (m : Match) → Advances now (Some (Ok m)) new →
-    HasFoundWith text at groups new (ms ++ m ∷ [])
-one_more_with text at groups now ms sofar new m step = record {
+pub one_more_with : (text : List ℕ) (at : ℕ → List MatchState) (groups : List Capture) (factor : Option ℕ) (now : Matches) (ms : List Match) →
+    HasFoundWith text at groups factor now ms → (new : Matches) (m : Match) → Advances now (Some (Ok m)) new →
+    HasFoundWith text at groups factor new (ms ++ m ∷ [])
+one_more_with text at groups factor now ms sofar new m step = record {
   found = subst (HasFound text at new) (sym (map-append match_of ms (m ∷ [])))
       (one_more text at now (map match_of ms) sofar.found new m step);
   same_groups = step.same.groups ∙ sofar.same_groups;
+  same_factor = step.same.linear ∙ sofar.same_factor;
   named = All-push (λ m. groups_in m ≡ groups) ms m sofar.named (step.yields.0.groups ∙ sofar.same_groups);
 }
 
@@ -117,3 +123,19 @@ inside_each text [] inside = All-nil (λ m. IsInside text (match_of m))
 inside_each text (m ∷ ms) inside =
     All-cons (λ m. IsInside text (match_of m)) m ms (All-head (IsInside text) (match_of m) (map match_of ms) inside)
     (inside_each text ms (All-tail (IsInside text) (match_of m) (map match_of ms) inside))
+
+-- ---- a linear search is never out of steps
+
+pub never_out : (factor : Option ℕ) (text : List ℕ) (outcome : Outcome) (steps : ℕ) → IfSome factor (λ n. IsLinear n text outcome steps) →
+    outcome ≡ outcomes.OutOfSteps → factor ≡ None
+never_out None text outcome steps linear is = refl
+never_out (Some n) text outcome steps linear is = absurd (subst (λ o. IfOutOfSteps o ⊥) is linear.1)
+
+pub never_out_next : (factor : Option ℕ) (outcome : Outcome) → IfSome factor (λ _. IfOutOfSteps outcome ⊥) → outcome ≡ outcomes.OutOfSteps →
+    factor ≡ None
+never_out_next None outcome linear is = refl
+never_out_next (Some n) outcome linear is = absurd (subst (λ o. IfOutOfSteps o ⊥) is linear)
+
+pub never_none : {X : Type 0} (factor : Option ℕ) (found : Option X) → IfSome factor (λ _. IsSome found) → found ≡ None → factor ≡ None
+never_none None found linear is = refl
+never_none (Some n) found linear is = let bad : ⊥ = cc in absurd bad

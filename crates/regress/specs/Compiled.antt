@@ -1,13 +1,13 @@
 -- A compiled regular expression.
-use Rattle.std.specs.Prelude.{◌≡◌, ℕ, List, map, string_bytes, chars}
-use Rattle.std.specs.Arc.{arc_value}
+use Rattle.std.specs.Prelude.{◌≡◌, ℕ, List, Option, map, string_bytes, chars}
 use Rattle.std.specs.List.Sorted.{IsNonDecreasingBy, IsPermutation}
 use Rattle.regress_front.specs.Setting.{Setting}
-use Rattle.regress_front.specs.SettingOf as front
 use Rattle.regress_front.specs.Steps.{MatchState}
-use Rattle.regress_front.specs.Tree.{Tree, tree}
+use Rattle.regress_front.specs.Tree.{Tree}
 use Rattle.regress_front.specs.WellFormed.{Capture, captures}
 use Rattle.regress_match.specs.Matched.{outcomes_at}
+use Rattle.regress_match.specs.Matcher as matcher
+use Rattle.regress_match.specs.Matcher.{matcher_setting, matcher_tree}
 use Rattle.regress_match.specs.Names.{capture_of}
 use Rattle.regress.specs.Accepted.{IsTreeOf}
 use Rattle.regress.specs.declared.pattern.Regex.{Regex}
@@ -18,11 +18,11 @@ source_of r = string_bytes r.source
 
 -- the flags, and the table of Unicode
 abbrev pub setting_of : Regex → Setting
-setting_of r = front.setting_of r.compiled.flags (arc_value r.tables)
+setting_of r = matcher_setting r.matcher
 
 -- the tree of the pattern
 abbrev pub tree_of : Regex → Tree
-tree_of r = tree r.compiled.node
+tree_of r = matcher_tree r.matcher
 
 -- the capture groups of the pattern, in the order of their opening parentheses
 abbrev pub groups_of : Regex → List Capture
@@ -31,6 +31,11 @@ groups_of r = map capture_of r.groups.items
 -- the outcomes of the pattern on a text, from each position
 abbrev pub outcomes_of : Regex → (text : List ℕ) → (position : ℕ) → List MatchState
 outcomes_of r text = outcomes_at (setting_of r) text (tree_of r)
+
+-- an upper bound for the steps of a search for each byte of a text, and once more; none if searches are not known to take
+-- linear time
+abbrev pub factor_of : Regex → Option ℕ
+factor_of r = matcher.factor_of r.matcher
 
 -- The regular expression is compiled from this text under this setting.
 pub record IsCompiled (s : Setting) (text : List ℕ) (r : Regex) : Type 0 where

@@ -5,38 +5,45 @@ use Rattle.regress_front.specs.WellFormed.{Capture}
 use Rattle.regress_match.specs.Matched.{IsInside}
 use Rattle.regress_program.specs.Found as one
 use Rattle.regress_match.specs.Names.{capture_of}
-use Rattle.regress_match.specs.Searched as matcher
+use Rattle.regress_match.specs.Iterated.{iterated_from, iterated_matcher, iterated_outcomes, iterated_text}
+use Rattle.regress_match.specs.Matcher.{factor_of}
 use Rattle.regress_match.specs.Searched.{next_offset}
 use Rattle.regress.specs.Found.{groups_in, match_of}
 use Rattle.regress.specs.declared.failure.SearchError.{SearchError}
+use Rattle.regress.specs.declared.failure.SearchError.TheVariants.{OutOfSteps}
 use Rattle.regress.specs.declared.found.Match.{Match}
 use Rattle.regress.specs.declared.search.Matches.{Matches}
 
 -- the text that is searched
 abbrev pub searched_text : Matches → List ℕ
-searched_text m = matcher.searched_text m.matches
+searched_text m = iterated_text m.matches
 
 -- the outcomes among which matches are found
 abbrev pub searched_outcomes : Matches → (position : ℕ) → List MatchState
-searched_outcomes m = matcher.searched_outcomes m.matches
+searched_outcomes m = iterated_outcomes m.matches
 
 -- the byte offset from which the next match is searched
 abbrev pub next_from : Matches → ℕ
-next_from m = matcher.next_from m.matches
+next_from m = iterated_from m.matches
 
 -- the capture groups of the pattern
 abbrev pub searched_groups : Matches → List Capture
 searched_groups m = map capture_of m.groups.now
 
+-- the bound for the steps for each byte, if searches are linear
+abbrev pub searched_factor : Matches → Option ℕ
+searched_factor m = factor_of (iterated_matcher m.matches)
+
 -- an error was returned
 abbrev pub has_failed : Matches → Bool
 has_failed m = m.failed
 
--- the text, the pattern and its groups are unchanged
+-- the text, the pattern, its groups and the bound are unchanged
 pub record IsSameSearch (old new : Matches) : Type 0 where
   pub text : searched_text new ≡ searched_text old
   pub outcomes : searched_outcomes new ≡ searched_outcomes old
   pub groups : searched_groups new ≡ searched_groups old
+  pub linear : searched_factor new ≡ searched_factor old
 
 -- The next match: the leftmost one from the offset at which the search was, which goes on at its end.
 pub record IsNext (old : Matches) (m : Match) (new : Matches) : Type 0 where
@@ -49,11 +56,11 @@ pub record IsNext (old : Matches) (m : Match) (new : Matches) : Type 0 where
 abbrev pub IsOver : Matches → Type 0
 IsOver m = one.Finds (searched_text m) (searched_outcomes m) (next_from m) None
 
--- What a search for the next match returns. An error leaves it where it was.
+-- What a search for the next match returns. An error leaves it where it was, and a linear search is never out of steps.
 abbrev pub Returns : Matches → Result (Option Match) SearchError → Matches → Type 0
 Returns old (Ok (Some m)) new = IsNext old m new
 Returns old (Ok None) new = IsOver old
-Returns old (Err e) new = next_from new ≡ next_from old
+Returns old (Err e) new = (next_from new ≡ next_from old) × (e ≡ OutOfSteps → searched_factor old ≡ None)
 
 pub record Proceeds (old : Matches) (r : Result (Option Match) SearchError) (new : Matches) : Type 0 where
   pub same : IsSameSearch old new
@@ -61,10 +68,10 @@ pub record Proceeds (old : Matches) (r : Result (Option Match) SearchError) (new
   pub returns : Returns old r new
 
 -- What a call of the iterator returns: the next match, an error, or `None`, which states that no match remains if there
--- was no error before.
+-- was no error before. A linear search is never out of steps.
 abbrev pub Yields : Matches → Option (Result Match SearchError) → Matches → Type 0
 Yields old (Some (Ok m)) new = IsNext old m new × (has_failed new ≡ false)
-Yields old (Some (Err e)) new = has_failed new ≡ true
+Yields old (Some (Err e)) new = (has_failed new ≡ true) × (e ≡ OutOfSteps → searched_factor old ≡ None)
 Yields old None new = has_failed old ≡ false → IsOver old
 
 -- A call of the iterator. After an error it returns nothing more.

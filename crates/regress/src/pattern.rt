@@ -1,6 +1,6 @@
 //! Compiled regular expressions.
-ghost use Rattle.regress_front.specs.Tree.{tree};
 ghost use Rattle.regress_front.specs.WellFormed.{IsWellFormed};
+ghost use Rattle.regress_match.specs.Matcher.{matcher_tree};
 
 use crate::compiling::optimized;
 use crate::failure::{Error, SearchError};
@@ -8,20 +8,20 @@ use crate::found::Match;
 use crate::groups::GroupNames;
 use crate::limits::Options;
 use crate::search::{self, Matches};
-use regress_front::ir;
 use regress_front::parse::node_bound;
 use regress_front::types::Flags;
 use regress_front::unicode::Tables;
 use regress_front::util::code_points;
-use regress_match::{Group, Match as Found, groups};
+use regress_match::{Group, Match as Found, Matcher, groups};
 use std::alloc::Global;
 use std::fmt::{self, Display, Formatter, Write};
 use std::sync::Arc;
 
 /// A compiled regular expression (ECMA-262, RegExp), for any number of searches.
 ///
-/// It keeps its source, its tree in normal form, and its share of the tables. A search backtracks within a step
-/// limit, so it ends also for untrusted patterns and texts ([`Options`]).
+/// It keeps its source, its tree in normal form, its program, and its share of the tables. If [`Regex::is_linear`], a
+/// search takes time linear in the length of the text. Any other search backtracks within a step limit. So searches end
+/// also for untrusted patterns and texts ([`Options`]).
 ///
 /// # Examples
 /// ```
@@ -39,32 +39,35 @@ use std::sync::Arc;
 #[derive(Drop)]
 pub struct Regex {
     source: String,
-    /// The tree in normal form, and the flags.
-    compiled: ir::Regex,
+    /// The tree in normal form, its program, and the tables.
+    matcher: Matcher,
     /// The capture groups in the order of their ids.
     pub(crate) groups: Vec<Group>,
-    tables: Arc<Tables>,
-    /// The number of steps that a search may take.
+    /// The number of steps that a search may take if searches are not linear.
     steps: u64,
-    ghost well_formed: { ∥ IsWellFormed (tree compiled.node) ∥₁ },
+    ghost well_formed: { ∥ IsWellFormed (matcher_tree matcher) ∥₁ },
 }
 
 impl Regex {
-    ghost use Rattle.std.specs.Prelude.{◌≡◌, ◌<◌, ◌↔◌, false, All, IsTrue, IfOk, IfErr, IfSome, chars, length, map, option_map};
+    ghost use Rattle.std.specs.Prelude.{◌≡◌, ◌<◌, ◌≤◌, ◌↔◌, false, All, IsTrue, IfOk, IfErr, IfSome, None, chars, is_some, length, map, min, option_map};
     ghost use Rattle.std.specs.Arc.{arc_value};
     ghost use Rattle.regress_front.specs.Bound.{HasAtMost};
     ghost use Rattle.regress_front.specs.SettingOf.{setting_of as setting_under};
+    ghost use Rattle.regress_front.specs.WellFormed.{captures};
     ghost use Rattle.regress_match.specs.Matched.{IsInside};
+    ghost use Rattle.regress_match.specs.Matcher.{IsFactorOf, factor};
     ghost use Rattle.regress_match.specs.Searched.{AreAllMatches};
     ghost use Rattle.regress_program.specs.Found.{Finds};
+    ghost use Rattle.regress_program.specs.Size.{program_size};
     ghost use Rattle.regress_replace.specs.Order.{AreInOrder};
-    ghost use Rattle.regress.specs.Compiled.{IsCompiled, groups_of, outcomes_of, setting_of, source_of};
+    ghost use Rattle.regress.specs.Compiled.{IsCompiled, factor_of, groups_of, outcomes_of, setting_of, source_of, tree_of};
     ghost use Rattle.regress.specs.Failures.{IsDue};
     ghost use Rattle.regress.specs.Found.{MatchesSomewhere, groups_in, match_of};
     ghost use Rattle.regress.specs.Groups.{names_left};
     ghost use Rattle.regress.specs.Letters.{no_flags};
     ghost use Rattle.regress.specs.Limits.{default_options};
-    ghost use Rattle.regress.specs.Searched.{has_failed, next_from, searched_groups, searched_outcomes, searched_text};
+    ghost use Rattle.regress.specs.Searched.{has_failed, next_from, searched_factor, searched_groups, searched_outcomes, searched_text};
+    ghost use Rattle.regress.specs.declared.failure.SearchError.TheVariants.{OutOfSteps};
 
     /// Compiles a pattern without flags, within the default [`Options`].
     ///
@@ -105,7 +108,8 @@ impl Regex {
     /// - [`Error::Memory`] if an allocation fails.
     ///
     /// # Complexity
-    /// As for `parse_and_optimize` of `regress_front`. If the pattern is too large, it is not parsed.
+    /// As for `parse_and_optimize` of `regress_front`. If the pattern is too large, it is not parsed. Compiling takes time
+    /// and memory in proportion to the number of instructions, where the body of a loop `{n,m}` counts m times.
     pub fn with_options(
         alloc: Global,
         pattern: &str,
@@ -116,6 +120,9 @@ impl Regex {
         ensures compiled { IfOk result (IsCompiled (setting_under flags (arc_value tables.now)) pattern.now) }
         ensures failed { IfErr result (IsDue (setting_under flags (arc_value tables.now)) (chars pattern.now) options.nodes) }
         ensures small { IfOk result (λ _. options.nodes < usize.MAX → HasAtMost flags (chars pattern.now) options.nodes) }
+        ensures linear { IfOk result (λ regex. program_size (tree_of regex) ≤ options.instructions → length (captures (tree_of regex)) < usize.MAX →
+            IsFactorOf (tree_of regex) (factor_of regex)) }
+        ensures factor { IfOk result (λ regex. IfSome (factor_of regex) (λ n. n ≤ factor options.instructions)) }
     {
         let points = code_points(alloc, pattern)?;
         let bound = node_bound(&points, flags);
@@ -125,11 +132,11 @@ impl Regex {
         let compiled = optimized(alloc, &points, flags, tables)?;
         let groups = groups(alloc, &compiled)?;
         let source = String::from_str(alloc, pattern)?;
+        let matcher = Matcher::new(alloc, compiled, tables, options.instructions)?;
         Ok(Regex {
             source,
-            compiled,
+            matcher,
             groups,
-            tables: Arc::try_clone(tables)?,
             steps: options.steps,
         })
     }
@@ -139,7 +146,8 @@ impl Regex {
     /// # Errors
     /// As for [`Regex::find_from`].
     pub fn is_match(&self, alloc: Global, text: &str) -> Result<bool, SearchError>
-        ensures { IfOk result (λ is. IsTrue is ↔ MatchesSomewhere text.now (outcomes_of self.now text.now)) }
+        ensures is { IfOk result (λ is. IsTrue is ↔ MatchesSomewhere text.now (outcomes_of self.now text.now)) }
+        ensures linear { IfErr result (λ error. error ≡ OutOfSteps → factor_of self.now ≡ None) }
     {
         let found = self.find(alloc, text)?;
         Ok(found.is_some())
@@ -153,6 +161,7 @@ impl Regex {
         ensures finds { IfOk result (λ found. Finds text.now (outcomes_of self.now text.now) 0 (option_map match_of found)) }
         ensures inside { IfOk result (λ found. IfSome found (λ m. IsInside text.now (match_of m))) }
         ensures groups { IfOk result (λ found. IfSome found (λ m. groups_in m ≡ groups_of self.now)) }
+        ensures linear { IfErr result (λ error. error ≡ OutOfSteps → factor_of self.now ≡ None) }
     {
         self.find_from(alloc, text, 0)
     }
@@ -165,12 +174,15 @@ impl Regex {
     /// inside `text`, on character boundaries.
     ///
     /// # Errors
-    /// - [`SearchError::OutOfSteps`] if the search takes more than `steps` of [`Options`].
+    /// - [`SearchError::OutOfSteps`] if the search takes more than `steps` of [`Options`], and never if
+    ///   [`Regex::is_linear`].
     /// - [`SearchError::Memory`] if an allocation fails.
     ///
     /// # Complexity
-    /// As for `find` of `regress_match`: the time is at most the step limit and the length of `text` together, times a
-    /// factor that depends only on the pattern and the tables.
+    /// If [`Regex::is_linear`], the steps are at most [`Regex::steps_per_character`] for each byte of the text, and once
+    /// more; a step takes constant time, but for literals, sets and the groups that an iteration unsets. Else the time is
+    /// at most the step limit and the length of `text` together, times a factor that depends only on the pattern and the
+    /// tables.
     pub fn find_from(
         &self,
         alloc: Global,
@@ -180,8 +192,9 @@ impl Regex {
         ensures finds { IfOk result (λ found. Finds text.now (outcomes_of self.now text.now) start (option_map match_of found)) }
         ensures inside { IfOk result (λ found. IfSome found (λ m. IsInside text.now (match_of m))) }
         ensures groups { IfOk result (λ found. IfSome found (λ m. groups_in m ≡ groups_of self.now)) }
+        ensures linear { IfErr result (λ error. error ≡ OutOfSteps → factor_of self.now ≡ None) }
     {
-        let found = search::find(alloc, &self.compiled, &self.tables, text, start, self.steps)?;
+        let found = search::find(alloc, &self.matcher, text, start, self.steps)?;
         match found {
             Some(found) => Ok(Some(Match {
                 found,
@@ -209,22 +222,17 @@ impl Regex {
         ensures text { searched_text result ≡ text.now }
         ensures outcomes { searched_outcomes result ≡ outcomes_of self.now text.now }
         ensures groups { searched_groups result ≡ groups_of self.now }
+        ensures linear { searched_factor result ≡ factor_of self.now }
         ensures failed { has_failed result ≡ false }
     {
-        Matches::new(
-            alloc,
-            &self.compiled,
-            &self.tables,
-            &self.groups,
-            text,
-            self.steps,
-        )
+        Matches::new(alloc, &self.matcher, &self.groups, text, self.steps)
     }
 
     /// Returns all non-overlapping matches in `text`, from left to right, as [`Regex::find_iter`] finds them.
     ///
     /// # Errors
-    /// - [`SearchError::OutOfSteps`] if the matches together take more than `steps` of [`Options`].
+    /// - [`SearchError::OutOfSteps`] if the matches together take more than `steps` of [`Options`], and never if
+    ///   [`Regex::is_linear`].
     /// - [`SearchError::Memory`] if an allocation fails.
     pub fn find_all<'r>(
         &'r self,
@@ -234,6 +242,7 @@ impl Regex {
         ensures all { IfOk result (λ all. AreAllMatches text.now (outcomes_of self.now text.now) (map match_of all.items)) }
         ensures inside { IfOk result (λ all. All (λ m. IsInside text.now (match_of m)) all.items) }
         ensures groups { IfOk result (λ all. All (λ m. groups_in m ≡ groups_of self.now) all.items) }
+        ensures linear { IfErr result (λ error. error ≡ OutOfSteps → factor_of self.now ≡ None) }
     {
         let mut all = Vec::new(alloc);
         for found in self.find_iter(alloc, text) {
@@ -248,8 +257,9 @@ impl Regex {
         ensures all { IfOk result (λ all. AreAllMatches text.now (outcomes_of self.now text.now) all.items) }
         ensures inside { IfOk result (λ all. All (IsInside text.now) all.items) }
         ensures order { IfOk result (λ all. AreInOrder 0 all.items) }
+        ensures linear { IfErr result (λ error. error ≡ OutOfSteps → factor_of self.now ≡ None) }
     {
-        search::find_all(alloc, &self.compiled, &self.tables, text, self.steps)
+        search::find_all(alloc, &self.matcher, text, self.steps)
     }
 
     /// Returns the text of the pattern.
@@ -263,7 +273,33 @@ impl Regex {
     pub fn flags(&self) -> Flags
         ensures { result ≡ (setting_of self.now).flags }
     {
-        self.compiled.flags
+        self.matcher.regex().flags
+    }
+
+    /// Returns whether searches are known to take time linear in the length of the text.
+    ///
+    /// They are if the pattern has neither a back reference nor a capture group in a lookaround that is not negated, and
+    /// if its program has at most `instructions` of [`Options`] instructions.
+    ///
+    /// # Examples
+    /// ```
+    /// let tables = Arc::new(alloc, Tables::small(alloc)?)?;
+    /// assert!(rt; Regex::new(alloc, "(?:a|a)*b", &tables)?.is_linear());
+    /// assert!(rt; !Regex::new(alloc, "(a)\\1", &tables)?.is_linear());
+    /// ```
+    pub fn is_linear(&self) -> bool
+        ensures { result ≡ is_some (factor_of self.now) }
+    {
+        self.matcher.is_linear()
+    }
+
+    /// Returns an upper bound for the steps of a search for each byte of a text, counting its end as one more; at most
+    /// `u64::MAX`. All matches that an iterator returns are one search. The result is `None` if searches are not known to
+    /// take linear time.
+    pub fn steps_per_character(&self) -> Option<u64>
+        ensures { result ≡ option_map (λ n. min n u64.MAX) (factor_of self.now) }
+    {
+        self.matcher.steps_per_character()
     }
 
     /// Returns the number of capture groups, without the whole match.

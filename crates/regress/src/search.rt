@@ -1,52 +1,52 @@
-//! Searches, by backtracking within a step limit.
-ghost use Rattle.std.specs.Prelude.{All, IfOk, IfSome};
-ghost use Rattle.regress_front.specs.SettingOf.{setting_of};
-ghost use Rattle.regress_front.specs.Tree.{tree};
+//! Searches, in linear time or within a step limit.
+ghost use Rattle.std.specs.Prelude.{◌≡◌, All, IfErr, IfOk, IfSome, None};
 ghost use Rattle.regress_front.specs.WellFormed.{IsWellFormed};
-ghost use Rattle.regress_match.specs.Matched.{IsInside, outcomes_at};
-ghost use Rattle.regress_match.specs.Searched.{AreAllMatches, searched_tree};
+ghost use Rattle.regress_match.specs.Iterated.{iterated_matcher};
+ghost use Rattle.regress_match.specs.Matched.{IsInside};
+ghost use Rattle.regress_match.specs.Matcher.{factor_of, matcher_outcomes, matcher_tree};
+ghost use Rattle.regress_match.specs.Searched.{AreAllMatches};
 ghost use Rattle.regress_program.specs.Found.{Finds};
 ghost use Rattle.regress_replace.specs.Order.{AreInOrder};
+ghost use Rattle.regress.specs.declared.failure.SearchError.TheVariants.{OutOfSteps};
 
 use crate::failure::SearchError;
 use crate::found::Match;
-use regress_front::ir::Regex;
-use regress_front::unicode::Tables;
-use regress_match::{Group, Match as Found, Outcome};
+use regress_match::{Group, Match as Found, Matcher, MatcherMatches, Outcome};
 use std::alloc::Global;
 
-/// Returns the leftmost match of a tree that starts at the byte offset `from` or later.
+/// Returns the leftmost match of a pattern that starts at the byte offset `from` or later.
 pub(crate) fn find(
     alloc: Global,
-    regex: &Regex,
-    tables: &Tables,
+    matcher: &Matcher,
     text: &str,
     from: usize,
     steps: u64,
 ) -> Result<Option<Found>, SearchError>
-    ensures finds { IfOk result (Finds text.now (outcomes_at (setting_of regex.now.flags tables.now) text.now (tree regex.now.node)) from) }
-    ensures inside { IsWellFormed (tree regex.now.node) → IfOk result (λ found. IfSome found (IsInside text.now)) }
+    ensures finds { IfOk result (λ found. Finds text.now (matcher_outcomes matcher.now text.now) from found) }
+    ensures inside { IsWellFormed (matcher_tree matcher.now) → IfOk result (λ found. IfSome found (IsInside text.now)) }
+    ensures linear { IfErr result (λ error. error ≡ OutOfSteps → factor_of matcher.now ≡ None) }
 {
-    match regress_match::find(alloc, regex, tables, text, from, steps)? {
+    let found = matcher.find(alloc, text, from, steps)?;
+    match found.outcome {
         Outcome::Matched(found) => Ok(Some(found)),
         Outcome::NoMatch => Ok(None),
         Outcome::OutOfSteps => Err(SearchError::OutOfSteps),
     }
 }
 
-/// Returns all non-overlapping matches of a tree, from left to right.
+/// Returns all non-overlapping matches of a pattern, from left to right.
 pub(crate) fn find_all(
     alloc: Global,
-    regex: &Regex,
-    tables: &Tables,
+    matcher: &Matcher,
     text: &str,
     steps: u64,
 ) -> Result<Vec<Found>, SearchError>
-    ensures all { IfOk result (λ all. AreAllMatches text.now (outcomes_at (setting_of regex.now.flags tables.now) text.now (tree regex.now.node)) all.items) }
-    ensures inside { IsWellFormed (tree regex.now.node) → IfOk result (λ all. All (IsInside text.now) all.items) }
+    ensures all { IfOk result (λ all. AreAllMatches text.now (matcher_outcomes matcher.now text.now) all.items) }
+    ensures inside { IsWellFormed (matcher_tree matcher.now) → IfOk result (λ all. All (IsInside text.now) all.items) }
     ensures order { IfOk result (λ all. AreInOrder 0 all.items) }
+    ensures linear { IfErr result (λ error. error ≡ OutOfSteps → factor_of matcher.now ≡ None) }
 {
-    match regress_match::find_all(alloc, regex, tables, text, steps)? {
+    match matcher.find_all(alloc, text, steps)? {
         Some(all) => Ok(all),
         None => Err(SearchError::OutOfSteps),
     }
@@ -58,36 +58,36 @@ pub(crate) fn find_all(
 /// further. An error ends the iteration.
 #[derive(Drop)]
 pub struct Matches<'r> {
-    matches: regress_match::Matches<'r>,
+    matches: MatcherMatches<'r>,
     groups: &'r [Group],
     alloc: Global,
     /// Whether an error was returned.
     failed: bool,
-    ghost well_formed: { ∥ IsWellFormed (searched_tree matches) ∥₁ },
+    ghost well_formed: { ∥ IsWellFormed (matcher_tree (iterated_matcher matches)) ∥₁ },
 }
 
 impl<'r> Matches<'r> {
     ghost use Rattle.std.specs.Prelude.{◌≡◌, false, map};
     ghost use Rattle.regress_match.specs.Names.{capture_of};
-    ghost use Rattle.regress.specs.Searched.{Proceeds, has_failed, next_from, searched_groups, searched_outcomes, searched_text};
+    ghost use Rattle.regress.specs.Searched.{Proceeds, has_failed, next_from, searched_factor, searched_groups, searched_outcomes, searched_text};
 
     pub(crate) fn new(
         alloc: Global,
-        regex: &'r Regex,
-        tables: &'r Tables,
+        matcher: &'r Matcher,
         groups: &'r [Group],
         text: &'r str,
         steps: u64,
     ) -> Matches<'r>
-        requires { ∥ IsWellFormed (tree regex.now.node) ∥₁ }
+        requires { ∥ IsWellFormed (matcher_tree matcher.now) ∥₁ }
         ensures from { next_from result ≡ 0 }
         ensures text { searched_text result ≡ text.now }
-        ensures outcomes { searched_outcomes result ≡ outcomes_at (setting_of regex.now.flags tables.now) text.now (tree regex.now.node) }
+        ensures outcomes { searched_outcomes result ≡ matcher_outcomes matcher.now text.now }
         ensures groups { searched_groups result ≡ map capture_of groups.now }
+        ensures linear { searched_factor result ≡ factor_of matcher.now }
         ensures failed { has_failed result ≡ false }
     {
         Matches {
-            matches: regress_match::Matches::new(regex, tables, text, 0, steps),
+            matches: matcher.find_iter(text, 0, steps),
             groups,
             alloc,
             failed: false,

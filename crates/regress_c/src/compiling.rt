@@ -66,6 +66,7 @@ pub(crate) fn options_of(steps: u64, nodes: usize) -> Options
     Options {
         steps: if steps == 0 { default.steps } else { steps },
         nodes: if nodes == 0 { default.nodes } else { nodes },
+        instructions: default.instructions,
     }
 }
 

@@ -9,7 +9,7 @@ use Rattle.regress_program.specs.Found.{IsLeftmost}
 use Rattle.regress_program.specs.declared.found.Match.{Match}
 use Rattle.regress_match.specs.Matched.{Finds}
 use Rattle.regress_match.specs.Searched.{AreAllMatches, AreMatches, CalledOnMatches, IsSameSearch, next_from, next_offset, searched_outcomes, searched_text}
-use Rattle.regress_match.specs.declared.matching.Outcome.TheVariants as outcomes
+use Rattle.regress_backtrack.specs.declared.outcome.Outcome.TheVariants as outcomes
 use Rattle.regress_match.specs.declared.search.Matches.{Matches}
 use Rattle.regress_match.proofs.lemmas.Searched.{AreMatches-more}
 

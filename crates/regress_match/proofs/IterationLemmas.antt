@@ -7,8 +7,8 @@ use Rattle.regress_match.specs.Matcher.{matcher_outcomes}
 use Rattle.regress_match.specs.Searched.{AreAllMatches, AreMatches, next_offset}
 use Rattle.regress_match.specs.declared.matcher.Matcher.{Matcher}
 use Rattle.regress_match.specs.declared.matcher_matches.MatcherMatches.{MatcherMatches}
-use Rattle.regress_match.specs.declared.matching.Outcome.{Outcome}
-use Rattle.regress_match.specs.declared.matching.Outcome.TheVariants as outcomes
+use Rattle.regress_backtrack.specs.declared.outcome.Outcome.{Outcome}
+use Rattle.regress_backtrack.specs.declared.outcome.Outcome.TheVariants as outcomes
 use Rattle.regress_match.proofs.lemmas.Searched.{AreMatches-more}
 
 -- the search has found these matches, and goes on after them

@@ -1,52 +1,81 @@
--- Searches in the tables of a pattern's program.
-use Rattle.std.proofs.Common.{◌≡◌, ℕ, ◌+◌, ◌-◌, ◌*◌, ◌≤◌, List, true, length, min, max, Option, Some, None, option_map, IfSome, IsNone, refl, sym, ap, ap₂, subst, ◌∙◌, arith}
+-- Searches with the program of a pattern.
+use Rattle.std.proofs.Common.{◌≡◌, if◌then◌else◌, ℕ, ◌+◌, ◌-◌, ◌*◌, ◌≤◌, Bool, true, false, List, length, min, max, Option, Some, None, IfSome, IsNone, refl, sym, ap, ap₂, subst, ◌∙◌, arith}
+use Rattle.std.specs.Arc.{arc_value}
+use Rattle.std.specs.Prelude.{option_and_then}
 use Rattle.std.proofs.Math.Nat.{mul-le-mul_left}
 use Rattle.std.specs.Str.{IsUtf8}
 use Rattle.regress_tree.specs.Matching.{steps}
 use Rattle.regress_tree.specs.Reading.{forwards}
 use Rattle.regress_tree.specs.Setting.{Setting}
 use Rattle.regress_tree.specs.Steps.{MatchState, dedup}
-use Rattle.regress_tree.specs.Tree.{Tree, tree}
+use Rattle.regress_tree.specs.Tree.{Tree}
 use Rattle.regress_tree.specs.WellFormed.{IsWellFormed, captures}
+use Rattle.regress_base.specs.declared.types.Flags.{Flags}
 use Rattle.regress_unicode.specs.TableOf.{table_of}
-use Rattle.regress_program.specs.Compiled.{IsPattern}
+use Rattle.regress_unicode.specs.declared.Tables.{Tables}
+use Rattle.regress_program.specs.Compiled.{IsPattern, total}
 use Rattle.regress_program.specs.Found as searches
-use Rattle.regress_program.specs.Found.{IsLeftmost, no_groups, start_of, state_of}
+use Rattle.regress_program.specs.Found.{no_groups, start_of, state_of}
 use Rattle.regress_program.specs.Linear.{is_linear}
-use Rattle.regress_program.specs.Program.{IsSolution, Out}
+use Rattle.regress_program.specs.Program.{IsSolution, Out, Routine, matcher_of}
+use Rattle.regress_program.specs.Search as program
+use Rattle.regress_program.specs.Search.{groups_of, instructions_of, routines_of, setting_of, steps_up_to}
 use Rattle.regress_program.specs.TextSearch.{searched_program, searched_text}
-use Rattle.regress_program.specs.declared.text.TextSearch.{TextSearch}
-use Rattle.regress_program.specs.Search.{groups_of, instructions_of, outcomes_from, routines_of, setting_of, steps_up_to}
 use Rattle.regress_program.specs.declared.found.Match.{Match}
 use Rattle.regress_program.specs.declared.found.Search.{Search}
 use Rattle.regress_program.specs.declared.program.Program.{Program}
-use Rattle.regress_program.proofs.lemmas.Solutions.{solved_finds}
-use Rattle.regress_match.specs.Compiled.{IsProgramOf, all_outcomes}
-use Rattle.regress_match.specs.Kept.{IfKept, IsKept}
+use Rattle.regress_program.specs.declared.text.TextSearch.{TextSearch}
+use Rattle.regress_program.proofs.lemmas.Solutions.{finds_by}
+use Rattle.regress_backtrack.specs.Backtracker.{AreOutcomes, SameRuns, run_code, run_tables, run_text}
+use Rattle.regress_backtrack.specs.Backtracker as runs
+use Rattle.regress_backtrack.specs.Code.{code_flags, code_groups, code_routines, outcomes_from, setting_with}
+use Rattle.regress_backtrack.specs.declared.backtracker.Backtracker.{Backtracker}
+use Rattle.regress_backtrack.specs.declared.code.Code.{Code}
+use Rattle.regress_backtrack.specs.declared.outcome.Outcome.{Outcome}
+use Rattle.regress_backtrack.specs.declared.outcome.Outcome.TheVariants as outcomes
+use Rattle.regress_match.specs.Compiled.{IsCodeOf, IsProgramOf, all_outcomes}
+use Rattle.regress_match.specs.Kept.{IfKept, IsKept, IsRunOf}
 use Rattle.regress_match.specs.Matched.{Finds, IfMatched, IsInside, outcomes_at}
-use Rattle.regress_match.specs.Matcher.{factor, factor_of, matcher_setting, matcher_tree, outcome_if}
-use Rattle.regress_match.specs.Searched.{offset_after, outcomes_of}
+use Rattle.regress_match.specs.Matcher.{factor, factor_of, factor_with, matcher_outcomes, matcher_setting, matcher_tree, outcome_if}
+use Rattle.regress_match.specs.Searched.{offset_after}
 use Rattle.regress_match.specs.declared.matcher.Matcher.{Matcher}
-use Rattle.regress_match.specs.declared.prepared.Prepared.{Prepared}
 use Rattle.regress_match.proofs.lemmas.Inside.{first_inside}
 use Rattle.regress_match.proofs.RunLemmas.{distinct_first, distinct_none}
 
--- the program of a pattern
-pub program_means : (prepared : Prepared) (p : Program) → IsPattern (routines_of p) (tree prepared.regex.now.node) →
-    setting_of p ≡ record { flags = prepared.regex.now.flags; table = table_of prepared.known.tables.now } →
-    groups_of p ≡ length (captures (tree prepared.regex.now.node)) → is_linear (routines_of p) ≡ true → IsProgramOf prepared p
-program_means prepared p pattern setting groups linear = record {
-  linear = linear;
+-- The program of a tree has its outcomes.
+pub code_means : (setting : Setting) (t : Tree) (tables : Tables) (c : Code) → IsPattern (code_routines c) t →
+    setting_with c tables ≡ setting → code_groups c ≡ length (captures t) → IsCodeOf setting t tables c
+code_means setting t tables c pattern same groups = record {
   means = λ text outs solution k le.
-      pattern.means (setting_of p) text outs solution (no_groups (groups_of p) k) le
-      ∙ ap₂ (λ (s : Setting) (n : ℕ). steps s text forwards (tree prepared.regex.now.node) (no_groups n k)) setting groups;
+      pattern.means (setting_with c tables) text outs solution (no_groups (code_groups c) k) le
+      ∙ ap₂ (λ (s : Setting) (n : ℕ). steps s text forwards t (no_groups n k)) same groups;
 }
 
+pub same_setting : (c : Code) (tables : Tables) (flags : Flags) → code_flags c ≡ flags →
+    setting_with c tables ≡ record { flags = flags; table = table_of tables }
+same_setting c tables flags is = ap (λ (f : Flags). let s : Setting = record { flags = f; table = table_of tables } in s) is
+
+-- So does a program with the same routines.
+pub program_means : (setting : Setting) (t : Tree) (tables : Tables) (c : Code) (p : Program) → IsCodeOf setting t tables c →
+    routines_of p ≡ code_routines c → groups_of p ≡ code_groups c → setting_of p ≡ setting_with c tables →
+    is_linear (code_routines c) ≡ true → IsProgramOf setting t p
+program_means setting t tables c p is routines groups same linear =
+    let Means : Setting → List Routine → ℕ → Type 0 =
+    λ s rs n. (text : List ℕ) (outs : ℕ → Out) → IsSolution s text rs outs → (k : ℕ) → k ≤ length text →
+    matcher_of s text rs outs (length rs - 1) (no_groups n k) ≡ all_outcomes setting t text k in
+    record {
+      linear = subst (λ rs. is_linear rs ≡ true) (sym routines) linear;
+      means = subst (λ s. Means s (routines_of p) (groups_of p)) (sym same)
+          (subst (λ rs. Means (setting_with c tables) rs (groups_of p)) (sym routines)
+          (subst (λ n. Means (setting_with c tables) (code_routines c) n) (sym groups) is.means));
+    }
+
 -- Repeated outcomes make no difference to a search.
-finds_distinct : (text : List ℕ) (at : ℕ → List MatchState) (origin : ℕ) (found : Option Match) → searches.Finds text at origin found →
-    Finds text (λ k. dedup (at k)) origin (outcome_if found)
-finds_distinct text at origin None none = λ p low on. distinct_none (at p) (none p low on)
-finds_distinct text at origin (Some m) is = record {
+finds_distinct : (text : List ℕ) (at : ℕ → List MatchState) (origin : ℕ) (outcome : Outcome) → Finds text at origin outcome →
+    Finds text (λ k. dedup (at k)) origin outcome
+finds_distinct text at origin outcomes.NoMatch none = λ p low on. distinct_none (at p) (none p low on)
+finds_distinct text at origin outcomes.OutOfSteps is = tt
+finds_distinct text at origin (outcomes.Matched m) is = record {
   from = is.from;
   boundary = is.boundary;
   first = distinct_first (at (start_of m)) is.first.0 (state_of m) is.first.1;
@@ -54,18 +83,53 @@ finds_distinct text at origin (Some m) is = record {
 }
 
 -- what a search finds by tables
-pub table_finds : (prepared : Prepared) (p : Program) (text : List ℕ) (origin : ℕ) (found : Option Match) → IsProgramOf prepared p →
-    ((outs : ℕ → Out) → IsSolution (setting_of p) text (routines_of p) outs → searches.Finds text (outcomes_from p text outs) origin found) →
-    Finds text (outcomes_of prepared text) origin (outcome_if found)
-table_finds prepared p text origin found is solved =
-    finds_distinct text (all_outcomes prepared text) origin found (solved_finds p text (all_outcomes prepared text) origin found (is.means text) solved)
+pub table_finds : (setting : Setting) (t : Tree) (p : Program) (text : List ℕ) (origin : ℕ) (found : Option Match) → IsProgramOf setting t p →
+    ((outs : ℕ → Out) → IsSolution (setting_of p) text (routines_of p) outs → searches.Finds text (program.outcomes_from p text outs) origin found) →
+    Finds text (outcomes_at setting text t) origin (outcome_if found)
+table_finds setting t p text origin found is solved =
+    finds_distinct text (all_outcomes setting t text) origin (outcome_if found)
+    (as_outcome found (finds_by (setting_of p) text (routines_of p) p.is_program (program.outcomes_from p text) (all_outcomes setting t text) origin found (is.means text) solved))
+  where
+    as_outcome : (o : Option Match) → searches.Finds text (all_outcomes setting t text) origin o → Finds text (all_outcomes setting t text) origin (outcome_if o)
+    as_outcome None f = f
+    as_outcome (Some m) f = f
 
--- A match that is found is inside the text.
-pub found_inside : (setting : Setting) (text : List ℕ) → IsUtf8 text → (t : Tree) (origin : ℕ) (found : Option Match) → Finds text (outcomes_at setting text t) origin (outcome_if found) →
-    IsWellFormed t → IfMatched (outcome_if found) (IsInside text)
-found_inside setting text utf8 t origin None is well_formed = tt
-found_inside setting text utf8 t origin (Some m) is well_formed =
+-- what a search finds by running the program
+pub run_finds : (setting : Setting) (t : Tree) (tables : Tables) (c : Code) (text : List ℕ) (origin : ℕ) (outcome : Outcome) → IsCodeOf setting t tables c →
+    ((outs : ℕ → Out) → IsSolution (setting_with c tables) text (code_routines c) outs → Finds text (outcomes_from c tables text outs) origin outcome) →
+    Finds text (outcomes_at setting text t) origin outcome
+run_finds setting t tables c text origin outcome is solved =
+    finds_distinct text (all_outcomes setting t text) origin outcome (by outcome solved)
+  where
+    by : (o : Outcome) → ((outs : ℕ → Out) → IsSolution (setting_with c tables) text (code_routines c) outs → Finds text (outcomes_from c tables text outs) origin o) →
+        Finds text (all_outcomes setting t text) origin o
+    by (outcomes.Matched m) f =
+        finds_by (setting_with c tables) text (code_routines c) c.is_program (outcomes_from c tables text) (all_outcomes setting t text) origin (Some m) (is.means text) f
+    by outcomes.NoMatch f =
+        finds_by (setting_with c tables) text (code_routines c) c.is_program (outcomes_from c tables text) (all_outcomes setting t text) origin None (is.means text) f
+    by outcomes.OutOfSteps f = tt
+
+-- A match that is found starts inside the text, and is inside it.
+pub starts_inside : (text : List ℕ) (at : ℕ → List MatchState) (origin : ℕ) (outcome : Outcome) → Finds text at origin outcome →
+    IfMatched outcome (λ x. start_of x ≤ length text)
+starts_inside text at origin outcomes.NoMatch is = tt
+starts_inside text at origin outcomes.OutOfSteps is = tt
+starts_inside text at origin (outcomes.Matched m) is = is.boundary.0
+
+pub found_inside : (setting : Setting) (text : List ℕ) → IsUtf8 text → (t : Tree) (origin : ℕ) (outcome : Outcome) →
+    Finds text (outcomes_at setting text t) origin outcome → IsWellFormed t → IfMatched outcome (IsInside text)
+found_inside setting text utf8 t origin outcomes.NoMatch is well_formed = tt
+found_inside setting text utf8 t origin outcomes.OutOfSteps is well_formed = tt
+found_inside setting text utf8 t origin (outcomes.Matched m) is well_formed =
     first_inside setting text utf8 t well_formed (start_of m) is.boundary m is.first.0 refl is.first.1
+
+-- After a run the same program is run in the same text.
+pub runs_on : (m : Matcher) (text : List ℕ) (b new : Backtracker) → IsRunOf m text b → SameRuns b new → IsRunOf m text new
+runs_on m text b new is same = record {
+  code = subst (λ c. IsCodeOf (matcher_setting m) (matcher_tree m) (run_tables new) c) (sym same.code)
+      (subst (λ ts. IsCodeOf (matcher_setting m) (matcher_tree m) ts (run_code b)) (sym same.tables) is.code);
+  same_text = same.text ∙ is.same_text;
+}
 
 sums : (c fill s t s' a d b e : ℕ) → s ≤ fill + 2 * c * a → t ≤ c * e → s' ≤ s + t → b ≡ a + d → e ≤ 2 * d → s' ≤ fill + 2 * c * b
 sums c fill s t s' a d b e before more sum is small =
@@ -102,25 +166,37 @@ all_steps instructions n limit left searched from steps budget kept sum =
     let most = mul-le-mul_left (2 * (2 * instructions + 1)) (let h : min from (n + 1) ≤ n + 1 = omega arith in h) in
     omega (arith, most, budget, kept, sum)
 
+-- A bound for the steps for each character is that of some number of instructions.
+factor_form : (m : Matcher) (n : ℕ) → factor_of m ≡ Some n → (i : ℕ) × (n ≡ factor i)
+factor_form m n is = by m.code is
+  where
+    with_linear : (b : Bool) (i : ℕ) → (if b then Some (factor i) else None) ≡ Some n → (j : ℕ) × (n ≡ factor j)
+    with_linear true i same = (i, let h : n ≡ factor i = cc in h)
+    with_linear false i same = absurd (cc)
+
+    by : (o : Option Code) → option_and_then (λ code. factor_with (code_routines code)) o ≡ Some n → (i : ℕ) × (n ≡ factor i)
+    by None same = absurd (cc)
+    by (Some c) same = with_linear (is_linear (code_routines c)) (total (code_routines c)) same
+
 -- the steps of a matcher
 module _ (m : Matcher) (text : List ℕ) (limit left from taken : ℕ) (search : Option TextSearch) (kept : IfKept m text from taken search) where
   pub linear_steps : (steps : ℕ) → IfSome (factor_of m) (λ _. limit ≤ 64 * (length text + 1)) → steps ≤ (limit - left) + taken →
       IfSome (factor_of m) (λ n. steps ≤ n * (length text + 1))
-  linear_steps steps short sum = by m.program refl
+  linear_steps steps short sum = by (factor_of m) refl short
     where
-      in_tables : (i : ℕ) (s : Option TextSearch) → IfKept m text from taken s → factor_of m ≡ Some (factor i) → limit ≤ 64 * (length text + 1) →
-          steps ≤ factor i * (length text + 1)
-      in_tables i None none is small = omega (arith, none, small, sum)
-      in_tables i (Some s) k is small =
-          let same : factor (instructions_of (searched_program s)) ≡ factor i = let e : Some (factor (instructions_of (searched_program s))) ≡ Some (factor i) = sym k.size ∙ is in cc in
+      in_tables : (n : ℕ) (s : Option TextSearch) → IfKept m text from taken s → factor_of m ≡ Some n → limit ≤ 64 * (length text + 1) →
+          steps ≤ n * (length text + 1)
+      in_tables n None none is small =
+          let form = factor_form m n is in
+          subst (λ k. steps ≤ k * (length text + 1)) (sym form.1) (let h : steps ≤ factor form.0 * (length text + 1) = omega (arith, none, small, sum) in h)
+      in_tables n (Some s) k is small =
+          let same : factor (instructions_of (searched_program s)) ≡ n = let e : Some (factor (instructions_of (searched_program s))) ≡ Some n = sym k.size ∙ is in cc in
           let all = all_steps (instructions_of (searched_program s)) (length text) limit left taken from steps small k.steps sum in
-          subst (λ n. steps ≤ n * (length text + 1)) same all
+          subst (λ k. steps ≤ k * (length text + 1)) same all
 
-      by : (o : Option Program) → m.program ≡ o → IfSome (option_map (λ p. factor (instructions_of p)) o) (λ n. steps ≤ n * (length text + 1))
-      by None is = tt
-      by (Some p) is =
-          in_tables (instructions_of p) search kept (ap (option_map (λ x. factor (instructions_of x))) is)
-          (subst (λ o. IfSome (option_map (λ x. factor (instructions_of x)) o) (λ _. limit ≤ 64 * (length text + 1))) is short)
+      by : (o : Option ℕ) → factor_of m ≡ o → IfSome o (λ _. limit ≤ 64 * (length text + 1)) → IfSome o (λ n. steps ≤ n * (length text + 1))
+      by None is few = tt
+      by (Some n) is few = in_tables n search kept is few
 
 pub if_some : (o : Option ℕ) (P : Type 0) → P → IfSome o (λ _. P)
 if_some None P p = tt
@@ -138,27 +214,22 @@ kept_none m text from from' taken (Some s) none kept = cc
 
 -- ---- one search in the tables
 
-starts_inside : (text : List ℕ) (at : ℕ → List MatchState) (origin : ℕ) (found : Option Match) → Finds text at origin (outcome_if found) →
-    IfMatched (outcome_if found) (λ x. start_of x ≤ length text)
-starts_inside text at origin None is = tt
-starts_inside text at origin (Some x) is = is.boundary.0
-
 module _ (m : Matcher) (text : List ℕ) (from taken : ℕ) (s : TextSearch) (kept : IsKept m text from taken s) (search : Search)
     (solved : (outs : ℕ → Out) → IsSolution (setting_of (searched_program s)) (searched_text s) (routines_of (searched_program s)) outs →
-    searches.Finds (searched_text s) (outcomes_from (searched_program s) (searched_text s) outs) from search.found)
+    searches.Finds (searched_text s) (program.outcomes_from (searched_program s) (searched_text s) outs) from search.found)
     (inside : IfSome search.found (λ x. (state_of x).position ≤ length (searched_text s)))
     (steps : search.steps ≤ steps_up_to (instructions_of (searched_program s)) (searched_text s) from search.found) where
-  pub kept_finds : Finds text (outcomes_of m.prepared text) from (outcome_if search.found)
+  pub kept_finds : Finds text (matcher_outcomes m text) from (outcome_if search.found)
   kept_finds =
-      table_finds m.prepared (searched_program s) text from search.found kept.program
+      table_finds (matcher_setting m) (matcher_tree m) (searched_program s) text from search.found kept.program
       (subst (λ (t : List ℕ). (outs : ℕ → Out) → IsSolution (setting_of (searched_program s)) t (routines_of (searched_program s)) outs →
-      searches.Finds t (outcomes_from (searched_program s) t outs) from search.found) kept.same_text solved)
+      searches.Finds t (program.outcomes_from (searched_program s) t outs) from search.found) kept.same_text solved)
 
   pub kept_starts : IfMatched (outcome_if search.found) (λ x. start_of x ≤ length text)
-  kept_starts = starts_inside text (outcomes_of m.prepared text) from search.found kept_finds
+  kept_starts = starts_inside text (matcher_outcomes m text) from (outcome_if search.found) kept_finds
 
   pub kept_inside : IsUtf8 text → IsWellFormed (matcher_tree m) → IfMatched (outcome_if search.found) (IsInside text)
-  kept_inside utf8 = found_inside (matcher_setting m) text utf8 (matcher_tree m) from search.found kept_finds
+  kept_inside utf8 = found_inside (matcher_setting m) text utf8 (matcher_tree m) from (outcome_if search.found) kept_finds
 
   pub kept_more : (from' taken' : ℕ) → taken' ≤ taken + search.steps → from' ≡ offset_after text from (outcome_if search.found) → IsKept m text from' taken' s
   kept_more from' taken' sum is = record {
@@ -167,7 +238,48 @@ module _ (m : Matcher) (text : List ℕ) (from taken : ℕ) (s : TextSearch) (ke
     same_text = kept.same_text;
     steps = subst (λ k. taken' ≤ 2 * instructions_of (searched_program s) * (length text + 1) + 2 * (2 * instructions_of (searched_program s) + 1) * min k (length text + 1))
         (sym is)
-        (more_steps (instructions_of (searched_program s)) text from taken search.steps taken' (outcomes_of m.prepared text) search.found kept.steps
+        (more_steps (instructions_of (searched_program s)) text from taken search.steps taken' (matcher_outcomes m text) search.found kept.steps
         (subst (λ t. search.steps ≤ steps_up_to (instructions_of (searched_program s)) t from search.found) kept.same_text steps) sum kept_finds
         (subst (λ t. IfSome search.found (λ x. (state_of x).position ≤ length t)) kept.same_text inside));
   }
+
+-- ---- a run of the program
+
+module _ (m : Matcher) (text : List ℕ) (b : Backtracker) (is : IsRunOf m text b) (from : ℕ) (outcome : Outcome)
+    (solved : (outs : ℕ → Out) → AreOutcomes b outs → Finds (run_text b) (runs.outcomes_at b outs) from outcome) where
+  pub run_matches : Finds text (matcher_outcomes m text) from outcome
+  run_matches =
+      run_finds (matcher_setting m) (matcher_tree m) (run_tables b) (run_code b) text from outcome is.code
+      (subst (λ (t : List ℕ). (outs : ℕ → Out) → IsSolution (setting_with (run_code b) (run_tables b)) t (code_routines (run_code b)) outs →
+      Finds t (outcomes_from (run_code b) (run_tables b) t outs) from outcome) is.same_text solved)
+
+  pub run_starts : IfMatched outcome (λ x. start_of x ≤ length text)
+  run_starts = starts_inside text (matcher_outcomes m text) from outcome run_matches
+
+  pub run_inside : IsUtf8 text → IsWellFormed (matcher_tree m) → IfMatched outcome (IsInside text)
+  run_inside utf8 = found_inside (matcher_setting m) text utf8 (matcher_tree m) from outcome run_matches
+
+-- ---- the tables of a text, before the first search
+
+pub tables_kept : (m : Matcher) (text : List ℕ) (from steps : ℕ) (c : Code) (tables : Tables) (p : Program) (s : TextSearch) → m.code ≡ Some c →
+    tables ≡ arc_value m.tables → IfSome m.code (IsCodeOf (matcher_setting m) (matcher_tree m) (arc_value m.tables)) →
+    routines_of p ≡ code_routines c → groups_of p ≡ code_groups c → setting_of p ≡ setting_with c tables → is_linear (code_routines c) ≡ true →
+    searched_program s ≡ p → searched_text s ≡ text →
+    steps ≤ 2 * instructions_of (searched_program s) * (length (searched_text s) + 1) → IsKept m text from steps s
+tables_kept m text from steps c tables p s is_code is_tables compiled routines groups setting linear program same_text counted =
+    let of : IsCodeOf (matcher_setting m) (matcher_tree m) (arc_value m.tables) c =
+    subst (λ o. IfSome o (IsCodeOf (matcher_setting m) (matcher_tree m) (arc_value m.tables))) is_code compiled in
+    let means : IsProgramOf (matcher_setting m) (matcher_tree m) p =
+    program_means (matcher_setting m) (matcher_tree m) (arc_value m.tables) c p of routines groups (setting ∙ ap (setting_with c) is_tables) linear in
+    let bound : factor_with (code_routines c) ≡ Some (factor (total (code_routines c))) =
+    ap (λ b. if b then Some (factor (total (code_routines c))) else None) linear in
+    record {
+      program = subst (IsProgramOf (matcher_setting m) (matcher_tree m)) (sym program) means;
+      size = ap (option_and_then (λ code. factor_with (code_routines code))) is_code ∙ bound
+          ∙ ap (λ rs. Some (factor (total rs))) (sym (ap routines_of program ∙ routines));
+      same_text = same_text;
+      steps = let same = ap length same_text in
+          let all : steps ≤ 2 * instructions_of (searched_program s) * (length text + 1) =
+          subst (λ n. steps ≤ 2 * instructions_of (searched_program s) * (n + 1)) same counted in
+          omega (arith, all);
+    }

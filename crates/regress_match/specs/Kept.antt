@@ -1,17 +1,24 @@
--- The tables of a text that are kept for many searches.
-use Rattle.std.specs.Prelude.{◌≡◌, ℕ, ◌+◌, ◌*◌, ◌≤◌, List, length, min, Option, Some, MatchOption}
+-- What a repeated search keeps from one match to the next.
+use Rattle.std.specs.Prelude.{◌≡◌, ℕ, ◌+◌, ◌*◌, ◌≤◌, List, length, min, Option, Some, MatchOption, IfSome}
 use Rattle.std.proofs.Props.{props}
 use Rattle.regress_program.specs.Search.{instructions_of}
 use Rattle.regress_program.specs.TextSearch.{searched_program, searched_text}
 use Rattle.regress_program.specs.declared.text.TextSearch.{TextSearch}
-use Rattle.regress_match.specs.Compiled.{IsProgramOf, IsProgramOf-prop}
-use Rattle.regress_match.specs.Matcher.{factor, factor_of}
+use Rattle.regress_backtrack.specs.Backtracker.{run_code, run_tables, run_text}
+use Rattle.regress_backtrack.specs.declared.backtracker.Backtracker.{Backtracker}
+use Rattle.regress_match.specs.Compiled.{IsCodeOf, IsCodeOf-prop, IsProgramOf, IsProgramOf-prop}
+use Rattle.regress_match.specs.Matcher.{factor, factor_of, matcher_setting, matcher_tree}
 use Rattle.regress_match.specs.declared.matcher.Matcher.{Matcher}
 
--- The tables are those of the matcher's program and of the text. The steps are those of making them, and of searches in
--- them, each of which took at most one walk for each character that it has passed.
+-- The program that is run is one of the matcher's pattern, and the text is this one.
+pub record IsRunOf (m : Matcher) (text : List ℕ) (b : Backtracker) : Type 0 where
+  pub code : IsCodeOf (matcher_setting m) (matcher_tree m) (run_tables b) (run_code b)
+  pub same_text : run_text b ≡ text
+
+-- The tables are those of a program of the matcher's pattern and of the text. The steps are those of making them, and of
+-- searches in them, each of which took at most one walk for each character that it has passed.
 pub record IsKept (m : Matcher) (text : List ℕ) (from taken : ℕ) (s : TextSearch) : Type 0 where
-  pub program : IsProgramOf m.prepared (searched_program s)
+  pub program : IsProgramOf (matcher_setting m) (matcher_tree m) (searched_program s)
   pub size : factor_of m ≡ Some (factor (instructions_of (searched_program s)))
   pub same_text : searched_text s ≡ text
   pub steps : taken ≤ 2 * instructions_of (searched_program s) * (length text + 1)
@@ -22,6 +29,12 @@ abbrev pub IfKept : (m : Matcher) (text : List ℕ) (from steps : ℕ) → Optio
 IfKept m text from steps s = MatchOption s (steps ≡ 0) (IsKept m text from steps)
 
 -- Each has at most one proof.
+pub IsRunOf-prop : (m : Matcher) (text : List ℕ) (b : Backtracker) → IsProp (IsRunOf m text b)
+IsRunOf-prop m text b = hlevel (props, IsCodeOf-prop)
+
+pub IfRunOf-prop : (m : Matcher) (text : List ℕ) (b : Option Backtracker) → IsProp (IfSome b (IsRunOf m text))
+IfRunOf-prop m text b = hlevel (props, IsRunOf-prop)
+
 pub IsKept-prop : (m : Matcher) (text : List ℕ) (from steps : ℕ) (s : TextSearch) → IsProp (IsKept m text from steps s)
 IsKept-prop m text from steps s = hlevel (props, IsProgramOf-prop)
 

@@ -1,5 +1,5 @@
 -- What the result of matching or of a search is.
-use Rattle.std.specs.Prelude.{◌≡◌, ℕ, List, [], ◌∷◌, All, Some, None, length}
+use Rattle.std.specs.Prelude.{◌≡◌, ℕ, List, [], ◌∷◌, All, length}
 use Rattle.regress_tree.specs.Inside.{IsSpanInside, IsCaptureInside}
 use Rattle.regress_tree.specs.Matching.{matches}
 use Rattle.regress_tree.specs.Reading.{forwards}
@@ -7,11 +7,11 @@ use Rattle.regress_tree.specs.Setting.{Setting}
 use Rattle.regress_tree.specs.Steps.{MatchState}
 use Rattle.regress_tree.specs.Tree.{Tree}
 use Rattle.regress_tree.specs.WellFormed.{captures}
-use Rattle.regress_program.specs.Found as found
+pub use Rattle.regress_backtrack.specs.Searched.{Finds}
 pub use Rattle.regress_program.specs.Found.{IsLeftmost, NoneBefore, no_groups, start_of, state_of}
 pub use Rattle.regress_program.specs.declared.found.Match.{Match}
-use Rattle.regress_match.specs.declared.matching.Outcome.{Outcome}
-use Rattle.regress_match.specs.declared.matching.Outcome.TheVariants as outcomes
+pub use Rattle.regress_backtrack.specs.declared.outcome.Outcome.{Outcome}
+pub use Rattle.regress_backtrack.specs.declared.outcome.Outcome.TheVariants as outcomes
 
 -- the outcomes of a tree from a position with every group unset, as RegExpBuiltinExec starts a match
 abbrev pub outcomes_at : Setting → (text : List ℕ) → Tree → (position : ℕ) → List MatchState
@@ -46,10 +46,3 @@ IfOutOfSteps outcomes.OutOfSteps P = P
 pub record IsInside (text : List ℕ) (m : Match) : Type 0 where
   pub span : IsSpanInside text (start_of m, (state_of m).position)
   pub groups : All (IsCaptureInside text) (state_of m).captures
-
--- The result of a search: the leftmost match, or `NoMatch` if no character boundary has an outcome. Out of steps it
--- states nothing.
-abbrev pub Finds : (text : List ℕ) → (at : ℕ → List MatchState) → (origin : ℕ) → Outcome → Type 0
-Finds text at origin (outcomes.Matched m) = found.Finds text at origin (Some m)
-Finds text at origin outcomes.NoMatch = found.Finds text at origin None
-Finds text at origin outcomes.OutOfSteps = Unit {0}

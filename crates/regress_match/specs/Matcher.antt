@@ -1,23 +1,28 @@
 -- Searches with a pattern that may have a program.
-use Rattle.std.specs.Prelude.{◌≡◌, ℕ, ◌+◌, ◌*◌, ◌≤◌, List, length, Option, Some, None, option_map}
+use Rattle.std.specs.Prelude.{◌≡◌, if◌then◌else◌, ℕ, ◌+◌, ◌*◌, ◌≤◌, List, length, Option, Some, None, option_and_then}
+use Rattle.std.specs.Arc.{arc_value}
 use Rattle.regress_tree.specs.Setting.{Setting}
 use Rattle.regress_tree.specs.Steps.{MatchState}
 use Rattle.regress_tree.specs.Tree.{Tree, tree}
 use Rattle.regress_unicode.specs.TableOf.{table_of}
-use Rattle.regress_program.specs.Search.{instructions_of}
+use Rattle.regress_program.specs.Compiled.{IsPattern, total}
+use Rattle.regress_program.specs.Linear.{is_linear}
+use Rattle.regress_program.specs.Program.{Routine}
+use Rattle.regress_program.specs.Size.{program_size}
 use Rattle.regress_program.specs.declared.found.Match.{Match}
+use Rattle.regress_backtrack.specs.Code.{code_routines}
+use Rattle.regress_backtrack.specs.declared.outcome.Outcome.{Outcome}
+use Rattle.regress_backtrack.specs.declared.outcome.Outcome.TheVariants as outcomes
 use Rattle.regress_match.specs.Matched.{IfOutOfSteps, outcomes_at}
 use Rattle.regress_match.specs.declared.matcher.Matcher.{Matcher}
-use Rattle.regress_match.specs.declared.matching.Outcome.{Outcome}
-use Rattle.regress_match.specs.declared.matching.Outcome.TheVariants as outcomes
 
 -- the flags and the case mappings of a matcher
 abbrev pub matcher_setting : Matcher → Setting
-matcher_setting m = record { flags = m.prepared.regex.now.flags; table = table_of m.prepared.known.tables.now }
+matcher_setting m = record { flags = m.regex.flags; table = table_of (arc_value m.tables) }
 
 -- the tree of its pattern
 abbrev pub matcher_tree : Matcher → Tree
-matcher_tree m = tree m.prepared.regex.now.node
+matcher_tree m = tree m.regex.node
 
 -- the outcomes of its pattern on a text, from each position
 abbrev pub matcher_outcomes : Matcher → (text : List ℕ) → (position : ℕ) → List MatchState
@@ -28,9 +33,20 @@ matcher_outcomes m text = outcomes_at (matcher_setting m) text (matcher_tree m)
 abbrev pub factor : (instructions : ℕ) → ℕ
 factor instructions = 64 + 2 * instructions + 2 * (2 * instructions + 1)
 
--- that of a matcher whose searches take linear time; none if they are not known to
+-- that of a program; none if it is not linear
+abbrev pub factor_with : List Routine → Option ℕ
+factor_with routines = if is_linear routines then Some (factor (total routines)) else None
+
+-- The bound is that of a program that matches the tree, with as many instructions as the size of the tree.
+pub record IsFactorOf (t : Tree) (bound : Option ℕ) : Type 0 where
+  pub routines : List Routine
+  pub pattern : IsPattern routines t
+  pub size : total routines ≡ program_size t
+  pub is : bound ≡ factor_with routines
+
+-- that of a matcher; none if its searches are not known to take linear time
 abbrev pub factor_of : Matcher → Option ℕ
-factor_of m = option_map (λ p. factor (instructions_of p)) m.program
+factor_of m = option_and_then (λ code. factor_with (code_routines code)) m.code
 
 -- A search in linear time is never out of steps, and takes at most this number of steps for each character.
 abbrev pub IsLinear : (factor : ℕ) (text : List ℕ) → Outcome → (steps : ℕ) → Type 0

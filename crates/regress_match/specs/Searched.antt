@@ -9,8 +9,8 @@ use Rattle.regress_unicode.specs.TableOf.{table_of}
 use Rattle.regress_program.specs.Found.{IsLeftmost, start_of, state_of}
 use Rattle.regress_program.specs.declared.found.Match.{Match}
 use Rattle.regress_match.specs.Matched.{Finds, outcomes_at}
-use Rattle.regress_match.specs.declared.matching.Outcome.{Outcome}
-use Rattle.regress_match.specs.declared.matching.Outcome.TheVariants as outcomes
+use Rattle.regress_backtrack.specs.declared.outcome.Outcome.{Outcome}
+use Rattle.regress_backtrack.specs.declared.outcome.Outcome.TheVariants as outcomes
 use Rattle.regress_match.specs.declared.prepared.Prepared.{Prepared}
 use Rattle.regress_match.specs.declared.search.Matches.{Matches}
 

@@ -18,10 +18,10 @@ pub mod search;
 mod visits;
 
 pub use all_matches::{find_all, for_each_match};
-pub use linear::Found;
 pub use matcher::Matcher;
 pub use matcher_matches::MatcherMatches;
 pub use matching::{Match, Outcome, match_at};
 pub use names::{Group, groups, named};
+pub use regress_backtrack::Found;
 pub use regress_prefilter::{first_bytes, next_candidate};
 pub use search::{Matches, find};

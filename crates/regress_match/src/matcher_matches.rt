@@ -1,19 +1,20 @@
 //! The matches of a prepared pattern in a text.
 ghost use Rattle.std.specs.Prelude.{◌≤◌, ◌+◌, ◌*◌, IfSome, length};
 ghost use Rattle.std.proofs.Props.{props};
-ghost use Rattle.regress_match.specs.Kept.{IfKept, IfKept-prop};
+ghost use Rattle.regress_match.specs.Kept.{IfKept, IfKept-prop, IfRunOf-prop, IsRunOf};
 ghost use Rattle.regress_match.specs.Matcher.{factor_of};
 
 use crate::machine::Scratch;
 use crate::matcher::Matcher;
+use regress_backtrack::Backtracker;
 use regress_program::TextSearch;
 
 /// The non-overlapping matches of a [`Matcher`] in a text, from left to right: each starts at the end of the one before
 /// or later.
 #[derive(Drop)]
-pub struct MatcherMatches<'a> {
-    pub(crate) matcher: &'a Matcher<'a>,
-    pub(crate) text: &'a str,
+pub struct MatcherMatches<'m> {
+    pub(crate) matcher: &'m Matcher,
+    pub(crate) text: &'m str,
     pub(crate) from: usize,
     /// The largest number of steps of backtracking.
     pub(crate) limit: u64,
@@ -21,11 +22,14 @@ pub struct MatcherMatches<'a> {
     pub(crate) left: u64,
     /// The number of steps of making the tables, and of searches in them.
     pub(crate) searched: u64,
-    /// `None` before the first call of `next`.
-    pub(crate) scratch: Option<Scratch<'a>>,
+    /// The runs of the program, after the first call of `next`.
+    pub(crate) backtracker: Option<Backtracker<'m, 'm>>,
+    /// The memory of backtracking in the tree, after the first call of `next` without a program.
+    pub(crate) scratch: Option<Scratch<'m>>,
     /// The tables, once backtracking has used up its steps.
-    pub(crate) search: Option<TextSearch<'a>>,
+    pub(crate) search: Option<TextSearch<'m>>,
     ghost within: { left ≤ limit },
     ghost short: { IfSome (factor_of matcher.now) (λ _. limit ≤ 64 * (length text.now + 1)) } by { Prim.hlevel props },
+    ghost runs: { IfSome backtracker (IsRunOf matcher.now text.now) } by { IfRunOf-prop matcher.now text.now backtracker },
     ghost kept: { IfKept matcher.now text.now from searched search } by { IfKept-prop matcher.now text.now from searched search },
 }

@@ -10,6 +10,7 @@ ghost use Rattle.regress_match.specs.Fresh.{IsFresh, IfNoOutcome};
 use crate::captures::Captures;
 use crate::machine::{Response, Scratch};
 use crate::run::run;
+pub use regress_backtrack::Outcome;
 use regress_leaves::known::Known;
 use regress_leaves::rules::MatchContext;
 pub use regress_program::found::Match;
@@ -17,17 +18,6 @@ use regress_program::groups::{group_count, unset_groups};
 use regress_tree::ir::Regex;
 use regress_unicode::Tables;
 use std::alloc::{AllocError, Global};
-
-/// The result of a search.
-#[derive(Debug, Drop)]
-pub enum Outcome {
-    /// The pattern matches: the first outcome in order of preference.
-    Matched(Match),
-    /// The pattern does not match.
-    NoMatch,
-    /// The step limit was reached before the result was known.
-    OutOfSteps,
-}
 
 /// Matches a pattern at exactly the byte offset `position`, with every group unset at first.
 ///

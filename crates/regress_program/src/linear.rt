@@ -6,9 +6,9 @@ ghost use Rattle.regress_program.specs.Views.{program_of};
 use crate::program::Program;
 
 /// A program that is searched in linear time: [`Program::linear`] returns it.
-#[derive(Clone, Copy)]
-pub struct Linear<'p, 'n, 't> {
+#[derive(Drop)]
+pub struct Linear<'n, 't> {
     /// The program.
-    pub(crate) program: &'p Program<'n, 't>,
-    ghost linear: { is_linear (program_of program.now.routines.items) ≡ true },
+    pub(crate) program: Program<'n, 't>,
+    ghost linear: { is_linear (program_of program.routines.items) ≡ true },
 }

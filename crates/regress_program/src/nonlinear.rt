@@ -45,11 +45,11 @@ impl<'n, 't> Program<'n, 't> {
     /// let program = Program::compile(alloc, &regex, &tables, 1000)?;
     /// assert!(rt; matches!(program.linear(), Err(Nonlinear::BackReference)));
     /// ```
-    pub fn linear(&self) -> Result<Linear<'_, 'n, 't>, Nonlinear>
-        ensures same { IfOk result (λ linear. linear.program.now ≡ self.now) }
-        ensures linear { IfOk result (λ _. is_linear (routines_of self.now) ≡ true) }
-        ensures not { IfErr result (λ _. is_linear (routines_of self.now) ≡ false) }
-        ensures reason { IfErr result (λ reason. has_reason (routines_of self.now) reason ≡ true) }
+    pub fn linear(self) -> Result<Linear<'n, 't>, Nonlinear>
+        ensures same { IfOk result (λ linear. linear.program ≡ self.entry) }
+        ensures linear { IfOk result (λ _. is_linear (routines_of self.entry) ≡ true) }
+        ensures not { IfErr result (λ _. is_linear (routines_of self.entry) ≡ false) }
+        ensures reason { IfErr result (λ reason. has_reason (routines_of self.entry) reason ≡ true) }
     {
         match first_reason(&self.routines) {
             Some(reason) => Err(reason),

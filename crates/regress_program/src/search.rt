@@ -1,9 +1,11 @@
 //! Searching with a program.
-ghost use Rattle.std.specs.Prelude.{◌≡◌, ◌≤◌, ◌<◌, ◌+◌, ◌*◌, ℕ, IfOk, length, min};
+ghost use Rattle.std.specs.Prelude.{◌≡◌, ◌≤◌, ◌<◌, ◌+◌, ◌*◌, ℕ, IfOk, length, min, true};
 ghost use Rattle.regress_tree.specs.Tree.{Tree};
 ghost use Rattle.regress_unicode.specs.TableOf.{table_of};
 ghost use Rattle.regress_program.specs.Compiled.{IsPattern};
+ghost use Rattle.regress_program.specs.Filled.{AreFilled};
 ghost use Rattle.regress_program.specs.Found.{Finds};
+ghost use Rattle.regress_program.specs.Linear.{is_linear};
 ghost use Rattle.regress_program.specs.Program.{IsSolution, Out};
 ghost use Rattle.regress_program.specs.Search.{groups_of, instructions_of, outcomes_from, per_character, routines_of, setting_of, tree_outcomes_from};
 ghost use Rattle.regress_program.specs.Shape.{IsForwards, IsProgram};
@@ -14,8 +16,10 @@ use crate::found::Search;
 use crate::instruction::Routine;
 use crate::linear::Linear;
 use crate::program::Program;
+use crate::table::Table;
 use crate::tables::fill_all;
 use crate::text::TextSearch;
+use crate::text_search::find_filled;
 use regress_base::types::Flags;
 use regress_leaves::known::Known;
 use regress_leaves::rules::MatchContext;
@@ -62,14 +66,14 @@ impl<'n, 't> Program<'n, 't> {
     }
 }
 
-impl<'n, 't> Linear<'_, 'n, 't> {
+impl Linear<'_, '_> {
     /// Returns an upper bound for the steps of a search for each character of a text, counting its end as one more; at
     /// most `u64::MAX`.
     ///
     /// # Complexity
     /// Linear in the number of routines: that of the pattern, and one for each copy of a lookaround.
     pub fn steps_per_character(&self) -> u64
-        ensures { result ≡ min (per_character self.now.program.now) u64.MAX }
+        ensures { result ≡ min (per_character self.now.program) u64.MAX }
     {
         (self.program.instructions() as u64)
             .saturating_mul(4)
@@ -103,23 +107,24 @@ impl<'n, 't> Linear<'_, 'n, 't> {
     /// }
     /// ```
     pub fn find(&self, alloc: Global, text: &str, from: usize) -> Result<Search, AllocError>
-        ensures solved { IfOk result (λ search. (outs : ℕ → Out) → IsSolution (setting_of self.now.program.now) text.now (routines_of self.now.program.now) outs →
-            Finds text.now (outcomes_from self.now.program.now text.now outs) from search.found) }
-        ensures finds { IfOk result (λ search. (t : Tree) → IsPattern (routines_of self.now.program.now) t →
-            Finds text.now (tree_outcomes_from self.now.program.now text.now t) from search.found) }
-        ensures steps { IfOk result (λ search. search.steps ≤ per_character self.now.program.now * (length text.now + 1)) }
+        ensures solved { IfOk result (λ search. (outs : ℕ → Out) → IsSolution (setting_of self.now.program) text.now (routines_of self.now.program) outs →
+            Finds text.now (outcomes_from self.now.program text.now outs) from search.found) }
+        ensures finds { IfOk result (λ search. (t : Tree) → IsPattern (routines_of self.now.program) t →
+            Finds text.now (tree_outcomes_from self.now.program text.now t) from search.found) }
+        ensures steps { IfOk result (λ search. search.steps ≤ per_character self.now.program * (length text.now + 1)) }
     {
-        let linear = *self;
-        let prepared = linear.search(alloc, text)?;
-        let search = prepared.find(alloc, from)?;
+        let program = &self.program;
+        let mut steps = 0;
+        let tables = fill_tables(alloc, program, text, &mut steps)?;
+        let search = find_filled(alloc, program, text, &tables, from)?;
         Ok(Search {
             found: search.found,
-            steps: search.steps.saturating_add(prepared.steps()),
+            steps: search.steps.saturating_add(steps),
         })
     }
 }
 
-impl<'p> Linear<'p, '_, '_> {
+impl<'p> Linear<'p, 'p> {
     /// Prepares the search of a text: one that is made once for many calls of [`TextSearch::find`].
     ///
     /// # Complexity
@@ -129,22 +134,41 @@ impl<'p> Linear<'p, '_, '_> {
     /// # Errors
     /// Returns [`AllocError`] if an allocation fails.
     pub fn search(self, alloc: Global, text: &'p str) -> Result<TextSearch<'p>, AllocError>
-        ensures program { IfOk result (λ search. searched_program search ≡ self.entry.program.now) }
+        ensures program { IfOk result (λ search. searched_program search ≡ self.entry.program) }
         ensures text { IfOk result (λ search. searched_text search ≡ text.now) }
     {
-        let program = self.program;
-        let rules = MatchContext {
-            flags: program.flags,
-            known: program.known,
-            backwards: false,
-        };
         let mut steps = 0;
-        let tables = fill_all(alloc, text, rules, &program.routines, &mut steps)?;
+        let tables = fill_tables(alloc, &self.program, text, &mut steps)?;
         Ok(TextSearch {
-            program,
+            program: self.program,
             text,
             tables,
             steps,
         })
     }
+}
+
+/// Returns the tables of a text, and adds the number of their bits to `steps`.
+///
+/// # Preconditions
+/// The program is linear.
+///
+/// # Errors
+/// Returns [`AllocError`] if an allocation fails.
+fn fill_tables(
+    alloc: Global,
+    program: &Program<'_, '_>,
+    text: &str,
+    steps: &mut u64,
+) -> Result<Vec<Table>, AllocError>
+    requires { is_linear (routines_of program.now) ≡ true }
+    ensures filled { IfOk result (λ tables. AreFilled (setting_of program.now) text.now (routines_of program.now) tables.items) }
+    ensures steps { IfOk result (λ _. steps.new ≤ steps.old + 2 * instructions_of program.now * (length text.now + 1)) }
+{
+    let rules = MatchContext {
+        flags: program.flags,
+        known: program.known,
+        backwards: false,
+    };
+    fill_all(alloc, text, rules, &program.routines, steps)
 }

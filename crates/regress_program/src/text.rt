@@ -11,14 +11,14 @@ use crate::table::Table;
 #[derive(Drop)]
 pub struct TextSearch<'p> {
     /// The program.
-    pub(crate) program: &'p Program<'p, 'p>,
+    pub(crate) program: Program<'p, 'p>,
     /// The text.
     pub(crate) text: &'p str,
     /// The table of each routine.
     pub(crate) tables: Vec<Table>,
     /// The number of bits of all tables.
     pub(crate) steps: u64,
-    ghost linear: { is_linear (routines_of program.now) ≡ true },
-    ghost filled: { AreFilled (setting_of program.now) text.now (routines_of program.now) tables.items } by { AreFilled-prop (setting_of program.now) text.now (routines_of program.now) tables.items },
-    ghost counted: { steps ≤ 2 * instructions_of program.now * (length text.now + 1) },
+    ghost linear: { is_linear (routines_of program) ≡ true },
+    ghost filled: { AreFilled (setting_of program) text.now (routines_of program) tables.items } by { AreFilled-prop (setting_of program) text.now (routines_of program) tables.items },
+    ghost counted: { steps ≤ 2 * instructions_of program * (length text.now + 1) },
 }

@@ -15,6 +15,8 @@ ghost use Rattle.regress_program.specs.Views.{program_of};
 use crate::evaluate::Input;
 use crate::found::Search;
 use crate::leftmost::find_leftmost;
+use crate::program::Program;
+use crate::table::Table;
 use crate::text::TextSearch;
 use regress_leaves::rules::MatchContext;
 use std::alloc::{AllocError, Global};
@@ -37,18 +39,7 @@ impl<'p> TextSearch<'p> {
         ensures inside { IfOk result (λ search. IfSome search.found (λ m. (state_of m).position ≤ length (searched_text self.now))) }
         ensures steps { IfOk result (λ search. search.steps ≤ steps_up_to (instructions_of (searched_program self.now)) (searched_text self.now) from search.found) }
     {
-        let program = self.program;
-        let input = Input {
-            text: self.text,
-            rules: MatchContext {
-                flags: program.flags,
-                known: program.known,
-                backwards: false,
-            },
-            routines: &program.routines,
-            tables: &self.tables,
-        };
-        find_in(alloc, input, program.groups, from)
+        find_filled(alloc, &self.program, self.text, &self.tables, from)
     }
 
     /// Returns the number of steps that it took to prepare the search: of states that were evaluated.
@@ -57,6 +48,42 @@ impl<'p> TextSearch<'p> {
     {
         self.steps
     }
+}
+
+/// Returns the leftmost match that starts at the byte offset `from` or later, by the tables of a text.
+///
+/// # Preconditions
+/// The program is linear, and the tables are those of it and of the text.
+///
+/// # Errors
+/// Returns [`AllocError`] if an allocation fails.
+pub(crate) fn find_filled(
+    alloc: Global,
+    program: &Program<'_, '_>,
+    text: &str,
+    tables: &[Table],
+    from: usize,
+) -> Result<Search, AllocError>
+    requires linear { is_linear (routines_of program.now) ≡ true }
+    requires filled { AreFilled (setting_of program.now) text.now (routines_of program.now) tables.now }
+    ensures solved { IfOk result (λ search. (outs : ℕ → Out) → IsSolution (setting_of program.now) text.now (routines_of program.now) outs →
+        Finds text.now (outcomes_from program.now text.now outs) from search.found) }
+    ensures finds { IfOk result (λ search. (t : Tree) → IsPattern (routines_of program.now) t →
+        Finds text.now (tree_outcomes_from program.now text.now t) from search.found) }
+    ensures inside { IfOk result (λ search. IfSome search.found (λ m. (state_of m).position ≤ length text.now)) }
+    ensures steps { IfOk result (λ search. search.steps ≤ steps_up_to (instructions_of program.now) text.now from search.found) }
+{
+    let input = Input {
+        text,
+        rules: MatchContext {
+            flags: program.flags,
+            known: program.known,
+            backwards: false,
+        },
+        routines: &program.routines,
+        tables,
+    };
+    find_in(alloc, input, program.groups, from)
 }
 
 /// Returns the leftmost match that starts at the byte offset `from` or later, where `input` has the tables of all

@@ -4,10 +4,8 @@ use Rattle.regress_tree.specs.Setting.{Setting}
 use Rattle.regress_tree.specs.Steps.{MatchState}
 use Rattle.regress_program.specs.Found.{Finds}
 use Rattle.regress_program.specs.Program.{Out, Routine, IsSolution}
-use Rattle.regress_program.specs.Search.{outcomes_from, routines_of, setting_of}
 use Rattle.regress_program.specs.Shape.{IsProgram}
 use Rattle.regress_program.specs.declared.found.Match.{Match}
-use Rattle.regress_program.specs.declared.program.Program.{Program}
 use Rattle.regress_program.proofs.RunLemmas.{outcomes, outcomes-solve}
 use Rattle.regress_program.proofs.SearchLemmas.{Finds-same}
 
@@ -15,10 +13,11 @@ pub solution : (setting : Setting) (bytes : List ℕ) (program : List Routine) �
     (outs : ℕ → Out) × IsSolution setting bytes program outs
 solution setting bytes program is = (outcomes setting bytes program is, outcomes-solve setting bytes program is)
 
-pub solved_finds : (p : Program) (text : List ℕ) (at : ℕ → List MatchState) (origin : ℕ) (found : Option Match) →
-    ((outs : ℕ → Out) → IsSolution (setting_of p) text (routines_of p) outs → (k : ℕ) → k ≤ length text → outcomes_from p text outs k ≡ at k) →
-    ((outs : ℕ → Out) → IsSolution (setting_of p) text (routines_of p) outs → Finds text (outcomes_from p text outs) origin found) →
+pub finds_by : (setting : Setting) (text : List ℕ) (program : List Routine) → IsProgram program → (from : (ℕ → Out) → ℕ → List MatchState)
+    (at : ℕ → List MatchState) (origin : ℕ) (found : Option Match) →
+    ((outs : ℕ → Out) → IsSolution setting text program outs → (k : ℕ) → k ≤ length text → from outs k ≡ at k) →
+    ((outs : ℕ → Out) → IsSolution setting text program outs → Finds text (from outs) origin found) →
     Finds text at origin found
-solved_finds p text at origin found same solved =
-    let some = solution (setting_of p) text (routines_of p) p.is_program in
-    Finds-same text (outcomes_from p text some.0) at origin found (same some.0 some.1) (solved some.0 some.1)
+finds_by setting text program is from at origin found same solved =
+    let some = solution setting text program is in
+    Finds-same text (from some.0) at origin found (same some.0 some.1) (solved some.0 some.1)

@@ -127,13 +127,14 @@ fn the_examples_of_searches_hold(rt: HostRuntime) -> Result<(), Fail> {
 
 #[test]
 fn the_examples_of_matchers_hold(rt: HostRuntime) -> Result<(), Fail> {
+    use std::sync::Arc;
     let alloc = rt.alloc();
     // a search takes linear time
     {
-        let tables = Tables::small(alloc)?;
+        let tables = Arc::new(alloc, Tables::small(alloc)?)?;
         let points = code_points(alloc, "(a*)*b")?;
         let regex = try_parse(alloc, &points, Flags::default(), &tables)?;
-        let matcher = Matcher::new(alloc, &regex, &tables, 1000)?;
+        let matcher = Matcher::new(alloc, regex, &tables, 1000)?;
         assert!(rt; matcher.is_linear());
         let found = matcher.find(alloc, "xaaab", 0, 0)?;
         match &found.outcome {
@@ -146,10 +147,10 @@ fn the_examples_of_matchers_hold(rt: HostRuntime) -> Result<(), Fail> {
     }
     // one match after another is found
     {
-        let tables = Tables::small(alloc)?;
+        let tables = Arc::new(alloc, Tables::small(alloc)?)?;
         let points = code_points(alloc, "a+")?;
         let regex = try_parse(alloc, &points, Flags::default(), &tables)?;
-        let matcher = Matcher::new(alloc, &regex, &tables, 1000)?;
+        let matcher = Matcher::new(alloc, regex, &tables, 1000)?;
         let mut matches = matcher.find_iter("aabxa", 0, 0);
         let mut ends = Vec::new(alloc);
         for _ in 0..10 {
@@ -161,10 +162,10 @@ fn the_examples_of_matchers_hold(rt: HostRuntime) -> Result<(), Fail> {
     }
     // all matches are listed
     {
-        let tables = Tables::small(alloc)?;
+        let tables = Arc::new(alloc, Tables::small(alloc)?)?;
         let points = code_points(alloc, "a+")?;
         let regex = try_parse(alloc, &points, Flags::default(), &tables)?;
-        let matcher = Matcher::new(alloc, &regex, &tables, 1000)?;
+        let matcher = Matcher::new(alloc, regex, &tables, 1000)?;
         let mut ends = Vec::new(alloc);
         match matcher.find_all(alloc, "aabxa", 0)? {
             Some(all) => {
@@ -206,6 +207,12 @@ fn the_examples_of_regular_expressions_hold(rt: HostRuntime) -> Result<(), Fail>
             ends.push(found?.end())?;
         }
         assert_eq!(rt; ends.as_slice(), [2, 5].as_slice());
+    }
+    // searches are linear
+    {
+        let tables = Arc::new(alloc, Tables::small(alloc)?)?;
+        assert!(rt; Regex::new(alloc, "(?:a|a)*b", &tables)?.is_linear());
+        assert!(rt; !Regex::new(alloc, "(a)\\1", &tables)?.is_linear());
     }
     // flags are parsed
     {

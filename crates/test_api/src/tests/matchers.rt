@@ -3,6 +3,7 @@
 use super::parsed;
 use regress_front::unicode::Tables;
 use regress_match::{Matcher, Outcome};
+use std::sync::Arc;
 use std::test::Fail;
 
 /// Backtracking takes exponential time on the letters at the start.
@@ -11,9 +12,9 @@ const TEXT: &str = "aaaaaaaaaaaaaaaaaaaaaaaaaaaaaaaaaaaaaaaa-aab-ab";
 #[test]
 fn a_search_goes_on_in_the_tables(rt: HostRuntime) -> Result<(), Fail> {
     let alloc = rt.alloc();
-    let tables = Tables::small(alloc)?;
+    let tables = Arc::new(alloc, Tables::small(alloc)?)?;
     let regex = parsed(alloc, "(a*)*b", false)?;
-    let matcher = Matcher::new(alloc, &regex, &tables, 1000)?;
+    let matcher = Matcher::new(alloc, regex, &tables, 1000)?;
     let mut matches = matcher.find_iter(TEXT, 0, 0);
     let mut ends = Vec::new(alloc);
     for _ in 0..10 {
@@ -32,9 +33,9 @@ fn a_search_goes_on_in_the_tables(rt: HostRuntime) -> Result<(), Fail> {
 #[test]
 fn without_a_program_the_steps_are_limited(rt: HostRuntime) -> Result<(), Fail> {
     let alloc = rt.alloc();
-    let tables = Tables::small(alloc)?;
+    let tables = Arc::new(alloc, Tables::small(alloc)?)?;
     let regex = parsed(alloc, "(a*)*b", false)?;
-    let matcher = Matcher::new(alloc, &regex, &tables, 0)?;
+    let matcher = Matcher::new(alloc, regex, &tables, 0)?;
     assert!(rt; matcher.steps_per_character().is_none());
     let found = matcher.find(alloc, TEXT, 0, 1000)?;
     assert!(rt; matches!(&found.outcome, Outcome::OutOfSteps));

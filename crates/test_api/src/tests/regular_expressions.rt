@@ -61,8 +61,8 @@ fn a_regular_expression_has_limits(rt: HostRuntime) -> Result<(), Fail> {
         _ => assert!(rt; false, "it is rejected"),
     }
     let options = Options {
-        steps: 10,
         nodes: 5,
+        ..Options::default()
     };
     match Regex::with_options(alloc, "abc", Flags::default(), options, &tables) {
         Err(Error::TooLarge) => {}
@@ -70,7 +70,8 @@ fn a_regular_expression_has_limits(rt: HostRuntime) -> Result<(), Fail> {
     }
     let options = Options {
         steps: 10,
-        nodes: 50,
+        instructions: 0,
+        ..Options::default()
     };
     let regex = Regex::with_options(alloc, "(a*)*b", Flags::default(), options, &tables)?;
     match regex.find(alloc, "aaaaaaaaaaaaaaaaaaaaaa") {
@@ -83,6 +84,28 @@ fn a_regular_expression_has_limits(rt: HostRuntime) -> Result<(), Fail> {
         _ => assert!(rt; false, "it takes too many steps"),
     }
     assert!(rt; matches.next().is_none());
+    Ok(())
+}
+
+#[test]
+fn a_linear_search_has_no_step_limit(rt: HostRuntime) -> Result<(), Fail> {
+    let alloc = rt.alloc();
+    let tables = Arc::new(alloc, Tables::small(alloc)?)?;
+    let few = Options {
+        steps: 10,
+        ..Options::default()
+    };
+    let linear = Regex::with_options(alloc, "(a*)*b", Flags::default(), few, &tables)?;
+    assert!(rt; linear.is_linear());
+    assert!(rt; linear.steps_per_character().is_some());
+    assert!(rt; !linear.is_match(alloc, "aaaaaaaaaaaaaaaaaaaaaaaaaaaaaaaaaaaaaaaaaaaa")?);
+    let with_reference = Regex::with_options(alloc, "(a*)*\\1b", Flags::default(), few, &tables)?;
+    assert!(rt; !with_reference.is_linear());
+    assert!(rt; with_reference.steps_per_character().is_none());
+    match with_reference.find(alloc, "aaaaaaaaaaaaaaaaaaaaaa") {
+        Err(SearchError::OutOfSteps) => {}
+        _ => assert!(rt; false, "it takes too many steps"),
+    }
     Ok(())
 }
 

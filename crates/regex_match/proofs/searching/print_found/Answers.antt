@@ -1,5 +1,6 @@
 -- The lines of the search are the lines of the tree.
 use Rattle.std.proofs.Common.{◌≡◌, ◌∙◌, sym, subst, map}
+use Rattle.std.specs.Arc.{arc_value}
 use Rattle.std.specs.Prelude.{IfOk, IfErr, IfSome}
 use Rattle.regress_front.specs.SettingOf.{setting_of}
 use Rattle.regress_front.specs.Tree.{tree}
@@ -11,8 +12,8 @@ use Rattle.regex_match.proofs.searching.print_found.Goals as goal
 
 pub returns-clause-all : goal.returns-clause-all
 returns-clause-all g c =
-    let t = tree c.args.regex.now.node in
-    let setting = setting_of c.args.regex.now.flags c.args.tables.now in
+    let t = tree c.args.regex.node in
+    let setting = setting_of c.args.regex.flags (arc_value c.args.tables.now) in
     let m = c.find_iter-matches.result in
     let old = g.W.Write.contents c.args.out.now in
     let between = g.W.Write.contents c.write_all-ended.new.out in
@@ -28,8 +29,8 @@ returns-clause-all g c =
 
 pub returns-clause-leaves : goal.returns-clause-leaves
 returns-clause-leaves g c =
-    let t = tree c.args.regex.now.node in
-    let setting = setting_of c.args.regex.now.flags c.args.tables.now in
+    let t = tree c.args.regex.node in
+    let setting = setting_of c.args.regex.flags (arc_value c.args.tables.now) in
     let m = c.find_iter-matches.result in
     let old = g.W.Write.contents c.args.out.now in
     let between = g.W.Write.contents c.write_all-ended.new.out in

@@ -9,14 +9,14 @@ pub returns-in-Ok-true : goal.returns-in-Ok-true
 returns-in-Ok-true c = record {
   status =
       found c.in-Ok.ensures.cases.1
-      (subst (λ t. MatchesSomewhere t (outcomes_of c.args.regex.now t)) c.in-Ok.ensures.cases.0 (c.in-Ok-true.ensures.0 (cc)));
+      (subst (λ t. MatchesSomewhere t (outcomes_of c.args.regex.now t)) c.in-Ok.ensures.cases.0 (c.in-Ok-true.ensures.is.0 (cc)));
 }
 
 pub returns-in-Ok-false : goal.returns-in-Ok-false
 returns-in-Ok-false c = record {
   status =
       not_found c.in-Ok.ensures.cases.1
-      (λ some. let yes : c.in-Ok-false.field-0 ≡ true = c.in-Ok-false.ensures.1
+      (λ some. let yes : c.in-Ok-false.field-0 ≡ true = c.in-Ok-false.ensures.is.1
       (subst (λ t. MatchesSomewhere t (outcomes_of c.args.regex.now t)) (sym c.in-Ok.ensures.cases.0) some) in cc);
 }
 

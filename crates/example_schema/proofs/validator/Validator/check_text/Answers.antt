@@ -14,6 +14,11 @@ returns c = λ before.
       found = rw c.in_ok-from_str.ensures.ok c.requires;
       regex = c.in_ok-regex.regex;
       compiled = rw c.in_ok-from_str-2.ensures.ok c.in_ok-regex.ensures;
-      unmatched = λ matched. cc (c.in_ok-is_match.ensures.1 matched, c.if-branch.false);
+      unmatched = λ matched. cc (c.in_ok-is_match.ensures.is.1 matched, c.if-branch.false);
     } in
     rw c.in_ok-push.ensures.items (All-push P c.args.found.now.items added before is)
+
+pub invariant_of-regex-in_err-push : goal.invariant_of-regex-in_err-push
+invariant_of-regex-in_err-push c =
+    let m = c.in_ok-regex.regex.matcher in
+    record { starts = m.starts; counted = m.counted; compiled = m.compiled }

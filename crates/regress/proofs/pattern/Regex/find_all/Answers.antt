@@ -1,5 +1,5 @@
 use Rattle.std.proofs.Common.{Some, [], map, subst, sym}
-use Rattle.regress.specs.Compiled.{groups_of, outcomes_of}
+use Rattle.regress.specs.Compiled.{factor_of, groups_of, outcomes_of}
 use Rattle.regress.specs.Found.{match_of}
 use Rattle.regress.specs.Searched.{Advances}
 use Rattle.regress.proofs.FoundLemmas.{HasFoundWith, all_found, begins_with, inside_each, one_more_with}
@@ -10,20 +10,22 @@ loop-found-init c =
     let text = c.args.text.now in
     let at = outcomes_of c.args.self.now text in
     let groups = groups_of c.args.self.now in
+    let factor = factor_of c.args.self.now in
     let made = c.find_iter-found-items.ensures in
-    subst (λ ms. HasFoundWith text at groups c.into_iter-found-iterator.result ms) (sym c.new-all.ensures.items)
-    (subst (λ m. HasFoundWith text at groups m []) (sym c.into_iter-found-iterator.ensures.into_iter_gives)
-    (begins_with text at groups c.find_iter-found-items.result made.text made.outcomes made.groups made.failed made.from))
+    subst (λ ms. HasFoundWith text at groups factor c.into_iter-found-iterator.result ms) (sym c.new-all.ensures.items)
+    (subst (λ m. HasFoundWith text at groups factor m []) (sym c.into_iter-found-iterator.ensures.into_iter_gives)
+    (begins_with text at groups factor c.find_iter-found-items.result made.text made.outcomes made.groups made.linear made.failed made.from))
 
 pub loop-found-preserved : goal.loop-found-preserved
 loop-found-preserved c =
     let text = c.args.text.now in
     let at = outcomes_of c.args.self.now text in
+    let factor = factor_of c.args.self.now in
     let groups = groups_of c.args.self.now in
     let now = c.loop-found.found-iterator in
     let new = c.next.new.self in
-    subst (λ ms. HasFoundWith text at groups new ms) (sym c.in_ok-push.ensures.items)
-    (one_more_with text at groups now c.loop-found.all.items c.loop-found.invariant new c.in_ok-found.found
+    subst (λ ms. HasFoundWith text at groups factor new ms) (sym c.in_ok-push.ensures.items)
+    (one_more_with text at groups factor now c.loop-found.all.items c.loop-found.invariant new c.in_ok-found.found
     (subst (λ r. Advances now (Some r) new) c.in_ok-found.was c.in-Some.ensures.steps))
 
 pub returns-clause-all : goal.returns-clause-all

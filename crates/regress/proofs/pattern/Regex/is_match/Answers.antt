@@ -5,8 +5,8 @@ use Rattle.regress.specs.Found.{MatchesSomewhere}
 use Rattle.regress.proofs.FoundLemmas.{somewhere}
 use Rattle.regress.proofs.pattern.Regex.is_match.Goals as goal
 
-pub returns : goal.returns
-returns c =
+pub returns-clause-is : goal.returns-clause-is
+returns-clause-is c =
     let text = c.args.text.now in
     let at = outcomes_of c.args.self.now text in
     subst (λ b. IsTrue b ↔ MatchesSomewhere text at) (sym c.is_some.ensures) (somewhere text at c.in_ok-found.found c.in_ok-found.ensures.finds)

@@ -1,4 +1,4 @@
-use Rattle.std.proofs.Common.{◌∙◌, subst}
+use Rattle.std.proofs.Common.{◌∙◌, ap, subst}
 use Rattle.std.specs.Arc.{arc_value}
 use Rattle.std.specs.Prelude.{IfErr}
 use Rattle.regress_front.specs.SettingOf.{setting_of}
@@ -21,8 +21,12 @@ returns-in_err-compiled-clause-failed c =
 
 pub returns-clause-compiled : goal.returns-clause-compiled
 returns-clause-compiled c =
-    compiled c.args.flags (arc_value c.args.tables.now) c.args.pattern.now c.deref-2.result.now _
+    let tables = arc_value c.args.tables.now in
+    let tree_of_pattern = c.in_ok-compiled.compiled in
+    let made = c.in_ok-matcher.ensures in
+    compiled c.args.flags tables c.args.pattern.now c.deref-2.result.now (tree tree_of_pattern.node) _
     (c.deref-2.ensures.value ∙ c.in_ok-points.ensures.characters)
-    (with_tables (λ tables. IsTreeOf (setting_of c.args.flags tables) c.deref-2.result.now (tree c.in_ok-compiled.compiled.node))
-    c.deref-3.result.now (arc_value c.args.tables.now) c.deref-3.ensures c.in_ok-compiled.ensures.tree) c.in_ok-compiled.ensures.flags c.in_ok-try_clone.ensures
+    (with_tables (λ ts. IsTreeOf (setting_of c.args.flags ts) c.deref-2.result.now (tree tree_of_pattern.node))
+    c.deref-3.result.now tables c.deref-3.ensures c.in_ok-compiled.ensures.tree)
+    made.tree (made.setting ∙ ap (λ f. setting_of f tables) c.in_ok-compiled.ensures.flags)
     c.in_ok-groups.ensures.all c.in_ok-groups.ensures.sorted c.in_ok-source.ensures.ok

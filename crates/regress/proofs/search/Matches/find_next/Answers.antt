@@ -1,11 +1,20 @@
-use Rattle.std.proofs.Common.{refl}
+use Rattle.std.proofs.Common.{ap, refl}
 use Rattle.std.proofs.Math.Logic.{∥∥₁_elim}
+use Rattle.regress_match.specs.Matcher.{factor_of}
+use Rattle.regress_match.proofs.lemmas.Iterated.{same_outcomes}
 use Rattle.regress.specs.Inside.{IsInside-prop}
+use Rattle.regress.specs.Searched.{searched_factor}
+use Rattle.regress.proofs.FoundLemmas.{never_out_next}
 use Rattle.regress.proofs.search.Matches.find_next.Goals as goal
 
 pub returns-in-Matched : goal.returns-in-Matched
 returns-in-Matched c = record {
-  same = record { text = c.in_ok-found.ensures.same.text; outcomes = c.in_ok-found.ensures.same.outcomes; groups = refl };
+  same = record {
+    text = c.in_ok-found.ensures.same.text;
+    outcomes = same_outcomes c.args.self.now.matches c.next.new.self c.in_ok-found.ensures.same;
+    groups = refl;
+    linear = ap factor_of c.in_ok-found.ensures.same.matcher;
+  };
   failed = refl;
   returns = record {
     leftmost = rw c.in-Matched.is at c.in_ok-found.ensures.finds;
@@ -17,14 +26,27 @@ returns-in-Matched c = record {
 
 pub returns-in-NoMatch : goal.returns-in-NoMatch
 returns-in-NoMatch c = record {
-  same = record { text = c.in_ok-found.ensures.same.text; outcomes = c.in_ok-found.ensures.same.outcomes; groups = refl };
+  same = record {
+    text = c.in_ok-found.ensures.same.text;
+    outcomes = same_outcomes c.args.self.now.matches c.next.new.self c.in_ok-found.ensures.same;
+    groups = refl;
+    linear = ap factor_of c.in_ok-found.ensures.same.matcher;
+  };
   failed = refl;
   returns = rw c.in-NoMatch.is at c.in_ok-found.ensures.finds;
 }
 
 pub returns-in-OutOfSteps : goal.returns-in-OutOfSteps
 returns-in-OutOfSteps c = record {
-  same = record { text = c.in_ok-found.ensures.same.text; outcomes = c.in_ok-found.ensures.same.outcomes; groups = refl };
+  same = record {
+    text = c.in_ok-found.ensures.same.text;
+    outcomes = same_outcomes c.args.self.now.matches c.next.new.self c.in_ok-found.ensures.same;
+    groups = refl;
+    linear = ap factor_of c.in_ok-found.ensures.same.matcher;
+  };
   failed = refl;
-  returns = rw c.in-OutOfSteps.is at c.in_ok-found.ensures.goes_on;
+  returns = (
+    rw c.in-OutOfSteps.is at c.in_ok-found.ensures.goes_on,
+    λ _. never_out_next (searched_factor c.args.self.now) _ c.in_ok-found.ensures.linear c.in-OutOfSteps.is,
+  );
 }

@@ -1,6 +1,6 @@
 use Rattle.std.proofs.Common.{arith}
 use Rattle.regress_match.proofs.MatcherLemmas.{kept_none}
-use Rattle.regress_match.proofs.matcher_matches.MatcherMatches.backtrack.Goals as goal
+use Rattle.regress_match.proofs.matcher_matches.MatcherMatches.backtrack_in_tree.Goals as goal
 
 pub invariant_of-self-2 : goal.invariant_of-self-2
 invariant_of-self-2 c =
@@ -8,5 +8,6 @@ invariant_of-self-2 c =
     record {
       within = omega (arith, c.in_ok-outcome.ensures.left, s.within);
       short = s.short;
+      runs = s.runs;
       kept = kept_none s.matcher.now s.text.now s.from c.offset_after-self.result s.searched s.search c.requires s.kept;
     }

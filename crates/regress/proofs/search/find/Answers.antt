@@ -1,0 +1,7 @@
+use Rattle.regress_match.specs.Matcher.{factor_of}
+use Rattle.regress.proofs.FoundLemmas.{never_out}
+use Rattle.regress.proofs.search.find.Goals as goal
+
+pub returns-in-OutOfSteps-clause-linear : goal.returns-in-OutOfSteps-clause-linear
+returns-in-OutOfSteps-clause-linear c = λ _.
+    never_out (factor_of c.args.matcher.now) c.args.text.now _ c.in_ok-found.found.steps c.in_ok-found.ensures.linear c.in-OutOfSteps.is

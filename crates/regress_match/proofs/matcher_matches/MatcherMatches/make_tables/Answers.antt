@@ -1,0 +1,16 @@
+use Rattle.std.proofs.Common.{◌∙◌, sym}
+use Rattle.regress_match.proofs.MatcherLemmas.{tables_kept}
+use Rattle.regress_match.proofs.matcher_matches.MatcherMatches.make_tables.Goals as goal
+
+pub invariant_of-self : goal.invariant_of-self
+invariant_of-self c =
+    let s = c.args.self.now in
+    let made = c.in_ok-program.ensures in
+    record {
+      within = s.within;
+      short = s.short;
+      runs = s.runs;
+      kept = tables_kept s.matcher.now s.text.now s.from c.steps-self.result c.in-Some.code c.deref.result.now c.in_ok-program.program c.in_ok-search.search
+          c.in-Some.is c.deref.ensures s.matcher.now.compiled made.routines made.groups made.setting (sym c.is_linear.ensures ∙ c.if-is_linear.true)
+          (c.in_ok-search.ensures.program ∙ c.in-Ok.ensures.same) c.in_ok-search.ensures.text c.steps-self.ensures;
+    }
