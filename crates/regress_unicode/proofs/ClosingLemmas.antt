@@ -196,9 +196,9 @@ beyond ivs low high x ends out = by_test (is_member ivs x) refl
     by_test false e = refl
     by_test true e = absurd (outside (ends x e) out)
 
--- ---- images in one interval
+-- ---- ranges that are mapped into one interval
 
--- the images of a shift lie between those of its ends
+-- what a shift maps a code point to lies between what it maps its ends to
 images_between : (s : Shift) (p : ℕ → Bool) (c : ℕ) (delta : ℤ) → IsTrue (stays_in_range delta s.first) →
     IsTrue (maps_to (record { first = s.first; last = s.last; delta = delta; modulo = s.modulo }) p c) →
     (moved delta s.first ≤ c) × (c ≤ moved delta s.last)
@@ -206,7 +206,7 @@ unfolding maps_to
 images_between s p c (pos n) first image = (grind (arith, nat_tests, image), grind (arith, nat_tests, image))
 images_between s p c (negsuc n) first image = (grind (arith, nat_tests, first, image), grind (arith, nat_tests, first, image))
 
--- an interval that contains the images of both ends contains every image
+-- an interval that contains what both ends are mapped to contains what any code point is mapped to
 pub image_within : (s : Shift) (p : ℕ → Bool) (c : ℕ) (iv : Bounds) → IsShift s → iv.first ≤ moved s.delta s.first →
     moved s.delta s.last ≤ iv.last → IsTrue (maps_to s p c) → (moved s.delta s.first ≤ c) × (is_within iv c ≡ true)
 unfolding is_within

@@ -24,10 +24,10 @@ const SINGLE_INSERTION_LIMIT: usize = 32;
 /// Returns [`AllocError`] if an allocation fails. `input` is dropped.
 ///
 /// # Complexity
-/// Two passes over the table and the intervals, with a binary search for each entry. An entry whose range is mapped into
-/// one interval adds nothing. An entry that maps every code point of its range adds one interval for each interval that
-/// its range overlaps; any other entry adds single code points. What is added is sorted and merged with the set. Members
-/// outside the ranges of the table are never traversed one by one.
+/// Two passes over the table and the intervals, with a binary search for each entry. An entry whose range is mapped
+/// into one interval adds nothing. An entry that maps every code point of its range adds one interval for each interval
+/// that its range overlaps; any other entry adds single code points. Many of them are sorted, and merged with the set.
+/// Members outside the ranges of the table are never traversed one by one.
 ///
 /// # Examples
 /// ```
@@ -104,7 +104,7 @@ fn set_of_unordered(intervals: Vec<Interval>) -> Result<CodePointSet, AllocError
 {
     let mut set = CodePointSet::new(*intervals.allocator());
     let mut intervals = intervals;
-    intervals.sort_by_key(|interval| interval.first())?;
+    intervals.sort_unstable_by_key(|interval| interval.first());
     add_intervals(&mut set, &intervals)?;
     Ok(set)
 }
@@ -196,7 +196,7 @@ fn search(intervals: &[Interval], low: u32) -> &[Interval]
     &intervals[intervals.partition_point(|interval| interval.last() < low)..]
 }
 
-/// Appends what the shift maps the members of the intervals to, unless the members include all of its images.
+/// Appends what the shift maps the members of the intervals to, unless it maps its whole range to members.
 fn push_images(
     found: &mut Vec<Interval>,
     shift: &Shift,
@@ -213,7 +213,7 @@ fn push_images(
     Ok(())
 }
 
-/// Returns whether one of the intervals contains all images of the shift. A binary search.
+/// Returns whether one of the intervals contains all that the shift maps its range to. A binary search.
 fn maps_into_one(shift: &Shift, intervals: &[Interval]) -> bool
     requires shift { IsShift shift.now }
     requires canonical { IsCanonical intervals.now }

@@ -23,7 +23,7 @@ pub(super) fn later_targets(mappings: &[FoldRange]) -> AsciiBitmap
     targets
 }
 
-/// Adds the ASCII characters from the image of the first code point of the range to that of the last.
+/// Adds the ASCII characters from what the first code point of the range is mapped to up to what the last one is.
 fn add_targets(targets: &mut AsciiBitmap, mapping: &FoldRange)
     requires { IsTrue (is_target_in_range mapping.now) }
     ensures kept { (target : ℕ) →

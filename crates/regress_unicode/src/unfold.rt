@@ -26,7 +26,8 @@ const MOST: usize = 4;
 /// Returns [`AllocError`] if an allocation fails.
 ///
 /// # Complexity
-/// Linear in the number of entries of the table.
+/// At most linear in the number of entries of the table, and logarithmic for most ASCII characters: those that no entry
+/// after the first maps another code point to.
 ///
 /// # Examples
 /// ```
@@ -53,7 +54,7 @@ pub fn unfold_char(alloc: Global, c: u32, tables: &Tables) -> Result<Vec<u32>, A
 /// Returns [`AllocError`] if an allocation fails.
 ///
 /// # Complexity
-/// Linear in the number of entries of the table.
+/// That of [`unfold_char`].
 pub fn unfold_uppercase_char(alloc: Global, c: u32, tables: &Tables) -> Result<Vec<u32>, AllocError>
     requires { c ≤ code_point_max }
     ensures listing { IfOk result (λ list.
@@ -80,7 +81,7 @@ pub fn unfold_uppercase_char(alloc: Global, c: u32, tables: &Tables) -> Result<V
 /// Returns [`AllocError`] if an allocation fails.
 ///
 /// # Complexity
-/// At most linear in the number of entries of the table.
+/// That of [`unfold_char`] with `icase`, and constant without.
 ///
 /// # Examples
 /// ```

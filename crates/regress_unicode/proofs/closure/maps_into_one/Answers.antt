@@ -1,7 +1,6 @@
--- The first interval that ends at the first image or above contains the images of both ends.
-use Rattle.std.proofs.Common.{◌≤◌, IsTrue, sym, subst, arith}
+-- The first interval that does not end below what the range is mapped to contains what both ends are mapped to.
+use Rattle.std.proofs.Common.{◌≤◌, IsTrue, subst, arith}
 use Rattle.std.proofs.lemmas.Bool.Decides.{nat_tests}
-use Rattle.regress_base.specs.Intervals.{is_member}
 use Rattle.regress_unicode.specs.FoldEntries.{moved}
 use Rattle.regress_unicode.proofs.ClosingLemmas.{image_within, first_member}
 use Rattle.regress_unicode.proofs.closure.maps_into_one.Goals as goal
