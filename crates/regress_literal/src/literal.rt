@@ -86,7 +86,8 @@ impl From<Piece> for Node {
 /// Returns [`AllocError`] if an allocation fails.
 ///
 /// # Complexity
-/// Linear in the number of literals; with `icase` each of them takes one pass over the entries of the case table.
+/// Linear in the number of literals; with `icase` each of them takes at most one pass over the entries of the case
+/// table.
 ///
 /// # Examples
 /// ```

@@ -1,8 +1,9 @@
 -- Steps of the closure of a set: leaving out, appending and stopping at intervals.
-use Rattle.std.proofs.Common.{◌≡◌, ℕ, ◌+◌, ◌-◌, ◌<◌, ◌≤◌, ◌==◌, Bool, true, false, ◌||◌, IsTrue, List, [], ◌∷◌, ◌++◌, length, take, drop, get_or, suc, zero, le_refl, inl, inr, refl, sym, ap, subst, ◌∙◌, ◌⊎◌, arith}
+use Rattle.std.proofs.Common.{◌≡◌, ℕ, ◌+◌, ◌-◌, ◌<◌, ◌≤◌, ◌==◌, Bool, true, false, ◌||◌, IsTrue, List, [], ◌∷◌, ◌++◌, length, take, drop, get_or, suc, zero, le_refl, inl, inr, refl, sym, ap, subst, ◌∙◌, ◌⊎◌, ℤ, pos, negsuc, IsPermutation, Option, Some, None, slice_get, arith}
 use Rattle.std.proofs.lemmas.Bool.{cases_lt}
 use Rattle.std.proofs.lemmas.Bool.Decides.{nat_tests}
 use Rattle.std.proofs.lemmas.List.{take_all, length-drop, get_or_read}
+use Rattle.std.proofs.lemmas.List.Sorted.{list_any-IsPermutation}
 use Rattle.std.proofs.Math.Seq.{take-nil}
 use Rattle.std.proofs.Math.Bool.{or-false}
 use Rattle.std.specs.List.{list_any}
@@ -10,9 +11,9 @@ use Rattle.std.specs.List.Sorted.{IsNonDecreasingBy}
 use Rattle.regress_base.proofs.lemmas.Sets.{gt-is_within, is_member-nil, is_member-cons, is_member-one, is_member-append, canonical_parts, canonical_lower, from_first, member_above, no_member_below}
 use Rattle.regress_base.specs.Intervals.{Bounds, is_within, is_member, is_canonical_from, IsCanonical}
 use Rattle.regress_unicode.specs.declared.shift.Shift.{Shift}
-use Rattle.regress_unicode.specs.FoldEntries.{FoldEntry, is_in_order}
+use Rattle.regress_unicode.specs.FoldEntries.{FoldEntry, moved, stays_in_range, is_in_order}
 use Rattle.regress_unicode.proofs.ListLemmas.{order_apart}
-use Rattle.regress_unicode.specs.Shifts.{maps_to, maps_to_by}
+use Rattle.regress_unicode.specs.Shifts.{IsShift, maps_to, maps_to_by}
 use Rattle.regress_unicode.proofs.ShiftLemmas.{maps_to-same, maps_to-none, mappings_more, apart_from}
 
 -- ---- one more interval
@@ -125,20 +126,11 @@ below_first_none (iv ∷ ivs) x d can some lt = no_member_below iv.first (iv ∷
 lands_outside : (s : Shift) (p : ℕ → Bool) (c : ℕ) → ((x : ℕ) → s.first ≤ x → x ≤ s.last → p x ≡ false) → maps_to s p c ≡ false
 lands_outside s p c h = maps_to-same s p (λ x. false) c h ∙ maps_to-none s (λ x. false) c (λ x. refl)
 
--- tests that agree on the range give the same result for an entry
-pub mapping_more : (way : FoldEntry → Shift) (p q : ℕ → Bool) (mappings : List FoldEntry) (i c : ℕ) (mapping : FoldEntry) (shift : Shift)
-    (so_far new : Bool) → i < length mappings → mapping ≡ get_or mappings i mapping → shift ≡ way mapping →
-    ((x : ℕ) → shift.first ≤ x → x ≤ shift.last → q x ≡ p x) →
-    so_far ≡ maps_to_by way (take i mappings) p c → new ≡ (so_far || maps_to shift q c) → new ≡ maps_to_by way (take (i + 1) mappings) p c
-mapping_more way p q mappings i c mapping shift so_far new lt is is_shift agree is_so_far is_new =
-    mappings_more way p mappings i c mapping shift false so_far new lt is is_shift is_so_far
-    (is_new ∙ ap (λ b. so_far || b) (maps_to-same shift q p c agree))
-
-pub mapping_no_more : (way : FoldEntry → Shift) (p : ℕ → Bool) (mappings : List FoldEntry) (i c : ℕ) (mapping : FoldEntry) (so_far : Bool) →
+pub mapping_no_more : (way : FoldEntry → Shift) (p : ℕ → Bool) (mappings : List FoldEntry) (i c : ℕ) (mapping : FoldEntry) (old so_far : Bool) →
     i < length mappings → mapping ≡ get_or mappings i mapping → ((x : ℕ) → (way mapping).first ≤ x → x ≤ (way mapping).last → p x ≡ false) →
-    so_far ≡ maps_to_by way (take i mappings) p c → so_far ≡ maps_to_by way (take (i + 1) mappings) p c
-mapping_no_more way p mappings i c mapping so_far lt is none is_so_far =
-    mappings_more way p mappings i c mapping (way mapping) false so_far so_far lt is refl is_so_far
+    so_far ≡ (old || maps_to_by way (take i mappings) p c) → so_far ≡ (old || maps_to_by way (take (i + 1) mappings) p c)
+mapping_no_more way p mappings i c mapping old so_far lt is none is_so_far =
+    mappings_more way p mappings i c mapping (way mapping) old so_far so_far lt is refl is_so_far
     (sym (or-false so_far) ∙ ap (λ b. so_far || b) (sym (lands_outside (way mapping) p c none)))
 
 -- entries that map nothing add nothing
@@ -203,3 +195,40 @@ beyond ivs low high x ends out = by_test (is_member ivs x) refl
     by_test : (b : Bool) → is_member ivs x ≡ b → b ≡ false
     by_test false e = refl
     by_test true e = absurd (outside (ends x e) out)
+
+-- ---- ranges that are mapped into one interval
+
+-- what a shift maps a code point to lies between what it maps its ends to
+images_between : (s : Shift) (p : ℕ → Bool) (c : ℕ) (delta : ℤ) → IsTrue (stays_in_range delta s.first) →
+    IsTrue (maps_to (record { first = s.first; last = s.last; delta = delta; modulo = s.modulo }) p c) →
+    (moved delta s.first ≤ c) × (c ≤ moved delta s.last)
+unfolding maps_to
+images_between s p c (pos n) first image = (grind (arith, nat_tests, image), grind (arith, nat_tests, image))
+images_between s p c (negsuc n) first image = (grind (arith, nat_tests, first, image), grind (arith, nat_tests, first, image))
+
+-- an interval that contains what both ends are mapped to contains what any code point is mapped to
+pub image_within : (s : Shift) (p : ℕ → Bool) (c : ℕ) (iv : Bounds) → IsShift s → iv.first ≤ moved s.delta s.first →
+    moved s.delta s.last ≤ iv.last → IsTrue (maps_to s p c) → (moved s.delta s.first ≤ c) × (is_within iv c ≡ true)
+unfolding is_within
+image_within s p c iv shift first last image =
+    let between = images_between s p c s.delta shift.first_lands image in
+    (between.0, grind (arith, nat_tests, first, last, between.0, between.1))
+
+abbrev within_some : Option Bounds → ℕ → Bool
+within_some (Some iv) x = is_within iv x
+within_some None x = false
+
+pub first_member : (ivs : List Bounds) (iv : Bounds) (x : ℕ) → Some iv ≡ slice_get ivs 0 → is_within iv x ≡ true → IsTrue (is_member ivs x)
+first_member [] iv x is within = let no : false ≡ true = sym (ap (λ o. within_some o x) is) ∙ within in cc
+first_member (first ∷ ivs) iv x is within =
+    is_member-cons first ivs x ∙ ap (λ b. b || is_member ivs x) (sym (ap (λ o. within_some o x) is) ∙ within)
+
+-- ---- intervals in another order
+
+any_member : (ivs : List Bounds) (c : ℕ) → is_member ivs c ≡ list_any (λ iv. is_within iv c) ivs
+any_member [] c = is_member-nil c
+any_member (iv ∷ ivs) c = is_member-cons iv ivs c ∙ ap (λ b. is_within iv c || b) (any_member ivs c)
+
+pub is_member-IsPermutation : (xs ys : List Bounds) (c : ℕ) → IsPermutation xs ys → is_member ys c ≡ is_member xs c
+is_member-IsPermutation xs ys c permutation =
+    any_member ys c ∙ sym (list_any-IsPermutation (λ iv. is_within iv c) xs ys permutation) ∙ sym (any_member xs c)

@@ -89,3 +89,14 @@ pub has_source-no_more : (mappings : List FoldEntry) (i target c : ℕ) (mapping
     is_source mapping target c ≡ false → has_source (take i mappings) target c ≡ has_source (take (i + 1) mappings) target c
 has_source-no_more mappings i target c mapping lt is none =
     sym (has_source-more mappings i target c mapping lt is ∙ ap (λ b. has_source (take i mappings) target c || b) none ∙ or-false _)
+
+pub has_source-same : (xs ys : List FoldEntry) (target c : ℕ) →
+    list_any (λ mapping. is_source mapping target c) xs ≡ list_any (λ mapping. is_source mapping target c) ys →
+    has_source xs target c ≡ has_source ys target c
+unfolding has_source
+has_source-same xs ys target c same = same
+
+pub has_source-any : (xs ys : List FoldEntry) (target c : ℕ) → has_source xs target c ≡ has_source ys target c →
+    list_any (λ mapping. is_source mapping target c) xs ≡ list_any (λ mapping. is_source mapping target c) ys
+unfolding has_source
+has_source-any xs ys target c same = same

@@ -5,3 +5,4 @@ pub mod Moves
 pub mod ConstructionErrors
 pub mod Shifts
 pub mod TableOf
+pub mod LaterTargets

@@ -1,5 +1,5 @@
 //! The closure of a set under simple case folding.
-ghost use Rattle.std.specs.Prelude.{◌≡◌, ℕ, ◌≤◌, ◌||◌, List, All, IsTrue, IfOk, OnOk};
+ghost use Rattle.std.specs.Prelude.{◌≡◌, ℕ, ◌≤◌, ◌||◌, Bool, List, All, IsTrue, IfOk, OnOk};
 ghost use Rattle.regress_base.specs.Intervals.{Bounds, is_within, is_member, IsCanonical};
 ghost use Rattle.regress_unicode.specs.FoldEntries.{is_in_order, are_targets_in_range};
 ghost use Rattle.regress_unicode.specs.Shifts.{IsShift, maps_to, maps_to_by, forward, backward};
@@ -12,6 +12,9 @@ use regress_base::codepointset::{CodePointSet, Interval};
 use regress_base::sets::{add_intervals, set_is_canonical};
 use std::alloc::{AllocError, Global};
 
+/// Fewer intervals than this are inserted into a set one by one.
+const SINGLE_INSERTION_LIMIT: usize = 32;
+
 /// Returns the closure of `input`: every code point whose simple case folding is the simple case folding of a member
 /// (ECMA-262, MaybeSimpleCaseFolding).
 ///
@@ -21,9 +24,10 @@ use std::alloc::{AllocError, Global};
 /// Returns [`AllocError`] if an allocation fails. `input` is dropped.
 ///
 /// # Complexity
-/// Two passes over the table and the intervals, with a binary search for each entry. An entry that maps every code
-/// point of its range adds one interval for each interval that its range overlaps; any other entry adds single code
-/// points. Members outside the ranges of the table are never traversed one by one.
+/// Two passes over the table and the intervals, with a binary search for each entry. An entry whose range is mapped
+/// into one interval adds nothing. An entry that maps every code point of its range adds one interval for each interval
+/// that its range overlaps; any other entry adds single code points. Many of them are sorted, and merged with the set.
+/// Members outside the ranges of the table are never traversed one by one.
 ///
 /// # Examples
 /// ```
@@ -64,7 +68,7 @@ fn add_images(
         is_member set.new c ≡ (is_member set.old c || maps_to_by forward mappings.now (is_member set.old) c)) }
 {
     let images = images(alloc, mappings, set.intervals())?;
-    add_intervals(set, &images)
+    add_unordered(set, images)
 }
 
 /// Adds the code points that are mapped to a member.
@@ -79,11 +83,34 @@ fn add_sources(
     ensures nonempty { OnOk result (All (λ mapping. 1 ≤ mapping.length) mappings.now) }
 {
     let sources = sources(alloc, mappings, set.intervals())?;
-    add_intervals(set, &sources)
+    add_unordered(set, sources)
 }
 
-/// Returns the canonical forms of the members that are mapped to another code point. Traverses the entries and the
-/// intervals at once, since both ascend, up to the end of either.
+/// Adds the code points of `intervals`, which may be in any order. Many of them are sorted first: adding each one in
+/// order would search for its place and move the intervals after it.
+fn add_unordered(set: &mut CodePointSet, intervals: Vec<Interval>) -> Result<(), AllocError>
+    ensures { OnOk result ((c : ℕ) →
+        is_member set.new c ≡ (is_member set.old c || is_member intervals.items c)) }
+{
+    if intervals.len() < SINGLE_INSERTION_LIMIT {
+        return add_intervals(set, &intervals);
+    }
+    set.add_set(set_of_unordered(intervals)?)
+}
+
+/// Returns the set of intervals in any order. In ascending order each one is added at the end.
+fn set_of_unordered(intervals: Vec<Interval>) -> Result<CodePointSet, AllocError>
+    ensures { IfOk result (λ set. (c : ℕ) → is_member set c ≡ is_member intervals.items c) }
+{
+    let mut set = CodePointSet::new(*intervals.allocator());
+    let mut intervals = intervals;
+    intervals.sort_unstable_by_key(|interval| interval.first());
+    add_intervals(&mut set, &intervals)?;
+    Ok(set)
+}
+
+/// Returns the canonical forms of the members that are mapped to another code point, except for members. Traverses the
+/// entries and the intervals at once, since both ascend, up to the end of either.
 fn images(
     alloc: Global,
     mappings: &[FoldRange],
@@ -93,7 +120,8 @@ fn images(
     requires in_range { IsTrue (are_targets_in_range mappings.now) }
     requires canonical { IsCanonical intervals.now }
     ensures { IfOk result (λ found. (c : ℕ) →
-        is_member found.items c ≡ maps_to_by forward mappings.now (is_member intervals.now) c) }
+        (is_member intervals.now c || is_member found.items c)
+        ≡ (is_member intervals.now c || maps_to_by forward mappings.now (is_member intervals.now) c)) }
 {
     let mut found = Vec::new(alloc);
     let mut rest = intervals;
@@ -103,14 +131,15 @@ fn images(
             return Ok(found);
         }
         if rest[0].first() <= mapping.last() {
-            push_moved(&mut found, &Shift::forward(mapping), rest)?;
+            push_images(&mut found, &Shift::forward(mapping), intervals)?;
         }
     }
     Ok(found)
 }
 
-/// Returns the code points that are mapped into the intervals. Traverses the entries, whose canonical forms are in no
-/// order, with a binary search for each one whose canonical forms are between the ends of the intervals.
+/// Returns the code points that are mapped into the intervals, except for members. Traverses the entries, whose
+/// canonical forms are in no order, with a binary search for each one whose canonical forms are between the ends of the
+/// intervals.
 fn sources(
     alloc: Global,
     mappings: &[FoldRange],
@@ -119,7 +148,8 @@ fn sources(
     requires in_range { IsTrue (are_targets_in_range mappings.now) }
     requires canonical { IsCanonical intervals.now }
     ensures members { IfOk result (λ found. (c : ℕ) →
-        is_member found.items c ≡ maps_to_by backward mappings.now (is_member intervals.now) c) }
+        (is_member intervals.now c || is_member found.items c)
+        ≡ (is_member intervals.now c || maps_to_by backward mappings.now (is_member intervals.now) c)) }
     ensures nonempty { IfOk result (λ _. All (λ mapping. 1 ≤ mapping.length) mappings.now) }
 {
     let mut found = Vec::new(alloc);
@@ -127,11 +157,7 @@ fn sources(
     for mapping in mappings {
         let first = mapping.shifted(mapping.first());
         if first <= high && low <= mapping.shifted(mapping.last()) {
-            push_moved(
-                &mut found,
-                &Shift::backward(mapping),
-                search(intervals, first),
-            )?;
+            push_images(&mut found, &Shift::backward(mapping), intervals)?;
         }
     }
     Ok(found)
@@ -168,6 +194,36 @@ fn search(intervals: &[Interval], low: u32) -> &[Interval]
     ensures members { (c : ℕ) → low ≤ c → is_member result.now c ≡ is_member intervals.now c }
 {
     &intervals[intervals.partition_point(|interval| interval.last() < low)..]
+}
+
+/// Appends what the shift maps the members of the intervals to, unless it maps its whole range to members.
+fn push_images(
+    found: &mut Vec<Interval>,
+    shift: &Shift,
+    intervals: &[Interval],
+) -> Result<(), AllocError>
+    requires shift { IsShift shift.now }
+    requires canonical { IsCanonical intervals.now }
+    ensures { OnOk result ((c : ℕ) → (is_member intervals.now c || is_member found.new.items c) ≡
+        ((is_member intervals.now c || is_member found.old.items c) || maps_to shift.now (is_member intervals.now) c)) }
+{
+    if !maps_into_one(shift, intervals) {
+        push_moved(found, shift, search(intervals, shift.first))?;
+    }
+    Ok(())
+}
+
+/// Returns whether one of the intervals contains all that the shift maps its range to. A binary search.
+fn maps_into_one(shift: &Shift, intervals: &[Interval]) -> bool
+    requires shift { IsShift shift.now }
+    requires canonical { IsCanonical intervals.now }
+    ensures { IsTrue result → (p : ℕ → Bool) (c : ℕ) → IsTrue (maps_to shift.now p c) → IsTrue (is_member intervals.now c) }
+{
+    let first = shift.apply(shift.first);
+    match search(intervals, first).first() {
+        Some(interval) => interval.first() <= first && shift.apply(shift.last) <= interval.last(),
+        None => false,
+    }
 }
 
 /// Appends what the shift maps the code points of the intervals to. Stops at the first interval after the range of the

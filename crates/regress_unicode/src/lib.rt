@@ -2,12 +2,14 @@
 #![tactic(auto)]
 
 ghost use Rattle.std.proofs.Props.{props};
+ghost use Rattle.regress_unicode.specs.LaterTargets.{HasLaterTargets};
 ghost use Rattle.regress_unicode.specs.Parts.{parts_from, IsSound};
 
 mod checks;
 mod closure;
 mod fold_range;
 mod images;
+mod later;
 mod new;
 mod range;
 mod readers;
@@ -20,6 +22,7 @@ pub use closure::add_icase_code_points;
 pub use fold_range::FoldRange;
 pub use images::{fold, uppercase};
 pub use range::CodePointRange;
+use regress_base::bytesearch::AsciiBitmap;
 use regress_base::codepointset::CodePointSet;
 pub use tables_error::{TablesError, Which};
 pub use unfold::{expand_code_point, unfold_char, unfold_uppercase_char};
@@ -33,6 +36,10 @@ pub use unfold::{expand_code_point, unfold_char, unfold_uppercase_char};
 pub struct Tables {
     folds: Vec<FoldRange>,
     uppers: Vec<FoldRange>,
+    /// The ASCII characters that an entry of `folds` after the first maps code points to, and perhaps others.
+    later_folds: AsciiBitmap,
+    /// Likewise of `uppers`.
+    later_uppers: AsciiBitmap,
     id_start: CodePointSet,
     id_continue: CodePointSet,
     general_category: Vec<(String, CodePointSet)>,
@@ -41,4 +48,5 @@ pub struct Tables {
     binary: Vec<(String, CodePointSet)>,
     strings: Vec<(String, Vec<Vec<u32>>)>,
     ghost sound: { IsSound (parts_from folds.items uppers.items id_start id_continue general_category.items script.items script_extensions.items binary.items strings.items) } by { Prim.hlevel props },
+    ghost later: { HasLaterTargets later_folds folds.items × HasLaterTargets later_uppers uppers.items } by { Prim.hlevel props },
 }

@@ -8,6 +8,7 @@ use super::checks::{
     check_classes, check_idempotent, check_order, check_targets, collect_mapped, have_strings,
     have_word_ascii, sets_are_canonical,
 };
+use super::later::later_targets;
 use super::{FoldRange, Tables, TablesError, Which};
 use regress_base::codepointset::CodePointSet;
 use regress_base::sets::set_is_canonical;
@@ -109,7 +110,7 @@ impl Tables {
         sets_are_canonical(&script);
         sets_are_canonical(&script_extensions);
         sets_are_canonical(&binary);
-        Ok(Tables {
+        Ok(Tables::from_sound_parts(
             folds,
             uppers,
             id_start,
@@ -119,7 +120,7 @@ impl Tables {
             script_extensions,
             binary,
             strings,
-        })
+        ))
     }
 
     /// Returns the table with these parts, as [`new`](Tables::new) does, without tests and without allocations. The
@@ -141,9 +142,13 @@ impl Tables {
         requires { IsSound (parts_from folds.items uppers.items id_start id_continue general_category.items script.items script_extensions.items binary.items strings.items) }
         ensures { table_of result ≡ table_from (parts_from folds.items uppers.items id_start id_continue general_category.items script.items script_extensions.items binary.items strings.items) }
     {
+        let later_folds = later_targets(&folds);
+        let later_uppers = later_targets(&uppers);
         Tables {
             folds,
             uppers,
+            later_folds,
+            later_uppers,
             id_start,
             id_continue,
             general_category,

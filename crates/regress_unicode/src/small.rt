@@ -29,17 +29,17 @@ impl Tables {
     pub fn small(alloc: Global) -> Result<Tables, AllocError>
         ensures { IfOk result (λ tables. table_of tables ≡ small_table) }
     {
-        Ok(Tables {
-            folds: small_folds(alloc)?,
-            uppers: small_uppers(alloc)?,
-            id_start: small_id_start(alloc)?,
-            id_continue: small_id_continue(alloc)?,
-            general_category: small_general_category(alloc)?,
-            script: small_script(alloc)?,
-            script_extensions: small_script(alloc)?,
-            binary: small_binary(alloc)?,
-            strings: small_strings(alloc)?,
-        })
+        Ok(Tables::from_sound_parts(
+            small_folds(alloc)?,
+            small_uppers(alloc)?,
+            small_id_start(alloc)?,
+            small_id_continue(alloc)?,
+            small_general_category(alloc)?,
+            small_script(alloc)?,
+            small_script(alloc)?,
+            small_binary(alloc)?,
+            small_strings(alloc)?,
+        ))
     }
 }
 

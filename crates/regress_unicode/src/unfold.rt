@@ -5,9 +5,12 @@ ghost use Rattle.regress_base.specs.Intervals.{code_point_max};
 ghost use Rattle.regress_unicode.specs.FoldEntries.{image, is_in_order, are_targets_in_range};
 ghost use Rattle.regress_base.specs.Listing.{lists, is_ascending, IsListing};
 ghost use Rattle.regress_base.specs.Table.{denotes};
+ghost use Rattle.regress_unicode.specs.LaterTargets.{HasLaterTargets};
 ghost use Rattle.regress_unicode.specs.TableOf.{table_of};
 
+use super::later::entries_to;
 use super::{FoldRange, Tables, fold, uppercase};
+use regress_base::bytesearch::AsciiBitmap;
 use std::alloc::{AllocError, Global};
 
 /// The maximum number of code points with the same canonical form.
@@ -23,7 +26,8 @@ const MOST: usize = 4;
 /// Returns [`AllocError`] if an allocation fails.
 ///
 /// # Complexity
-/// Linear in the number of entries of the table.
+/// At most linear in the number of entries of the table, and logarithmic for most ASCII characters: those that no entry
+/// after the first maps another code point to.
 ///
 /// # Examples
 /// ```
@@ -38,7 +42,7 @@ pub fn unfold_char(alloc: Global, c: u32, tables: &Tables) -> Result<Vec<u32>, A
         IsListing (λ x. (table_of tables.now).fold x == (table_of tables.now).fold c) list.items) }
     ensures few { IfOk result (λ list. length list.items ≤ 4) }
 {
-    unfold_to(alloc, &tables.folds, fold(c, tables))
+    unfold_to(alloc, &tables.folds, &tables.later_folds, fold(c, tables))
 }
 
 /// Returns the code points with the same upper case as `c`, ascending, each once: at most four, `c` among them.
@@ -50,14 +54,19 @@ pub fn unfold_char(alloc: Global, c: u32, tables: &Tables) -> Result<Vec<u32>, A
 /// Returns [`AllocError`] if an allocation fails.
 ///
 /// # Complexity
-/// Linear in the number of entries of the table.
+/// That of [`unfold_char`].
 pub fn unfold_uppercase_char(alloc: Global, c: u32, tables: &Tables) -> Result<Vec<u32>, AllocError>
     requires { c ≤ code_point_max }
     ensures listing { IfOk result (λ list.
         IsListing (λ x. (table_of tables.now).uppercase x == (table_of tables.now).uppercase c) list.items) }
     ensures few { IfOk result (λ list. length list.items ≤ 4) }
 {
-    unfold_to(alloc, &tables.uppers, uppercase(c, tables))
+    unfold_to(
+        alloc,
+        &tables.uppers,
+        &tables.later_uppers,
+        uppercase(c, tables),
+    )
 }
 
 /// Returns the code points that a literal `c` matches, ascending, each once (ECMA-262, CharacterSetMatcher).
@@ -72,7 +81,7 @@ pub fn unfold_uppercase_char(alloc: Global, c: u32, tables: &Tables) -> Result<V
 /// Returns [`AllocError`] if an allocation fails.
 ///
 /// # Complexity
-/// At most linear in the number of entries of the table.
+/// That of [`unfold_char`] with `icase`, and constant without.
 ///
 /// # Examples
 /// ```
@@ -106,7 +115,13 @@ pub fn expand_code_point(
 
 /// Returns the code points whose canonical form is `target`, which is its own canonical form. The entries ascend, and
 /// so do the code points that they map to it.
-fn unfold_to(alloc: Global, mappings: &[FoldRange], target: u32) -> Result<Vec<u32>, AllocError>
+fn unfold_to(
+    alloc: Global,
+    mappings: &[FoldRange],
+    later: &AsciiBitmap,
+    target: u32,
+) -> Result<Vec<u32>, AllocError>
+    requires later { HasLaterTargets later.now mappings.now }
     requires code_point { target ≤ code_point_max }
     requires in_order { IsTrue (is_in_order mappings.now) }
     requires in_range { IsTrue (are_targets_in_range mappings.now) }
@@ -114,7 +129,8 @@ fn unfold_to(alloc: Global, mappings: &[FoldRange], target: u32) -> Result<Vec<u
     ensures { IfOk result (λ list. IsListing (λ x. image mappings.now x == target) list.items) }
 {
     let mut list = Vec::with_capacity(alloc, MOST)?;
-    for mapping in mappings {
+    let entries = entries_to(mappings, later, target);
+    for mapping in entries {
         if let Some(source) = mapping.source(target) {
             list.push(source)?;
         }

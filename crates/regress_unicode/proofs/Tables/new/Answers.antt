@@ -38,30 +38,28 @@ returns-then-not-have_strings-clause-rejected c known =
     let same = c.deref-3.ensures.value in
     cc (test, value, same, h, c.if-not-have_strings.true)))
 
-pub invariant_of-result : goal.invariant_of-result
-invariant_of-result c =
+pub from_sound_parts-requires : goal.from_sound_parts-requires
+from_sound_parts-requires c =
     let folds = subst AreValidEntries c.deref.ensures.value c.in_ok-check_entries.ensures.ok.0 in
     let uppers = subst AreValidEntries c.deref-2.ensures.value c.in_ok-check_entries.ensures.ok.1 in
     let identifiers = c.have_word_ascii.ensures.0 c.if-not-have_word_ascii.false in
     let strings = strings_test c.args.strings.items ∙ ap (list_all (λ entry. list_all (λ string. is_string string.items) entry.1.items))
     (sym c.deref-3.ensures.value) ∙ sym c.have_strings.ensures ∙ c.if-not-have_strings.false in
     record {
-      sound = record {
-        folds = folds;
-        uppers = uppers;
-        lawful = record {
-          fold = case_map c.args.folds.items folds;
-          uppercase = case_map c.args.uppers.items uppers;
-          id_start = c.set_is_canonical.ensures;
-          id_continue = c.set_is_canonical-2.ensures;
-          id_start_ascii = identifiers.0;
-          id_continue_ascii = identifiers.1;
-          general_category = canonical _ _ c.deref-4.ensures.value c.sets_are_canonical.ensures;
-          script = canonical _ _ c.deref-5.ensures.value c.sets_are_canonical-2.ensures;
-          script_extensions = canonical _ _ c.deref-6.ensures.value c.sets_are_canonical-3.ensures;
-          binary = canonical _ _ c.deref-7.ensures.value c.sets_are_canonical-4.ensures;
-          strings = strings;
-        };
+      folds = folds;
+      uppers = uppers;
+      lawful = record {
+        fold = case_map c.args.folds.items folds;
+        uppercase = case_map c.args.uppers.items uppers;
+        id_start = c.set_is_canonical.ensures;
+        id_continue = c.set_is_canonical-2.ensures;
+        id_start_ascii = identifiers.0;
+        id_continue_ascii = identifiers.1;
+        general_category = canonical _ _ c.deref-4.ensures.value c.sets_are_canonical.ensures;
+        script = canonical _ _ c.deref-5.ensures.value c.sets_are_canonical-2.ensures;
+        script_extensions = canonical _ _ c.deref-6.ensures.value c.sets_are_canonical-3.ensures;
+        binary = canonical _ _ c.deref-7.ensures.value c.sets_are_canonical-4.ensures;
+        strings = strings;
       };
     }
 

@@ -1,18 +1,19 @@
--- Each entry adds what it maps of the remaining intervals. The intervals before these have no code point that it maps.
-use Rattle.std.proofs.Common.{◌≡◌, ℕ, ◌+◌, ◌<◌, ◌≤◌, ◌∙◌, IsTrue, length, le_refl, refl, sym, subst, arith}
+-- Each entry adds what it maps. The intervals before the remaining ones have no code point that it maps.
+use Rattle.std.proofs.Common.{◌≡◌, ℕ, ◌+◌, ◌<◌, ◌≤◌, ◌||◌, ◌∙◌, IsTrue, length, le_refl, refl, sym, ap, subst, arith}
 use Rattle.std.proofs.lemmas.Bool.{eqb-true}
 use Rattle.regress_base.specs.Intervals.{Bounds, is_member}
-use Rattle.regress_unicode.specs.declared.shift.Shift.{Shift}
 use Rattle.regress_unicode.specs.FoldEntries.{FoldEntry, is_target_in_range}
 use Rattle.regress_unicode.specs.Shifts.{forward}
 use Rattle.regress_unicode.proofs.ListLemmas.{target_at}
-use Rattle.regress_unicode.proofs.ClosingLemmas.{found_none, mapping_more, mapping_no_more, mappings_done, left, below_first_none, no_members, positive}
+use Rattle.regress_unicode.proofs.ShiftLemmas.{mappings_more}
+use Rattle.regress_unicode.proofs.ClosingLemmas.{found_none, mapping_no_more, mappings_done, left, below_first_none, no_members, positive}
 use Rattle.regress_unicode.proofs.closure.images.Goals as goal
-use Rattle.regress_unicode.proofs.closure.images.Goals.{then-first-last+in_ok-push_moved, else-first-last}
+use Rattle.regress_unicode.proofs.closure.images.Goals.{then-first-last+in_ok-push_images, else-first-last}
 
 pub loop-mapping-init : goal.loop-mapping-init
 loop-mapping-init c = record {
-  members = λ x. found_none forward (is_member c.args.intervals.now) x c.new-found.result.items c.new-found.ensures.items;
+  members = λ x. ap (λ b. is_member c.args.intervals.now x || b)
+      (found_none forward (is_member c.args.intervals.now) x c.new-found.result.items c.new-found.ensures.items);
   canonical = c.requires.canonical;
   same = λ k d le lt x from. refl;
 }
@@ -24,8 +25,9 @@ returns-then-is_empty c x =
     c.skip_below-rest.ensures.members in
     let none = eqb-true (length c.skip_below-rest.result.now) 0 (sym c.if-is_empty.ensures) in
     c.loop-mapping.invariant.members x
-    ∙ mappings_done forward (is_member c.args.intervals.now) c.args.mappings.now c.loop-mapping.mapping-index x c.mapping-item.result
-    (λ k le lt y from. sym (rest k c.mapping-item.result le lt y from) ∙ no_members c.skip_below-rest.result.now y none)
+    ∙ ap (λ b. is_member c.args.intervals.now x || b)
+    (mappings_done forward (is_member c.args.intervals.now) c.args.mappings.now c.loop-mapping.mapping-index x c.mapping-item.result
+    (λ k le lt y from. sym (rest k c.mapping-item.result le lt y from) ∙ no_members c.skip_below-rest.result.now y none))
 
 pub forward-requires : goal.forward-requires
 forward-requires c =
@@ -44,16 +46,16 @@ loop-mapping-preserved c =
     rest i mapping (le_refl i) c.loop-mapping-test.true y (subst (λ (r : FoldEntry). r.start ≤ y) c.mapping-item.is from) in
     let same = λ (k : ℕ) (d : FoldEntry) (le : i + 1 ≤ k). rest k d (omega arith) in
     elim c.if-first-last.branch [
-      | then-first-last+in_ok-push_moved w ↦ rw w.found-is (record {
-        members = λ x. mapping_more forward (is_member c.args.intervals.now) (is_member c.skip_below-rest.result.now) mappings i x mapping
-            w.forward.result _ _ c.loop-mapping-test.true c.mapping-item.is w.forward.ensures.value
-            (λ y from to. here y (subst (λ (s : Shift). s.first ≤ y) w.forward.ensures.value from))
-            (c.loop-mapping.invariant.members x) (w.in_ok-push_moved.ensures x);
+      | then-first-last+in_ok-push_images w ↦ rw w.found-is (record {
+        members = λ x. mappings_more forward (is_member c.args.intervals.now) mappings i x mapping w.forward.result
+            (is_member c.args.intervals.now x) _ _ c.loop-mapping-test.true c.mapping-item.is w.forward.ensures.value
+            (c.loop-mapping.invariant.members x) (w.in_ok-push_images.ensures x);
         canonical = c.skip_below-rest.ensures.canonical;
         same = same;
       })
       | else-first-last w ↦ rw w.found-is (record {
-        members = λ x. mapping_no_more forward (is_member c.args.intervals.now) mappings i x mapping _ c.loop-mapping-test.true c.mapping-item.is
+        members = λ x. mapping_no_more forward (is_member c.args.intervals.now) mappings i x mapping (is_member c.args.intervals.now x) _
+            c.loop-mapping-test.true c.mapping-item.is
             (λ y from to. sym (here y from)
             ∙ below_first_none c.skip_below-rest.result.now y c.index-rest-0.result c.skip_below-rest.ensures.canonical
             (positive _ (sym c.if-is_empty.ensures))

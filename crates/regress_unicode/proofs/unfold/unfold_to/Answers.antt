@@ -6,7 +6,7 @@ use Rattle.regress_unicode.specs.FoldEntries.{FoldEntry, is_target_in_range}
 use Rattle.regress_base.specs.Listing.{is_ascending}
 use Rattle.regress_base.proofs.lemmas.Listings.{listed_source}
 use Rattle.regress_unicode.proofs.ListLemmas.{target_at}
-use Rattle.regress_unicode.proofs.SourceLemmas.{has_source, has_source-nil, has_source-more, has_source-no_more, has_image}
+use Rattle.regress_unicode.proofs.SourceLemmas.{has_source, has_source-nil, has_source-more, has_source-no_more, has_source-same, has_image}
 use Rattle.regress_unicode.proofs.UnfoldLemmas.{listed_none, none_listed, pushed_ascending, pushed_lists, source_within, below_mappings, target_added}
 use Rattle.regress_unicode.proofs.unfold.unfold_to.Goals as goal
 use Rattle.regress_unicode.proofs.unfold.unfold_to.Goals.{in-Some+in_ok-push, in_default}
@@ -21,11 +21,11 @@ loop-mapping-init c = record {
 pub source-requires-clause-in_range : goal.source-requires-clause-in_range
 source-requires-clause-in_range c =
     subst (λ (r : FoldEntry). IsTrue (is_target_in_range r)) (sym c.mapping-item.is)
-    (target_at c.args.mappings.now c.loop-mapping.mapping-index c.mapping-item.result c.requires.in_range c.loop-mapping-test.true)
+    (target_at c.entries_to-entries.result.now c.loop-mapping.mapping-index c.mapping-item.result (c.entries_to-entries.ensures.in_range c.requires.in_range) c.loop-mapping-test.true)
 
 pub loop-mapping-preserved : goal.loop-mapping-preserved
 loop-mapping-preserved c =
-    let mappings = c.args.mappings.now in
+    let mappings = c.entries_to-entries.result.now in
     let i = c.loop-mapping.mapping-index in
     let mapping : FoldEntry = c.mapping-item.result in
     elim c.match-source.branch [
@@ -40,7 +40,7 @@ loop-mapping-preserved c =
             members = λ x. listed_source x w.in-Some.source _ _ false _ _ _ w.in-Some.ensures.low (c.loop-mapping.invariant.members x)
                 (pushed_lists _ _ w.in-Some.source x w.in_ok-push.ensures.items) (w.in-Some.ensures.some x)
                 (has_source-more mappings i c.args.target x mapping c.loop-mapping-test.true c.mapping-item.is);
-            below = below_mappings mappings i mapping _ _ w.in-Some.source c.requires.in_order c.mapping-item.is within.1 w.in_ok-push.ensures.items
+            below = below_mappings mappings i mapping _ _ w.in-Some.source (c.entries_to-entries.ensures.in_order c.requires.in_order) c.mapping-item.is within.1 w.in_ok-push.ensures.items
                 c.loop-mapping.invariant.below;
           }))
       | in_default w ↦ rw w.list-is (record {
@@ -58,6 +58,7 @@ returns c = record {
   members = λ x. target_added x c.args.target _ _ _ c.requires.code_point (c.loop-mapping.invariant.members x)
       (c.in_ok-insert_ordered.ensures.members x)
       ∙ ap (λ b. nat_le x code_point_max && b) (ap (λ (rs : List FoldEntry). (x == c.args.target) || has_source rs c.args.target x)
-      (take_all c.loop-mapping.mapping-index c.args.mappings.now c.loop-mapping-test.false)
+      (take_all c.loop-mapping.mapping-index c.entries_to-entries.result.now c.loop-mapping-test.false)
+      ∙ ap (λ b. (x == c.args.target) || b) (has_source-same c.entries_to-entries.result.now c.args.mappings.now c.args.target x (c.entries_to-entries.ensures.sources x))
       ∙ sym (has_image 0 c.args.mappings.now c.args.target x c.requires.in_order c.requires.own_image));
 }

@@ -9,7 +9,7 @@ use Rattle.regress_unicode.proofs.unfold.unfold_to.Given as goal
 abbrev pub invariant-loop-mapping : goal.invariant-loop-mapping
 invariant-loop-mapping l = record {
   ascending : IsTrue (is_ascending l.list.items);
-  members : (x : ℕ) → lists l.list.items x ≡ (nat_le x code_point_max && has_source (take l.mapping-index l.mappings) l.target x);
-  below : (x : ℕ) → lists l.list.items x ≡ true → (k : ℕ) (d : FoldEntry) → l.mapping-index ≤ k → k < length l.mappings →
-      x < (get_or l.mappings k d).start;
+  members : (x : ℕ) → lists l.list.items x ≡ (nat_le x code_point_max && has_source (take l.mapping-index l.entries) l.target x);
+  below : (x : ℕ) → lists l.list.items x ≡ true → (k : ℕ) (d : FoldEntry) → l.mapping-index ≤ k → k < length l.entries →
+      x < (get_or l.entries k d).start;
 }
