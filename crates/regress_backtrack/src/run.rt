@@ -164,7 +164,7 @@ fn advance(
             };
             look(alloc, input, looking, here, machine, left)
         }
-        _ => step(alloc, input, instruction, here, machine, left),
+        _ => step(input, instruction, here, machine, left),
     }
 }
 

@@ -19,7 +19,7 @@ use crate::instruction::Instruction;
 use crate::leaf::leaf_end;
 use crate::machine::{Machine, Place};
 use crate::test::Test;
-use std::alloc::{AllocError, Global};
+use std::alloc::AllocError;
 
 /// What follows an instruction.
 #[derive(Clone, Copy)]
@@ -47,7 +47,6 @@ pub enum Next {
 /// Returns [`AllocError`] if an allocation fails.
 #[inline(always)]
 pub fn step(
-    alloc: Global,
     input: &Input<'_, '_>,
     instruction: Instruction,
     here: Place,
@@ -71,7 +70,7 @@ pub fn step(
         Instruction::Accept => Ok(Next::Accept(here.position)),
         Instruction::Fail => Ok(Next::Back),
         Instruction::Leaf { leaf, next } => {
-            match_leaf(alloc, input, leaf, next, here, machine, left)
+            Ok(match_leaf(input, leaf, next, here, machine, left))
         }
         Instruction::Split { first, second } => {
             fork(input, goto(first, here), goto(second, here), machine)
@@ -114,32 +113,28 @@ pub fn step(
 ///
 /// # Preconditions
 /// The instruction of `here` is the one that matches the leaf.
-///
-/// # Errors
-/// Returns [`AllocError`] if an allocation fails.
 #[inline(always)]
 fn match_leaf(
-    alloc: Global,
     input: &Input<'_, '_>,
     leaf: usize,
     next: usize,
     here: Place,
     machine: &Machine,
     left: &mut u64,
-) -> Result<Next, AllocError>
+) -> Next
     requires { CanStep input.now (part_of (slice_get input.now.code.now.tests.items leaf) next) here }
-    ensures leads { IfOk result (λ to. (body_of : ℕ → Matcher) (out : Out) → (let u = subject input.now.rules input.now.text.now in
+    ensures leads { (body_of : ℕ → Matcher) (out : Out) → (let u = subject input.now.rules input.now.text.now in
         Leads (outcomes_by u.setting u.bytes u.direction body_of out (part_of (slice_get input.now.code.now.tests.items leaf) next)
-        (at here (groups_of machine.now)) ++ flat_map out (points machine.now)) out machine.now to)) }
-    ensures inside { IfOk result (λ to. All (Inside input.now) (points machine.now) → All (Inside input.now) (ahead machine.now to)) }
-    ensures left { IfOk result (λ _. left.new ≤ left.old) }
-    ensures goes { IfOk result (λ to. to ≡ OutOfSteps → ⊥) }
+        (at here (groups_of machine.now)) ++ flat_map out (points machine.now)) out machine.now result) }
+    ensures inside { All (Inside input.now) (points machine.now) → All (Inside input.now) (ahead machine.now result) }
+    ensures left { left.new ≤ left.old }
+    ensures goes { result ≡ OutOfSteps → ⊥ }
 {
     let Some(test) = test_at(input, leaf) else {
-        return Ok(Next::Back);
+        return Next::Back;
     };
-    let to = test_end(alloc, input, test, here.position, &machine.captures, left)?;
-    Ok(reach(here, next, to, left))
+    let to = test_end(input, test, here.position, &machine.captures, left);
+    reach(here, next, to, left)
 }
 
 /// Returns the position at which a leaf ends, or `None` if it fails, as [`leaf_end`], which decides unless the next
@@ -147,30 +142,25 @@ fn match_leaf(
 ///
 /// # Preconditions
 /// It is a set of strings only if it has exactly one string.
-///
-/// # Errors
-/// Returns [`AllocError`] if an allocation fails.
 #[inline(always)]
 fn test_end(
-    alloc: Global,
     input: &Input<'_, '_>,
     test: &Test,
     position: usize,
     captures: &[Option<(usize, usize)>],
     left: &mut u64,
-) -> Result<Option<usize>, AllocError>
+) -> Option<usize>
     requires { IsPart (tree test.now.node) }
-    ensures to { IfOk result (λ to. let u = subject input.now.rules input.now.text.now in
-        steps u.setting u.bytes u.direction (tree test.now.node) (state captures.now position) ≡ put (state captures.now position) to) }
-    ensures left { IfOk result (λ _. left.new ≤ left.old) }
+    ensures to { let u = subject input.now.rules input.now.text.now in
+        steps u.setting u.bytes u.direction (tree test.now.node) (state captures.now position) ≡ put (state captures.now position) result }
+    ensures left { left.new ≤ left.old }
 {
     match test
         .start
         .ascii_end(input.text, input.rules.backwards, position)
     {
-        Some(to) => Ok(to),
+        Some(to) => to,
         None => leaf_end(
-            alloc,
             input.text,
             input.rules,
             &test.node,

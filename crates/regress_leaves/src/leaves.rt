@@ -98,7 +98,12 @@ fn if_holds(holds: bool, position: usize) -> Option<usize>
 
 /// Returns the position after the bytes `written`, in the direction of matching, or `None` if the text does not have
 /// them.
-fn these_bytes(bytes: &[u8], backwards: bool, written: &[u8], position: usize) -> Option<usize>
+pub(crate) fn these_bytes(
+    bytes: &[u8],
+    backwards: bool,
+    written: &[u8],
+    position: usize,
+) -> Option<usize>
     ensures { (s : MatchState) → s.position ≡ position → put s result ≡ these_bytes (direction_if backwards) bytes.now written.now s }
 {
     if backwards {

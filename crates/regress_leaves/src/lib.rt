@@ -5,4 +5,5 @@ pub mod characters;
 pub mod known;
 pub mod leaves;
 pub mod reading;
+pub mod references;
 pub mod rules;

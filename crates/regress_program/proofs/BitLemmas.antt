@@ -2,7 +2,6 @@
 use Rattle.std.proofs.Common.{◌≡◌, ◌≢◌, ℕ, ◌+◌, ◌*◌, ◌/◌, ◌%◌, ◌<◌, inl, inr, ◌==◌, Bool, true, false, List, [], ◌∷◌, ◌++◌, length, map, get_or, set, if◌then◌else◌, sym, ap, ap₂, ◌∙◌, arith, get_or-set_other}
 use Rattle.std.specs.Int.{bit_at}
 use Rattle.std.specs.List.{range_with_len}
-use Rattle.std.proofs.Math.ListN.{get_or-append}
 use Rattle.std.proofs.lemmas.Bool.{cases_eq}
 use Rattle.std.proofs.lemmas.List.{same_lists, get_or-set_same}
 use Rattle.std.proofs.lemmas.List.FromFn.{length-map-range_with_len, get_or-map-range_with_len, map-range_with_len_more}
@@ -23,10 +22,6 @@ same-first_bits words words' len same =
     same_lists (first_bits words' len) (first_bits words len) (length-first_bits words' len ∙ sym (length-first_bits words len))
     (λ k d lt. let lt' : k < len = omega (arith, lt, length-first_bits words' len) in
     get_or-first_bits words' len k d lt' ∙ same k lt' ∙ sym (get_or-first_bits words len k d lt'))
-
--- a word more
-pub bit_of-more : (words : List ℕ) (word k : ℕ) → k < 64 * length words → bit_of (words ++ word ∷ []) k ≡ bit_of words k
-bit_of-more words word k lt = ap (λ x. bit_at x (k % 64) == 1) (get_or-append words (word ∷ []) 0 (k / 64) (omega arith))
 
 truth : (b : Bool) (n : ℕ) → n ≡ (if b then 1 else 0) → (n == 1) ≡ b
 truth true n is = grind arith

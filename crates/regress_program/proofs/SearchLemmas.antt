@@ -1,5 +1,5 @@
 -- A search by tables, and what it finds of a tree.
-use Rattle.std.proofs.Common.{◌≡◌, ℕ, ◌+◌, ◌*◌, ◌≤◌, List, ◌∷◌, length, Option, Some, None, Result, Ok, Err, IfOk, sym, ap, ◌∙◌, subst, arith}
+use Rattle.std.proofs.Common.{◌≡◌, ℕ, ◌≤◌, List, ◌∷◌, length, Option, Some, None, Result, Ok, Err, IfOk, sym, ap, ◌∙◌, subst}
 use Rattle.std.specs.Str.{IsCharBoundary}
 use Rattle.regress_tree.specs.Steps.{MatchState}
 use Rattle.regress_program.specs.declared.found.Match.{Match}

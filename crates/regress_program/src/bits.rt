@@ -1,12 +1,13 @@
 //! A list of bits.
-ghost use Rattle.std.specs.Prelude.{◌≤◌, ◌*◌, length};
+ghost use Rattle.std.specs.Prelude.{◌≤◌, ◌<◌, ◌*◌, ◌^◌, length};
 
-/// A list of bits, 64 in a word.
+/// A list of bits, 64 in a word. It does not grow beyond its words.
 #[derive(Drop)]
 pub struct Bits {
     /// The words. Bit `i` of the list is bit `i % 64` of word `i / 64`.
     pub(crate) words: Vec<u64>,
-    /// The number of bits.
+    /// The number of bits so far.
     pub(crate) len: usize,
     ghost room: { len ≤ 64 * length words.items },
+    ghost small: { length words.items < 2 ^ 57 },
 }

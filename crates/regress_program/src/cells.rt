@@ -1,15 +1,15 @@
 //! The bits of a table.
-ghost use Rattle.std.specs.Prelude.{◌≡◌, ◌<◌, ◌≤◌, ◌++◌, ◌*◌, ◌^◌, [], ◌∷◌, IfOk};
+ghost use Rattle.std.specs.Prelude.{◌≡◌, ◌<◌, ◌≤◌, ◌++◌, ◌*◌, ◌^◌, [], ◌∷◌, IfOk, length};
 ghost use Rattle.regress_tree.specs.Reading.{direction_if};
 ghost use Rattle.regress_program.specs.Bits.{bits_of};
-ghost use Rattle.regress_program.specs.Table.{SameShape, cell, column, row_of};
+ghost use Rattle.regress_program.specs.Table.{SameShape, cell, column, row_of, size};
 
 use crate::bits::Bits;
 use crate::table::Table;
 use std::alloc::{AllocError, Global};
 
 impl Table {
-    /// Returns an empty table for a routine.
+    /// Returns an empty table for a routine, with memory for all of its bits.
     ///
     /// # Errors
     /// Returns [`AllocError`] if no memory can hold the table.
@@ -32,7 +32,7 @@ impl Table {
             return Err(AllocError);
         }
         Ok(Table {
-            bits: Bits::new(alloc),
+            bits: Bits::with_room(alloc, 2 * half)?,
             width,
             length,
             backwards,
@@ -40,12 +40,15 @@ impl Table {
     }
 
     /// Adds the bit of the next state.
-    pub(crate) fn push(&mut self, bit: bool) -> Result<(), AllocError>
-        ensures bits { IfOk result (λ _. (bits_of self.new.bits) ≡ (bits_of self.old.bits) ++ bit ∷ []) }
-        ensures shape { IfOk result (λ _. SameShape self.old self.new) }
+    ///
+    /// # Preconditions
+    /// The table is not full.
+    pub(crate) fn push(&mut self, bit: bool)
+        requires { length (bits_of self.old.bits) < size self.old }
+        ensures bits { (bits_of self.new.bits) ≡ (bits_of self.old.bits) ++ bit ∷ [] }
+        ensures shape { SameShape self.old self.new }
     {
-        self.bits.push(bit)?;
-        Ok(())
+        self.bits.push(bit);
     }
 
     /// Returns whether there is an outcome from a state, or false if it was not evaluated yet.

@@ -42,8 +42,8 @@ pub(crate) fn fill(
     let mut table = Table::new(alloc, routine.instructions.len(), length, routine.backwards)?;
     for row in 0..length + 1 {
         let position = row_of(routine.backwards, length, row);
-        fill_half(input, routine, &mut table, false, position)?;
-        fill_half(input, routine, &mut table, true, position)?;
+        fill_half(input, routine, &mut table, false, position);
+        fill_half(input, routine, &mut table, true, position);
     }
     Ok(table)
 }
@@ -55,20 +55,19 @@ fn fill_half(
     table: &mut Table,
     moved: bool,
     position: usize,
-) -> Result<(), AllocError>
+)
     requires program { IsProgram (program_of input.routines.now) }
     requires linear { is_linear (program_of input.routines.now) ≡ true }
     requires tables { AreTables input.text.now (program_of input.routines.now) input.tables.now }
     requires can { CanFill input (routine_of routine.now) table.old }
     requires position { position ≤ table.old.length }
     requires at { index table.old 0 moved position ≡ length (bits_of table.old.bits) }
-    ensures more { IfOk result (λ _. length (bits_of table.new.bits) ≡ length (bits_of table.old.bits) + table.old.width) }
-    ensures shape { IfOk result (λ _. SameShape table.old table.new) }
-    ensures filled { IfOk result (λ _. IsFilled input.entry table.old → IsFilled input.entry table.new) }
+    ensures more { length (bits_of table.new.bits) ≡ length (bits_of table.old.bits) + table.old.width }
+    ensures shape { SameShape table.old table.new }
+    ensures filled { IsFilled input.entry table.old → IsFilled input.entry table.new }
 {
     for pc in 0..routine.instructions.len() {
         let bit = evaluate(input, table, routine.instructions[pc], moved, position);
-        table.push(bit)?;
+        table.push(bit);
     }
-    Ok(())
 }

@@ -1,5 +1,7 @@
 //! A table with a bit for each state of a routine.
-ghost use Rattle.std.specs.Prelude.{◌+◌, ◌*◌, ◌<◌, ◌^◌};
+ghost use Rattle.std.specs.Prelude.{◌≡◌, ◌+◌, ◌*◌, ◌<◌, ◌^◌};
+ghost use Rattle.std.specs.Int.{div_ceil};
+ghost use Rattle.regress_program.specs.Bits.{words_of};
 
 use crate::bits::Bits;
 
@@ -7,6 +9,8 @@ use crate::bits::Bits;
 ///
 /// A row has the states at one position. First come those whose innermost iteration has not advanced, then the others.
 /// The rows are in the order in which positions are filled: against the direction of the routine.
+///
+/// It has memory for all of its bits, two for each instruction and position, and for no further word.
 #[derive(Drop)]
 pub struct Table {
     /// The bits of the states that were evaluated so far.
@@ -18,4 +22,5 @@ pub struct Table {
     /// Whether the routine matches backwards.
     pub(crate) backwards: bool,
     ghost small: { (length + 1) * (2 * width) < 2 ^ 62 },
+    ghost words: { words_of bits ≡ div_ceil ((length + 1) * (2 * width)) 64 },
 }

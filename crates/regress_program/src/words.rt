@@ -1,20 +1,28 @@
 //! Reading and writing bits in words.
-ghost use Rattle.std.specs.Prelude.{◌≡◌, ◌≢◌, ◌<◌, ◌*◌, ◌++◌, ℕ, [], ◌∷◌, IfOk, false, length, slice_index_or, if◌then◌else◌};
-ghost use Rattle.std.specs.Int.{bit_at};
-ghost use Rattle.regress_program.specs.Bits.{bits_of};
+ghost use Rattle.std.specs.Prelude.{◌≡◌, ◌≢◌, ◌<◌, ◌*◌, ◌^◌, ◌++◌, ℕ, [], ◌∷◌, IfOk, false, length, slice_index_or, if◌then◌else◌};
+ghost use Rattle.std.specs.Int.{bit_at, div_ceil};
+ghost use Rattle.regress_program.specs.Bits.{bits_of, words_of};
 
 use crate::bits::Bits;
 use std::alloc::{AllocError, Global};
 
 impl Bits {
-    /// Returns an empty list.
-    pub(crate) fn new(alloc: Global) -> Bits
-        ensures { bits_of result ≡ [] }
+    /// Returns an empty list with room for `count` bits, in no more words than they need.
+    ///
+    /// # Preconditions
+    /// The count is below 2^62.
+    ///
+    /// # Errors
+    /// Returns [`AllocError`] if the allocation fails.
+    pub(crate) fn with_room(alloc: Global, count: usize) -> Result<Bits, AllocError>
+        requires { count < 2 ^ 62 }
+        ensures empty { IfOk result (λ bits. bits_of bits ≡ []) }
+        ensures words { IfOk result (λ bits. words_of bits ≡ div_ceil count 64) }
     {
-        Bits {
-            words: Vec::new(alloc),
+        Ok(Bits {
+            words: vec![in alloc; 0; count.div_ceil(64)]?,
             len: 0,
-        }
+        })
     }
 
     /// Returns the number of bits.
@@ -34,31 +42,16 @@ impl Bits {
 
     /// Adds a bit.
     ///
-    /// # Errors
-    /// Returns [`AllocError`] if an allocation fails.
-    pub(crate) fn push(&mut self, bit: bool) -> Result<(), AllocError>
-        ensures { IfOk result (λ _. bits_of self.new ≡ bits_of self.old ++ bit ∷ []) }
+    /// # Preconditions
+    /// There is room for it.
+    pub(crate) fn push(&mut self, bit: bool)
+        requires { length (bits_of self.old) < 64 * words_of self.old }
+        ensures bits { bits_of self.new ≡ bits_of self.old ++ bit ∷ [] }
+        ensures words { words_of self.new ≡ words_of self.old }
     {
-        let Some(len) = self.len.checked_add(1) else {
-            return Err(AllocError);
-        };
-        self.grow()?;
         let index = self.len / 64;
         self.words[index] = with_bit(self.words[index], self.len % 64, bit);
-        self.len = len;
-        Ok(())
-    }
-
-    /// Adds a word if all bits of the words are used.
-    fn grow(&mut self) -> Result<(), AllocError>
-        ensures bits { IfOk result (λ _. bits_of self.new ≡ bits_of self.old) }
-        ensures len { IfOk result (λ _. self.new.len ≡ self.old.len) }
-        ensures room { IfOk result (λ _. self.new.len < 64 * length self.new.words.items) }
-    {
-        if self.len / 64 == self.words.len() {
-            self.words.push(0)?;
-        }
-        Ok(())
+        self.len += 1;
     }
 }
 

@@ -9,7 +9,6 @@ use Rattle.regress_tree.specs.Tree.{back_ref, tree, leaf, string_set}
 use Rattle.regress_program.specs.Shape.{IsPart}
 use Rattle.regress_backtrack.proofs.LeafLemmas.{back_again, sole_of, one_string}
 use Rattle.regress_backtrack.specs.Machine.{state}
-use Rattle.regress_backtrack.proofs.StepLemmas.{ok_map}
 use Rattle.regress_backtrack.proofs.leaf.leaf_end.Goals as goal
 
 pub returns-in-BackRef-clause-to : goal.returns-in-BackRef-clause-to
@@ -19,11 +18,9 @@ returns-in-BackRef-clause-to c =
     let group = c.in-BackRef.group in
     let icase = c.in-BackRef.icase in
     let is : tree c.args.node.now ≡ leaf (back_ref group icase) = search (rules, the_lemmas) in
-    ok_map c.match_again.result _ _
-    (λ to ends.
     ap (λ t. steps u.setting u.bytes u.direction t s) is
-    ∙ back_again u (denotes u.setting.table icase u.setting.flags.unicode) (group - 1) c.capture_of-span.result s to c.capture_of-span.ensures (ends s refl))
-    c.match_again.ensures.to
+    ∙ back_again u (denotes u.setting.table icase u.setting.flags.unicode) (group - 1) c.capture_of-span.result s c.match_again.result
+    c.capture_of-span.ensures (c.match_again.ensures.to s refl)
 
 pub index-requires : goal.index-requires
 index-requires c =

@@ -12,7 +12,7 @@ returns-clause-inside c =
     let input = c.args.input.now in
     let u = subject input.rules input.text.now in
     let t = c.in-Some.test.now in
-    leaf_inside input c.args.machine.now (slice_get input.code.now.tests.items c.args.leaf) c.args.next c.args.here c.reach.result t c.in_ok-to.to u.setting
+    leaf_inside input c.args.machine.now (slice_get input.code.now.tests.items c.args.leaf) c.args.next c.args.here c.reach.result t c.test_end-to.result u.setting
     u.direction c.in-Some.ensures c.requires
-    (subst (λ cs. steps u.setting u.bytes u.direction (tree t.node) (state cs c.args.here.position) ≡ put (state cs c.args.here.position) c.in_ok-to.to)
-    c.deref.ensures.value c.in_ok-to.ensures.to) c.reach.ensures.next
+    (subst (λ cs. steps u.setting u.bytes u.direction (tree t.node) (state cs c.args.here.position) ≡ put (state cs c.args.here.position) c.test_end-to.result)
+    c.deref.ensures.value c.test_end-to.ensures.to) c.reach.ensures.next

@@ -25,13 +25,11 @@ returns-in-Leaf-clause-leads c =
     let input = c.args.input.now in
     let u = subject input.rules input.text.now in
     let m = c.args.machine.now in
-    ok_map c.match_leaf.result _ _
-    (λ next leads. λ outs solves.
+    λ outs solves.
     subst (λ i. Goes (outs input.index) m m
     (outcomes_by u.setting u.bytes u.direction (matcher_of u.setting u.bytes (code_routines input.code.now) outs) (outs input.index)
-    (op_in input.code.now.tests.items i) (at c.args.here (groups_of m))) next)
-    (sym c.in-Leaf.is) (leads (matcher_of u.setting u.bytes (code_routines input.code.now) outs) (outs input.index)))
-    c.match_leaf.ensures.leads
+    (op_in input.code.now.tests.items i) (at c.args.here (groups_of m))) c.match_leaf.result)
+    (sym c.in-Leaf.is) (c.match_leaf.ensures.leads (matcher_of u.setting u.bytes (code_routines input.code.now) outs) (outs input.index))
 
 pub returns-in-Split-clause-leads : goal.returns-in-Split-clause-leads
 returns-in-Split-clause-leads c =

@@ -15,14 +15,14 @@ fill_half-requires-in-loop-row-clause-at c =
     let so_far = c.loop-row.invariant in
     let second = index-second c.loop-row.table _ _ c.loop-row.row c.row_of-position.result c.row_of-position.ensures.value so_far.backwards
     (omega (arith, so_far.of.text, c.len.ensures)) (omega arith) in
-    same-index c.loop-row.table c.fill_half.new.table 0 _ c.row_of-position.result c.in_ok-fill_half.ensures.shape
-    ∙ second ∙ omega (arith, so_far.bits, c.in_ok-fill_half.ensures.more)
+    same-index c.loop-row.table c.fill_half.new.table 0 _ c.row_of-position.result c.fill_half.ensures.shape
+    ∙ second ∙ omega (arith, so_far.bits, c.fill_half.ensures.more)
 
 pub loop-row-preserved : goal.loop-row-preserved
 loop-row-preserved c =
     let so_far = c.loop-row.invariant in
-    let first = c.in_ok-fill_half.ensures in
-    let second = c.in_ok-fill_half-2.ensures in
+    let first = c.fill_half.ensures in
+    let second = c.fill_half-in-loop-row.ensures in
     let same = SameShape-trans c.loop-row.table c.fill_half.new.table c.fill_half-in-loop-row.new.table first.shape second.shape in
     record {
       of = record {
