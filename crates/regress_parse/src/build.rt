@@ -21,7 +21,7 @@ use regress_base::charclasses::CharacterClassType;
 use regress_base::codepointset::CodePointSet;
 use regress_base::sets::set_is_canonical;
 use regress_base::types::{BracketContents, CaptureGroupID};
-use regress_syntax::{Group, Name, Scope, Value, class_escape_set};
+use regress_syntax::{Group, Name, Scope, Value, class_escape_set, name_text};
 use regress_tree::ir::{AnchorType, Node, NodeList, Quantifier};
 use regress_unicode::{add_icase_code_points, expand_code_point};
 use std::alloc::{AllocError, Global};
@@ -317,7 +317,7 @@ pub(crate) fn make_group(
         Group::Capture(name) => Ok(Node::CaptureGroup {
             id: groups.start,
             contents: Box::new(alloc, contents)?,
-            name: name_text(alloc, name)?,
+            name: optional_text(alloc, name)?,
         }),
         Group::Look { negate, backwards } => Ok(Node::LookaroundAssertion {
             negate,
@@ -330,24 +330,13 @@ pub(crate) fn make_group(
 }
 
 /// Returns the text of a name, if there is one.
-fn name_text(alloc: Global, name: Option<Name>) -> Result<Option<String>, AllocError>
+fn optional_text(alloc: Global, name: Option<Name>) -> Result<Option<String>, AllocError>
     ensures { IfOk result (λ text. option_map string_bytes text ≡ option_map (λ name. encode_utf8_all name.items) name) }
 {
     match name {
-        Some(name) => Ok(Some(text_of(alloc, &name)?)),
+        Some(name) => Ok(Some(name_text(alloc, &name)?)),
         None => Ok(None),
     }
-}
-
-/// Returns the characters as a string.
-fn text_of(alloc: Global, characters: &[char]) -> Result<String, AllocError>
-    ensures { IfOk result (λ text. string_bytes text ≡ encode_utf8_all characters.now) }
-{
-    let mut text = String::with_capacity(alloc, characters.len())?;
-    for c in characters {
-        text.push(*c)?;
-    }
-    Ok(text)
 }
 
 /// Returns the node of an alternative: `Empty` for no part, the part itself for one, a `Cat` for several. If

@@ -12,7 +12,7 @@ mod times;
 
 pub use group::{Group, parse_group};
 pub use groups::Groups;
-pub use names::Name;
+pub use names::{Name, name_text};
 pub use references::{has_references_by_name, parse_group_number, parse_reference};
 pub use regress_classes::{Value, class_escape_set};
 pub use regress_lexer::{Change, Cursor, Fault, FaultKind, fault};

@@ -1,5 +1,5 @@
 //! Parses the names of groups.
-ghost use Rattle.std.specs.Prelude.{◌≡◌, ◌+◌, ◌++◌, length, Some, None, if◌then◌else◌, option_map, IfOk};
+ghost use Rattle.std.specs.Prelude.{◌≡◌, ◌+◌, ◌++◌, length, Some, None, if◌then◌else◌, option_map, IfOk, string_bytes, encode_utf8_all};
 ghost use Rattle.regress_lexer.specs.Source.{found_map};
 ghost use Rattle.regress_syntax.specs.Names.{is_dollar_or_underscore, begins_name, continues_name, literal_or_escape_at, name_character_at, rest_of_name_by, name_at, group_name_at};
 ghost use Rattle.regress_unicode.specs.TableOf.{table_of};
@@ -117,4 +117,18 @@ pub(crate) fn parse_group_name<'a>(
     let mut name = Vec::with_capacity(alloc, USUAL_LENGTH)?;
     name.push(c)?;
     parse_rest_of_name(rest, tables, name)
+}
+
+/// Returns the name in UTF-8.
+///
+/// # Errors
+/// Returns [`AllocError`] if the allocation fails.
+pub fn name_text(alloc: Global, name: &[char]) -> Result<String, AllocError>
+    ensures { IfOk result (λ text. string_bytes text ≡ encode_utf8_all name.now) }
+{
+    let mut text = String::with_capacity(alloc, name.len())?;
+    for c in name {
+        text.push(*c)?;
+    }
+    Ok(text)
 }

@@ -1,5 +1,5 @@
 //! Backreferences, by number and by name.
-ghost use Rattle.std.specs.Prelude.{◌≡◌, ◌||◌, true, IfOk, string_bytes, encode_utf8_all};
+ghost use Rattle.std.specs.Prelude.{◌≡◌, ◌||◌, true};
 ghost use Rattle.regress_lexer.specs.Escapes.{begins_with_digit};
 ghost use Rattle.regress_lexer.specs.Fault.{FailsByNoLimit};
 ghost use Rattle.regress_lexer.specs.Reads.{returned, ParsesAs};
@@ -8,12 +8,11 @@ ghost use Rattle.regress_syntax.specs.Productions.{has_names, name_reference_at}
 ghost use Rattle.regress_syntax.specs.Views.{context_of, AreReferences};
 ghost use Rattle.regress_lexer.specs.Views.{source};
 
-use crate::names::parse_group_name;
+use crate::names::{name_text, parse_group_name};
 use crate::scope::Scope;
 use regress_lexer::cursor::Cursor;
 use regress_lexer::digits::{Read, parse_number};
 use regress_lexer::fault::{Fault, FaultKind, rejected};
-use std::alloc::{AllocError, Global};
 
 /// Parses a decimal group number, which is the longest run of digits at the start of `source`.
 ///
@@ -72,15 +71,4 @@ pub fn parse_reference<'a>(
     }
     cursor.rest = rest;
     Ok(numbers)
-}
-
-/// Returns the name in UTF-8.
-fn name_text(alloc: Global, name: &[char]) -> Result<String, AllocError>
-    ensures { IfOk result (λ text. string_bytes text ≡ encode_utf8_all name.now) }
-{
-    let mut text = String::new(alloc);
-    for c in name {
-        text.push(*c)?;
-    }
-    Ok(text)
 }

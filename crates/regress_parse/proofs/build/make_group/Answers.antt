@@ -10,10 +10,10 @@ encoded : (name : Option (Vec ℕ Global)) → option_map (λ n. encode_utf8_all
 encoded None = refl
 encoded (Some name) = refl
 
-pub returns-in_ok-name_text-in-Capture : goal.returns-in_ok-name_text-in-Capture
-returns-in_ok-name_text-in-Capture c =
+pub returns-in_ok-optional_text-in-Capture : goal.returns-in_ok-optional_text-in-Capture
+returns-in_ok-optional_text-in-Capture c =
     let groups = c.args.groups in
-    tree-CaptureGroup groups.start c.in_ok-new-in-Capture.field-0 c.in_ok-name_text-in-Capture.field-0
+    tree-CaptureGroup groups.start c.in_ok-new-in-Capture.field-0 c.in_ok-optional_text-in-Capture.field-0
     ∙ ap₂ (λ (name : Option (List ℕ)) (body : Tree). wrapped (capture_group groups.start name) body)
-    (c.in_ok-name_text-in-Capture.ensures ∙ encoded c.in-Capture.name) (ap tree c.in_ok-new-in-Capture.ensures.ok)
+    (c.in_ok-optional_text-in-Capture.ensures ∙ encoded c.in-Capture.name) (ap tree c.in_ok-new-in-Capture.ensures.ok)
     ∙ sym (ap (λ kind. tree_of_group groups.start groups.end (group_of kind) (tree c.args.contents)) c.in-Capture.is)

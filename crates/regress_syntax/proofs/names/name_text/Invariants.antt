@@ -1,6 +1,6 @@
 -- The text is the UTF-8 of the characters so far.
 use Rattle.std.proofs.Common.{◌≡◌, take, string_bytes, encode_utf8_all}
-use Rattle.regress_syntax.proofs.references.name_text.Given as goal
+use Rattle.regress_syntax.proofs.names.name_text.Given as goal
 
 abbrev pub invariant-loop-c : goal.invariant-loop-c
 invariant-loop-c l = string_bytes l.text ≡ encode_utf8_all (take l.c-index l.name)

@@ -2,7 +2,7 @@ use Rattle.std.proofs.Common.{◌++◌, take, append-nil, encode_utf8_all, sym, 
 use Rattle.std.proofs.lemmas.List.{take_more}
 use Rattle.std.proofs.lemmas.Str.{encodes-append}
 use Rattle.std.specs.Char.{encode_utf8}
-use Rattle.regress_syntax.proofs.references.name_text.Goals as goal
+use Rattle.regress_syntax.proofs.names.name_text.Goals as goal
 
 pub loop-c-preserved : goal.loop-c-preserved
 loop-c-preserved c =

@@ -1,5 +1,0 @@
-use Rattle.std.proofs.Common.{◌≡◌, take, string_bytes, encode_utf8_all}
-use Rattle.regress_parse.proofs.build.text_of.Given as goal
-
-abbrev pub invariant-loop-c : goal.invariant-loop-c
-invariant-loop-c l = string_bytes l.text ≡ encode_utf8_all (take l.c-index l.characters)
