@@ -11,4 +11,4 @@ pub mod quickstart;
 pub mod slice;
 pub mod underline;
 
-pub use quickstart::{compile, find_matches};
+pub use quickstart::{compile, find_matches, prepare};

@@ -1,14 +1,16 @@
-//! The callers that README.md shows: one parses a pattern, the other one finds its matches in a text.
+//! The callers that docs/guide.md shows: one parses a pattern, the next one compiles its tree, and the last one finds its
+//! matches in a text.
 use regress_front::ir::Regex;
 use regress_front::optimizer::parse_and_optimize;
 use regress_front::parse::ParseFault;
 use regress_front::types::Flags;
 use regress_front::unicode::Tables;
 use regress_front::util::code_points;
-use regress_match::{Matches, Outcome};
+use regress_match::{CompileFault, Limits, Matcher, Outcome};
 use std::alloc::{AllocError, Global};
+use std::sync::Arc;
 
-/// The number of steps that a search may take.
+/// The number of steps that a search may take if it does not take linear time.
 const STEPS: u64 = 1_000_000;
 
 /// Returns the optimized tree of a pattern. The caller makes the tables once, for all patterns.
@@ -27,20 +29,31 @@ pub fn compile(
     Ok(regex)
 }
 
-/// Returns the spans of the first `most` matches of `regex` in `text`, in bytes, or of all matches if there are fewer;
+/// Compiles a tree into a program.
+///
+/// # Errors
+/// Returns [`CompileFault::TooLong`] if the program is too long, and [`CompileFault::Memory`] if an allocation fails.
+pub fn prepare(
+    alloc: Global,
+    regex: Regex,
+    tables: &Arc<Tables>,
+) -> Result<Matcher, CompileFault> {
+    Matcher::new(alloc, regex, tables, Limits::default())
+}
+
+/// Returns the spans of the first `most` matches of a pattern in `text`, in bytes, or of all matches if there are fewer;
 /// `None` if the search takes too many steps.
 ///
 /// # Errors
 /// Returns [`AllocError`] if an allocation fails.
 pub fn find_matches(
     alloc: Global,
-    regex: &Regex,
-    tables: &Tables,
+    matcher: &Matcher,
     text: &str,
     most: usize,
 ) -> Result<Option<Vec<(usize, usize)>>, AllocError> {
     let mut spans = Vec::new(alloc);
-    let mut matches = Matches::new(regex, tables, text, 0, STEPS);
+    let mut matches = matcher.find_iter(text, 0, STEPS);
     for _ in 0..most {
         match matches.next(alloc)? {
             Outcome::Matched(found) => {

@@ -28,7 +28,7 @@ use Rattle.regex_match.specs.Ending.{Ends, IsDue, Leaves}
 use Rattle.regex_match.specs.Found.{IsTreeOf}
 use Rattle.regex_match.specs.Printed.{AreLines, AreLinesOf, IsPrinted, PrintsAll, PrintsFirst, WritesAll, WritesFirst, WritesRest, WritesSome, has_some}
 use Rattle.regex_match.specs.declared.failure.Failure.{Failure}
-use Rattle.regex_match.specs.declared.failure.Failure.TheVariants.{Usage, Memory, Output, Syntax, OutOfSteps, Input}
+use Rattle.regex_match.specs.declared.failure.Failure.TheVariants.{Usage, Memory, Output, Syntax, OutOfSteps, Input, TooLarge}
 
 -- the matches found and the lines written between two states of a search
 pub record Progress (old new : MatcherMatches) (groups : List Capture) (before after : Option (List ℕ)) (any : Bool) : Type 0 where
@@ -155,6 +155,7 @@ module _ (setting : Setting) (t : Tree) (m : MatcherMatches) (groups : List Grou
   left nothing (Syntax e position) h = absurd h
   left nothing OutOfSteps h = (h.0, lines_of false h.0 h.1)
   left nothing Input h = absurd h
+  left nothing TooLarge h = absurd h
 
   pub first_of : (nothing : Type 0) (r : Result Bool Failure) → IfErr r (Leaves ⊥ (WritesSome m (map capture_of groups) old between)) →
       IfErr r (Leaves nothing (WritesFirst setting t input old new))
@@ -179,6 +180,7 @@ module _ (request : Request) (setting : Setting) (t : Tree) (input old new : Opt
   due (Syntax e position) h = absurd h
   due OutOfSteps h = (good.pattern, good.accepted)
   due Input h = (good.pattern, good.accepted)
+  due TooLarge h = (good.pattern, good.accepted)
 
   leaves : (nothing : Type 0) (failure : Failure) → Leaves nothing (WritesFirst setting t input old new) failure →
       Leaves nothing (PrintsFirst input old new request) failure
@@ -189,6 +191,7 @@ module _ (request : Request) (setting : Setting) (t : Tree) (input old new : Opt
   leaves nothing (Syntax e position) h = h
   leaves nothing OutOfSteps h = (h.0, printed false h.0 h.1)
   leaves nothing Input h = h
+  leaves nothing TooLarge h = h
 
   pub ends : (helped nothing : Type 0) (r : Result Bool Failure) → IfOk r (WritesAll setting t input old new) → IfErr r (IsDue ⊤ ⊥) →
       IfErr r (Leaves nothing (WritesFirst setting t input old new)) →

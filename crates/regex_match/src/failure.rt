@@ -5,6 +5,7 @@ ghost use Rattle.regex_match.specs.Ending.{status_of};
 ghost use Rattle.regex_match.specs.declared.failure.Failure.TheVariants.{Output};
 
 use regress_front::parse::{Error, PlacedFault};
+use regress_match::CompileFault;
 use std::alloc::{AllocError, AllocFailed};
 use std::io::{self, Write};
 
@@ -28,6 +29,8 @@ pub(crate) enum Failure {
     OutOfSteps,
     /// Standard input cannot be read, or is not UTF-8: status 7.
     Input,
+    /// The program of the pattern has too many instructions: status 8.
+    TooLarge,
 }
 
 impl From<AllocError> for Failure {
@@ -70,6 +73,20 @@ impl From<PlacedFault> for Failure {
     }
 }
 
+impl From<CompileFault> for Failure {
+    ghost use Rattle.std.specs.Prelude.{◌≡◌};
+    ghost use Rattle.regex_match.specs.Ending.{compile_failure_of};
+
+    ghost from_gives = { λ fault failure. failure ≡ compile_failure_of fault };
+
+    fn from(fault: CompileFault) -> Failure {
+        match fault {
+            CompileFault::Memory(_) => Failure::Memory,
+            CompileFault::TooLong => Failure::TooLarge,
+        }
+    }
+}
+
 /// Writes the message of a failure to `err`, and returns the exit status. An error of that write is ignored.
 pub(crate) fn report<E: Write>(failure: Failure, err: &mut E) -> u8
     ensures status { result ≡ status_of failure }
@@ -96,6 +113,10 @@ pub(crate) fn report<E: Write>(failure: Failure, err: &mut E) -> u8
         Failure::Input => {
             let _ = writeln!(err, "error: standard input can't be read, or isn't UTF-8");
             7
+        }
+        Failure::TooLarge => {
+            let _ = writeln!(err, "error: the pattern is too large");
+            8
         }
     }
 }

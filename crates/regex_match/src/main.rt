@@ -36,7 +36,7 @@ fn run<R: Env + AllocGlobal, I: Read + Drop, W: Write + Drop, E: Write>(
     out: W,
     err: &mut E,
 ) -> u8
-    ensures known { result ≤ 7 }
+    ensures known { result ≤ 8 }
 {
     match arguments(rt) {
         Ok(args) => {
@@ -57,7 +57,7 @@ fn run_buffered<I: Read + Drop, W: Write + Drop, E: Write>(
     out: W,
     err: &mut E,
 ) -> (u8, Option<W>)
-    ensures known { result.0 ≤ 7 }
+    ensures known { result.0 ≤ 8 }
     ensures usage { result.0 ≡ 2 → task_of args.now ≡ None }
     ensures reported { task_of args.now ≡ None → (result.0 ≡ 2) ⊎ (result.0 ≡ 3) }
     ensures found { result.0 ≡ 0 → IfSome (task_of args.now) (λ task. IfSome result.1 (λ new.
@@ -68,11 +68,11 @@ fn run_buffered<I: Read + Drop, W: Write + Drop, E: Write>(
         PrintsFirst (I.remaining input) (W.contents out) (W.contents new) request))) }
     ensures out_of_memory { result.0 ≡ 3 → IfSome result.1 (λ new. Keeps (W.contents out) (W.contents new)
         ⊎ IfSome (task_of args.now) (OfPattern (PrintsFirst (I.remaining input) (W.contents out) (W.contents new)))) }
-    ensures untouched { (result.0 ≡ 2) ⊎ ((result.0 ≡ 5) ⊎ (result.0 ≡ 7)) →
+    ensures untouched { (result.0 ≡ 2) ⊎ ((result.0 ≡ 5) ⊎ ((result.0 ≡ 7) ⊎ (result.0 ≡ 8))) →
         IfSome result.1 (λ new. Keeps (W.contents out) (W.contents new)) }
     ensures quiet { (result.0 ≡ 0) ⊎ ((result.0 ≡ 1) ⊎ (result.0 ≡ 4)) → err.new ≡ err.old }
     ensures rejected { result.0 ≡ 5 → IfSome (task_of args.now) (OfPattern NoneIsAccepted) }
-    ensures accepted { (result.0 ≡ 4) ⊎ (result.0 ≡ 7) → IfSome (task_of args.now) (OrHelp IsAcceptedPattern) }
+    ensures accepted { (result.0 ≡ 4) ⊎ ((result.0 ≡ 7) ⊎ (result.0 ≡ 8)) → IfSome (task_of args.now) (OrHelp IsAcceptedPattern) }
 {
     match BufWriter::new(alloc, out) {
         Ok(mut buffered) => {
@@ -92,7 +92,8 @@ fn run_buffered<I: Read + Drop, W: Write + Drop, E: Write>(
 /// - 5: the pattern is rejected, and `error: ` with the text of the syntax error and its code-point index is written to
 ///   `err`;
 /// - 6: the step limit was reached, and `error: out of steps` is written to `err`;
-/// - 7: the input cannot be read or is not UTF-8, and `error: ` with that text is written to `err`.
+/// - 7: the input cannot be read or is not UTF-8, and `error: ` with that text is written to `err`;
+/// - 8: the program of the pattern is too long, and `error: the pattern is too large` is written to `err`.
 ///
 /// With 3, 4 and 6, lines of the first matches may have been written to `out`. An error of a write to `err` is ignored.
 pub fn run_match<I: Read + Drop, W: Write, E: Write>(
@@ -102,7 +103,7 @@ pub fn run_match<I: Read + Drop, W: Write, E: Write>(
     out: &mut W,
     err: &mut E,
 ) -> u8
-    ensures known { result ≤ 7 }
+    ensures known { result ≤ 8 }
     ensures usage { (result ≡ 2) ↔ (task_of args.now ≡ None) }
 
     // The help, or all matches of the pattern under its flags and all of Unicode, byte for byte: some, or none.
@@ -115,12 +116,12 @@ pub fn run_match<I: Read + Drop, W: Write, E: Write>(
         (OfPattern (PrintsFirst (I.remaining input) (W.contents out.old) (W.contents out.new))) }
     ensures out_of_memory { result ≡ 3 → (out.new ≡ out.old) ⊎ IfSome (task_of args.now)
         (OfPattern (PrintsFirst (I.remaining input) (W.contents out.old) (W.contents out.new))) }
-    ensures untouched { (result ≡ 2) ⊎ ((result ≡ 5) ⊎ (result ≡ 7)) → out.new ≡ out.old }
+    ensures untouched { (result ≡ 2) ⊎ ((result ≡ 5) ⊎ ((result ≡ 7) ⊎ (result ≡ 8))) → out.new ≡ out.old }
     ensures quiet { (result ≡ 0) ⊎ ((result ≡ 1) ⊎ (result ≡ 4)) → err.new ≡ err.old }
 
     // The pattern is rejected, or accepted.
     ensures rejected { result ≡ 5 → IfSome (task_of args.now) (OfPattern NoneIsAccepted) }
-    ensures accepted { (result ≡ 4) ⊎ (result ≡ 7) → IfSome (task_of args.now) (OrHelp IsAcceptedPattern) }
+    ensures accepted { (result ≡ 4) ⊎ ((result ≡ 7) ⊎ (result ≡ 8)) → IfSome (task_of args.now) (OrHelp IsAcceptedPattern) }
 {
     match response(alloc, args, input, out) {
         Ok(true) => 0,
@@ -174,6 +175,7 @@ exit status:
     5  PATTERN is rejected: a syntax error
     6  a step limit of a billion was reached; the matches found so far are printed
     7  standard input can't be read, or isn't UTF-8
+    8  PATTERN is too large: its program has more than a million instructions
 ";
 
 /// Prints the help.

@@ -22,14 +22,17 @@ use regress_front::parse::try_parse_with_position;
 use regress_front::types::Flags;
 use regress_front::unicode::Tables;
 use regress_front::util::code_points;
-use regress_match::{Group, Match, Matcher, MatcherMatches, Outcome, groups};
+use regress_match::{Group, Limits, Match, Matcher, MatcherMatches, Outcome, groups};
 use regress_ucd::unicode_tables;
 use std::alloc::Global;
 use std::io::{self, ErrorKind, Read, Write};
 use std::sync::Arc;
 
-/// The largest number of instructions with which a pattern is searched in linear time.
-const INSTRUCTIONS: usize = 100_000;
+/// The largest program, and the largest one that is searched in linear time.
+const LIMITS: Limits = Limits {
+    instructions: 1_000_000,
+    tables: 100_000,
+};
 
 /// The step limit for all matches of any other pattern together, about a minute's worth.
 const STEPS: u64 = 1_000_000_000;
@@ -80,8 +83,8 @@ fn print_found<I: Read + Drop, W: Write>(
         (tree regex.node) (I.remaining input) (W.contents out.old) (W.contents out.new))) }
 {
     let groups = groups(alloc, &regex)?;
+    let matcher = Matcher::new(alloc, regex, tables, LIMITS)?;
     let text = read_text(alloc, input)?;
-    let matcher = Matcher::new(alloc, regex, tables, INSTRUCTIONS)?;
     let mut matches = matcher.find_iter(&text, 0, STEPS);
     let ended = write_all(alloc, &mut matches, &groups, out);
     out.flush().map_err(|_| Failure::Output)?;

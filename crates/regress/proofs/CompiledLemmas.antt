@@ -1,5 +1,5 @@
 -- The tree of an accepted pattern, and the errors of a rejected one.
-use Rattle.std.proofs.Common.{◌≡◌, ◌∙◌, ℕ, ◌<◌, List, [], ◌∷◌, length, map, sym, ap, subst, not-suc-le-zero, arith}
+use Rattle.std.proofs.Common.{◌≡◌, ◌∙◌, ℕ, ◌<◌, inr, List, [], ◌∷◌, length, map, sym, ap, subst, not-suc-le-zero, arith}
 use Rattle.std.proofs.lemmas.List.{get_or-map, length-map}
 use Rattle.std.specs.Arc.{arc_value}
 use Rattle.std.specs.List.Sorted.{IsNonDecreasingBy, IsPermutation}
@@ -25,9 +25,14 @@ use Rattle.regress_match.specs.declared.names.Group.{Group}
 use Rattle.regress.specs.Accepted.{IsTreeOf}
 use Rattle.regress.specs.Compiled as regex
 use Rattle.regress.specs.Compiled.{IsCompiled, groups_of, source_of, tree_of}
-use Rattle.regress.specs.Failures.{IsDue, error_of}
+use Rattle.regress.specs.Failures.{IsDue, IsTooLong, compile_error_of, error_of}
 use Rattle.regress.specs.declared.failure.Error.{Error}
+use Rattle.regress.specs.declared.limits.Options.{Options}
 use Rattle.regress.specs.declared.pattern.Regex.{Regex}
+use Rattle.regress_parse.proofs.lemmas.{length-captures-tree_of}
+use Rattle.regress_program.specs.Size.{program_size}
+use Rattle.regress_program.specs.declared.fault.CompileFault.{CompileFault}
+use Rattle.regress_program.specs.declared.fault.CompileFault.TheVariants as compile_fault
 
 -- An optimized tree means what the parsed one does.
 pub means_optimized : (setting : Setting) (old new : Tree) (p : Pattern) → Means setting old p → MeansTheSame forwards old new →
@@ -35,17 +40,17 @@ pub means_optimized : (setting : Setting) (old new : Tree) (p : Pattern) → Mea
 means_optimized setting old new p means same = λ text s is_text is_state.
     sym ((same setting text is_text).same (byte_state text s)) ∙ means text s is_text is_state
 
-module _ (setting : Setting) (source : Source) (limit : ℕ) {X : Type 0} where
+module _ (setting : Setting) (source : Source) (options : Options) {X : Type 0} where
   -- An error of the parser is due.
   pub due : (r : Result X PlacedFault) (f : PlacedFault) → r ≡ Err f → RejectedOnlyIf (unplaced r) (NoneIsAccepted setting source) →
       HasTextOfKind r → ReportsKindAt r (λ kind position. IsTrueOf setting source kind) →
       ReportsKindAt r (λ kind position. MayExceed source kind) → HasPositionWithin (length source) r →
       ReportsKindAt r (IsFinal setting source) → ReportsKindAt r (IsAtFirstDuplicate setting source) →
-      IsDue setting source limit (error_of f)
+      IsDue setting source options (error_of f)
   due (Ok x) f is rejected text reported limits within settled duplicate = absurd (cc)
   due (Err (fault.Syntax kind e position)) (fault.Syntax k g at) is rejected text reported limits within settled duplicate =
       let one : fault.Syntax kind e position ≡ fault.Syntax k g at = cc in
-      subst (λ f. IsDue setting source limit (error_of f)) one (record {
+      subst (λ f. IsDue setting source options (error_of f)) one (record {
         rejected = rejected;
         text = text;
         reported = record { reported = reported; limits = limits; within = within; settled = settled; duplicate = duplicate };
@@ -59,11 +64,11 @@ pub failed : (setting : Setting) (source : Source) {X Y : Type 0} (r : Result X 
     HasTextOfKind r → ReportsKindAt r (λ kind position. IsTrueOf setting source kind) →
     ReportsKindAt r (λ kind position. MayExceed source kind) → HasPositionWithin (length source) r →
     ReportsKindAt r (IsFinal setting source) → ReportsKindAt r (IsAtFirstDuplicate setting source) →
-    (limit : ℕ) → IfErr out (IsDue setting source limit)
-failed setting source r f (Ok y) given is rejected text reported limits within settled duplicate limit = tt
-failed setting source r f (Err error) given is rejected text reported limits within settled duplicate limit =
-    subst (IsDue setting source limit) (sym given.1)
-    (due setting source limit r f is rejected text reported limits within settled duplicate)
+    (options : Options) → IfErr out (IsDue setting source options)
+failed setting source r f (Ok y) given is rejected text reported limits within settled duplicate options = tt
+failed setting source r f (Err error) given is rejected text reported limits within settled duplicate options =
+    subst (IsDue setting source options) (sym given.1)
+    (due setting source options r f is rejected text reported limits within settled duplicate)
 
 -- An error that is passed on has the property that it had.
 pub passed_on : (P : Error → Type 0) {X Y : Type 0} (r : Result X Error) (e : Error) (out : Result Y Error) →
@@ -98,3 +103,22 @@ compiled flags tables text points t r is tree same_tree same_setting groups sort
   source = source;
   setting = same_setting;
 }
+
+-- The tree of an accepted pattern has few groups.
+few_groups : (setting : Setting) (source : Source) (t : Tree) → IsTreeOf setting source t → length (captures t) < 18446744073709551615
+few_groups setting source t is =
+    let groups = is.accepted.limits.groups in
+    omega (arith, groups, ap length is.captures, length-captures-tree_of setting.table is.pattern)
+
+-- An error of compiling that is converted is due.
+pub too_long_is_due : (setting : Setting) (source : Source) (options : Options) (t : Tree) → IsTreeOf setting source t →
+    {X Y : Type 0} (r : Result X CompileFault) (f : CompileFault) (out : Result Y Error) →
+    IsErr out × IsErrAnd out (λ error. error ≡ compile_error_of f) → r ≡ Err f →
+    (r ≡ Err compile_fault.TooLong → length (captures t) < 18446744073709551615 → options.instructions < program_size t) →
+    IfErr out (IsDue setting source options)
+too_long_is_due setting source options t is r f (Ok y) given same too_long = tt
+too_long_is_due setting source options t is r (compile_fault.Memory e) (Err error) given same too_long =
+    subst (IsDue setting source options) (sym given.1) tt
+too_long_is_due setting source options t is r compile_fault.TooLong (Err error) given same too_long =
+    subst (IsDue setting source options) (sym given.1)
+    (inr (record { tree = t; is_tree = is; long = too_long same (few_groups setting source t is) }))

@@ -1,5 +1,5 @@
 -- Why a pattern was not compiled.
-use Rattle.std.specs.Prelude.{◌≡◌, ℕ, ◌<◌, List, string_bytes}
+use Rattle.std.specs.Prelude.{◌≡◌, ◌⊎◌, ℕ, ◌<◌, List, string_bytes}
 use Rattle.regress_front.specs.Accepted.{NoneIsAccepted}
 use Rattle.regress_front.specs.Bound.{node_bound}
 use Rattle.regress_front.specs.Fault.{text_of}
@@ -9,13 +9,24 @@ use Rattle.regress_front.specs.Source.{Source}
 use Rattle.regress_front.specs.declared.parse.FaultKind.{FaultKind}
 use Rattle.regress_front.specs.declared.parse.PlacedFault.{PlacedFault}
 use Rattle.regress_front.specs.declared.parse.PlacedFault.TheVariants as fault
+use Rattle.regress_front.specs.Tree.{Tree}
+use Rattle.regress_program.specs.Size.{program_size}
+use Rattle.regress_program.specs.declared.fault.CompileFault.{CompileFault}
+use Rattle.regress_program.specs.declared.fault.CompileFault.TheVariants as compile_fault
+use Rattle.regress.specs.Accepted.{IsTreeOf}
 use Rattle.regress.specs.declared.failure.Error.{Error}
 use Rattle.regress.specs.declared.failure.Error.TheVariants.{Syntax, TooLarge, Memory}
+use Rattle.regress.specs.declared.limits.Options.{Options}
 
 -- an error of the parser as an error of `Regex`
 abbrev pub error_of : PlacedFault → Error
 error_of (fault.Syntax kind e position) = Syntax kind e.text position
 error_of (fault.Memory e) = Memory
+
+-- an error of compiling as an error of `Regex`
+abbrev pub compile_error_of : CompileFault → Error
+compile_error_of (compile_fault.Memory e) = Memory
+compile_error_of compile_fault.TooLong = TooLarge
 
 -- A syntax error of a source that has no accepted pattern, with the text of its kind.
 pub record IsSyntaxError (setting : Setting) (source : Source) (kind : FaultKind) (message : List ℕ) (position : ℕ) : Type 0 where
@@ -23,8 +34,19 @@ pub record IsSyntaxError (setting : Setting) (source : Source) (kind : FaultKind
   pub text : message ≡ text_of kind
   pub reported : IsReported setting source kind position
 
--- An error is due: a syntax error, or the bound on the nodes exceeds the limit. Out of memory it states nothing.
-abbrev pub IsDue : Setting → Source → (limit : ℕ) → Error → Type 0
-IsDue setting source limit (Syntax kind text position) = IsSyntaxError setting source kind (string_bytes text) position
-IsDue setting source limit TooLarge = limit < node_bound setting.flags.unicode_sets source
-IsDue setting source limit Memory = Unit {0}
+-- The program of an accepted pattern, by its tree, has more instructions than the limit.
+pub record IsTooLong (setting : Setting) (source : Source) (limit : ℕ) : Type 0 where
+  pub tree : Tree
+  pub is_tree : IsTreeOf setting source tree
+  pub long : limit < program_size tree
+
+-- The bound on the nodes, or the number of instructions, exceeds its limit.
+abbrev pub IsTooLarge : Setting → Source → Options → Type 0
+IsTooLarge setting source options =
+    (options.nodes < node_bound setting.flags.unicode_sets source) ⊎ IsTooLong setting source options.instructions
+
+-- An error is due: a syntax error, or the pattern is too large. Out of memory it states nothing.
+abbrev pub IsDue : Setting → Source → Options → Error → Type 0
+IsDue setting source options (Syntax kind text position) = IsSyntaxError setting source kind (string_bytes text) position
+IsDue setting source options TooLarge = IsTooLarge setting source options
+IsDue setting source options Memory = Unit {0}

@@ -1,10 +1,11 @@
 //! From a pattern to its tree in normal form.
-ghost use Rattle.std.specs.Prelude.{◌≡◌, ℕ, All, IfOk, IfErr};
+ghost use Rattle.std.specs.Prelude.{◌≡◌, All, IfOk, IfErr};
 ghost use Rattle.regress_front.specs.SettingOf.{setting_of};
 ghost use Rattle.regress_front.specs.Source.{IsCodePoint};
 ghost use Rattle.regress_front.specs.Tree.{tree};
 ghost use Rattle.regress.specs.Accepted.{IsTreeOf};
 ghost use Rattle.regress.specs.Failures.{IsDue};
+ghost use Rattle.regress.specs.declared.limits.Options.{Options};
 
 use crate::failure::Error;
 use regress_front::ir::Regex;
@@ -24,7 +25,7 @@ pub(crate) fn optimized(
     requires { All IsCodePoint points.now }
     ensures tree { IfOk result (λ regex. IsTreeOf (setting_of flags tables.now) points.now (tree regex.node)) }
     ensures flags { IfOk result (λ regex. regex.flags ≡ flags) }
-    ensures failed { (limit : ℕ) → IfErr result (IsDue (setting_of flags tables.now) points.now limit) }
+    ensures failed { (options : Options) → IfErr result (IsDue (setting_of flags tables.now) points.now options) }
 {
     let mut regex = try_parse_with_position(alloc, points, flags, tables)?;
     optimize(alloc, &mut regex)?;

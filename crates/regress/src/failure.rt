@@ -1,10 +1,11 @@
 //! Errors of compiling and of searching.
 ghost use Rattle.std.specs.Prelude.{◌≡◌};
-ghost use Rattle.regress.specs.Failures.{error_of};
+ghost use Rattle.regress.specs.Failures.{compile_error_of, error_of};
 ghost use Rattle.regress.specs.declared.failure.Error.TheVariants.{Memory};
 ghost use Rattle.regress.specs.declared.failure.SearchError.TheVariants.{Memory as SearchMemory};
 
 use regress_front::parse::{FaultKind, PlacedFault};
+use regress_match::CompileFault;
 use std::alloc::{AllocError, AllocFailed};
 
 /// Why a pattern was not compiled.
@@ -20,7 +21,8 @@ pub enum Error {
         /// The position of the error: a code-point index of the pattern, at most its length.
         position: usize,
     },
-    /// The tree of the pattern may have more nodes than [`Options`](crate::Options) allow.
+    /// The tree of the pattern may have more nodes, or its program has more instructions, than
+    /// [`Options`](crate::Options) allow.
     #[error("the pattern is too large")]
     TooLarge,
     /// An allocation failed, whether or not the pattern is valid.
@@ -59,6 +61,17 @@ impl From<PlacedFault> for Error {
                 position,
             },
             PlacedFault::Memory(_) => Error::Memory,
+        }
+    }
+}
+
+impl From<CompileFault> for Error {
+    ghost from_gives = { λ fault error. error ≡ compile_error_of fault };
+
+    fn from(fault: CompileFault) -> Error {
+        match fault {
+            CompileFault::Memory(_) => Error::Memory,
+            CompileFault::TooLong => Error::TooLarge,
         }
     }
 }

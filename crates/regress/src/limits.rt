@@ -4,16 +4,19 @@
 #[derive(Clone, Copy, Debug, PartialEq, Eq)]
 pub struct Options {
     /// The number of steps that one search may take if searches are not linear, counted as in `Code::find` of
-    /// `regress_backtrack`, or as in `match_at` of `regress_match` for a pattern of too many instructions. All matches that
-    /// an iterator returns are one search. A billion by default, which takes about a minute at most.
+    /// `regress_backtrack`. All matches that an iterator returns are one search. A billion by default, which takes about a
+    /// minute at most.
     pub steps: u64,
     /// The number of nodes that the tree of the pattern may have, as `node_bound` of `regress_front` bounds it before
     /// the pattern is parsed. A million by default.
     pub nodes: usize,
-    /// The number of instructions up to which a pattern is compiled into a program. Only a program is searched in linear
-    /// time. The tables that make it linear take up to two bits for each instruction and byte of the text. A thousand by
-    /// default, so at most 250 times the length of the text.
+    /// The number of instructions that the program of the pattern may have, where the body of a loop `{n,m}` counts m
+    /// times. 250,000 by default: some 50 MiB.
     pub instructions: usize,
+    /// The number of instructions up to which a program is searched in linear time, if it is linear. The tables that this
+    /// needs take up to two bits for each instruction and byte of the text. A thousand by default, so at most 250 times
+    /// the length of the text.
+    pub tables: usize,
 }
 
 impl Default for Options {
@@ -26,7 +29,8 @@ impl Default for Options {
         Options {
             steps: 1_000_000_000,
             nodes: 1_000_000,
-            instructions: 1_000,
+            instructions: 250_000,
+            tables: 1_000,
         }
     }
 }

@@ -12,7 +12,7 @@ use regress_front::parse::node_bound;
 use regress_front::types::Flags;
 use regress_front::unicode::Tables;
 use regress_front::util::code_points;
-use regress_match::{Group, Match as Found, Matcher, groups};
+use regress_match::{Group, Limits, Match as Found, Matcher, groups};
 use std::alloc::Global;
 use std::fmt::{self, Display, Formatter, Write};
 use std::sync::Arc;
@@ -53,9 +53,8 @@ impl Regex {
     ghost use Rattle.std.specs.Arc.{arc_value};
     ghost use Rattle.regress_front.specs.Bound.{HasAtMost};
     ghost use Rattle.regress_front.specs.SettingOf.{setting_of as setting_under};
-    ghost use Rattle.regress_front.specs.WellFormed.{captures};
-    ghost use Rattle.regress_match.specs.Matched.{IsInside};
-    ghost use Rattle.regress_match.specs.Matcher.{IsFactorOf, factor};
+        ghost use Rattle.regress_match.specs.Matched.{IsInside};
+    ghost use Rattle.regress_match.specs.Matcher.{IsFactorOf};
     ghost use Rattle.regress_match.specs.Searched.{AreAllMatches};
     ghost use Rattle.regress_program.specs.Found.{Finds};
     ghost use Rattle.regress_program.specs.Size.{program_size};
@@ -75,7 +74,7 @@ impl Regex {
     /// As for [`Regex::with_options`].
     pub fn new(alloc: Global, pattern: &str, tables: &Arc<Tables>) -> Result<Regex, Error>
         ensures compiled { IfOk result (IsCompiled (setting_under no_flags (arc_value tables.now)) pattern.now) }
-        ensures failed { IfErr result (IsDue (setting_under no_flags (arc_value tables.now)) (chars pattern.now) default_options.nodes) }
+        ensures failed { IfErr result (IsDue (setting_under no_flags (arc_value tables.now)) (chars pattern.now) default_options) }
     {
         Regex::with_flags(alloc, pattern, Flags::default(), tables)
     }
@@ -92,7 +91,7 @@ impl Regex {
         tables: &Arc<Tables>,
     ) -> Result<Regex, Error>
         ensures compiled { IfOk result (IsCompiled (setting_under flags (arc_value tables.now)) pattern.now) }
-        ensures failed { IfErr result (IsDue (setting_under flags (arc_value tables.now)) (chars pattern.now) default_options.nodes) }
+        ensures failed { IfErr result (IsDue (setting_under flags (arc_value tables.now)) (chars pattern.now) default_options) }
     {
         Regex::with_options(alloc, pattern, flags, Options::default(), tables)
     }
@@ -103,7 +102,7 @@ impl Regex {
     ///
     /// # Errors
     /// - [`Error::TooLarge`] if `node_bound` of the pattern exceeds `options.nodes`, whether or not the pattern is
-    ///   valid.
+    ///   valid, or if its program has more than `options.instructions` instructions.
     /// - [`Error::Syntax`] if the pattern is rejected.
     /// - [`Error::Memory`] if an allocation fails.
     ///
@@ -118,11 +117,10 @@ impl Regex {
         tables: &Arc<Tables>,
     ) -> Result<Regex, Error>
         ensures compiled { IfOk result (IsCompiled (setting_under flags (arc_value tables.now)) pattern.now) }
-        ensures failed { IfErr result (IsDue (setting_under flags (arc_value tables.now)) (chars pattern.now) options.nodes) }
+        ensures failed { IfErr result (IsDue (setting_under flags (arc_value tables.now)) (chars pattern.now) options) }
         ensures small { IfOk result (λ _. options.nodes < usize.MAX → HasAtMost flags (chars pattern.now) options.nodes) }
-        ensures linear { IfOk result (λ regex. program_size (tree_of regex) ≤ options.instructions → length (captures (tree_of regex)) < usize.MAX →
-            IsFactorOf (tree_of regex) (factor_of regex)) }
-        ensures factor { IfOk result (λ regex. IfSome (factor_of regex) (λ n. n ≤ factor options.instructions)) }
+        ensures within { IfOk result (λ regex. program_size (tree_of regex) ≤ options.instructions) }
+        ensures linear { IfOk result (λ regex. IsFactorOf options.tables (tree_of regex) (factor_of regex)) }
     {
         let points = code_points(alloc, pattern)?;
         let bound = node_bound(&points, flags);
@@ -132,7 +130,11 @@ impl Regex {
         let compiled = optimized(alloc, &points, flags, tables)?;
         let groups = groups(alloc, &compiled)?;
         let source = String::from_str(alloc, pattern)?;
-        let matcher = Matcher::new(alloc, compiled, tables, options.instructions)?;
+        let limits = Limits {
+            instructions: options.instructions,
+            tables: options.tables,
+        };
+        let matcher = Matcher::new(alloc, compiled, tables, limits)?;
         Ok(Regex {
             source,
             matcher,
@@ -279,7 +281,7 @@ impl Regex {
     /// Returns whether searches are known to take time linear in the length of the text.
     ///
     /// They are if the pattern has neither a back reference nor a capture group in a lookaround that is not negated, and
-    /// if its program has at most `instructions` of [`Options`] instructions.
+    /// if its program has at most `tables` of [`Options`] instructions.
     ///
     /// # Examples
     /// ```

@@ -1,27 +1,32 @@
 -- The result of a call that compiles a pattern.
-use Rattle.std.specs.Prelude.{◌==◌, ℕ, ◌<◌, List, Option, Some, chars, if◌then◌else◌}
-use Rattle.regress_front.specs.Bound.{node_bound}
+use Rattle.std.specs.Prelude.{◌==◌, ℕ, List, Option, Some, chars, if◌then◌else◌}
 use Rattle.regress_front.specs.Setting.{Setting}
 use Rattle.regress_parse.specs.Accepted.{NoneIsAccepted}
 use Rattle.regress.specs.Compiled.{IsCompiled}
+use Rattle.regress.specs.Failures.{IsTooLarge}
+use Rattle.regress.specs.Limits.{default_options}
+use Rattle.regress.specs.declared.limits.Options.{Options}
 use Rattle.regress.specs.declared.pattern.Regex.{Regex}
 use Rattle.regress_c.specs.Results.{IsError}
 
--- the limit on nodes, where 0 is the default
-abbrev pub nodes_limit : ℕ → ℕ
-nodes_limit nodes = if nodes == 0 then 1000000 else nodes
+-- the limits on steps and nodes, where 0 is the default; the others are the default
+abbrev pub limits_of : (steps nodes : ℕ) → Options
+limits_of steps nodes = record default_options {
+  steps = if steps == 0 then default_options.steps else steps;
+  nodes = if nodes == 0 then default_options.nodes else nodes;
+}
 
 -- The status, `kind`, `position`, and the handle before and after. `Asked` states that the arguments are valid.
-pub data CompileResult (Asked : Type 0) (setting : Setting) (text : List ℕ) (limit : ℕ) (old : Option Regex) :
+pub data CompileResult (Asked : Type 0) (setting : Setting) (text : List ℕ) (options : Options) (old : Option Regex) :
     (status kind position : ℕ) (new : Option Regex) → Type 0 where
   -- the handle is that of the compiled pattern
-  compiled : {regex : Regex} → Asked → IsCompiled setting text regex → CompileResult Asked setting text limit old 0 0 0 (Some regex)
+  compiled : {regex : Regex} → Asked → IsCompiled setting text regex → CompileResult Asked setting text options old 0 0 0 (Some regex)
   -- an allocation failed
-  out_of_memory : Asked → CompileResult Asked setting text limit old 2 0 0 old
+  out_of_memory : Asked → CompileResult Asked setting text options old 2 0 0 old
   -- the arguments are invalid
-  bad : (Asked → ⊥) → CompileResult Asked setting text limit old 4 0 0 old
+  bad : (Asked → ⊥) → CompileResult Asked setting text options old 4 0 0 old
   -- the pattern is rejected, with the kind and the position of its syntax error
   rejected : {kind position : ℕ} → Asked → NoneIsAccepted setting (chars text) → IsError setting (chars text) kind position →
-      CompileResult Asked setting text limit old 5 kind position old
-  -- the pattern may have more nodes than allowed
-  too_large : Asked → limit < node_bound setting.flags.unicode_sets (chars text) → CompileResult Asked setting text limit old 6 0 0 old
+      CompileResult Asked setting text options old 5 kind position old
+  -- the pattern may have more nodes than allowed, or its program has more instructions
+  too_large : Asked → IsTooLarge setting (chars text) options → CompileResult Asked setting text options old 6 0 0 old

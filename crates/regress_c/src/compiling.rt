@@ -2,7 +2,7 @@
 ghost use Rattle.std.specs.Prelude.{◌≡◌, chars, IfErr, IfOk};
 ghost use Rattle.regress.specs.Compiled.{IsCompiled};
 ghost use Rattle.regress.specs.Failures.{IsDue};
-ghost use Rattle.regress_c.specs.CompileResults.{CompileResult, nodes_limit};
+ghost use Rattle.regress_c.specs.CompileResults.{CompileResult, limits_of};
 ghost use Rattle.regress_c.specs.Request.{setting_by, IsTextRequest};
 
 use super::handle::Handle;
@@ -26,7 +26,7 @@ pub(crate) fn write_compiled(
     kind: &mut u32,
     position: &mut usize,
 ) -> u32
-    ensures status { CompileResult (IsTextRequest pattern.now bits 0) (setting_by bits) pattern.now options.nodes
+    ensures status { CompileResult (IsTextRequest pattern.now bits 0) (setting_by bits) pattern.now options
         handle.old.value result kind.new position.new handle.new.value }
 {
     *kind = 0;
@@ -60,19 +60,20 @@ pub(crate) fn write_compiled(
 
 /// Returns the limits, where 0 is the default.
 pub(crate) fn options_of(steps: u64, nodes: usize) -> Options
-    ensures { result.nodes ≡ nodes_limit nodes }
+    ensures { result ≡ limits_of steps nodes }
 {
     let default = Options::default();
     Options {
         steps: if steps == 0 { default.steps } else { steps },
         nodes: if nodes == 0 { default.nodes } else { nodes },
         instructions: default.instructions,
+        tables: default.tables,
     }
 }
 
 fn compile(alloc: Global, pattern: &str, bits: u32, options: Options) -> Result<Box<Regex>, Error>
     ensures compiled { IfOk result (λ regex. IsCompiled (setting_by bits) pattern.now regex.value) }
-    ensures failed { IfErr result (IsDue (setting_by bits) (chars pattern.now) options.nodes) }
+    ensures failed { IfErr result (IsDue (setting_by bits) (chars pattern.now) options) }
 {
     let tables = Arc::new(alloc, make_tables(alloc, bits)?)?;
     let regex = Regex::with_options(alloc, pattern, parse_flags(bits), options, &tables)?;

@@ -2,7 +2,7 @@
 ghost use Rattle.std.specs.Prelude.{◌≡◌, IfSome, IsUtf8, None, length};
 ghost use Rattle.regress.specs.Compiled.{groups_of, outcomes_of};
 ghost use Rattle.regress.specs.Found.{MatchesSomewhere};
-ghost use Rattle.regress_c.specs.CompileResults.{CompileResult, nodes_limit};
+ghost use Rattle.regress_c.specs.CompileResults.{CompileResult, limits_of};
 ghost use Rattle.regress_c.specs.Request.{setting_by, IsTextRequest};
 ghost use Rattle.regress_c.specs.SearchResults.{SearchResult, TestResult};
 ghost use Rattle.regress_c.specs.Spans.{AreEndsOfAll, AreEndsOfFirst};
@@ -30,7 +30,7 @@ pub extern "C" fn regress_abi_version() -> u32
 ///
 /// # Errors
 /// Returns a status: 0 for success, 2 if an allocation failed, 4 if the arguments are invalid, 5 if the pattern is
-/// rejected, and 6 if it may have more nodes than allowed. `handle` is changed only with 0, and `kind` and `position`
+/// rejected, and 6 if it may have more nodes than allowed, or if its program is too long. `handle` is changed only with 0, and `kind` and `position`
 /// are 0 unless it is 5.
 #[unsafe(no_mangle)]
 pub extern "C" fn regress_compile(
@@ -43,7 +43,7 @@ pub extern "C" fn regress_compile(
     kind: &mut u32,
     position: &mut usize,
 ) -> u32
-    ensures status { CompileResult (IsTextRequest pattern.now flags 0) (setting_by flags) pattern.now (nodes_limit nodes)
+    ensures status { CompileResult (IsTextRequest pattern.now flags 0) (setting_by flags) pattern.now (limits_of steps nodes)
         handle.old.value result kind.new position.new handle.new.value }
 {
     write_compiled(

@@ -1,14 +1,4 @@
 pub mod lemmas
-pub mod CaptureLemmas
-pub mod MachineLemmas
-pub mod DoesLemmas
-pub mod LoopLemmas
-pub mod PeekLemmas
-pub mod RunLemmas
-pub mod FirstLemmas
 pub mod IterationLemmas
-pub mod CharacterLoopLemmas
-pub mod SingleLemmas
 pub mod NamesLemmas
-pub mod AllMatchesLemmas
 pub mod MatcherLemmas

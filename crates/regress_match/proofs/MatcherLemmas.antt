@@ -1,13 +1,14 @@
 -- Searches with the program of a pattern.
-use Rattle.std.proofs.Common.{◌≡◌, if◌then◌else◌, ℕ, ◌+◌, ◌-◌, ◌*◌, ◌≤◌, Bool, true, false, List, length, min, max, Option, Some, None, IfSome, IsNone, refl, sym, ap, ap₂, subst, ◌∙◌, arith}
+use Rattle.std.proofs.Common.{◌≡◌, ℕ, ◌+◌, ◌-◌, ◌*◌, ◌≤◌, Bool, true, false, not, ◌&&◌, List, [], ◌∷◌, filter, length, min, max, Option, Some, None, IfSome, IsNone, refl, sym, ap, ap₂, subst, ◌∙◌, arith}
+use Rattle.std.specs.Prelude.{if◌then◌else◌, is_some, Result, Ok, Err, IfOk}
+use Rattle.std.specs.declared.alloc.AllocError.{AllocError}
 use Rattle.std.specs.Arc.{arc_value}
-use Rattle.std.specs.Prelude.{option_and_then}
 use Rattle.std.proofs.Math.Nat.{mul-le-mul_left}
 use Rattle.std.specs.Str.{IsUtf8}
 use Rattle.regress_tree.specs.Matching.{steps}
 use Rattle.regress_tree.specs.Reading.{forwards}
 use Rattle.regress_tree.specs.Setting.{Setting}
-use Rattle.regress_tree.specs.Steps.{MatchState, dedup}
+use Rattle.regress_tree.specs.Steps.{MatchState, dedup, same_state}
 use Rattle.regress_tree.specs.Tree.{Tree}
 use Rattle.regress_tree.specs.WellFormed.{IsWellFormed, captures}
 use Rattle.regress_base.specs.declared.types.Flags.{Flags}
@@ -18,6 +19,7 @@ use Rattle.regress_program.specs.Found as searches
 use Rattle.regress_program.specs.Found.{no_groups, start_of, state_of}
 use Rattle.regress_program.specs.Linear.{is_linear}
 use Rattle.regress_program.specs.Program.{IsSolution, Out, Routine, matcher_of}
+use Rattle.regress_program.specs.declared.fault.CompileFault.{CompileFault}
 use Rattle.regress_program.specs.Search as program
 use Rattle.regress_program.specs.Search.{groups_of, instructions_of, routines_of, setting_of, steps_up_to}
 use Rattle.regress_program.specs.TextSearch.{searched_program, searched_text}
@@ -25,22 +27,22 @@ use Rattle.regress_program.specs.declared.found.Match.{Match}
 use Rattle.regress_program.specs.declared.found.Search.{Search}
 use Rattle.regress_program.specs.declared.program.Program.{Program}
 use Rattle.regress_program.specs.declared.text.TextSearch.{TextSearch}
-use Rattle.regress_program.proofs.lemmas.Solutions.{finds_by}
+use Rattle.regress_program.proofs.lemmas.Solutions.{finds_by, solution}
 use Rattle.regress_backtrack.specs.Backtracker.{AreOutcomes, SameRuns, run_code, run_tables, run_text}
 use Rattle.regress_backtrack.specs.Backtracker as runs
 use Rattle.regress_backtrack.specs.Code.{code_flags, code_groups, code_routines, outcomes_from, setting_with}
 use Rattle.regress_backtrack.specs.declared.backtracker.Backtracker.{Backtracker}
 use Rattle.regress_backtrack.specs.declared.code.Code.{Code}
+use Rattle.regress_backtrack.specs.declared.outcome.Found.{Found}
 use Rattle.regress_backtrack.specs.declared.outcome.Outcome.{Outcome}
 use Rattle.regress_backtrack.specs.declared.outcome.Outcome.TheVariants as outcomes
 use Rattle.regress_match.specs.Compiled.{IsCodeOf, IsProgramOf, all_outcomes}
 use Rattle.regress_match.specs.Kept.{IfKept, IsKept, IsRunOf}
-use Rattle.regress_match.specs.Matched.{Finds, IfMatched, IsInside, outcomes_at}
+use Rattle.regress_match.specs.Matched.{Finds, IfMatched, IsFirst, IsInside, outcomes_at}
 use Rattle.regress_match.specs.Matcher.{factor, factor_of, factor_with, matcher_outcomes, matcher_setting, matcher_tree, outcome_if}
 use Rattle.regress_match.specs.Searched.{offset_after}
 use Rattle.regress_match.specs.declared.matcher.Matcher.{Matcher}
 use Rattle.regress_match.proofs.lemmas.Inside.{first_inside}
-use Rattle.regress_match.proofs.RunLemmas.{distinct_first, distinct_none}
 
 -- The program of a tree has its outcomes.
 pub code_means : (setting : Setting) (t : Tree) (tables : Tables) (c : Code) → IsPattern (code_routines c) t →
@@ -54,6 +56,13 @@ code_means setting t tables c pattern same groups = record {
 pub same_setting : (c : Code) (tables : Tables) (flags : Flags) → code_flags c ≡ flags →
     setting_with c tables ≡ record { flags = flags; table = table_of tables }
 same_setting c tables flags is = ap (λ (f : Flags). let s : Setting = record { flags = f; table = table_of tables } in s) is
+
+pub result_means : (t : Tree) (tables : Tables) (flags : Flags) (groups : ℕ) (r : Result Code CompileFault) →
+    IfOk r (λ c. IsPattern (code_routines c) t) → IfOk r (λ c. code_flags c ≡ flags) → IfOk r (λ c. code_groups c ≡ groups) →
+    groups ≡ length (captures t) → IfOk r (IsCodeOf (record { flags = flags; table = table_of tables }) t tables)
+result_means t tables flags groups (Ok c) pattern same counted all =
+    code_means (record { flags = flags; table = table_of tables }) t tables c pattern (same_setting c tables flags same) (counted ∙ all)
+result_means t tables flags groups (Err e) pattern same counted all = tt
 
 -- So does a program with the same routines.
 pub program_means : (setting : Setting) (t : Tree) (tables : Tables) (c : Code) (p : Program) → IsCodeOf setting t tables c →
@@ -69,6 +78,39 @@ program_means setting t tables c p is routines groups same linear =
           (subst (λ rs. Means (setting_with c tables) rs (groups_of p)) (sym routines)
           (subst (λ n. Means (setting_with c tables) (code_routines c) n) (sym groups) is.means));
     }
+
+-- Removing repetitions keeps the first outcome.
+distinct_first : (states rest : List MatchState) (s : MatchState) → states ≡ s ∷ rest →
+    (rest' : List MatchState) × (dedup states ≡ s ∷ rest')
+distinct_first states rest s is = (filter (λ t. not (same_state s t)) (dedup rest), ap dedup is)
+
+distinct_none : (states : List MatchState) → states ≡ [] → dedup states ≡ []
+distinct_none states is = ap dedup is
+
+-- what a match at a position is
+pub run_first : (setting : Setting) (t : Tree) (tables : Tables) (c : Code) (text : List ℕ) (position : ℕ) (outcome : Outcome) → IsCodeOf setting t tables c →
+    position ≤ length text →
+    ((outs : ℕ → Out) → IsSolution (setting_with c tables) text (code_routines c) outs → IsFirst position (outcomes_from c tables text outs position) outcome) →
+    IsFirst position (outcomes_at setting text t position) outcome
+run_first setting t tables c text position outcome is within solved =
+    let some = solution (setting_with c tables) text (code_routines c) c.is_program in
+    distinct outcome (subst (λ states. IsFirst position states outcome) (is.means text some.0 some.1 position within) (solved some.0 some.1))
+  where
+    distinct : (o : Outcome) → IsFirst position (all_outcomes setting t text position) o → IsFirst position (outcomes_at setting text t position) o
+    distinct (outcomes.Matched m) f = (f.0, distinct_first (all_outcomes setting t text position) f.1.0 (state_of m) f.1.1)
+    distinct outcomes.NoMatch f = distinct_none (all_outcomes setting t text position) f
+    distinct outcomes.OutOfSteps f = tt
+
+pub result_first : (m : Matcher) (tables : Tables) → tables ≡ arc_value m.tables →
+    IsCodeOf (matcher_setting m) (matcher_tree m) (arc_value m.tables) m.code → (text : List ℕ) (position : ℕ) → position ≤ length text →
+    (r : Result Found AllocError) →
+    IfOk r (λ found. (outs : ℕ → Out) → IsSolution (setting_with m.code tables) text (code_routines m.code) outs →
+    IsFirst position (outcomes_from m.code tables text outs position) found.outcome) →
+    IfOk r (λ found. IsFirst position (matcher_outcomes m text position) found.outcome)
+result_first m tables same is text position within (Ok found) solved =
+    run_first (matcher_setting m) (matcher_tree m) tables m.code text position found.outcome
+    (subst (λ ts. IsCodeOf (matcher_setting m) (matcher_tree m) ts m.code) (sym same) is) within solved
+result_first m tables same is text position within (Err e) solved = tt
 
 -- Repeated outcomes make no difference to a search.
 finds_distinct : (text : List ℕ) (at : ℕ → List MatchState) (origin : ℕ) (outcome : Outcome) → Finds text at origin outcome →
@@ -168,15 +210,22 @@ all_steps instructions n limit left searched from steps budget kept sum =
 
 -- A bound for the steps for each character is that of some number of instructions.
 factor_form : (m : Matcher) (n : ℕ) → factor_of m ≡ Some n → (i : ℕ) × (n ≡ factor i)
-factor_form m n is = by m.code is
+factor_form m n is = by (m.within && is_linear (code_routines m.code)) is
   where
-    with_linear : (b : Bool) (i : ℕ) → (if b then Some (factor i) else None) ≡ Some n → (j : ℕ) × (n ≡ factor j)
-    with_linear true i same = (i, let h : n ≡ factor i = cc in h)
-    with_linear false i same = absurd (cc)
+    by : (b : Bool) → (if b then Some (factor (total (code_routines m.code))) else None) ≡ Some n → (j : ℕ) × (n ≡ factor j)
+    by true same = (total (code_routines m.code), let h : n ≡ factor (total (code_routines m.code)) = cc in h)
+    by false same = absurd (cc)
 
-    by : (o : Option Code) → option_and_then (λ code. factor_with (code_routines code)) o ≡ Some n → (i : ℕ) × (n ≡ factor i)
-    by None same = absurd (cc)
-    by (Some c) same = with_linear (is_linear (code_routines c)) (total (code_routines c)) same
+-- a bound is that of a linear program
+pub bound_linear : (routines : List Routine) (within : Bool) → is_some (factor_with routines within) ≡ true →
+    (is_linear routines ≡ true) × (factor_with routines within ≡ Some (factor (total routines)))
+bound_linear routines true some = by (is_linear routines) some
+  where
+    by : (b : Bool) → is_some (if b then Some (factor (total routines)) else None) ≡ true →
+        (b ≡ true) × ((if b then Some (factor (total routines)) else None) ≡ Some (factor (total routines)))
+    by true is = (refl, refl)
+    by false is = absurd (cc)
+bound_linear routines false some = absurd (cc)
 
 -- the steps of a matcher
 module _ (m : Matcher) (text : List ℕ) (limit left from taken : ℕ) (search : Option TextSearch) (kept : IfKept m text from taken search) where
@@ -261,22 +310,18 @@ module _ (m : Matcher) (text : List ℕ) (b : Backtracker) (is : IsRunOf m text 
 
 -- ---- the tables of a text, before the first search
 
-pub tables_kept : (m : Matcher) (text : List ℕ) (from steps : ℕ) (c : Code) (tables : Tables) (p : Program) (s : TextSearch) → m.code ≡ Some c →
-    tables ≡ arc_value m.tables → IfSome m.code (IsCodeOf (matcher_setting m) (matcher_tree m) (arc_value m.tables)) →
-    routines_of p ≡ code_routines c → groups_of p ≡ code_groups c → setting_of p ≡ setting_with c tables → is_linear (code_routines c) ≡ true →
+pub tables_kept : (m : Matcher) (text : List ℕ) (from steps : ℕ) (tables : Tables) (p : Program) (s : TextSearch) → is_some (factor_of m) ≡ true →
+    tables ≡ arc_value m.tables → IsCodeOf (matcher_setting m) (matcher_tree m) (arc_value m.tables) m.code →
+    routines_of p ≡ code_routines m.code → groups_of p ≡ code_groups m.code → setting_of p ≡ setting_with m.code tables →
     searched_program s ≡ p → searched_text s ≡ text →
     steps ≤ 2 * instructions_of (searched_program s) * (length (searched_text s) + 1) → IsKept m text from steps s
-tables_kept m text from steps c tables p s is_code is_tables compiled routines groups setting linear program same_text counted =
-    let of : IsCodeOf (matcher_setting m) (matcher_tree m) (arc_value m.tables) c =
-    subst (λ o. IfSome o (IsCodeOf (matcher_setting m) (matcher_tree m) (arc_value m.tables))) is_code compiled in
+tables_kept m text from steps tables p s is_fast is_tables compiled routines groups setting program same_text counted =
+    let bound = bound_linear (code_routines m.code) m.within is_fast in
     let means : IsProgramOf (matcher_setting m) (matcher_tree m) p =
-    program_means (matcher_setting m) (matcher_tree m) (arc_value m.tables) c p of routines groups (setting ∙ ap (setting_with c) is_tables) linear in
-    let bound : factor_with (code_routines c) ≡ Some (factor (total (code_routines c))) =
-    ap (λ b. if b then Some (factor (total (code_routines c))) else None) linear in
+    program_means (matcher_setting m) (matcher_tree m) (arc_value m.tables) m.code p compiled routines groups (setting ∙ ap (setting_with m.code) is_tables) bound.0 in
     record {
       program = subst (IsProgramOf (matcher_setting m) (matcher_tree m)) (sym program) means;
-      size = ap (option_and_then (λ code. factor_with (code_routines code))) is_code ∙ bound
-          ∙ ap (λ rs. Some (factor (total rs))) (sym (ap routines_of program ∙ routines));
+      size = bound.1 ∙ ap (λ rs. Some (factor (total rs))) (sym (ap routines_of program ∙ routines));
       same_text = same_text;
       steps = let same = ap length same_text in
           let all : steps ≤ 2 * instructions_of (searched_program s) * (length text + 1) =

@@ -1,5 +1,5 @@
 -- What is known of the program of a pattern.
-use Rattle.std.specs.Prelude.{◌≡◌, ℕ, ◌≤◌, true, List, length, Option, IfSome}
+use Rattle.std.specs.Prelude.{◌≡◌, ℕ, ◌≤◌, true, List, length}
 use Rattle.std.proofs.Props.{props}
 use Rattle.regress_tree.specs.Matching.{steps}
 use Rattle.regress_tree.specs.Reading.{forwards}
@@ -39,9 +39,6 @@ MatchState-set = hlevel props
 
 pub IsCodeOf-prop : (setting : Setting) (t : Tree) (tables : Tables) (code : Code) → IsProp (IsCodeOf setting t tables code)
 IsCodeOf-prop setting t tables code = hlevel (props, MatchState-set)
-
-pub IfCodeOf-prop : (setting : Setting) (t : Tree) (tables : Tables) (code : Option Code) → IsProp (IfSome code (IsCodeOf setting t tables))
-IfCodeOf-prop setting t tables code = hlevel (props, IsCodeOf-prop)
 
 pub IsProgramOf-prop : (setting : Setting) (t : Tree) (p : Program) → IsProp (IsProgramOf setting t p)
 IsProgramOf-prop setting t p = hlevel (props, MatchState-set)

@@ -1,4 +1,4 @@
--- Repeated searches with a pattern that may have a program.
+-- Repeated searches with a matcher.
 use Rattle.std.specs.Prelude.{◌≡◌, ℕ, List}
 use Rattle.regress_tree.specs.Steps.{MatchState}
 use Rattle.regress_match.specs.Matcher.{matcher_outcomes}

@@ -1,13 +1,9 @@
-pub mod Captures
 pub mod Compiled
 pub mod Iterated
-pub mod Iterations
 pub mod Kept
-pub mod Machine
+pub mod Limits
 pub mod Matched
 pub mod Matcher
-pub mod Fresh
-pub mod Prepared
 pub mod Searched
 pub mod Names
 pub mod Listing

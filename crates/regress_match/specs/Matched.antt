@@ -1,5 +1,5 @@
 -- What the result of matching or of a search is.
-use Rattle.std.specs.Prelude.{◌≡◌, ℕ, List, [], ◌∷◌, All, length}
+use Rattle.std.specs.Prelude.{ℕ, List, All, length}
 use Rattle.regress_tree.specs.Inside.{IsSpanInside, IsCaptureInside}
 use Rattle.regress_tree.specs.Matching.{matches}
 use Rattle.regress_tree.specs.Reading.{forwards}
@@ -7,7 +7,7 @@ use Rattle.regress_tree.specs.Setting.{Setting}
 use Rattle.regress_tree.specs.Steps.{MatchState}
 use Rattle.regress_tree.specs.Tree.{Tree}
 use Rattle.regress_tree.specs.WellFormed.{captures}
-pub use Rattle.regress_backtrack.specs.Searched.{Finds}
+pub use Rattle.regress_backtrack.specs.Searched.{Finds, IsFirst}
 pub use Rattle.regress_program.specs.Found.{IsLeftmost, NoneBefore, no_groups, start_of, state_of}
 pub use Rattle.regress_program.specs.declared.found.Match.{Match}
 pub use Rattle.regress_backtrack.specs.declared.outcome.Outcome.{Outcome}
@@ -16,18 +16,6 @@ pub use Rattle.regress_backtrack.specs.declared.outcome.Outcome.TheVariants as o
 -- the outcomes of a tree from a position with every group unset, as RegExpBuiltinExec starts a match
 abbrev pub outcomes_at : Setting → (text : List ℕ) → Tree → (position : ℕ) → List MatchState
 outcomes_at setting text t position = matches setting text forwards t (no_groups (length (captures t)) position)
-
--- The result is the first outcome, or `NoMatch` if there is none. Out of steps it states nothing.
-abbrev pub IsFirst : List MatchState → Outcome → Type 0
-IsFirst states (outcomes.Matched m) = (rest : List MatchState) × (states ≡ state_of m ∷ rest)
-IsFirst states outcomes.NoMatch = states ≡ []
-IsFirst states outcomes.OutOfSteps = Unit {0}
-
--- A match starts at this position.
-abbrev pub StartsAt : ℕ → Outcome → Type 0
-StartsAt position (outcomes.Matched m) = start_of m ≡ position
-StartsAt position outcomes.NoMatch = Unit {0}
-StartsAt position outcomes.OutOfSteps = Unit {0}
 
 -- If there is a match, P holds for it.
 abbrev pub IfMatched : Outcome → (Match → Type 0) → Type 0

@@ -1,5 +1,5 @@
--- Searches with a pattern that may have a program.
-use Rattle.std.specs.Prelude.{◌≡◌, if◌then◌else◌, ℕ, ◌+◌, ◌*◌, ◌≤◌, List, length, Option, Some, None, option_and_then}
+-- Searches with a pattern that is compiled into a program.
+use Rattle.std.specs.Prelude.{◌≡◌, if◌then◌else◌, ℕ, ◌+◌, ◌*◌, ◌≤◌, Bool, ◌&&◌, nat_le, List, length, Option, Some, None}
 use Rattle.std.specs.Arc.{arc_value}
 use Rattle.regress_tree.specs.Setting.{Setting}
 use Rattle.regress_tree.specs.Steps.{MatchState}
@@ -33,20 +33,21 @@ matcher_outcomes m text = outcomes_at (matcher_setting m) text (matcher_tree m)
 abbrev pub factor : (instructions : ℕ) → ℕ
 factor instructions = 64 + 2 * instructions + 2 * (2 * instructions + 1)
 
--- that of a program; none if it is not linear
-abbrev pub factor_with : List Routine → Option ℕ
-factor_with routines = if is_linear routines then Some (factor (total routines)) else None
+-- the bound for a program that is searched in linear time if it is linear and within the limit on tables; else none
+abbrev pub factor_with : List Routine → (within : Bool) → Option ℕ
+factor_with routines within = if within && is_linear routines then Some (factor (total routines)) else None
 
--- The bound is that of a program that matches the tree, with as many instructions as the size of the tree.
-pub record IsFactorOf (t : Tree) (bound : Option ℕ) : Type 0 where
+-- The bound is that of a program that matches the tree, with as many instructions as the size of the tree. It is searched
+-- in linear time exactly if it is linear and within the limit.
+pub record IsFactorOf (limit : ℕ) (t : Tree) (bound : Option ℕ) : Type 0 where
   pub routines : List Routine
   pub pattern : IsPattern routines t
   pub size : total routines ≡ program_size t
-  pub is : bound ≡ factor_with routines
+  pub is : bound ≡ factor_with routines (nat_le (total routines) limit)
 
 -- that of a matcher; none if its searches are not known to take linear time
 abbrev pub factor_of : Matcher → Option ℕ
-factor_of m = option_and_then (λ code. factor_with (code_routines code)) m.code
+factor_of m = factor_with (code_routines m.code) m.within
 
 -- A search in linear time is never out of steps, and takes at most this number of steps for each character.
 abbrev pub IsLinear : (factor : ℕ) (text : List ℕ) → Outcome → (steps : ℕ) → Type 0

@@ -4,36 +4,11 @@ use Rattle.std.specs.Borrow.{Bor}
 use Rattle.std.specs.Fn.{CalledAt, Mut}
 use Rattle.std.specs.List.{FoldsTo}
 use Rattle.regress_tree.specs.Steps.{MatchState}
-use Rattle.regress_tree.specs.Tree.{Tree, tree}
-use Rattle.regress_unicode.specs.TableOf.{table_of}
 use Rattle.regress_program.specs.Found.{IsLeftmost, start_of, state_of}
 use Rattle.regress_program.specs.declared.found.Match.{Match}
-use Rattle.regress_match.specs.Matched.{Finds, outcomes_at}
+use Rattle.regress_match.specs.Matched.{Finds}
 use Rattle.regress_backtrack.specs.declared.outcome.Outcome.{Outcome}
 use Rattle.regress_backtrack.specs.declared.outcome.Outcome.TheVariants as outcomes
-use Rattle.regress_match.specs.declared.prepared.Prepared.{Prepared}
-use Rattle.regress_match.specs.declared.search.Matches.{Matches}
-
--- the byte offset from which the next match is searched
-abbrev pub next_from : Matches → ℕ
-next_from m = m.from
-
--- the text that is searched
-abbrev pub searched_text : Matches → List ℕ
-searched_text m = m.text.now
-
--- the tree of the pattern of a repeated search
-abbrev pub searched_tree : Matches → Tree
-searched_tree m = tree m.prepared.regex.now.node
-
--- the outcomes of a pattern on a text, from each position
-abbrev pub outcomes_of : Prepared → (text : List ℕ) → (position : ℕ) → List MatchState
-outcomes_of p text =
-    outcomes_at (record { flags = p.regex.now.flags; table = table_of p.known.tables.now }) text (tree p.regex.now.node)
-
--- the outcomes among which a repeated search finds matches
-abbrev pub searched_outcomes : Matches → (position : ℕ) → List MatchState
-searched_outcomes m = outcomes_of m.prepared m.text.now
 
 -- The offset from which the next match is searched: the end of the last one, or one byte after its start if it is empty
 -- (AdvanceStringIndex, for UTF-8).
@@ -45,12 +20,6 @@ abbrev pub offset_after : List ℕ → ℕ → Outcome → ℕ
 offset_after text from (outcomes.Matched m) = next_offset m
 offset_after text from outcomes.NoMatch = length text + 1
 offset_after text from outcomes.OutOfSteps = from
-
--- the pattern and the text of a repeated search are unchanged
-pub record IsSameSearch (old new : Matches) : Type 0 where
-  pub text : searched_text new ≡ searched_text old
-  pub tree : searched_tree new ≡ searched_tree old
-  pub outcomes : searched_outcomes new ≡ searched_outcomes old
 
 -- The list has the matches that a repeated search finds in order, each the leftmost one, from the offset `from` until
 -- the search is at `to`.

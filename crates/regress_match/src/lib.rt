@@ -1,27 +1,19 @@
-//! A backtracking matcher for the trees of `regress_tree`, proved against their definition.
+//! Searches with a pattern that is compiled into a program: by backtracking, and in linear time by tables where the
+//! program is linear.
 #![tactic(auto)]
 
-pub mod all_matches;
-mod captures;
-mod leaf;
-mod linear;
-mod machine;
-mod match_single_char_loop;
+mod compiling;
+mod iteration;
+mod limits;
 mod matcher;
 mod matcher_matches;
-pub mod matching;
 pub mod names;
-mod peek;
-mod prepared;
-mod run;
-pub mod search;
-mod visits;
+mod searches;
 
-pub use all_matches::{find_all, for_each_match};
+pub use limits::Limits;
 pub use matcher::Matcher;
 pub use matcher_matches::MatcherMatches;
-pub use matching::{Match, Outcome, match_at};
 pub use names::{Group, groups, named};
-pub use regress_backtrack::Found;
+pub use regress_backtrack::{Found, Outcome};
 pub use regress_prefilter::{first_bytes, next_candidate};
-pub use search::{Matches, find};
+pub use regress_program::{CompileFault, Match};

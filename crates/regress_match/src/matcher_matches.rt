@@ -1,10 +1,9 @@
-//! The matches of a prepared pattern in a text.
+//! The matches of a matcher in a text.
 ghost use Rattle.std.specs.Prelude.{◌≤◌, ◌+◌, ◌*◌, IfSome, length};
 ghost use Rattle.std.proofs.Props.{props};
 ghost use Rattle.regress_match.specs.Kept.{IfKept, IfKept-prop, IfRunOf-prop, IsRunOf};
 ghost use Rattle.regress_match.specs.Matcher.{factor_of};
 
-use crate::machine::Scratch;
 use crate::matcher::Matcher;
 use regress_backtrack::Backtracker;
 use regress_program::TextSearch;
@@ -24,8 +23,6 @@ pub struct MatcherMatches<'m> {
     pub(crate) searched: u64,
     /// The runs of the program, after the first call of `next`.
     pub(crate) backtracker: Option<Backtracker<'m, 'm>>,
-    /// The memory of backtracking in the tree, after the first call of `next` without a program.
-    pub(crate) scratch: Option<Scratch<'m>>,
     /// The tables, once backtracking has used up its steps.
     pub(crate) search: Option<TextSearch<'m>>,
     ghost within: { left ≤ limit },

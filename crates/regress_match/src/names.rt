@@ -8,8 +8,8 @@ ghost use Rattle.regress_program.specs.Found.{state_of};
 ghost use Rattle.regress_match.specs.Listing.{Lists, Finds};
 ghost use Rattle.regress_match.specs.Names.{capture_of, is_named, named_span};
 
-use crate::matching::Match;
 use regress_base::types::{CaptureGroupID, CaptureGroupName};
+use regress_program::Match;
 use regress_tree::ir::{Node, Regex, Walk, walk};
 use std::alloc::{AllocError, Global};
 

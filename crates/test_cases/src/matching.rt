@@ -1,45 +1,49 @@
 //! The result of a test case for the matcher.
 
 use crate::linear::response_linear;
-use crate::outcome::{parse_question, response_question};
+use crate::outcome::{matcher_of, parse_question, response_question};
 use crate::parsing::parse_tree;
 use crate::trees::optimize_watched;
 use regress_unicode::Tables;
 use std::alloc::Global;
+use std::sync::Arc;
 use test_notation::{Call, Fault};
 
 /// How a test case is matched.
 #[derive(Clone, Copy, PartialEq, Eq)]
 enum Way {
-    /// By the parsed tree.
-    Parsed,
-    /// By the optimized tree.
-    Optimized,
-    /// By the program of the parsed tree, if it is linear.
-    Linear,
+    /// By backtracking in the program of the parsed tree.
+    Backtracking,
+    /// By a matcher of the optimized tree, which goes on with tables if its program is linear.
+    Matcher,
+    /// By the tables of the program of the parsed tree, if it is linear.
+    Tables,
 }
 
-/// Returns the first result that is not the expected one: with the parsed tree, with the optimized one, or with the
-/// program if it is linear.
+/// The largest product of the number of instructions and of positions in the text for which a matcher makes tables.
+const MOST: usize = 1_000_000;
+
+/// Returns the first result that is not the expected one: by backtracking, by a matcher of the optimized tree, or by
+/// tables if the program is linear.
 pub(crate) fn match_difference(
     alloc: Global,
     line: &str,
-    tables: &Tables,
+    tables: &Arc<Tables>,
 ) -> Result<Option<String>, Fault> {
     let (fields, expected) = split_expected(alloc, line)?;
-    let found = difference_by(alloc, fields, &expected, tables, Way::Parsed)?;
+    let found = difference_by(alloc, fields, &expected, tables, Way::Backtracking)?;
     if found.is_some() {
         return Ok(found);
     }
-    if let Some(found) = difference_by(alloc, fields, &expected, tables, Way::Optimized)? {
-        return Ok(Some(format!(in alloc; "{found} by the optimized tree")?));
-    }
-    // a program needs no limit
+    // with tables there is no limit
     if expected.as_str() == "out of steps" {
         return Ok(None);
     }
-    match difference_by(alloc, fields, &expected, tables, Way::Linear)? {
-        Some(found) => Ok(Some(format!(in alloc; "{found} by the program")?)),
+    if let Some(found) = difference_by(alloc, fields, &expected, tables, Way::Matcher)? {
+        return Ok(Some(format!(in alloc; "{found} by the optimized tree")?));
+    }
+    match difference_by(alloc, fields, &expected, tables, Way::Tables)? {
+        Some(found) => Ok(Some(format!(in alloc; "{found} by tables")?)),
         None => Ok(None),
     }
 }
@@ -49,7 +53,7 @@ fn difference_by(
     alloc: Global,
     fields: &str,
     expected: &str,
-    tables: &Tables,
+    tables: &Arc<Tables>,
     way: Way,
 ) -> Result<Option<String>, Fault> {
     let mut call = Call::new(alloc, fields);
@@ -59,14 +63,25 @@ fn difference_by(
     let text = read_text(&mut call);
     if let Some(regex) = read {
         let mut regex = regex;
-        if way == Way::Optimized {
-            optimize_watched(&mut call, &mut regex);
-        }
-        if way != Way::Linear {
-            response_question(&mut call, question, &regex, tables, &text);
-        } else if !response_linear(&mut call, question, &regex, tables, &text) {
-            call.finish()?;
-            return Ok(None);
+        match way {
+            Way::Backtracking => {
+                if let Some(matcher) = matcher_of(&mut call, regex, tables, 0) {
+                    response_question(&mut call, question, &matcher, &text);
+                }
+            }
+            Way::Matcher => {
+                optimize_watched(&mut call, &mut regex);
+                let limit = MOST / text.len().saturating_add(1);
+                if let Some(matcher) = matcher_of(&mut call, regex, tables, limit) {
+                    response_question(&mut call, question, &matcher, &text);
+                }
+            }
+            Way::Tables => {
+                if !response_linear(&mut call, question, &regex, tables, &text) {
+                    call.finish()?;
+                    return Ok(None);
+                }
+            }
         }
     }
     call.difference(expected)

@@ -1,10 +1,18 @@
 //! The question that a test case asks about a text, and the notation of its outcome.
+ghost use Rattle.std.specs.Prelude.{◌≡◌, IfSome};
+ghost use Rattle.regress_tree.specs.Tree.{tree};
+ghost use Rattle.regress_match.specs.Matcher.{matcher_tree};
 
 use crate::positions::{byte_position, characters_before};
-use regress_match::{Match, Matches, Outcome, find, match_at};
+use regress_match::{CompileFault, Found, Limits, Match, Matcher, Outcome};
 use regress_tree::ir::Regex;
 use regress_unicode::Tables;
+use std::alloc::AllocError;
+use std::sync::Arc;
 use test_notation::{Call, Fault, parse_decimal};
+
+/// The largest program of a test case.
+const INSTRUCTIONS: usize = 1_000_000;
 
 /// The step limit of a test case that states none.
 pub(crate) const STEPS: u64 = 10_000_000;
@@ -40,33 +48,65 @@ pub(crate) fn parse_question(call: &mut Call) -> Question {
     }
 }
 
-/// Appends the outcome for a tree.
+/// Returns a matcher that makes tables for programs of at most `tables_limit` instructions.
+pub(crate) fn matcher_of(
+    call: &mut Call,
+    regex: Regex,
+    tables: &Arc<Tables>,
+    tables_limit: usize,
+) -> Option<Matcher>
+    ensures { IfSome result (λ matcher. matcher_tree matcher ≡ tree regex.node) }
+{
+    let limits = Limits {
+        instructions: INSTRUCTIONS,
+        tables: tables_limit,
+    };
+    match Matcher::new(call.alloc(), regex, tables, limits) {
+        Ok(matcher) => Some(matcher),
+        Err(CompileFault::Memory(_)) => {
+            call.fail(Fault::Memory);
+            None
+        }
+        Err(CompileFault::TooLong) => {
+            call.say("too long");
+            None
+        }
+    }
+}
+
+/// Appends the outcome of a search.
 pub(crate) fn response_question(
     call: &mut Call,
     question: Question,
-    regex: &Regex,
-    tables: &Tables,
+    matcher: &Matcher,
     text: &str,
 ) {
     match question {
         Question::First(steps) => {
-            let outcome = find(call.alloc(), regex, tables, text, 0, steps);
-            let outcome = call.made(outcome, Outcome::NoMatch);
-            report(call, text, &outcome);
+            let found = matcher.find(call.alloc(), text, 0, steps);
+            report_found(call, text, found);
         }
         Question::At(characters) => {
             let position = call.read(byte_position(text, characters), 0);
-            let outcome = match_at(call.alloc(), regex, tables, text, position, STEPS);
-            let outcome = call.made(outcome, Outcome::NoMatch);
-            report(call, text, &outcome);
+            let position = position.min(text.len());
+            let found = matcher.match_at(call.alloc(), text, position, STEPS);
+            report_found(call, text, found);
         }
-        Question::All => report_all(call, regex, tables, text),
+        Question::All => report_all(call, matcher, text),
+    }
+}
+
+/// Appends what a search has found.
+fn report_found(call: &mut Call, text: &str, found: Result<Found, AllocError>) {
+    match found {
+        Ok(found) => report(call, text, &found.outcome),
+        Err(_) => call.fail(Fault::Memory),
     }
 }
 
 /// Appends all matches, separated by ` | `, at most a hundred.
-fn report_all(call: &mut Call, regex: &Regex, tables: &Tables, text: &str) {
-    let mut matches = Matches::new(regex, tables, text, 0, STEPS);
+fn report_all(call: &mut Call, matcher: &Matcher, text: &str) {
+    let mut matches = matcher.find_iter(text, 0, STEPS);
     for number in 0..100 {
         let outcome = matches.next(call.alloc());
         let outcome = call.made(outcome, Outcome::NoMatch);

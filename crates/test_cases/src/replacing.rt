@@ -1,22 +1,25 @@
 //! Replacing the matches in a text, and splitting a text at them.
-ghost use Rattle.regress_tree.specs.Tree.{tree};
 ghost use Rattle.regress_tree.specs.WellFormed.{IsWellFormed};
+ghost use Rattle.regress_match.specs.Matcher.{matcher_tree};
 
 use crate::matching::{read_text, split_expected};
-use crate::outcome::STEPS;
+use crate::outcome::{STEPS, matcher_of};
 use crate::parsing::parse_tree;
-use regress_match::{find_all, groups};
+use regress_match::{Matcher, groups};
 use regress_replace::{replace_matches, split_with_captures};
-use regress_tree::ir::Regex;
 use regress_unicode::Tables;
 use std::alloc::{AllocError, Global};
+use std::sync::Arc;
 use test_notation::{Call, Fault, parse_decimal};
+
+/// The number of instructions up to which tables are made.
+const TABLES: usize = 1_000;
 
 /// Returns the result of a test case if it is not the expected one.
 pub(crate) fn replace_difference(
     alloc: Global,
     line: &str,
-    tables: &Tables,
+    tables: &Arc<Tables>,
 ) -> Result<Option<String>, Fault> {
     let (fields, expected) = split_expected(alloc, line)?;
     let mut call = Call::new(alloc, fields);
@@ -24,7 +27,7 @@ pub(crate) fn replace_difference(
     call.difference(&expected)
 }
 
-fn make(call: &mut Call, tables: &Tables) {
+fn make(call: &mut Call, tables: &Arc<Tables>) {
     let name = call.field();
     let flags = call.flags();
     let read = parse_tree(call, flags, tables);
@@ -32,36 +35,38 @@ fn make(call: &mut Call, tables: &Tables) {
     let Some(regex) = read else {
         return;
     };
+    let Some(matcher) = matcher_of(call, regex, tables, TABLES) else {
+        return;
+    };
     match name {
-        "replace" => report_replaced(call, &regex, tables, &text, 1),
-        "replace_all" => report_replaced(call, &regex, tables, &text, usize::MAX),
-        _ => report_parts(call, &regex, tables, &text),
+        "replace" => report_replaced(call, &matcher, &text, 1),
+        "replace_all" => report_replaced(call, &matcher, &text, usize::MAX),
+        _ => report_parts(call, &matcher, &text),
     }
 }
 
 /// Appends the text with its first matches replaced by a template, the next field.
-fn report_replaced(call: &mut Call, regex: &Regex, tables: &Tables, text: &str, first: usize)
-    requires { IsWellFormed (tree regex.now.node) }
+fn report_replaced(call: &mut Call, matcher: &Matcher, text: &str, first: usize)
+    requires { IsWellFormed (matcher_tree matcher.now) }
 {
     let alloc = call.alloc();
     let template = read_text(call);
-    let replaced = replaced(alloc, regex, tables, text, &template, first);
+    let replaced = replaced(alloc, matcher, text, &template, first);
     let replaced = call.made(replaced, String::new(alloc));
     call.say(&replaced);
 }
 
 fn replaced(
     alloc: Global,
-    regex: &Regex,
-    tables: &Tables,
+    matcher: &Matcher,
     text: &str,
     template: &str,
     first: usize,
 ) -> Result<String, AllocError>
-    requires { IsWellFormed (tree regex.now.node) }
+    requires { IsWellFormed (matcher_tree matcher.now) }
 {
-    let groups = groups(alloc, regex)?;
-    let Some(mut matches) = find_all(alloc, regex, tables, text, STEPS)? else {
+    let groups = groups(alloc, matcher.regex())?;
+    let Some(mut matches) = matcher.find_all(alloc, text, STEPS)? else {
         return String::from_str(alloc, "out of steps");
     };
     matches.truncate(first);
@@ -69,15 +74,15 @@ fn replaced(
 }
 
 /// Appends the parts of the text, separated by ` | `, within the limit that the next field states.
-fn report_parts(call: &mut Call, regex: &Regex, tables: &Tables, text: &str)
-    requires { IsWellFormed (tree regex.now.node) }
+fn report_parts(call: &mut Call, matcher: &Matcher, text: &str)
+    requires { IsWellFormed (matcher_tree matcher.now) }
 {
     let alloc = call.alloc();
     let limit = match call.field() {
         "-" => None,
         number => Some(call.read(parse_decimal(number), 0) as usize),
     };
-    let parts = parts(alloc, regex, tables, text, limit);
+    let parts = parts(alloc, matcher, text, limit);
     let Some(parts) = call.made(parts, None) else {
         call.say("out of steps");
         return;
@@ -96,14 +101,13 @@ fn report_parts(call: &mut Call, regex: &Regex, tables: &Tables, text: &str)
 /// Returns the parts, or `None` if the search takes too many steps.
 fn parts<'a>(
     alloc: Global,
-    regex: &Regex,
-    tables: &Tables,
+    matcher: &Matcher,
     text: &'a str,
     limit: Option<usize>,
 ) -> Result<Option<Vec<Option<&'a str>>>, AllocError>
-    requires { IsWellFormed (tree regex.now.node) }
+    requires { IsWellFormed (matcher_tree matcher.now) }
 {
-    match find_all(alloc, regex, tables, text, STEPS)? {
+    match matcher.find_all(alloc, text, STEPS)? {
         Some(matches) => Ok(Some(split_with_captures(alloc, text, &matches, limit)?)),
         None => Ok(None),
     }

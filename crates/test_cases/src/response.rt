@@ -11,6 +11,7 @@ use regress_parse::{Error, ParseFault};
 use regress_unicode::{Tables, TablesError};
 use std::alloc::{AllocError, Global};
 use std::hash::{DefaultHasher, Hash, Hasher};
+use std::sync::Arc;
 use test_notation::{Call, Fault, parse_flags};
 use test_tree_cases::{copy_pieces, lower};
 
@@ -20,7 +21,7 @@ use test_tree_cases::{copy_pieces, lower};
 pub(crate) fn difference_over(
     alloc: Global,
     line: &str,
-    tables: &Tables,
+    tables: &Arc<Tables>,
 ) -> Result<Option<String>, Fault> {
     let Some((first, list)) = line.split_once('\t') else {
         return Err(Fault::Line);

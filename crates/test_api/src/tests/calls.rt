@@ -3,12 +3,13 @@
 use super::parsed;
 use example_callers::caller::optimized_text;
 use example_callers::caret::pointed_at;
-use example_callers::quickstart::{compile, find_matches};
+use example_callers::quickstart::{compile, find_matches, prepare};
 use example_callers::slice::{SearchError, first_match};
 use example_callers::underline::underlined_loop;
 use regress_front::parse::FaultKind;
 use regress_front::types::Flags;
 use regress_front::unicode::Tables;
+use std::sync::Arc;
 use std::test::Fail;
 
 #[test]
@@ -76,9 +77,10 @@ fn a_loop_without_a_bound_is_underlined(rt: HostRuntime) -> Result<(), Fail> {
 #[test]
 fn the_matches_of_a_pattern_are_found(rt: HostRuntime) -> Result<(), Fail> {
     let alloc = rt.alloc();
-    let tables = Tables::small(alloc)?;
+    let tables = Arc::new(alloc, Tables::small(alloc)?)?;
     let regex = compile(alloc, "a?b", Flags::default(), &tables)?;
-    match find_matches(alloc, &regex, &tables, "ab ba aab", 9)? {
+    let matcher = prepare(alloc, regex, &tables)?;
+    match find_matches(alloc, &matcher, "ab ba aab", 9)? {
         Some(spans) => {
             assert_eq!(rt; spans.len(), 3);
             assert_eq!(rt; spans[2], (7, 9));
@@ -91,14 +93,12 @@ fn the_matches_of_a_pattern_are_found(rt: HostRuntime) -> Result<(), Fail> {
 #[test]
 fn a_text_is_sliced_by_its_first_match(rt: HostRuntime) -> Result<(), Fail> {
     let alloc = rt.alloc();
-    let tables = Tables::small(alloc)?;
-    let regex = parsed(alloc, "é+", false)?;
-    assert_eq!(rt;
-        first_match(alloc, &regex, &tables, "caféé é", 100)?,
-        Some("éé")
-    );
-    assert_eq!(rt; first_match(alloc, &regex, &tables, "cafe", 100)?, None);
-    let stopped = first_match(alloc, &regex, &tables, "café", 1);
+    let tables = Arc::new(alloc, Tables::small(alloc)?)?;
+    let regex = parsed(alloc, "(é)\\1*", false)?;
+    let matcher = prepare(alloc, regex, &tables)?;
+    assert_eq!(rt; first_match(alloc, &matcher, "caféé é", 100)?, Some("éé"));
+    assert_eq!(rt; first_match(alloc, &matcher, "cafe", 100)?, None);
+    let stopped = first_match(alloc, &matcher, "café", 1);
     assert_eq!(rt; stopped, Err(SearchError::OutOfSteps));
     Ok(())
 }

@@ -6,41 +6,9 @@ use regress_front::parse::try_parse;
 use regress_front::types::Flags;
 use regress_front::unicode::Tables;
 use regress_front::util::code_points;
-use regress_match::{Match, Matcher, Matches, Outcome, find, find_all, for_each_match, match_at};
+use regress_match::{Limits, Match, Matcher, Outcome};
 use regress_program::{Nonlinear, Program};
 use std::test::Fail;
-
-#[test]
-fn the_examples_of_matching_hold(rt: HostRuntime) -> Result<(), Fail> {
-    let alloc = rt.alloc();
-    // a pattern matches at an offset
-    {
-        let tables = Tables::small(alloc)?;
-        let points = code_points(alloc, "b+")?;
-        let regex = try_parse(alloc, &points, Flags::default(), &tables)?;
-        match match_at(alloc, &regex, &tables, "abb", 1, 1000)? {
-            Outcome::Matched(found) => assert_eq!(rt; found.end(), 3),
-            _ => assert!(rt; false, "it matches"),
-        }
-        let outcome = match_at(alloc, &regex, &tables, "abb", 0, 1000)?;
-        assert!(rt; matches!(&outcome, Outcome::NoMatch));
-    }
-    // the leftmost match is found
-    {
-        let tables = Tables::small(alloc)?;
-        let points = code_points(alloc, "(\\d+)-(\\d+)")?;
-        let regex = try_parse(alloc, &points, Flags::default(), &tables)?;
-        match find(alloc, &regex, &tables, "on 12-31", 0, 1000)? {
-            Outcome::Matched(found) => {
-                assert_eq!(rt; found.start(), 3);
-                assert_eq!(rt; found.end(), 8);
-                assert_eq!(rt; found.group(1), Some((6, 8)));
-            }
-            _ => assert!(rt; false, "it matches"),
-        }
-    }
-    Ok(())
-}
 
 #[test]
 fn the_example_of_a_program_holds(rt: HostRuntime) -> Result<(), Fail> {
@@ -73,59 +41,6 @@ fn the_example_of_a_program_holds(rt: HostRuntime) -> Result<(), Fail> {
 }
 
 #[test]
-fn the_examples_of_searches_hold(rt: HostRuntime) -> Result<(), Fail> {
-    let alloc = rt.alloc();
-    // one match after another is found
-    {
-        let tables = Tables::small(alloc)?;
-        let points = code_points(alloc, "a+")?;
-        let regex = try_parse(alloc, &points, Flags::default(), &tables)?;
-        let mut matches = Matches::new(&regex, &tables, "aabxa", 0, 1000);
-        let mut ends = Vec::new(alloc);
-        for _ in 0..10 {
-            if let Outcome::Matched(found) = matches.next(alloc)? {
-                ends.push(found.end())?;
-            }
-        }
-        assert_eq!(rt; ends.as_slice(), [2, 5].as_slice());
-    }
-    // all matches are listed
-    {
-        let tables = Tables::small(alloc)?;
-        let points = code_points(alloc, "a+")?;
-        let regex = try_parse(alloc, &points, Flags::default(), &tables)?;
-        let mut ends = Vec::new(alloc);
-        match find_all(alloc, &regex, &tables, "aabxa", 1000)? {
-            Some(all) => {
-                for found in &all {
-                    ends.push(found.end())?;
-                }
-            }
-            None => assert!(rt; false, "it takes few steps"),
-        }
-        assert_eq!(rt; ends.as_slice(), [2, 5].as_slice());
-    }
-    // a closure is called on each match
-    {
-        let tables = Tables::small(alloc)?;
-        let points = code_points(alloc, "a+")?;
-        let regex = try_parse(alloc, &points, Flags::default(), &tables)?;
-        let mut count = 0_usize;
-        let all = for_each_match(
-            alloc,
-            &regex,
-            &tables,
-            "aabxa",
-            1000,
-            &mut |_found: &Match| count = count.wrapping_add(1),
-        )?;
-        assert!(rt; all);
-        assert_eq!(rt; count, 2);
-    }
-    Ok(())
-}
-
-#[test]
 fn the_examples_of_matchers_hold(rt: HostRuntime) -> Result<(), Fail> {
     use std::sync::Arc;
     let alloc = rt.alloc();
@@ -134,7 +49,7 @@ fn the_examples_of_matchers_hold(rt: HostRuntime) -> Result<(), Fail> {
         let tables = Arc::new(alloc, Tables::small(alloc)?)?;
         let points = code_points(alloc, "(a*)*b")?;
         let regex = try_parse(alloc, &points, Flags::default(), &tables)?;
-        let matcher = Matcher::new(alloc, regex, &tables, 1000)?;
+        let matcher = Matcher::new(alloc, regex, &tables, Limits::default())?;
         assert!(rt; matcher.is_linear());
         let found = matcher.find(alloc, "xaaab", 0, 0)?;
         match &found.outcome {
@@ -150,7 +65,7 @@ fn the_examples_of_matchers_hold(rt: HostRuntime) -> Result<(), Fail> {
         let tables = Arc::new(alloc, Tables::small(alloc)?)?;
         let points = code_points(alloc, "a+")?;
         let regex = try_parse(alloc, &points, Flags::default(), &tables)?;
-        let matcher = Matcher::new(alloc, regex, &tables, 1000)?;
+        let matcher = Matcher::new(alloc, regex, &tables, Limits::default())?;
         let mut matches = matcher.find_iter("aabxa", 0, 0);
         let mut ends = Vec::new(alloc);
         for _ in 0..10 {
@@ -165,7 +80,7 @@ fn the_examples_of_matchers_hold(rt: HostRuntime) -> Result<(), Fail> {
         let tables = Arc::new(alloc, Tables::small(alloc)?)?;
         let points = code_points(alloc, "a+")?;
         let regex = try_parse(alloc, &points, Flags::default(), &tables)?;
-        let matcher = Matcher::new(alloc, regex, &tables, 1000)?;
+        let matcher = Matcher::new(alloc, regex, &tables, Limits::default())?;
         let mut ends = Vec::new(alloc);
         match matcher.find_all(alloc, "aabxa", 0)? {
             Some(all) => {
@@ -176,6 +91,35 @@ fn the_examples_of_matchers_hold(rt: HostRuntime) -> Result<(), Fail> {
             None => assert!(rt; false, "it is linear"),
         }
         assert_eq!(rt; ends.as_slice(), [2, 5].as_slice());
+    }
+    // a closure is called on each match
+    {
+        let tables = Arc::new(alloc, Tables::small(alloc)?)?;
+        let points = code_points(alloc, "a+")?;
+        let regex = try_parse(alloc, &points, Flags::default(), &tables)?;
+        let matcher = Matcher::new(alloc, regex, &tables, Limits::default())?;
+        let mut count = 0_usize;
+        let all = matcher.for_each_match(
+            alloc,
+            "aabxa",
+            0,
+            &mut |_found: &Match| count = count.wrapping_add(1),
+        )?;
+        assert!(rt; all);
+        assert_eq!(rt; count, 2);
+    }
+    // a pattern matches at an offset
+    {
+        let tables = Arc::new(alloc, Tables::small(alloc)?)?;
+        let points = code_points(alloc, "b+")?;
+        let regex = try_parse(alloc, &points, Flags::default(), &tables)?;
+        let matcher = Matcher::new(alloc, regex, &tables, Limits::default())?;
+        match &matcher.match_at(alloc, "abb", 1, 1000)?.outcome {
+            Outcome::Matched(found) => assert_eq!(rt; found.end(), 3),
+            _ => assert!(rt; false, "it matches"),
+        }
+        let found = matcher.match_at(alloc, "abb", 0, 1000)?;
+        assert!(rt; matches!(&found.outcome, Outcome::NoMatch));
     }
     Ok(())
 }

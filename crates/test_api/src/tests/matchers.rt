@@ -2,7 +2,7 @@
 
 use super::parsed;
 use regress_front::unicode::Tables;
-use regress_match::{Matcher, Outcome};
+use regress_match::{CompileFault, Limits, Matcher, Outcome};
 use std::sync::Arc;
 use std::test::Fail;
 
@@ -14,7 +14,7 @@ fn a_search_goes_on_in_the_tables(rt: HostRuntime) -> Result<(), Fail> {
     let alloc = rt.alloc();
     let tables = Arc::new(alloc, Tables::small(alloc)?)?;
     let regex = parsed(alloc, "(a*)*b", false)?;
-    let matcher = Matcher::new(alloc, regex, &tables, 1000)?;
+    let matcher = Matcher::new(alloc, regex, &tables, Limits::default())?;
     let mut matches = matcher.find_iter(TEXT, 0, 0);
     let mut ends = Vec::new(alloc);
     for _ in 0..10 {
@@ -31,14 +31,37 @@ fn a_search_goes_on_in_the_tables(rt: HostRuntime) -> Result<(), Fail> {
 }
 
 #[test]
-fn without_a_program_the_steps_are_limited(rt: HostRuntime) -> Result<(), Fail> {
+fn without_tables_the_steps_are_limited(rt: HostRuntime) -> Result<(), Fail> {
     let alloc = rt.alloc();
     let tables = Arc::new(alloc, Tables::small(alloc)?)?;
     let regex = parsed(alloc, "(a*)*b", false)?;
-    let matcher = Matcher::new(alloc, regex, &tables, 0)?;
+    let limits = Limits {
+        tables: 0,
+        ..Limits::default()
+    };
+    let matcher = Matcher::new(alloc, regex, &tables, limits)?;
     assert!(rt; matcher.steps_per_character().is_none());
     let found = matcher.find(alloc, TEXT, 0, 1000)?;
     assert!(rt; matches!(&found.outcome, Outcome::OutOfSteps));
     assert_eq!(rt; found.steps, 1000);
+    Ok(())
+}
+
+#[test]
+fn a_program_is_too_long_only_above_the_limit(rt: HostRuntime) -> Result<(), Fail> {
+    let alloc = rt.alloc();
+    let tables = Arc::new(alloc, Tables::small(alloc)?)?;
+    // five letters, and an instruction that accepts
+    let limits = Limits {
+        instructions: 6,
+        tables: 0,
+    };
+    let matcher = Matcher::new(alloc, parsed(alloc, "a{5}", false)?, &tables, limits)?;
+    let found = matcher.find(alloc, "aaaaa", 0, 100)?;
+    assert!(rt; matches!(&found.outcome, Outcome::Matched(_)));
+    match Matcher::new(alloc, parsed(alloc, "a{6}", false)?, &tables, limits) {
+        Err(CompileFault::TooLong) => {}
+        _ => assert!(rt; false, "it is too long"),
+    }
     Ok(())
 }

@@ -69,8 +69,16 @@ fn a_regular_expression_has_limits(rt: HostRuntime) -> Result<(), Fail> {
         _ => assert!(rt; false, "it is too large"),
     }
     let options = Options {
+        instructions: 5,
+        ..Options::default()
+    };
+    match Regex::with_options(alloc, "a{5}", Flags::default(), options, &tables) {
+        Err(Error::TooLarge) => {}
+        _ => assert!(rt; false, "its program is too long"),
+    }
+    let options = Options {
         steps: 10,
-        instructions: 0,
+        tables: 0,
         ..Options::default()
     };
     let regex = Regex::with_options(alloc, "(a*)*b", Flags::default(), options, &tables)?;

@@ -10,7 +10,7 @@ invariant_of-self c =
       within = s.within;
       short = s.short;
       runs = s.runs;
-      kept = tables_kept s.matcher.now s.text.now s.from c.steps-self.result c.in-Some.code c.deref.result.now c.in_ok-program.program c.in_ok-search.search
-          c.in-Some.is c.deref.ensures s.matcher.now.compiled made.routines made.groups made.setting (sym c.is_linear.ensures ∙ c.if-is_linear.true)
+      kept = tables_kept s.matcher.now s.text.now s.from c.steps-self.result c.deref.result.now c.in_ok-program.program c.in_ok-search.search
+          (sym c.is_linear.ensures ∙ c.if-is_linear.true) c.deref.ensures s.matcher.now.compiled made.routines made.groups made.setting
           (c.in_ok-search.ensures.program ∙ c.in-Ok.ensures.same) c.in_ok-search.ensures.text c.steps-self.ensures;
     }

@@ -1,0 +1,45 @@
+use Rattle.std.proofs.Common.{◌≤◌, IfSome, length, subst, sym, arith}
+use Rattle.std.specs.Str.{IsUtf8}
+use Rattle.regress_match.specs.Kept.{IsRunOf}
+use Rattle.regress_match.specs.Matched.{IfMatched, start_of}
+use Rattle.regress_match.proofs.MatcherLemmas.{kept_none, run_inside, run_matches, run_starts, runs_on}
+use Rattle.regress_match.proofs.matcher_matches.MatcherMatches.backtrack.Goals as goal
+
+pub offset_after-from-requires : goal.offset_after-from-requires
+offset_after-from-requires c =
+    let s = c.args.self.now in
+    subst (λ t. IfMatched c.in_ok-outcome.outcome (λ m. start_of m ≤ length t)) (sym c.text-text.ensures)
+    (run_starts s.matcher.now s.text.now c.in_ok-backtracker.backtracker c.in_ok-backtracker.ensures s.from c.in_ok-outcome.outcome
+    c.in_ok-outcome.ensures.solved)
+
+pub invariant_of-self-in-Break-branch-2 : goal.invariant_of-self-in-Break-branch-2
+invariant_of-self-in-Break-branch-2 c =
+    let s = c.args.self.now in
+    record {
+      within = s.within;
+      short = s.short;
+      runs = subst (λ b. IfSome b (IsRunOf s.matcher.now s.text.now)) (sym c.take-kept.ensures.after) tt;
+      kept = s.kept;
+    }
+
+pub invariant_of-self-2 : goal.invariant_of-self-2
+invariant_of-self-2 c =
+    let s = c.args.self.now in
+    record {
+      within = omega (arith, c.in_ok-outcome.ensures.left, s.within);
+      short = s.short;
+      runs = runs_on s.matcher.now s.text.now c.in_ok-backtracker.backtracker c.find.new.self c.in_ok-backtracker.ensures c.in_ok-outcome.ensures.same;
+      kept = kept_none s.matcher.now s.text.now s.from c.offset_after-from.result s.searched s.search c.requires s.kept;
+    }
+
+pub returns-clause-finds : goal.returns-clause-finds
+returns-clause-finds c =
+    let s = c.args.self.now in
+    run_matches s.matcher.now s.text.now c.in_ok-backtracker.backtracker c.in_ok-backtracker.ensures s.from c.in_ok-outcome.outcome
+    c.in_ok-outcome.ensures.solved
+
+pub returns-clause-inside : goal.returns-clause-inside
+returns-clause-inside c =
+    let s = c.args.self.now in
+    run_inside s.matcher.now s.text.now c.in_ok-backtracker.backtracker c.in_ok-backtracker.ensures s.from c.in_ok-outcome.outcome
+    c.in_ok-outcome.ensures.solved (subst IsUtf8 c.text-text.ensures c.text-text.utf8)

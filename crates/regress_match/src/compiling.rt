@@ -1,0 +1,119 @@
+//! Compiling a pattern for searches.
+ghost use Rattle.std.specs.Prelude.{◌≡◌, ◌<◌, ◌≤◌, Err, IfOk, is_some, length, min, option_map};
+ghost use Rattle.std.specs.Arc.{arc_value};
+ghost use Rattle.regress_tree.specs.Tree.{tree};
+ghost use Rattle.regress_tree.specs.WellFormed.{captures};
+ghost use Rattle.regress_unicode.specs.TableOf.{table_of};
+ghost use Rattle.regress_program.specs.Compiled.{IsPattern, total};
+ghost use Rattle.regress_program.specs.Size.{program_size};
+ghost use Rattle.regress_program.specs.declared.fault.CompileFault.TheVariants.{TooLong};
+ghost use Rattle.regress_backtrack.specs.Code.{code_routines};
+ghost use Rattle.regress_match.specs.Compiled.{IsCodeOf};
+ghost use Rattle.regress_match.specs.Matcher.{IsFactorOf, factor, factor_of, matcher_setting, matcher_tree};
+
+use crate::limits::Limits;
+use crate::matcher::Matcher;
+use regress_backtrack::Code;
+use regress_program::CompileFault;
+use regress_program::groups::group_count;
+use regress_tree::ir::Regex;
+use regress_unicode::Tables;
+use std::alloc::Global;
+use std::sync::Arc;
+
+impl Matcher {
+    /// Compiles a pattern into a program of at most `limits.instructions` instructions.
+    ///
+    /// Searches take linear time if the program is linear and has at most `limits.tables` instructions.
+    ///
+    /// # Errors
+    /// - [`CompileFault::TooLong`] if the program would have more instructions than the limit.
+    /// - [`CompileFault::Memory`] if an allocation fails.
+    ///
+    /// # Complexity
+    /// As that of [`Code::compile`].
+    pub fn new(
+        alloc: Global,
+        regex: Regex,
+        tables: &Arc<Tables>,
+        limits: Limits,
+    ) -> Result<Matcher, CompileFault>
+        ensures setting { IfOk result (λ m. matcher_setting m ≡ record { flags = regex.flags; table = table_of (arc_value tables.now) }) }
+        ensures tree { IfOk result (λ m. matcher_tree m ≡ tree regex.node) }
+        ensures linear { IfOk result (λ m. IsFactorOf limits.tables (tree regex.node) (factor_of m)) }
+        ensures within { IfOk result (λ _. program_size (tree regex.node) ≤ limits.instructions) }
+        ensures too_long { result ≡ Err TooLong → length (captures (tree regex.node)) < usize.MAX → limits.instructions < program_size (tree regex.node) }
+    {
+        let groups = group_count(&regex.node);
+        let code = compiled(alloc, &regex, tables, groups, limits.instructions)?;
+        let within = code.instructions() <= limits.tables;
+        let tables = Arc::try_clone(tables)?;
+        Ok(Matcher {
+            regex,
+            tables,
+            code,
+            within,
+        })
+    }
+
+    /// Returns the tree of the pattern, and its flags.
+    pub fn regex(&self) -> &Regex
+        ensures { result.now ≡ self.now.regex }
+    {
+        &self.regex
+    }
+
+    /// Returns whether searches take linear time: whether the program is linear, and within the limit on tables.
+    pub fn is_linear(&self) -> bool
+        ensures { result ≡ is_some (factor_of self.now) }
+    {
+        self.within && self.code.is_linear()
+    }
+
+    /// Returns an upper bound for the steps of a search for each byte of a text, counting its end as one more; at most
+    /// `u64::MAX`. The result is `None` if searches are not known to take linear time.
+    pub fn steps_per_character(&self) -> Option<u64>
+        ensures { result ≡ option_map (λ n. min n u64.MAX) (factor_of self.now) }
+    {
+        if self.is_linear() {
+            Some(factor(&self.code))
+        } else {
+            None
+        }
+    }
+}
+
+/// Returns the program of a pattern, of at most `limit` instructions.
+///
+/// # Preconditions
+/// `groups` is the number of groups of the pattern, at most `usize::MAX`.
+fn compiled(
+    alloc: Global,
+    regex: &Regex,
+    tables: &Tables,
+    groups: usize,
+    limit: usize,
+) -> Result<Code, CompileFault>
+    requires { groups ≡ min (length (captures (tree regex.now.node))) usize.MAX }
+    ensures means { IfOk result (IsCodeOf (record { flags = regex.now.flags; table = table_of tables.now }) (tree regex.now.node) tables.now) }
+    ensures pattern { IfOk result (λ code. IsPattern (code_routines code) (tree regex.now.node)) }
+    ensures size { IfOk result (λ code. total (code_routines code) ≡ program_size (tree regex.now.node)) }
+    ensures within { IfOk result (λ code. total (code_routines code) ≤ limit) }
+    ensures too_long { result ≡ Err TooLong → length (captures (tree regex.now.node)) < usize.MAX → limit < program_size (tree regex.now.node) }
+{
+    // the number of groups is exact only below this
+    if groups == usize::MAX {
+        return Err(CompileFault::TooLong);
+    }
+    Code::compile(alloc, regex, tables, limit)
+}
+
+/// Returns an upper bound for the steps for each character, at most `u64::MAX`: those of backtracking, of making the
+/// tables, and of searching in them.
+fn factor(code: &Code) -> u64
+    ensures { result ≡ min (factor (total (code_routines code.now))) u64.MAX }
+{
+    (code.instructions() as u64)
+        .saturating_mul(6)
+        .saturating_add(66)
+}

@@ -1,0 +1,189 @@
+//! The next match of a matcher: by backtracking, and then by tables.
+ghost use Rattle.std.specs.Prelude.{◌≡◌, ◌≤◌, ◌+◌, ◌*◌, IfNone, IfOk, IfSome, IsNone, IsSome, OnErr, length};
+ghost use Rattle.regress_tree.specs.WellFormed.{IsWellFormed};
+ghost use Rattle.regress_match.specs.Iterated.{IsSameIteration, iterated_from, iterated_matcher, iterated_text, step_limit, steps_left};
+ghost use Rattle.regress_match.specs.Kept.{IsRunOf};
+ghost use Rattle.regress_match.specs.Matched.{Finds, IfMatched, IfOutOfSteps, IsInside, start_of};
+ghost use Rattle.regress_match.specs.Matcher.{factor_of, matcher_outcomes, matcher_tree, outcome_if};
+ghost use Rattle.regress_match.specs.Searched.{offset_after};
+
+use crate::matcher::Matcher;
+use crate::matcher_matches::MatcherMatches;
+use regress_backtrack::{Backtracker, Outcome};
+use regress_program::Match;
+use std::alloc::{AllocError, Global};
+
+impl<'m> MatcherMatches<'m> {
+    /// Returns the next match.
+    ///
+    /// After an empty match the search goes on one character further. After the last match each call returns
+    /// [`Outcome::NoMatch`]. Only a pattern that is not linear can be out of steps; then the position of the search stays
+    /// as it is. The spans of a match are as [`Matcher::find`] states.
+    ///
+    /// # Complexity
+    /// If [`Matcher::is_linear`], all calls together take at most [`Matcher::steps_per_character`] steps for each byte of
+    /// the text, and once more. For any other pattern the step limit is for all calls together.
+    ///
+    /// # Errors
+    /// Returns [`AllocError`] if an allocation fails. The position of the search stays as it is, so that the call may
+    /// be repeated.
+    ///
+    /// # Examples
+    /// ```
+    /// let tables = Arc::new(alloc, Tables::small(alloc)?)?;
+    /// let points = code_points(alloc, "a+")?;
+    /// let regex = try_parse(alloc, &points, Flags::default(), &tables)?;
+    /// let matcher = Matcher::new(alloc, regex, &tables, Limits::default())?;
+    /// let mut matches = matcher.find_iter("aabxa", 0, 0);
+    /// let mut ends = Vec::new(alloc);
+    /// for _ in 0..10 {
+    ///     if let Outcome::Matched(found) = matches.next(alloc)? {
+    ///         ends.push(found.end())?;
+    ///     }
+    /// }
+    /// assert_eq!(rt; ends.as_slice(), [2, 5].as_slice());
+    /// ```
+    pub fn next(&mut self, alloc: Global) -> Result<Outcome, AllocError>
+        ensures finds { IfOk result (Finds (iterated_text self.old) (matcher_outcomes (iterated_matcher self.old) (iterated_text self.old)) (iterated_from self.old)) }
+        ensures inside { IfOk result (λ outcome. IsWellFormed (matcher_tree (iterated_matcher self.old)) → IfMatched outcome (IsInside (iterated_text self.old))) }
+        ensures goes_on { IfOk result (λ outcome. iterated_from self.new ≡ offset_after (iterated_text self.old) (iterated_from self.old) outcome) }
+        ensures stays { OnErr result (iterated_from self.new ≡ iterated_from self.old) }
+        ensures same { IsSameIteration self.old self.new }
+        ensures linear { IfOk result (λ outcome. IfSome (factor_of (iterated_matcher self.old)) (λ _. IfOutOfSteps outcome ⊥)) }
+        ensures limited { IfOk result (λ outcome. IfNone (factor_of (iterated_matcher self.old)) (IfOutOfSteps outcome (steps_left self.new ≡ 0))) }
+    {
+        if self.search.is_some() {
+            return self.find_in_tables(alloc);
+        }
+        match self.backtrack(alloc)? {
+            Outcome::OutOfSteps => {
+                self.make_tables(alloc)?;
+                self.find_in_tables(alloc)
+            }
+            outcome => Ok(outcome),
+        }
+    }
+
+    /// Returns the text that is searched.
+    pub fn text(&self) -> &'m str
+        ensures { result.now ≡ iterated_text self.now }
+    {
+        self.text
+    }
+
+    /// Returns the number of steps that all calls of [`MatcherMatches::next`] together took. Of a call that returned an
+    /// error some are not counted.
+    pub fn steps(&self) -> u64
+        ensures linear { IfSome (factor_of (iterated_matcher self.now)) (λ n. result ≤ n * (length (iterated_text self.now) + 1)) }
+        ensures limited { IfNone (factor_of (iterated_matcher self.now)) (result + steps_left self.now ≡ step_limit self.now) }
+    {
+        (self.limit - self.left).saturating_add(self.searched)
+    }
+
+    /// Returns the next match by backtracking, or [`Outcome::OutOfSteps`] if its steps are used up.
+    fn backtrack(&mut self, alloc: Global) -> Result<Outcome, AllocError>
+        requires { IsNone self.old.search }
+        ensures finds { IfOk result (Finds (iterated_text self.old) (matcher_outcomes (iterated_matcher self.old) (iterated_text self.old)) (iterated_from self.old)) }
+        ensures inside { IfOk result (λ outcome. IsWellFormed (matcher_tree (iterated_matcher self.old)) → IfMatched outcome (IsInside (iterated_text self.old))) }
+        ensures goes_on { IfOk result (λ outcome. iterated_from self.new ≡ offset_after (iterated_text self.old) (iterated_from self.old) outcome) }
+        ensures stays { OnErr result (iterated_from self.new ≡ iterated_from self.old) }
+        ensures same { IsSameIteration self.old self.new }
+        ensures spent { IfOk result (λ outcome. IfOutOfSteps outcome (steps_left self.new ≡ 0)) }
+        ensures search { IsNone self.new.search }
+    {
+        let text = self.text();
+        let kept = self.backtracker.take();
+        let mut backtracker = runs_of(alloc, self.matcher, self.text, kept)?;
+        let mut left = self.left;
+        let outcome = backtracker.find(alloc, self.from, &mut left)?;
+        let from = offset_after(text, self.from, &outcome);
+        self.backtracker = Some(backtracker);
+        self.left = left;
+        self.from = from;
+        Ok(outcome)
+    }
+
+    /// Makes the tables of the text, if searches take linear time.
+    fn make_tables(&mut self, alloc: Global) -> Result<(), AllocError>
+        requires { IsNone self.old.search }
+        ensures from { iterated_from self.new ≡ iterated_from self.old }
+        ensures same { IsSameIteration self.old self.new }
+        ensures left { steps_left self.new ≡ steps_left self.old }
+        ensures made { IfOk result (λ _. IfSome (factor_of (iterated_matcher self.old)) (λ _. IsSome self.new.search)) }
+    {
+        let matcher = self.matcher;
+        if matcher.is_linear() {
+            let program = matcher.code.program(alloc, &matcher.tables)?;
+            if let Ok(linear) = program.linear() {
+                let search = linear.search(alloc, self.text)?;
+                self.searched = search.steps();
+                self.search = Some(search);
+            }
+        }
+        Ok(())
+    }
+
+    /// Returns the next match by the tables, or [`Outcome::OutOfSteps`] if there are none.
+    fn find_in_tables(&mut self, alloc: Global) -> Result<Outcome, AllocError>
+        ensures finds { IfOk result (Finds (iterated_text self.old) (matcher_outcomes (iterated_matcher self.old) (iterated_text self.old)) (iterated_from self.old)) }
+        ensures inside { IfOk result (λ outcome. IsWellFormed (matcher_tree (iterated_matcher self.old)) → IfMatched outcome (IsInside (iterated_text self.old))) }
+        ensures goes_on { IfOk result (λ outcome. iterated_from self.new ≡ offset_after (iterated_text self.old) (iterated_from self.old) outcome) }
+        ensures stays { OnErr result (iterated_from self.new ≡ iterated_from self.old) }
+        ensures same { IsSameIteration self.old self.new }
+        ensures left { steps_left self.new ≡ steps_left self.old }
+        ensures made { IfOk result (λ outcome. IsSome self.old.search → IfOutOfSteps outcome ⊥) }
+    {
+        let text = self.text();
+        let Some(search) = &self.search else {
+            return Ok(Outcome::OutOfSteps);
+        };
+        let found = search.find(alloc, self.from)?;
+        let searched = self.searched.saturating_add(found.steps);
+        let outcome = outcome_of(found.found);
+        let from = offset_after(text, self.from, &outcome);
+        self.searched = searched;
+        self.from = from;
+        Ok(outcome)
+    }
+}
+
+/// Returns the runs that are kept, or new ones.
+///
+/// # Preconditions
+/// The runs are of the program of the matcher and of the text.
+fn runs_of<'m>(
+    alloc: Global,
+    matcher: &'m Matcher,
+    text: &'m str,
+    kept: Option<Backtracker<'m, 'm>>,
+) -> Result<Backtracker<'m, 'm>, AllocError>
+    requires { IfSome kept (IsRunOf matcher.now text.now) }
+    ensures { IfOk result (IsRunOf matcher.now text.now) }
+{
+    match kept {
+        Some(backtracker) => Ok(backtracker),
+        None => Backtracker::new(alloc, &matcher.code, &matcher.tables, text),
+    }
+}
+
+/// Returns the result of a search by tables.
+fn outcome_of(found: Option<Match>) -> Outcome
+    ensures { result ≡ outcome_if found }
+{
+    match found {
+        Some(found) => Outcome::Matched(found),
+        None => Outcome::NoMatch,
+    }
+}
+
+/// Returns the byte offset from which the next match is searched, after a search from the byte offset `from`.
+fn offset_after(text: &str, from: usize, outcome: &Outcome) -> usize
+    requires { IfMatched outcome.now (λ m. start_of m ≤ length text.now) }
+    ensures { result ≡ offset_after text.now from outcome.now }
+{
+    match outcome {
+        Outcome::Matched(found) => found.end().max(found.start() + 1),
+        Outcome::NoMatch => text.len() + 1,
+        Outcome::OutOfSteps => from,
+    }
+}

@@ -1,0 +1,26 @@
+//! Limits on the size of a program.
+
+/// How many instructions a program may have.
+#[derive(Clone, Copy, Debug, PartialEq, Eq)]
+pub struct Limits {
+    /// The number of instructions that a program may have, where the body of a loop `{n,m}` counts m times. A pattern that
+    /// needs more is not compiled. 250,000 by default: some 50 MiB.
+    pub instructions: usize,
+    /// The number of instructions up to which a program is searched by tables, in linear time. The tables take up to two
+    /// bits for each instruction and byte of a text. A thousand by default, so at most 250 times the length of the text.
+    pub tables: usize,
+}
+
+impl Default for Limits {
+    ghost use Rattle.std.specs.Prelude.{◌≡◌};
+    ghost use Rattle.regress_match.specs.Limits.{default_limits};
+
+    ghost is_default = { λ limits. limits ≡ default_limits };
+
+    fn default() -> Limits {
+        Limits {
+            instructions: 250_000,
+            tables: 1_000,
+        }
+    }
+}

@@ -1,0 +1,239 @@
+//! Searches with a matcher, in linear time or within a step limit.
+ghost use Rattle.std.specs.Prelude.{◌≡◌, ◌+◌, ◌*◌, ◌≤◌, Ok, IfNone, IfOk, IfSome, IsSome, length, true};
+ghost use Rattle.regress_tree.specs.WellFormed.{IsWellFormed};
+ghost use Rattle.regress_match.specs.Iterated.{iterated_from, iterated_matcher, iterated_text, step_limit};
+ghost use Rattle.regress_match.specs.Matched.{Finds, IfMatched, IsFirst, IsInside};
+ghost use Rattle.regress_match.specs.Matcher.{IsLimited, IsLinear, factor_of, matcher_outcomes, matcher_tree};
+ghost use Rattle.regress_match.specs.Searched.{AreAllMatches, CalledOnMatches};
+
+use crate::matcher::Matcher;
+use crate::matcher_matches::MatcherMatches;
+use regress_backtrack::{Found, Outcome};
+use regress_program::Match;
+use std::alloc::{AllocError, Global};
+
+/// The number of steps of backtracking for each byte of a text, and once more, after which tables are made.
+const BACKTRACKING_STEPS: u64 = 64;
+
+impl Matcher {
+    /// Returns the leftmost match in `text` that starts at the byte offset `from` or later, on a character boundary, and
+    /// of those at its offset the preferred one.
+    ///
+    /// `from` may be off a character boundary; past the end of `text` there is no match. If the tree is well formed, as
+    /// parsed and optimized trees are, the spans of the match and of its groups are inside `text`, on character
+    /// boundaries, so that `text` may be sliced by them.
+    ///
+    /// # Complexity
+    /// If [`Matcher::is_linear`], the result is never [`Outcome::OutOfSteps`], and the steps are at most
+    /// [`Matcher::steps_per_character`] for each byte of the text, and once more. The search first backtracks within
+    /// some steps for each byte; once they are used up it makes tables, whose memory is proportional to the number of
+    /// instructions and the length of the text.
+    ///
+    /// For any other pattern `steps` is the step limit, counted as in [`Code::find`](regress_backtrack::Code::find).
+    ///
+    /// # Errors
+    /// Returns [`AllocError`] if an allocation fails.
+    ///
+    /// # Examples
+    /// ```
+    /// let tables = Arc::new(alloc, Tables::small(alloc)?)?;
+    /// let points = code_points(alloc, "(a*)*b")?;
+    /// let regex = try_parse(alloc, &points, Flags::default(), &tables)?;
+    /// let matcher = Matcher::new(alloc, regex, &tables, Limits::default())?;
+    /// assert!(rt; matcher.is_linear());
+    /// let found = matcher.find(alloc, "xaaab", 0, 0)?;
+    /// match &found.outcome {
+    ///     Outcome::Matched(found) => {
+    ///         assert_eq!(rt; found.start(), 1);
+    ///         assert_eq!(rt; found.end(), 5);
+    ///     }
+    ///     _ => assert!(rt; false, "it matches"),
+    /// }
+    /// ```
+    pub fn find(
+        &self,
+        alloc: Global,
+        text: &str,
+        from: usize,
+        steps: u64,
+    ) -> Result<Found, AllocError>
+        ensures finds { IfOk result (λ found. Finds text.now (matcher_outcomes self.now text.now) from found.outcome) }
+        ensures inside { IfOk result (λ found. IsWellFormed (matcher_tree self.now) → IfMatched found.outcome (IsInside text.now)) }
+        ensures linear { IfOk result (λ found. IfSome (factor_of self.now) (λ n. IsLinear n text.now found.outcome found.steps)) }
+        ensures limited { IfOk result (λ found. IfNone (factor_of self.now) (IsLimited steps found.outcome found.steps)) }
+    {
+        let mut matches = self.find_iter(text, from, steps);
+        let outcome = matches.next(alloc)?;
+        Ok(Found {
+            outcome,
+            steps: matches.steps(),
+        })
+    }
+
+    /// Matches at exactly the byte offset `position`, with every group unset at first, within `steps` steps.
+    ///
+    /// # Complexity
+    /// It backtracks, also if [`Matcher::is_linear`]. The steps are counted as in
+    /// [`Code::find`](regress_backtrack::Code::find).
+    ///
+    /// # Preconditions
+    /// The position is inside the text, or at its end.
+    ///
+    /// # Errors
+    /// Returns [`AllocError`] if an allocation fails.
+    ///
+    /// # Examples
+    /// ```
+    /// let tables = Arc::new(alloc, Tables::small(alloc)?)?;
+    /// let points = code_points(alloc, "b+")?;
+    /// let regex = try_parse(alloc, &points, Flags::default(), &tables)?;
+    /// let matcher = Matcher::new(alloc, regex, &tables, Limits::default())?;
+    /// match &matcher.match_at(alloc, "abb", 1, 1000)?.outcome {
+    ///     Outcome::Matched(found) => assert_eq!(rt; found.end(), 3),
+    ///     _ => assert!(rt; false, "it matches"),
+    /// }
+    /// let found = matcher.match_at(alloc, "abb", 0, 1000)?;
+    /// assert!(rt; matches!(&found.outcome, Outcome::NoMatch));
+    /// ```
+    pub fn match_at(
+        &self,
+        alloc: Global,
+        text: &str,
+        position: usize,
+        steps: u64,
+    ) -> Result<Found, AllocError>
+        requires { position ≤ length text.now }
+        ensures first { IfOk result (λ found. IsFirst position (matcher_outcomes self.now text.now position) found.outcome) }
+        ensures limited { IfOk result (λ found. IsLimited steps found.outcome found.steps) }
+    {
+        self.code
+            .match_at(alloc, &self.tables, text, position, steps)
+    }
+
+    /// Returns a search for the non-overlapping matches that start at the byte offset `from` or later.
+    ///
+    /// If [`Matcher::is_linear`], `steps` has no meaning: the search is never out of steps. For any other pattern it is
+    /// the step limit of all calls of [`MatcherMatches::next`] together.
+    pub fn find_iter<'m>(&'m self, text: &'m str, from: usize, steps: u64) -> MatcherMatches<'m>
+        ensures matcher { iterated_matcher result ≡ self.now }
+        ensures text { iterated_text result ≡ text.now }
+        ensures from { iterated_from result ≡ from }
+        ensures limit { IfNone (factor_of self.now) (step_limit result ≡ steps) }
+    {
+        let limit = self.backtracking_steps(text, steps);
+        MatcherMatches {
+            matcher: self,
+            text,
+            from,
+            limit,
+            left: limit,
+            searched: 0,
+            backtracker: None,
+            search: None,
+        }
+    }
+
+    /// Returns all non-overlapping matches in `text`, from left to right, as [`MatcherMatches`] finds them.
+    ///
+    /// The result is `None` only if the search takes more than `steps` steps, and never if [`Matcher::is_linear`].
+    ///
+    /// # Errors
+    /// Returns [`AllocError`] if an allocation fails.
+    ///
+    /// # Examples
+    /// ```
+    /// let tables = Arc::new(alloc, Tables::small(alloc)?)?;
+    /// let points = code_points(alloc, "a+")?;
+    /// let regex = try_parse(alloc, &points, Flags::default(), &tables)?;
+    /// let matcher = Matcher::new(alloc, regex, &tables, Limits::default())?;
+    /// let mut ends = Vec::new(alloc);
+    /// match matcher.find_all(alloc, "aabxa", 0)? {
+    ///     Some(all) => {
+    ///         for found in &all {
+    ///             ends.push(found.end())?;
+    ///         }
+    ///     }
+    ///     None => assert!(rt; false, "it is linear"),
+    /// }
+    /// assert_eq!(rt; ends.as_slice(), [2, 5].as_slice());
+    /// ```
+    pub fn find_all(
+        &self,
+        alloc: Global,
+        text: &str,
+        steps: u64,
+    ) -> Result<Option<Vec<Match>>, AllocError>
+        ensures all { IfOk result (λ found. IfSome found (λ all. AreAllMatches text.now (matcher_outcomes self.now text.now) all.items)) }
+        ensures linear { IfOk result (λ found. IfSome (factor_of self.now) (λ _. IsSome found)) }
+    {
+        let mut all = Vec::new(alloc);
+        let mut matches = self.find_iter(text, 0, steps);
+        loop {
+            match matches.next(alloc)? {
+                Outcome::Matched(found) => all.push(found)?,
+                Outcome::NoMatch => return Ok(Some(all)),
+                Outcome::OutOfSteps => return Ok(None),
+            }
+        }
+    }
+
+    /// Calls `func` on each of the non-overlapping matches in `text`, from left to right, as [`MatcherMatches`] finds
+    /// them. Returns whether these are all matches: false only if the search takes more than `steps` steps, and never if
+    /// [`Matcher::is_linear`].
+    ///
+    /// # Preconditions
+    /// `func` has no precondition: it may be called with any match.
+    ///
+    /// # Errors
+    /// Returns [`AllocError`] if an allocation fails. Then `func` was called on the matches up to there.
+    ///
+    /// # Examples
+    /// ```
+    /// let tables = Arc::new(alloc, Tables::small(alloc)?)?;
+    /// let points = code_points(alloc, "a+")?;
+    /// let regex = try_parse(alloc, &points, Flags::default(), &tables)?;
+    /// let matcher = Matcher::new(alloc, regex, &tables, Limits::default())?;
+    /// let mut count = 0_usize;
+    /// let all = matcher.for_each_match(
+    ///     alloc,
+    ///     "aabxa",
+    ///     0,
+    ///     &mut |_found: &Match| count = count.wrapping_add(1),
+    /// )?;
+    /// assert!(rt; all);
+    /// assert_eq!(rt; count, 2);
+    /// ```
+    pub fn for_each_match<F: FnMut(&Match)>(
+        &self,
+        alloc: Global,
+        text: &str,
+        steps: u64,
+        func: &mut F,
+    ) -> Result<bool, AllocError>
+        requires { F.IsAlwaysCallable func.old }
+        ensures callable { F.IsAlwaysCallable func.new }
+        ensures called { CalledOnMatches F.FnMut text.now (matcher_outcomes self.now text.now) func.old func.new (result ≡ Ok true) }
+        ensures linear { IfOk result (λ all. IfSome (factor_of self.now) (λ _. all ≡ true)) }
+    {
+        let mut matches = self.find_iter(text, 0, steps);
+        loop {
+            match matches.next(alloc)? {
+                Outcome::Matched(found) => func(&found),
+                Outcome::NoMatch => return Ok(true),
+                Outcome::OutOfSteps => return Ok(false),
+            }
+        }
+    }
+
+    /// Returns the step limit of backtracking: that of the caller, or if searches are linear some steps for each byte.
+    fn backtracking_steps(&self, text: &str, steps: u64) -> u64
+        ensures linear { IfSome (factor_of self.now) (λ _. result ≤ 64 * (length text.now + 1)) }
+        ensures limited { IfNone (factor_of self.now) (result ≡ steps) }
+    {
+        if self.is_linear() {
+            (text.len() as u64 + 1).saturating_mul(BACKTRACKING_STEPS)
+        } else {
+            steps
+        }
+    }
+}
