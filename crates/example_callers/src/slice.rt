@@ -5,7 +5,7 @@ ghost use Rattle.regress_match.specs.Matched.{Finds};
 ghost use Rattle.regress_match.specs.Matcher.{matcher_outcomes, matcher_tree};
 ghost use Rattle.example_callers.specs.MatchedText.{IsMatchedText};
 
-use regress_match::{Matcher, Outcome};
+use regress_match::{Found, Matcher, Outcome};
 use std::alloc::{AllocError, Global};
 
 /// Why it is not known whether a text has a match.
@@ -41,8 +41,8 @@ pub fn first_match<'a>(
     ensures found { IfOk result (λ found. IfSome found (λ part. IsMatchedText text.now (matcher_outcomes matcher.now text.now) part.now)) }
     ensures none { IfOk result (λ found. found ≡ None → Finds text.now (matcher_outcomes matcher.now text.now) 0 Outcome.NoMatch) }
 {
-    let found = matcher.find(alloc, text, 0, steps)?;
-    match found.outcome {
+    let Found { outcome, .. } = matcher.find(alloc, text, 0, steps)?;
+    match outcome {
         Outcome::Matched(found) => Ok(Some(&text[found.start()..found.end()])),
         Outcome::NoMatch => Ok(None),
         Outcome::OutOfSteps => Err(SearchError::OutOfSteps),
