@@ -17,8 +17,3 @@ returns c = λ before.
       unmatched = λ matched. cc (c.in_ok-is_match.ensures.is.1 matched, c.if-branch.false);
     } in
     rw c.in_ok-push.ensures.items (All-push P c.args.found.now.items added before is)
-
-pub invariant_of-regex-in_err-push : goal.invariant_of-regex-in_err-push
-invariant_of-regex-in_err-push c =
-    let m = c.in_ok-regex.regex.matcher in
-    record { starts = m.starts; counted = m.counted; compiled = m.compiled }
