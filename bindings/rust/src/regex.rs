@@ -100,8 +100,7 @@ impl Regex {
     ///
     /// # Errors
     /// - [`Error::Syntax`] if the pattern is rejected.
-    /// - [`Error::TooLarge`] if its tree may have more nodes than `options.nodes`, whether or not it is valid, or if its
-    ///   program has more than 250,000 instructions.
+    /// - [`Error::TooLarge`] if its tree may have more nodes than `options.nodes`, whether or not it is valid.
     /// - [`Error::Memory`] if the library is out of memory.
     pub fn with_options(pattern: &str, flags: Flags, options: Options) -> Result<Regex, Error> {
         if !ffi::has_abi() {

@@ -21,8 +21,7 @@ pub enum Error {
     },
     /// The letters of the flags are rejected.
     Flags(FlagsError),
-    /// The tree of the pattern may have more nodes than [`Options`](crate::Options) allow, or its program has more than
-    /// 250,000 instructions.
+    /// The tree of the pattern may have more nodes than [`Options`](crate::Options) allow.
     TooLarge,
     /// The library is out of memory, whether or not the pattern is valid.
     Memory,
