@@ -14,7 +14,8 @@
 //! # Ok::<(), Box<dyn std::error::Error>>(())
 //! ```
 //!
-//! A search backtracks within a step limit ([`Options`]), so that it also ends for untrusted patterns and texts. It
+//! A search takes linear time if the pattern has neither a back reference nor a lookaround that captures, and is not too
+//! long. Any other backtracks within a step limit ([`Options`]), so that it also ends for untrusted patterns and texts. It
 //! fails with a [`SearchError`] at the limit.
 
 mod error;
