@@ -377,7 +377,7 @@ int main(void) {
     for (enum searching how = FINDING; how <= TESTING; how++) {
         refuse_search(how, "(?<a>x)z|(?<b>y+)\\k<b>", "xyyzyyyy", REGRESS_OK);
         refuse_search(how, "(?<a>x)z|(?<b>y+)\\k<b>", "xyz", REGRESS_NO_MATCH);
-        /* backtracking takes so many steps that the search goes on with tables */
+        /* backtracking uses up its steps, and the search goes on with tables */
         refuse_search(how, "(a*)*b", "aaaaaaaaaaaaaaaaaaaaaaaacb", REGRESS_OK);
         refuse_search(how, "(a*)*b", "aaaaaaaaaaaaaaaaaaaaaaaa", REGRESS_NO_MATCH);
     }
