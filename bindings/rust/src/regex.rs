@@ -193,7 +193,7 @@ impl Regex {
     /// # Errors
     /// As for [`Regex::find_from`].
     pub fn replace<'t>(&self, text: &'t str, template: &str) -> Result<Cow<'t, str>, SearchError> {
-        self.replace_with(text, |found| found.expand(template))
+        replace::written(text, self.call(|handle| handle.replace(text, template))?)
     }
 
     /// Returns `text` with all matches replaced by a template, as by [`Regex::replace`].
@@ -205,7 +205,10 @@ impl Regex {
         text: &'t str,
         template: &str,
     ) -> Result<Cow<'t, str>, SearchError> {
-        self.replace_all_with(text, |found| found.expand(template))
+        replace::written(
+            text,
+            self.call(|handle| handle.replace_all(text, template))?,
+        )
     }
 
     /// Returns `text` with the first match replaced by what a function returns for it.

@@ -101,6 +101,18 @@ fn texts_are_replaced_by_templates_and_functions() {
             .unwrap(),
         "<0>-<2>"
     );
+    // A result that is much longer than the text.
+    let long = "ab".repeat(1000);
+    assert_eq!(
+        regex.replace_all(text, &long).unwrap(),
+        format!("{long}-{long}")
+    );
+    assert_eq!(
+        regex.replace_all(&"1".repeat(500), "$&$&$&$&").unwrap(),
+        "1".repeat(2000)
+    );
+    assert_eq!(regex.replace(text, "").unwrap(), "-2x");
+    assert_eq!(regex.replace_all("1", "").unwrap(), "");
     for same in [
         regex.replace("ab", "y"),
         regex.replace_all("ab", "y"),
