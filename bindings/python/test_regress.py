@@ -214,6 +214,10 @@ class Calls(unittest.TestCase):
         with self.assertRaises(regress.error) as caught:
             regress.compile('a' * 1000, nodes=10)
         self.assertEqual(caught.exception.kind, 'TooLarge')
+        # More than a million instructions, in a small tree.
+        with self.assertRaises(regress.error) as caught:
+            regress.compile('(?:(?:ab){1000}){1000}')
+        self.assertEqual(caught.exception.kind, 'TooLarge')
         pattern = regress.compile(r'(a*)*\1b', steps=100)
         for call in (pattern.search, pattern.findall, lambda text: pattern.sub('', text)):
             with self.assertRaises(regress.error) as caught:

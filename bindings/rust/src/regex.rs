@@ -99,7 +99,8 @@ impl Regex {
     ///
     /// # Errors
     /// - [`Error::Syntax`] if the pattern is rejected.
-    /// - [`Error::TooLarge`] if its tree may have more nodes than `options.nodes`, whether or not it is valid.
+    /// - [`Error::TooLarge`] if its tree may have more nodes than `options.nodes`, whether or not it is valid; or if its
+    ///   program has more instructions than the library allows, where the body of a loop `{n,m}` counts m times.
     /// - [`Error::Memory`] if the library is out of memory.
     pub fn with_options(pattern: &str, flags: Flags, options: Options) -> Result<Regex, Error> {
         if !ffi::has_abi() {

@@ -193,6 +193,11 @@ fn limits_are_kept() {
         Regex::with_options(&"a".repeat(1000), flags, options).unwrap_err(),
         Error::TooLarge
     );
+    // More than a million instructions, in a small tree.
+    assert_eq!(
+        Regex::new("(?:(?:ab){1000}){1000}").unwrap_err(),
+        Error::TooLarge
+    );
     let regex = Regex::with_options(r"(a*)*\1b", flags, options).unwrap();
     let text = "a".repeat(1000);
     assert_eq!(regex.is_match(&text), Err(SearchError::OutOfSteps));
