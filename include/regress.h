@@ -41,7 +41,7 @@ typedef struct regress_regex {
 #define REGRESS_ROOM 3u         /* the buffer is too small and unchanged: `needed` is the size that it has to have */
 #define REGRESS_BAD_INPUT 4u    /* invalid arguments: invalid UTF-8, an unknown bit */
 #define REGRESS_SYNTAX 5u       /* the pattern is rejected: a syntax error */
-#define REGRESS_TOO_LARGE 6u    /* the pattern may have more nodes than allowed */
+#define REGRESS_TOO_LARGE 6u    /* the pattern may have more nodes than allowed, or too many instructions */
 #define REGRESS_OUT_OF_STEPS 7u /* the search takes more steps than allowed */
 
 /* Flags of a pattern, independent of each other: the flag v of JavaScript is UNICODE and UNICODE_SETS together. */
@@ -63,10 +63,11 @@ uint32_t regress_abi_version(void);
 
 /* Compiles a pattern, and writes `handle`. A handle that it had before is not freed.
 
-   A search takes linear time if the pattern has neither a back reference nor a capture group in a lookaround that is not
-   negated, and is not too long: at most a thousand instructions. `steps` is the number of steps that any other search may
-   take, and `nodes` the number of nodes that the tree of the pattern may have; 0 is the default, a billion steps, about a
-   minute at most, and a million nodes.
+   A search takes linear time if the pattern has neither a back reference nor a capture group in a lookaround that is
+   not negated, and is not too long: at most a thousand instructions. `steps` is the number of steps that any other
+   search may take, and `nodes` the number of nodes that the tree of the pattern may have; 0 is the default, a billion
+   steps, about a minute at most, and a million nodes. The number of instructions is limited too, where the body of a
+   loop {n,m} counts m times.
 
    Returns OK, SYNTAX, TOO_LARGE, MEMORY or BAD_INPUT. With OK `handle` is written, else it is unchanged. With SYNTAX
    `kind` is the kind of the syntax error and `position` its position, from 0 to the number of code points of the

@@ -18,6 +18,15 @@
 extern "C" {
 #endif
 
+/* A function of this header. C before C99 has no `inline`. */
+#if defined(__cplusplus) || (defined(__STDC_VERSION__) && __STDC_VERSION__ >= 199901L)
+#define REGRESS_FRONT_INLINE static inline
+#elif defined(__GNUC__)
+#define REGRESS_FRONT_INLINE static __inline__
+#else
+#define REGRESS_FRONT_INLINE static
+#endif
+
 /* Statuses. */
 #define REGRESS_FRONT_OK 0        /* success: the result is written */
 #define REGRESS_FRONT_FAULT 1     /* the pattern is rejected: a syntax error */
@@ -133,9 +142,9 @@ uint32_t regress_front_tell_fault_of_text(const uint8_t *pattern, size_t pattern
    that size. For FAULT `kind` is the kind of the syntax error, one of REGRESS_FRONT_KIND_.., and `place` its position, a
    code-point index from 0 to the pattern's length, else both are 0. With a NULL pointer that is not allowed, nothing is
    written. */
-static inline uint32_t regress_front_parse(const uint32_t *pattern, size_t pattern_length, uint32_t flags,
-                                          uint32_t optimize, uint32_t *words, size_t room, size_t *needed,
-                                          uint32_t *kind, size_t *place) {
+REGRESS_FRONT_INLINE uint32_t regress_front_parse(const uint32_t *pattern, size_t pattern_length, uint32_t flags,
+                                                  uint32_t optimize, uint32_t *words, size_t room, size_t *needed,
+                                                  uint32_t *kind, size_t *place) {
     uint32_t none = 0;
     if ((!pattern && pattern_length) || (!words && room) || !needed || !kind || !place) {
         return REGRESS_FRONT_BAD_INPUT;
@@ -146,9 +155,9 @@ static inline uint32_t regress_front_parse(const uint32_t *pattern, size_t patte
 
 /* Parses a pattern in UTF-8, as regress_front_parse. `pattern_length` is in bytes; `place` counts code points here
    too. */
-static inline uint32_t regress_front_parse_utf8(const char *pattern, size_t pattern_length, uint32_t flags,
-                                               uint32_t optimize, uint32_t *words, size_t room, size_t *needed,
-                                               uint32_t *kind, size_t *place) {
+REGRESS_FRONT_INLINE uint32_t regress_front_parse_utf8(const char *pattern, size_t pattern_length, uint32_t flags,
+                                                       uint32_t optimize, uint32_t *words, size_t room, size_t *needed,
+                                                       uint32_t *kind, size_t *place) {
     uint8_t no_byte = 0;
     uint32_t none = 0;
     if ((!pattern && pattern_length) || (!words && room) || !needed || !kind || !place) {
@@ -164,8 +173,9 @@ static inline uint32_t regress_front_parse_utf8(const char *pattern, size_t patt
    Returns FAULT if the pattern is rejected and the text is written, ROOM if the buffer is too small for it, and OK if
    the pattern is accepted, with nothing written. For FAULT and ROOM `needed` is the length of the text in bytes, and
    `kind` and `place` are the kind and the position of the same error, else they are 0. */
-static inline uint32_t regress_front_fault(const uint32_t *pattern, size_t pattern_length, uint32_t flags, char *text,
-                                          size_t room, size_t *needed, uint32_t *kind, size_t *place) {
+REGRESS_FRONT_INLINE uint32_t regress_front_fault(const uint32_t *pattern, size_t pattern_length, uint32_t flags,
+                                                  char *text, size_t room, size_t *needed, uint32_t *kind,
+                                                  size_t *place) {
     uint32_t none = 0;
     uint8_t no_byte = 0;
     if ((!pattern && pattern_length) || (!text && room) || !needed || !kind || !place) {
@@ -176,8 +186,9 @@ static inline uint32_t regress_front_fault(const uint32_t *pattern, size_t patte
 }
 
 /* As regress_front_fault, for a pattern in UTF-8. `place` counts code points here too. */
-static inline uint32_t regress_front_fault_utf8(const char *pattern, size_t pattern_length, uint32_t flags, char *text,
-                                               size_t room, size_t *needed, uint32_t *kind, size_t *place) {
+REGRESS_FRONT_INLINE uint32_t regress_front_fault_utf8(const char *pattern, size_t pattern_length, uint32_t flags,
+                                                       char *text, size_t room, size_t *needed, uint32_t *kind,
+                                                       size_t *place) {
     uint8_t no_byte = 0;
     uint8_t no_text = 0;
     if ((!pattern && pattern_length) || (!text && room) || !needed || !kind || !place) {
@@ -185,6 +196,109 @@ static inline uint32_t regress_front_fault_utf8(const char *pattern, size_t patt
     }
     return regress_front_tell_fault_of_text(pattern ? (const uint8_t *)pattern : &no_byte, pattern_length, flags,
                                             text ? (uint8_t *)text : &no_text, room, needed, kind, place);
+}
+
+/* Returns the name of a kind of node as docs/ir.md has it, such as "Char"; NULL for a number that is no kind. */
+REGRESS_FRONT_INLINE const char *regress_front_node_name(uint32_t kind) {
+    static const char *const names[] = {
+        "Empty", "Goal", "Char", "ByteSequence", "ByteSet", "CharSet", "Cat", "Alt", "MatchAny",
+        "MatchAnyExceptLineTerminator", "Anchor", "WordBoundary", "CaptureGroup", "Bracket", "Loop", "Loop1CharBody",
+        "LookaroundAssertion", "BackRef", "StringSet",
+    };
+    return kind < sizeof names / sizeof *names ? names[kind] : NULL;
+}
+
+/* For regress_front_skip: the word at an index, and the wide number, with 0 for words past the end. */
+REGRESS_FRONT_INLINE uint32_t regress_front_word_at(const uint32_t *words, size_t length, size_t at) {
+    return at < length ? words[at] : 0;
+}
+
+REGRESS_FRONT_INLINE uint64_t regress_front_wide_at(const uint32_t *words, size_t length, size_t at) {
+    return (uint64_t)regress_front_word_at(words, length, at + 1) << 32 | regress_front_word_at(words, length, at);
+}
+
+/* For regress_front_skip: the index after the list at an index, with elements of `size` words. It is past the end if
+   the list is. */
+REGRESS_FRONT_INLINE size_t regress_front_after_list(const uint32_t *words, size_t length, size_t at, size_t size) {
+    uint64_t count = regress_front_wide_at(words, length, at);
+    at += 2;
+    return at > length || count > (length - at) / size ? length + 1 : at + (size_t)count * size;
+}
+
+/* For regress_front_skip: the index after the kind and the fields at an index, and the number of the nodes inside. It
+   is past the end if the fields are, or if the kind is unknown. */
+REGRESS_FRONT_INLINE size_t regress_front_after_fields(const uint32_t *words, size_t length, size_t at,
+                                                       uint64_t *inside) {
+    uint32_t kind = regress_front_word_at(words, length, at++);
+    uint64_t strings;
+    *inside = 0;
+    switch (kind) {
+    case REGRESS_FRONT_EMPTY:
+    case REGRESS_FRONT_GOAL:
+    case REGRESS_FRONT_MATCH_ANY:
+    case REGRESS_FRONT_MATCH_ANY_EXCEPT_LINE_TERMINATOR:
+        return at;
+    case REGRESS_FRONT_CHAR:
+        return at + 1;
+    case REGRESS_FRONT_ANCHOR:
+    case REGRESS_FRONT_WORD_BOUNDARY:
+    case REGRESS_FRONT_BACK_REF:
+        return at + 2;
+    case REGRESS_FRONT_BYTE_SEQUENCE:
+    case REGRESS_FRONT_BYTE_SET:
+    case REGRESS_FRONT_CHAR_SET:
+        return regress_front_after_list(words, length, at, 1);
+    case REGRESS_FRONT_CAT:
+        *inside = regress_front_wide_at(words, length, at);
+        return at + 2;
+    case REGRESS_FRONT_ALT:
+        *inside = 2;
+        return at;
+    case REGRESS_FRONT_CAPTURE_GROUP:
+        *inside = 1;
+        at += 2;
+        return regress_front_word_at(words, length, at - 1) ? regress_front_after_list(words, length, at, 1) : at;
+    case REGRESS_FRONT_BRACKET:
+        return regress_front_after_list(words, length, at + 1, 2);
+    case REGRESS_FRONT_LOOP:
+        *inside = 1;
+        return at + (regress_front_word_at(words, length, at + 5) ? 8 : 6);
+    case REGRESS_FRONT_LOOP_1_CHAR_BODY:
+        *inside = 1;
+        return at + (regress_front_word_at(words, length, at + 3) ? 6 : 4);
+    case REGRESS_FRONT_LOOKAROUND_ASSERTION:
+        *inside = 1;
+        return at + 4;
+    case REGRESS_FRONT_STRING_SET:
+        strings = regress_front_wide_at(words, length, at + 1);
+        for (at += 3; strings > 0 && at < length; strings--) {
+            at = regress_front_after_list(words, length, at, 1);
+        }
+        return strings > 0 ? length + 1 : at;
+    default:
+        return length + 1;
+    }
+}
+
+/* Returns the number of words of the node at the start of `words`, with the nodes inside it: those that a decoder skips
+   to ignore the node. It iterates, and does not recurse.
+
+   Returns 0 if the node does not end within `length` words, or if a kind in it is unknown. */
+REGRESS_FRONT_INLINE size_t regress_front_skip(const uint32_t *words, size_t length) {
+    size_t at = 0;
+    /* The number of nodes that remain, each of which takes at least a word. */
+    uint64_t nodes = 1, inside;
+    while (nodes > 0) {
+        if (nodes > length - at) {
+            return 0;
+        }
+        at = regress_front_after_fields(words, length, at, &inside);
+        if (at > length || inside > length - at) {
+            return 0;
+        }
+        nodes += inside - 1;
+    }
+    return at;
 }
 
 #ifdef __cplusplus

@@ -48,8 +48,19 @@ static uint32_t parsed(const char *pattern, uint32_t flags, uint32_t optimize, s
     return regress_front_parse_utf8(pattern, strlen(pattern), flags, optimize, words, room, &needed, &kind, &place);
 }
 
+/* The tree is skipped as a whole, and nothing is if its last words are missing. */
+static int is_skipped(void) {
+    for (size_t length = 0; length < needed; length++) {
+        if (regress_front_skip(words, length) != 0) {
+            return 0;
+        }
+    }
+    return regress_front_skip(words, needed) == needed && regress_front_skip(words, ROOM + 1) == needed;
+}
+
 static int are(const uint32_t *expected, size_t count) {
-    return needed == count && memcmp(words, expected, count * sizeof *words) == 0 && words[count] == MARK;
+    return needed == count && memcmp(words, expected, count * sizeof *words) == 0 && words[count] == MARK
+           && is_skipped();
 }
 
 #define ARE(...) are((const uint32_t[]){__VA_ARGS__}, sizeof((const uint32_t[]){__VA_ARGS__}) / sizeof(uint32_t))
@@ -78,13 +89,42 @@ static void kinds(void) {
           && ARE(6, 2, 0, 16, 1, 1, 0, 1, 12, 0, 0, 2, 0x61, 1));
     CHECK(parsed("(a)\\1", SMALL | REGRESS_FRONT_ICASE, 0, ROOM) == REGRESS_FRONT_OK);
     CHECK(words[needed - 4] == 17 && words[needed - 3] == 1 && words[needed - 2] == 1 && words[needed - 1] == 1);
+    CHECK(is_skipped());
     CHECK(parsed("[\\q{xy}]", SMALL | REGRESS_FRONT_UNICODE | REGRESS_FRONT_UNICODE_SETS, 0, ROOM) == REGRESS_FRONT_OK);
     int found = 0;
     for (size_t i = 0; i + 7 < needed; i++) {
         const uint32_t expected[] = {18, 0, 1, 0, 2, 0, 0x78, 0x79};
         found |= memcmp(words + i, expected, sizeof expected) == 0;
     }
-    CHECK(found);
+    CHECK(found && is_skipped());
+}
+
+/* A decoder that prints the kinds of the parts of a CAT skips what is inside them. */
+static void skips(void) {
+    static const char *const kinds_of_parts[] = {"CaptureGroup", "Alt", "Loop", "LookaroundAssertion", "Goal"};
+    size_t at = 3;
+    CHECK(parsed("(?<n>a[bc])(?:x|(y)|z)(?:ab){2,}(?=a|b)", SMALL, 0, ROOM) == REGRESS_FRONT_OK && is_skipped());
+    CHECK(strcmp(regress_front_node_name(words[0]), "Cat") == 0);
+    /* the disjunction is the first part of the tree, and a CAT itself */
+    CHECK(words[3] == REGRESS_FRONT_CAT && regress_front_skip(words + 3, needed - 3) == needed - 4);
+    for (size_t i = 0; i < sizeof kinds_of_parts / sizeof *kinds_of_parts; i++) {
+        /* its parts follow its own three words, and then the GOAL */
+        at += i == 0 ? 3 : regress_front_skip(words + at, needed - at);
+        CHECK(at < needed && strcmp(regress_front_node_name(words[at]), kinds_of_parts[i]) == 0);
+    }
+    CHECK(at == needed - 1);
+    CHECK(strcmp(regress_front_node_name(REGRESS_FRONT_EMPTY), "Empty") == 0);
+    CHECK(strcmp(regress_front_node_name(REGRESS_FRONT_MATCH_ANY_EXCEPT_LINE_TERMINATOR),
+                 "MatchAnyExceptLineTerminator") == 0);
+    CHECK(strcmp(regress_front_node_name(REGRESS_FRONT_LOOP_1_CHAR_BODY), "Loop1CharBody") == 0);
+    CHECK(strcmp(regress_front_node_name(REGRESS_FRONT_STRING_SET), "StringSet") == 0);
+    CHECK(regress_front_node_name(19) == NULL && regress_front_node_name(UINT32_MAX) == NULL);
+    /* words that encode no tree: an unknown kind, and lengths that are too large */
+    const uint32_t unknown[] = {6, 2, 0, 19, 1}, wide[] = {6, UINT32_MAX, UINT32_MAX, 1, 1};
+    const uint32_t list[] = {13, 0, 0, 1u << 31}, strings[] = {18, 0, UINT32_MAX, UINT32_MAX, 0, 0};
+    CHECK(regress_front_skip(unknown, 5) == 0 && regress_front_skip(wide, 5) == 0);
+    CHECK(regress_front_skip(list, 4) == 0 && regress_front_skip(strings, 6) == 0);
+    CHECK(regress_front_skip(NULL, 0) == 0);
 }
 
 /* If the buffer is too small, nothing is written, and the length of the encoding is returned. */
@@ -233,6 +273,7 @@ int main(int count, char **arguments) {
     /* With `small`, the table of all of Unicode, which takes thousands of allocations, is skipped. */
     int small = count > 1 && strcmp(arguments[1], "small") == 0;
     kinds();
+    skips();
     rooms();
     bad_input();
     faults();

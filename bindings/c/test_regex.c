@@ -234,6 +234,8 @@ static void errors(void) {
           && kind == 0 && position == 0);
     CHECK(compiled("a", 64, &regex) == REGRESS_BAD_INPUT);
     CHECK(regress_compile((const uint8_t *)"abcdef", 6, SMALL, 0, 1, &regex, &kind, &position) == REGRESS_TOO_LARGE);
+    /* more than a million instructions, in a small tree */
+    CHECK(compiled("(?:(?:ab){1000}){1000}", SMALL, &regex) == REGRESS_TOO_LARGE && kind == 0 && position == 0);
     CHECK(regex.inside == &mark_of_caller);
     CHECK(regress_compile((const uint8_t *)"(a*)*\\1b", 8, SMALL, 1, 0, &regex, &kind, &position) == REGRESS_OK);
     CHECK(found(&regex, "aaaaaaaaaaaaaaaaaaaaaaaaaaaaaaaa", 0, ROOM) == REGRESS_OUT_OF_STEPS && needed == 0
@@ -287,6 +289,43 @@ static void refuse(const char *pattern, const char *text) {
     printf("%s: out of memory in %zu of %ld runs\n", pattern, wanting, most);
 }
 
+/* A call that searches for one match. */
+enum searching { FINDING, TESTING };
+
+static uint32_t searched(enum searching how, regress_regex *regex, const char *text) {
+    if (how == FINDING) {
+        return found(regex, text, 0, ROOM);
+    }
+    mark();
+    needed = 0;
+    return regress_is_match(regex, (const uint8_t *)text, strlen(text));
+}
+
+/* As `refuse`, for a call that searches for one match. */
+static void refuse_search(enum searching how, const char *pattern, const char *text, uint32_t expected) {
+    regress_regex regex;
+    size_t ample[ROOM + 1], wanting = 0;
+    CHECK(compiled(pattern, SMALL, &regex) == REGRESS_OK);
+    requests = 0;
+    CHECK(searched(how, &regex, text) == expected);
+    memcpy(ample, spans, sizeof ample);
+    long most = requests, before = blocks;
+    for (long each = 0; each < most; each++) {
+        requests = 0;
+        refused = each;
+        uint32_t status = searched(how, &regex, text);
+        refused = -1;
+        CHECK(status == REGRESS_MEMORY ? needed == 0 && spans[0] == MARK
+                                       : status == expected && memcmp(spans, ample, sizeof ample) == 0);
+        CHECK(blocks == before);
+        wanting += status == REGRESS_MEMORY;
+    }
+    CHECK(wanting > 0);
+    CHECK(searched(how, &regex, text) == expected && memcmp(spans, ample, sizeof ample) == 0);
+    regress_free(&regex);
+    printf("%s: out of memory in %zu of %ld searches\n", pattern, wanting, most);
+}
+
 /* A call that writes a text, and what it writes. */
 enum writing { REPLACING, REPLACING_ALL, ESCAPING };
 
@@ -337,6 +376,13 @@ int main(void) {
     CHECK(blocks == before);
     refuse("(?<a>x)|(?<b>y+)\\k<b>", "xyyzyyyy");
     refuse("(?<=ab)c{2}[a-c]+|[^a]", "abccab");
+    for (enum searching how = FINDING; how <= TESTING; how++) {
+        refuse_search(how, "(?<a>x)z|(?<b>y+)\\k<b>", "xyyzyyyy", REGRESS_OK);
+        refuse_search(how, "(?<a>x)z|(?<b>y+)\\k<b>", "xyz", REGRESS_NO_MATCH);
+        /* backtracking uses up its steps, and the search goes on with tables */
+        refuse_search(how, "(a*)*b", "aaaaaaaaaaaaaaaaaaaaaaaacb", REGRESS_OK);
+        refuse_search(how, "(a*)*b", "aaaaaaaaaaaaaaaaaaaaaaaa", REGRESS_NO_MATCH);
+    }
     refuse_text(REPLACING, "-<yyxyy>xyy");
     refuse_text(REPLACING_ALL, "-<yyxyy><yy>");
     refuse_text(ESCAPING, "\\x31\\x20\\+\\x201\\x20\\x3d\\x202");

@@ -77,7 +77,8 @@ class error(Exception):
         pattern: the pattern
         pos: the position of a syntax error in the pattern, else None
         kind: the kind of the syntax error, such as 'UnbalancedParenthesis' (docs/errors.md lists them); or 'Flags',
-            'TooLarge' if the pattern needs more nodes than allowed, or 'OutOfSteps'
+            'TooLarge' if the pattern needs more nodes than allowed, or has too many instructions, where the body of a
+            loop {n,m} counts m times; or 'OutOfSteps'
     """
 
     def __init__(self, msg, pattern=None, pos=None, kind=None):

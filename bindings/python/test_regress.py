@@ -1,9 +1,11 @@
-"""Tests of the module regress: python3 test_regress.py [FOLDER], where FOLDER has regress.py and libregress.so.
+"""Tests of the module regress: python3 test_regress.py [FOLDER [TEST..]]; FOLDER has regress.py and libregress.so.
 
 The results are those of V8, in the files of crates/test_cases/data/generated, and those of Python's module re, for
-patterns that mean the same there."""
+patterns that mean the same there. The class Memory needs a library that is linked with refuse.c, as tools/check_python
+links it, and is skipped with another one."""
 
 import copy
+import ctypes
 import doctest
 import pathlib
 import pickle
@@ -212,6 +214,10 @@ class Calls(unittest.TestCase):
         with self.assertRaises(regress.error) as caught:
             regress.compile('a' * 1000, nodes=10)
         self.assertEqual(caught.exception.kind, 'TooLarge')
+        # More than a million instructions, in a small tree.
+        with self.assertRaises(regress.error) as caught:
+            regress.compile('(?:(?:ab){1000}){1000}')
+        self.assertEqual(caught.exception.kind, 'TooLarge')
         pattern = regress.compile(r'(a*)*\1b', steps=100)
         for call in (pattern.search, pattern.findall, lambda text: pattern.sub('', text)):
             with self.assertRaises(regress.error) as caught:
@@ -287,6 +293,71 @@ class Calls(unittest.TestCase):
 
     def test_documentation(self):
         self.assertEqual(doctest.testmod(regress).failed, 0)
+
+
+@unittest.skipUnless(hasattr(regress._library, 'regress_refused'), 'the library does not count requests for memory')
+class Memory(unittest.TestCase):
+    """Each request for memory that the library makes in a call fails once."""
+
+    # With groups that have names, with a back reference, and with a search so long that tables are made.
+    SEARCHES = [('(?<a>x)|(?<b>y+)', 'xyyzyyyy'), (r'x(y+)\1', 'zxyyxyyyy'), ('(a*)*b', 'a' * 24 + 'cb')]
+
+    def number(self, name):
+        return ctypes.c_long.in_dll(regress._library, 'regress_' + name)
+
+    def refused(self, number, call):
+        """Makes a call with the request of this number failing. Returns its result, or the type of its exception, and
+        the number of requests."""
+        self.number('requests').value = 0
+        self.number('refused').value = number
+        try:
+            result = call()
+        except (MemoryError, regress.error) as raised:
+            result = type(raised)
+        finally:
+            self.number('refused').value = -1
+        return result, self.number('requests').value
+
+    def each_refused(self, name, call):
+        """Makes a call with each of its requests failing in order: it raises MemoryError, or it has its result. The
+        next call has its result."""
+        expected, requests = self.refused(-1, call)
+        self.assertIsNot(expected, MemoryError)
+        reported = 0
+        for number in range(requests):
+            result, _ = self.refused(number, call)
+            if result is MemoryError:
+                reported += 1
+            else:
+                self.assertEqual(result, expected, (name, number))
+            # After all of the many requests that make the table of Unicode this would take long.
+            if number % 16 == 0 or requests < 1000:
+                self.assertEqual(self.refused(-1, call)[0], expected, (name, number))
+        self.assertEqual(self.refused(-1, call)[0], expected, name)
+        self.assertGreater(reported, 0, name)
+        print('%s: out of memory in %d of %d runs' % (name, reported, requests))
+
+    def test_compiling(self):
+        for pattern in [pattern for pattern, _ in self.SEARCHES] + ['a)']:
+            self.each_refused('compile %s' % pattern, lambda: repr(regress.compile(pattern)))
+
+    def test_searches(self):
+        for pattern, text in self.SEARCHES:
+            pattern = regress.compile(pattern)
+            pattern.fullmatch(text)
+            for name, call in (
+                ('search', lambda: pattern.search(text).span()),
+                ('match', lambda: pattern.match(text) is None),
+                ('fullmatch', lambda: pattern.fullmatch(text) is None),
+                ('finditer', lambda: [found.span() for found in pattern.finditer(text)]),
+                ('finditer from 1', lambda: [found.span() for found in pattern.finditer(text, 1)]),
+                ('sub', lambda: pattern.sub('<$1>', text)),
+                ('split', lambda: pattern.split(text)),
+            ):
+                self.each_refused(name, call)
+
+    def test_escape(self):
+        self.each_refused('escape', lambda: regress.escape('1 + 1'))
 
 
 if __name__ == '__main__':

@@ -66,6 +66,28 @@ extern "C" {
 
     fn regress_is_match(handle: *mut RegressRegex, text: *const u8, length: usize) -> u32;
 
+    fn regress_replace(
+        handle: *mut RegressRegex,
+        text: *const u8,
+        length: usize,
+        replacement: *const u8,
+        replacement_length: usize,
+        out: *mut u8,
+        room: usize,
+        needed: *mut usize,
+    ) -> u32;
+
+    fn regress_replace_all(
+        handle: *mut RegressRegex,
+        text: *const u8,
+        length: usize,
+        replacement: *const u8,
+        replacement_length: usize,
+        out: *mut u8,
+        room: usize,
+        needed: *mut usize,
+    ) -> u32;
+
     fn regress_group_count(handle: *mut RegressRegex) -> usize;
 
     fn regress_escape(
@@ -101,6 +123,18 @@ extern "C" {
         place: *mut usize,
     ) -> u32;
 }
+
+/// The type of `regress_replace` and of `regress_replace_all`.
+type Replace = unsafe extern "C" fn(
+    *mut RegressRegex,
+    *const u8,
+    usize,
+    *const u8,
+    usize,
+    *mut u8,
+    usize,
+    *mut usize,
+) -> u32;
 
 /// A status with a result, which is empty unless the status says that there is one.
 pub(crate) struct Output<T> {
@@ -193,6 +227,36 @@ impl Handle {
     pub(crate) fn is_match(&mut self, text: &str) -> u32 {
         // SAFETY: as for `find`.
         unsafe { regress_is_match(&mut self.0, start_of(text), text.len()) }
+    }
+
+    /// Writes a text with its first match replaced by a template.
+    pub(crate) fn replace(&mut self, text: &str, template: &str) -> Output<u8> {
+        self.write_replaced(regress_replace, text, template)
+    }
+
+    /// Writes a text with all matches replaced by a template.
+    pub(crate) fn replace_all(&mut self, text: &str, template: &str) -> Output<u8> {
+        self.write_replaced(regress_replace_all, text, template)
+    }
+
+    fn write_replaced(&mut self, replace: Replace, text: &str, template: &str) -> Output<u8> {
+        // If more is needed, the search is made a second time.
+        let room = 2 * text.len() + template.len() + 64;
+        with_room(room, |out: &mut [u8], needed| {
+            // SAFETY: as for `find`.
+            unsafe {
+                replace(
+                    &mut self.0,
+                    start_of(text),
+                    text.len(),
+                    start_of(template),
+                    template.len(),
+                    out.as_mut_ptr(),
+                    out.len(),
+                    needed,
+                )
+            }
+        })
     }
 
     /// Returns the number of groups, without the whole match.

@@ -12,8 +12,9 @@
 //! - The groups inside a [`Node::Loop`] are unset at the start of each iteration.
 //! - A [`Node::BackRef`] to a group that is unset matches the empty text.
 //! - The right sides of [`Node::Alt`] are nested as deeply as there are alternatives. Iterate over them, as
-//!   [`Node::alternatives`] does: recursion overflows a stack of 8 MiB at some 200,000 alternatives. What this crate
-//!   implements for trees, such as `Debug`, `Clone`, `PartialEq` and `Drop`, iterates.
+//!   [`Node::alternatives`] does, or over all nodes by [`Node::preorder`]: recursion overflows a stack of 8 MiB at some
+//!   200,000 alternatives. What this crate implements for trees, such as `Debug`, `Clone`, `PartialEq` and `Drop`,
+//!   iterates.
 
 #![deny(unsafe_code)]
 

@@ -76,6 +76,43 @@ pub enum Node {
 }
 
 impl Node {
+    /// Returns this node and the nodes inside it in preorder: a node comes before those inside it, and these come in
+    /// the order of [`Node::children`]. Each has its depth below this node, which has the depth 0.
+    ///
+    /// The iterator does not recurse, so that there may be any number of alternatives.
+    ///
+    /// ```
+    /// use regress_front::{parse_str, Flags, Node, Table};
+    ///
+    /// let tree = parse_str("a|(b)", Flags::default(), Table::Small)?;
+    /// let groups = tree.preorder().filter(|(_, node)| matches!(node, Node::CaptureGroup { .. }));
+    /// assert_eq!(groups.map(|(depth, _)| depth).collect::<Vec<_>>(), [2]);
+    /// # Ok::<(), regress_front::Fault>(())
+    /// ```
+    pub fn preorder(&self) -> impl Iterator<Item = (usize, &Node)> {
+        let mut remaining = vec![(0, self)];
+        iter::from_fn(move || {
+            let (depth, node) = remaining.pop()?;
+            remaining.extend(node.children().rev().map(|child| (depth + 1, child)));
+            Some((depth, node))
+        })
+    }
+
+    /// Returns the nodes directly inside this one, in order: the parts of a [`Node::Cat`], both sides of an
+    /// [`Node::Alt`], or the body of a group, a loop or a lookaround.
+    pub fn children(&self) -> impl DoubleEndedIterator<Item = &Node> {
+        let (parts, first, second): (&[Node], Option<&Node>, Option<&Node>) = match self {
+            Node::Cat(parts) => (parts, None, None),
+            Node::Alt(left, right) => (&[], Some(left), Some(right)),
+            Node::CaptureGroup { contents: body, .. }
+            | Node::Loop { loopee: body, .. }
+            | Node::Loop1CharBody { loopee: body, .. }
+            | Node::LookaroundAssertion { contents: body, .. } => (&[], Some(body), None),
+            _ => (&[], None, None),
+        };
+        parts.iter().chain(first).chain(second)
+    }
+
     /// Returns the alternatives of this node from left to right: those of an [`Node::Alt`] and of its right sides, or
     /// else the node itself.
     pub fn alternatives(&self) -> impl Iterator<Item = &Node> {

@@ -6,42 +6,17 @@ use std::fmt::{self, Write};
 /// Writes the printed form of docs/ir.md, a line for each node.
 impl fmt::Display for Node {
     fn fmt(&self, f: &mut fmt::Formatter<'_>) -> fmt::Result {
-        print(self, 0, f)
-    }
-}
-
-/// Writes the lines of a node that is inside as many nodes as `depth` says.
-fn print(node: &Node, depth: usize, f: &mut fmt::Formatter<'_>) -> fmt::Result {
-    let mut node = node;
-    let mut depth = depth;
-    // A loop over the right sides of alternatives, because there may be many thousands of them.
-    loop {
-        for _ in 0..depth.min(120) {
-            f.write_str("..")?;
-        }
-        if depth > 120 {
-            write!(f, "(+{}).. ", depth - 120)?;
-        }
-        f.write_str(&line(node))?;
-        f.write_char('\n')?;
-        depth += 1;
-        match node {
-            Node::Cat(parts) => {
-                for part in parts {
-                    print(part, depth, f)?;
-                }
-                return Ok(());
+        for (depth, node) in self.preorder() {
+            for _ in 0..depth.min(120) {
+                f.write_str("..")?;
             }
-            Node::Alt(left, right) => {
-                print(left, depth, f)?;
-                node = right;
+            if depth > 120 {
+                write!(f, "(+{}).. ", depth - 120)?;
             }
-            Node::CaptureGroup { contents: body, .. }
-            | Node::Loop { loopee: body, .. }
-            | Node::Loop1CharBody { loopee: body, .. }
-            | Node::LookaroundAssertion { contents: body, .. } => node = body,
-            _ => return Ok(()),
+            f.write_str(&line(node))?;
+            f.write_char('\n')?;
         }
+        Ok(())
     }
 }
 

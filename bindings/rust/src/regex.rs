@@ -100,7 +100,8 @@ impl Regex {
     ///
     /// # Errors
     /// - [`Error::Syntax`] if the pattern is rejected.
-    /// - [`Error::TooLarge`] if its tree may have more nodes than `options.nodes`, whether or not it is valid.
+    /// - [`Error::TooLarge`] if its tree may have more nodes than `options.nodes`, whether or not it is valid; or if its
+    ///   program has more instructions than the library allows, where the body of a loop `{n,m}` counts m times.
     /// - [`Error::Memory`] if the library is out of memory.
     pub fn with_options(pattern: &str, flags: Flags, options: Options) -> Result<Regex, Error> {
         if !ffi::has_abi() {
@@ -194,7 +195,7 @@ impl Regex {
     /// # Errors
     /// As for [`Regex::find_from`].
     pub fn replace<'t>(&self, text: &'t str, template: &str) -> Result<Cow<'t, str>, SearchError> {
-        self.replace_with(text, |found| found.expand(template))
+        replace::written(text, self.call(|handle| handle.replace(text, template))?)
     }
 
     /// Returns `text` with all matches replaced by a template, as by [`Regex::replace`].
@@ -206,7 +207,10 @@ impl Regex {
         text: &'t str,
         template: &str,
     ) -> Result<Cow<'t, str>, SearchError> {
-        self.replace_all_with(text, |found| found.expand(template))
+        replace::written(
+            text,
+            self.call(|handle| handle.replace_all(text, template))?,
+        )
     }
 
     /// Returns `text` with the first match replaced by what a function returns for it.

@@ -122,6 +122,60 @@ fn a_tree_of_many_alternatives_is_printed_compared_and_cloned() {
 }
 
 #[test]
+fn nodes_come_in_preorder_with_their_depth() {
+    let tree = parse_str("a|(b)c|(?<!d{2})", Flags::default(), Table::Small).unwrap();
+    let kinds: Vec<(usize, &str)> = tree
+        .preorder()
+        .map(|(depth, node)| {
+            let kind = match node {
+                Node::Cat(_) => "Cat",
+                Node::Alt(..) => "Alt",
+                Node::Char { c: 0x61 } => "a",
+                Node::Char { c: 0x62 } => "b",
+                Node::Char { c: 0x63 } => "c",
+                Node::Char { c: 0x64 } => "d",
+                Node::CaptureGroup { .. } => "group",
+                Node::Loop { .. } => "loop",
+                Node::LookaroundAssertion { .. } => "lookaround",
+                Node::Goal => "Goal",
+                _ => panic!("{node:?}"),
+            };
+            (depth, kind)
+        })
+        .collect();
+    let alternatives = [
+        (1, "Alt"),
+        (2, "a"),
+        (2, "Alt"),
+        (3, "Cat"),
+        (4, "group"),
+        (5, "b"),
+    ];
+    let others = [
+        (4, "c"),
+        (3, "lookaround"),
+        (4, "loop"),
+        (5, "d"),
+        (1, "Goal"),
+    ];
+    assert_eq!(kinds[0], (0, "Cat"));
+    assert_eq!(kinds[1..7], alternatives);
+    assert_eq!(kinds[7..], others);
+    let children: Vec<&Node> = tree.children().collect();
+    assert_eq!(children.len(), 2);
+    assert_eq!(children[1], &Node::Goal);
+}
+
+#[test]
+fn many_alternatives_are_walked_without_recursion() {
+    let pattern = "a|".repeat(200_000);
+    let tree = parse_str(&pattern, Flags::default(), Table::Small).unwrap();
+    assert_eq!(tree.preorder().count(), 400_003);
+    let deepest = tree.preorder().map(|(depth, _)| depth).max();
+    assert_eq!(deepest, Some(200_001));
+}
+
+#[test]
 fn a_tree_can_be_taken_apart() {
     let tree = parse_str("a|b|c", Flags::default(), Table::Small).unwrap();
     let Node::Cat(mut parts) = tree else {

@@ -101,6 +101,18 @@ fn texts_are_replaced_by_templates_and_functions() {
             .unwrap(),
         "<0>-<2>"
     );
+    // A result that is much longer than the text.
+    let long = "ab".repeat(1000);
+    assert_eq!(
+        regex.replace_all(text, &long).unwrap(),
+        format!("{long}-{long}")
+    );
+    assert_eq!(
+        regex.replace_all(&"1".repeat(500), "$&$&$&$&").unwrap(),
+        "1".repeat(2000)
+    );
+    assert_eq!(regex.replace(text, "").unwrap(), "-2x");
+    assert_eq!(regex.replace_all("1", "").unwrap(), "");
     for same in [
         regex.replace("ab", "y"),
         regex.replace_all("ab", "y"),
@@ -179,6 +191,11 @@ fn limits_are_kept() {
     let flags = Flags::default();
     assert_eq!(
         Regex::with_options(&"a".repeat(1000), flags, options).unwrap_err(),
+        Error::TooLarge
+    );
+    // More than a million instructions, in a small tree.
+    assert_eq!(
+        Regex::new("(?:(?:ab){1000}){1000}").unwrap_err(),
         Error::TooLarge
     );
     let regex = Regex::with_options(r"(a*)*\1b", flags, options).unwrap();

@@ -21,7 +21,8 @@ pub enum Error {
     },
     /// The letters of the flags are rejected.
     Flags(FlagsError),
-    /// The tree of the pattern may have more nodes than [`Options`](crate::Options) allow.
+    /// The tree of the pattern may have more nodes than [`Options`](crate::Options) allow, or its program has too many
+    /// instructions.
     TooLarge,
     /// The library is out of memory, whether or not the pattern is valid.
     Memory,

@@ -1,7 +1,20 @@
 //! Replacing matches, by a function or by a template (ECMA-262, GetSubstitution).
 
-use super::Match;
+use super::error::search_error;
+use super::{Match, SearchError};
+use crate::ffi::{self, Output};
 use std::borrow::Cow;
+
+/// Returns what the library has written for a text: the text itself if it is the same.
+pub(crate) fn written(text: &str, output: Output<u8>) -> Result<Cow<'_, str>, SearchError> {
+    match output.status {
+        ffi::OK if output.items == text.as_bytes() => Ok(Cow::Borrowed(text)),
+        ffi::OK => String::from_utf8(output.items)
+            .map(Cow::Owned)
+            .map_err(|_| SearchError::Library),
+        status => Err(search_error(status)),
+    }
+}
 
 /// Returns a text with each of these matches replaced, which are in order.
 pub(crate) fn replaced<'t>(

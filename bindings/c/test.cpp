@@ -1,0 +1,47 @@
+// Tests that C++ compiles and links both headers: the calls of each, and the functions that regress_front.h defines.
+
+#include <cstdio>
+#include <cstring>
+
+#include <regress.h>
+#include <regress_front.h>
+
+static bool finds() {
+    const char pattern[] = "(b)|c";
+    const uint8_t text[] = {'a', 'b', 'c'};
+    regress_regex regex;
+    uint32_t kind;
+    size_t position, needed, spans[4];
+    if (regress_compile(reinterpret_cast<const uint8_t *>(pattern), std::strlen(pattern), REGRESS_SMALL_TABLE, 0, 0,
+                        &regex, &kind, &position) != REGRESS_OK) {
+        return false;
+    }
+    bool first = regress_find(&regex, text, 3, 0, spans, 4, &needed) == REGRESS_OK && needed == 4 && spans[0] == 1
+                 && spans[1] == 2 && spans[2] == 1 && spans[3] == 2;
+    bool second = regress_find(&regex, text, 3, 2, spans, 4, &needed) == REGRESS_OK && spans[0] == 2
+                  && spans[2] == REGRESS_UNSET;
+    regress_free(&regex);
+    return first && second && regress_abi_version() == REGRESS_ABI_VERSION;
+}
+
+static bool parses() {
+    uint32_t words[64], kind;
+    size_t needed, place;
+    char text[64];
+    return regress_front_parse_utf8("a", 1, REGRESS_FRONT_SMALL_TABLE, REGRESS_FRONT_PARSED, words, 64, &needed, &kind,
+                                    &place) == REGRESS_FRONT_OK
+           && regress_front_skip(words, needed) == needed
+           && std::strcmp(regress_front_node_name(words[0]), "Cat") == 0
+           && regress_front_fault_utf8(")", 1, REGRESS_FRONT_SMALL_TABLE, text, sizeof text, &needed, &kind, &place)
+                  == REGRESS_FRONT_FAULT
+           && kind == REGRESS_FRONT_KIND_UNBALANCED_PARENTHESIS;
+}
+
+int main() {
+    if (!finds() || !parses()) {
+        std::fputs("the calls from C++ have another result\n", stderr);
+        return 1;
+    }
+    std::puts("C++ compiles and links the headers");
+    return 0;
+}
