@@ -3,39 +3,21 @@ ghost use Rattle.std.specs.Prelude.{◌≡◌};
 ghost use Rattle.std.specs.Fmt.{WritesOnOk};
 ghost use Rattle.regex_tree.specs.Fault.{json_character, json_text};
 
+use regress_arguments::write_with_caret;
 use regress_parse::{Error, FaultKind};
 use std::fmt;
 use std::fmt::Formatter;
 use std::io::{self, Write};
 
-/// Writes a syntax error, the pattern on a line of its own, and a caret below the error's position.
+/// Writes a syntax error, the pattern, and a caret below the error's position.
 pub(crate) fn write_fault<E: Write>(
     error: &Error,
     pattern: &str,
     position: usize,
     err: &mut E,
 ) -> io::Result<()> {
-    write!(err, "error: {error}\n  ")?;
-    write_in_one_line(pattern, err)?;
-    err.write_all(b"\n  ")?;
-    write_spaces(position, err)?;
-    err.write_all(b"^\n")
-}
-
-/// Writes a pattern with each control character as U+FFFD, so that it takes one line.
-fn write_in_one_line<E: Write>(pattern: &str, err: &mut E) -> io::Result<()> {
-    for c in pattern.chars() {
-        let shown = if c.is_control() { '\u{FFFD}' } else { c };
-        write!(err, "{shown}")?;
-    }
-    Ok(())
-}
-
-fn write_spaces<E: Write>(count: usize, err: &mut E) -> io::Result<()> {
-    for _space in 0..count {
-        err.write_all(b" ")?;
-    }
-    Ok(())
+    writeln!(err, "error: {error}")?;
+    write_with_caret(pattern, position, err)
 }
 
 /// A syntax error that displays as an object of JSON: `{"fault":"..","kind":"..","place":0}`.
