@@ -13,7 +13,7 @@ use Rattle.regex_command.specs.Ending.{IsLate}
 use Rattle.regex_command.specs.Inputs.{WritesInputs, WritesSomeOf, inputs_of}
 use Rattle.regex_command.specs.Job.{Job, matching, replacing, splitting}
 use Rattle.regex_command.specs.declared.failure.Failure.{Failure}
-use Rattle.regex_command.specs.declared.failure.Failure.TheVariants.{Usage, Memory, Output, Syntax, TooLarge, OutOfSteps, Unreadable, NotUtf8, TooLong}
+use Rattle.regex_command.specs.declared.failure.Failure.TheVariants.{Usage, Argument, Memory, Output, Syntax, TooLarge, OutOfSteps, Unreadable, NotUtf8, TooLong}
 
 -- the request's flags, and the table of all of Unicode
 abbrev pub setting_of : Request → Setting
@@ -26,13 +26,14 @@ IsRegexOf request r = IsCompiled (setting_of request) request.pattern r
 -- No pattern is accepted, or it is too large, or memory is short.
 abbrev pub IsRejected : Request → Failure → Type 0
 IsRejected request Usage = ⊥
+IsRejected request Argument = ⊥
 IsRejected request Memory = ⊤
 IsRejected request Output = ⊥
 IsRejected request (Syntax pattern text position) = NoneIsAccepted (setting_of request) (chars request.pattern)
 IsRejected request TooLarge = ⊤
 IsRejected request OutOfSteps = ⊥
 IsRejected request (Unreadable name) = ⊥
-IsRejected request (NotUtf8 name) = ⊥
+IsRejected request (NotUtf8 name line offset) = ⊥
 IsRejected request (TooLong name) = ⊥
 
 -- a syntax error is due only if no pattern is accepted

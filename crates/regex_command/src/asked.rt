@@ -117,7 +117,7 @@ fn search<'a>(
 }
 
 /// Returns whether no option is given that selects lines or what is shown of them.
-fn is_plain(selection: Selection) -> bool
+pub(crate) fn is_plain(selection: Selection) -> bool
     ensures { result ≡ is_plain selection }
 {
     match selection {

@@ -2,18 +2,11 @@
 ghost use Rattle.std.specs.Prelude.{◌≡◌};
 ghost use Rattle.regex_command.specs.declared.failure.Failure.TheVariants.{Output};
 
+use crate::usage::write_usage_error;
 use regress::{Error, SearchError};
+use regress_arguments::{write_visible, write_with_caret};
 use std::alloc::{AllocError, AllocFailed};
 use std::io::{self, ErrorKind, Write};
-
-/// The text that a run with invalid arguments writes.
-const USAGE: &str = "\
-regex: the arguments are invalid
-usage: regex match [OPTION..] PATTERN [FILE..]
-       regex replace [OPTION..] PATTERN TEMPLATE [FILE..]
-       regex split [OPTION..] PATTERN [FILE..]
-       regex escape TEXT
-";
 
 /// Why a run ends with status 2.
 ///
@@ -22,6 +15,8 @@ usage: regex match [OPTION..] PATTERN [FILE..]
 pub(crate) enum Failure<'a> {
     /// The arguments are invalid.
     Usage,
+    /// An argument is not UTF-8.
+    Argument,
     /// An allocation failed.
     Memory,
     /// Standard output cannot be written.
@@ -38,8 +33,12 @@ pub(crate) enum Failure<'a> {
     OutOfSteps,
     /// The input with this name cannot be opened or read.
     Unreadable(&'a str),
-    /// The input with this name is not UTF-8.
-    NotUtf8(&'a str),
+    /// This line of the input with this name is not UTF-8 from this byte offset in the line on.
+    NotUtf8 {
+        name: &'a str,
+        line: u64,
+        offset: usize,
+    },
     /// The input with this name has 2^64 lines.
     TooLong(&'a str),
 }
@@ -80,17 +79,18 @@ impl<'a> From<SearchError> for Failure<'a> {
 }
 
 /// Writes the message of a failure to `err`, and returns the exit status. An error of that write is ignored.
-pub(crate) fn report<E: Write>(failure: Failure<'_>, err: &mut E) -> u8
+pub(crate) fn report<E: Write>(failure: Failure<'_>, args: &[String], err: &mut E) -> u8
     ensures { result ≡ 2 }
 {
-    let _ = write_message(failure, err);
+    let _ = write_message(failure, args, err);
     2
 }
 
 /// Writes the message of a failure.
-fn write_message<E: Write>(failure: Failure<'_>, err: &mut E) -> io::Result<()> {
+fn write_message<E: Write>(failure: Failure<'_>, args: &[String], err: &mut E) -> io::Result<()> {
     match failure {
-        Failure::Usage => err.write_all(USAGE.as_bytes()),
+        Failure::Usage => write_usage_error(args, err),
+        Failure::Argument => writeln!(err, "regex: an argument is not UTF-8"),
         Failure::Memory => writeln!(err, "regex: out of memory"),
         Failure::Output => writeln!(err, "regex: can't write standard output"),
         Failure::Syntax {
@@ -99,21 +99,28 @@ fn write_message<E: Write>(failure: Failure<'_>, err: &mut E) -> io::Result<()> 
             position,
         } => {
             writeln!(err, "regex: {text}, at position {position}")?;
-            writeln!(err, "{pattern}")?;
-            write_caret(position, err)
+            write_with_caret(pattern, position, err)
         }
         Failure::TooLarge => writeln!(err, "regex: the pattern is too large"),
         Failure::OutOfSteps => writeln!(err, "regex: the search takes too many steps"),
-        Failure::Unreadable(name) => writeln!(err, "regex: {name}: can't be read"),
-        Failure::NotUtf8(name) => writeln!(err, "regex: {name}: not UTF-8"),
-        Failure::TooLong(name) => writeln!(err, "regex: {name}: too many lines"),
+        Failure::Unreadable(name) => {
+            write_name(name, err)?;
+            writeln!(err, "can't be read")
+        }
+        Failure::NotUtf8 { name, line, offset } => {
+            write_name(name, err)?;
+            writeln!(err, "line {line} is not UTF-8, at byte offset {offset}")
+        }
+        Failure::TooLong(name) => {
+            write_name(name, err)?;
+            writeln!(err, "too many lines")
+        }
     }
 }
 
-/// Writes a line with a caret after this many spaces.
-fn write_caret<E: Write>(position: usize, err: &mut E) -> io::Result<()> {
-    for _ in 0..position {
-        err.write_all(b" ")?;
-    }
-    err.write_all(b"^\n")
+/// Writes what is in front of a message about an input.
+fn write_name<E: Write>(name: &str, err: &mut E) -> io::Result<()> {
+    err.write_all(b"regex: ")?;
+    write_visible(name, err)?;
+    err.write_all(b": ")
 }

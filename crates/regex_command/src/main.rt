@@ -21,6 +21,7 @@ mod reading;
 mod reply;
 mod searching;
 mod task;
+mod usage;
 
 use asked::{Asked, Request, read_asked};
 use compiling::compiled;
@@ -53,8 +54,8 @@ fn run<R: Env + Files + AllocGlobal, I: Read + Drop, W: Write + Drop, E: Write>(
             let (status, _) = run_buffered(rt, rt.alloc(), &args, input, out, err);
             status
         }
-        Err(ArgumentsError::NotUtf8) => report(Failure::Usage, err),
-        Err(ArgumentsError::OutOfMemory) => report(Failure::Memory, err),
+        Err(ArgumentsError::NotUtf8) => report(Failure::Argument, &[], err),
+        Err(ArgumentsError::OutOfMemory) => report(Failure::Memory, &[], err),
     }
 }
 
@@ -81,7 +82,7 @@ fn run_buffered<R: Files, I: Read + Drop, W: Write + Drop, E: Write>(
             let status = run_regex(rt, alloc, args, input, &mut buffered, err);
             (status, buffered.into_inner().ok())
         }
-        Err(_) => (report(Failure::Memory, err), None),
+        Err(_) => (report(Failure::Memory, args, err), None),
     }
 }
 
@@ -110,7 +111,7 @@ pub fn run_regex<R: Files, I: Read + Drop, W: Write, E: Write>(
 {
     match response(rt, alloc, args, input, out) {
         Ok(found) => { if found { 0 } else { 1 } }
-        Err(failure) => report(failure, err),
+        Err(failure) => report(failure, args, err),
     }
 }
 

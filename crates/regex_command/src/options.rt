@@ -14,7 +14,7 @@ pub(crate) struct Options {
     pub(crate) selection: Selection,
 }
 
-const NO_OPTIONS: Options = Options {
+pub(crate) const NO_OPTIONS: Options = Options {
     help: false,
     flags: Flags {
         icase: false,
@@ -51,7 +51,7 @@ pub(crate) fn read_options(args: &[String]) -> Option<(Options, &[String])>
 }
 
 /// Adds an option; `None` if it is unknown.
-fn with_option(options: Options, word: &str) -> Option<Options>
+pub(crate) fn with_option(options: Options, word: &str) -> Option<Options>
     ensures { result ≡ with_option options word.now }
 {
     let selection = options.selection;

@@ -90,8 +90,15 @@ fn write_reply<'a, W: Write>(
     ensures late { IfErr result IsLate }
     ensures untouched { IfErr result (OrOutput (out.new ≡ out.old)) }
 {
-    let Ok(line) = str::from_utf8(line) else {
-        return Err(Failure::NotUtf8(place.name));
+    let line = match str::from_utf8(line) {
+        Ok(line) => line,
+        Err(error) => {
+            return Err(Failure::NotUtf8 {
+                name: place.name,
+                line: number,
+                offset: error.valid_up_to(),
+            });
+        }
     };
     let front = front(alloc, task, place, number)?;
     let Reply { selected, text } = reply_to(alloc, regex, task, &front, line)?;
