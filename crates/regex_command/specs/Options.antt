@@ -1,8 +1,9 @@
 -- The options before the pattern.
-use Rattle.std.specs.Prelude.{ℕ, true, false, ◌||◌, ◌&&◌, List, [], ◌∷◌, Option, Some, None, option_and_then, if◌then◌else◌, ◌==◌, bytes_eq, codes, drop, length, slice_index, String, string_bytes}
+use Rattle.std.specs.Prelude.{ℕ, Bool, true, false, not, ◌||◌, ◌&&◌, List, [], ◌∷◌, Option, Some, None, option_and_then, if◌then◌else◌, ◌==◌, bytes_eq, codes, drop, length, slice_index, String, string_bytes}
 use Rattle.std.specs.List.{starts_with}
 use Rattle.std.specs.declared.alloc.Global.{Global}
-use Rattle.regress_arguments.specs.Letters.{no_flags, with_letters}
+use Rattle.regress_arguments.specs.Letters.{no_flags}
+use Rattle.regress_arguments.specs.Letters as flags
 use Rattle.regress_base.specs.declared.types.Flags.{Flags}
 use Rattle.regex_command.specs.declared.options.Options.{Options}
 use Rattle.regex_command.specs.declared.task.Shown.{Shown}
@@ -24,29 +25,49 @@ js_flags options flags =
 
 -- the options with the flags of these letters, besides i if it was given before
 abbrev pub with_flags : Options → (letters : List ℕ) → Option Options
-with_flags options letters = option_and_then (js_flags options) (with_letters no_flags letters)
+with_flags options letters = option_and_then (js_flags options) (flags.with_letters no_flags letters)
 
 abbrev pub with_shown : Options → Shown → Options
 with_shown options shown = record options { selection = record options.selection { shown = shown } }
 
--- the options with one more, if it is known
+-- the options with the one that has this letter
+abbrev pub with_letter : Options → ℕ → Option Options
+with_letter options c =
+    if c == 104 then Some (record options { help = true })
+    else if c == 105 then Some (record options { flags = record options.flags { icase = true } })
+    else if c == 118 then Some (record options { selection = record options.selection { invert = true } })
+    else if c == 110 then Some (record options { selection = record options.selection { numbers = true } })
+    else if c == 111 then Some (with_shown options Matches)
+    else if c == 99 then Some (with_shown options Count)
+    else if c == 108 then Some (with_shown options Names)
+    else None
+
+-- the options with those that have these letters
+abbrev pub with_letters : Options → List ℕ → Option Options
+with_letters options [] = Some options
+with_letters options (c ∷ cs) = option_and_then (λ more. with_letters more cs) (with_letter options c)
+
+-- the options with the one that has this name
+abbrev pub with_long : Options → List ℕ → Option Options
+with_long options name =
+    if bytes_eq name (codes "help") then Some (record options { help = true })
+    else option_and_then (with_flags options) (after_prefix (codes "flags=") name)
+
+-- the options with those of an argument: two hyphens and a name, or a hyphen and letters
 abbrev pub with_option : Options → List ℕ → Option Options
 with_option options word =
-    if bytes_eq word (codes "--help") || bytes_eq word (codes "-h") then Some (record options { help = true })
-    else if bytes_eq word (codes "-i") then Some (record options { flags = record options.flags { icase = true } })
-    else if bytes_eq word (codes "-v") then Some (record options { selection = record options.selection { invert = true } })
-    else if bytes_eq word (codes "-n") then Some (record options { selection = record options.selection { numbers = true } })
-    else if bytes_eq word (codes "-o") then Some (with_shown options Matches)
-    else if bytes_eq word (codes "-c") then Some (with_shown options Count)
-    else if bytes_eq word (codes "-l") then Some (with_shown options Names)
-    else option_and_then (with_flags options) (after_prefix (codes "--flags=") word)
+    if starts_with (λ b c. b == c) word (codes "--") then option_and_then (with_long options) (after_prefix (codes "--") word)
+    else option_and_then (with_letters options) (after_prefix (codes "-") word)
 
--- The options, and the arguments after them. Options end at `--`, or before an argument that does not begin with a
--- hyphen.
+-- a hyphen, and more
+abbrev pub is_option : List ℕ → Bool
+is_option word = slice_index word 0 == 45 && not (bytes_eq word (codes "-"))
+
+-- The options, and the arguments after them. Options end at `--`, or before an argument that is none.
 abbrev pub options_of : Options → List (String Global) → Option (Options × List (String Global))
 options_of options [] = Some (options, [])
 options_of options (first ∷ rest) =
-    if slice_index (string_bytes first) 0 == 45 then
+    if is_option (string_bytes first) then
     (if bytes_eq (string_bytes first) (codes "--") then Some (options, rest)
     else option_and_then (λ more. options_of more rest) (with_option options (string_bytes first)))
     else Some (options, first ∷ rest)

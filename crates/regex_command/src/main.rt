@@ -224,7 +224,7 @@ syntax, over all of Unicode.
   --flags=LETTERS  flags of JavaScript, of imsuv; none without this option
   -h, --help       this help
   --               end of the options: PATTERN may begin with a hyphen
-Of match only:
+Of match only, and -no is -n -o:
   -v  select the lines without a match
   -n  write the number of each line before it
   -o  write each match that is not empty on a line, instead of the lines

@@ -1,6 +1,6 @@
 //! The options before the pattern.
-ghost use Rattle.std.specs.Prelude.{◌≡◌, codes, option_map};
-ghost use Rattle.regex_command.specs.Options.{after_prefix, no_options, options_of, with_flags, with_option};
+ghost use Rattle.std.specs.Prelude.{◌≡◌, option_map};
+ghost use Rattle.regex_command.specs.Options.{is_option, no_options, options_of, with_flags, with_letter, with_letters, with_long, with_option};
 
 use crate::task::{Selection, Shown};
 use regress_arguments::parse_flags;
@@ -38,7 +38,7 @@ pub(crate) fn read_options(args: &[String]) -> Option<(Options, &[String])>
     let mut rest = args;
     while let [first, after @ ..] = rest {
         let word = first.as_str();
-        if !word.starts_with('-') {
+        if !is_option(word) {
             return Some((options, rest));
         }
         if word == "--" {
@@ -50,41 +50,83 @@ pub(crate) fn read_options(args: &[String]) -> Option<(Options, &[String])>
     Some((options, rest))
 }
 
-/// Adds an option; `None` if it is unknown.
+/// Returns whether an argument is an option, or ends the options.
+pub(crate) fn is_option(word: &str) -> bool
+    ensures { result ≡ is_option word.now }
+{
+    word.starts_with('-') && word != "-"
+}
+
+/// Adds an option, or several by their letters; `None` if one is unknown.
 pub(crate) fn with_option(options: Options, word: &str) -> Option<Options>
     ensures { result ≡ with_option options word.now }
 {
+    if word.starts_with("--") {
+        with_long(options, word.strip_prefix("--")?)
+    } else {
+        with_letters(options, word.strip_prefix("-")?)
+    }
+}
+
+/// Adds the option with this name after two hyphens.
+fn with_long(options: Options, name: &str) -> Option<Options>
+    ensures { result ≡ with_long options name.now }
+{
+    if name == "help" {
+        return Some(Options {
+            help: true,
+            ..options
+        });
+    }
+    with_flags(options, name.strip_prefix("flags=")?)
+}
+
+/// Adds the options with these letters.
+fn with_letters(given: Options, letters: &str) -> Option<Options>
+    ensures { result ≡ with_letters given letters.now }
+{
+    let mut options = given;
+    for letter in letters.as_bytes() {
+        options = with_letter(options, *letter)?;
+    }
+    Some(options)
+}
+
+/// Adds the option with this letter.
+fn with_letter(options: Options, letter: u8) -> Option<Options>
+    ensures { result ≡ with_letter options letter }
+{
     let selection = options.selection;
-    match word {
-        "--help" | "-h" => Some(Options {
+    match letter {
+        b'h' => Some(Options {
             help: true,
             ..options
         }),
-        "-i" => Some(Options {
+        b'i' => Some(Options {
             flags: Flags {
                 icase: true,
                 ..options.flags
             },
             ..options
         }),
-        "-v" => Some(Options {
+        b'v' => Some(Options {
             selection: Selection {
                 invert: true,
                 ..selection
             },
             ..options
         }),
-        "-n" => Some(Options {
+        b'n' => Some(Options {
             selection: Selection {
                 numbers: true,
                 ..selection
             },
             ..options
         }),
-        "-o" => Some(with_shown(options, Shown::Matches)),
-        "-c" => Some(with_shown(options, Shown::Count)),
-        "-l" => Some(with_shown(options, Shown::Names)),
-        _ => with_flags(options, letters_of(word)?),
+        b'o' => Some(with_shown(options, Shown::Matches)),
+        b'c' => Some(with_shown(options, Shown::Count)),
+        b'l' => Some(with_shown(options, Shown::Names)),
+        _ => None,
     }
 }
 
@@ -98,13 +140,6 @@ fn with_shown(options: Options, shown: Shown) -> Options
         },
         ..options
     }
-}
-
-/// Returns the letters of `--flags=LETTERS`.
-fn letters_of(word: &str) -> Option<&str>
-    ensures { option_map (λ letters. letters.now) result ≡ after_prefix (codes "--flags=") word.now }
-{
-    word.strip_prefix("--flags=")
 }
 
 /// Sets the flags of letters, as JavaScript reads them: `v` includes `u`, and both together are invalid.

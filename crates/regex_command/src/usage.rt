@@ -1,7 +1,7 @@
 //! The message about invalid arguments.
 
 use crate::asked::is_plain;
-use crate::options::{NO_OPTIONS, read_options, with_option};
+use crate::options::{NO_OPTIONS, is_option, read_options, with_option};
 use regress_arguments::write_visible;
 use std::io::{self, Write};
 
@@ -63,7 +63,7 @@ fn usage_error(args: &[String]) -> UsageError<'_> {
 fn search_error<'a>(command: &str, args: &'a [String]) -> UsageError<'a> {
     for arg in args {
         let word = arg.as_str();
-        if word == "--" || !word.starts_with('-') {
+        if word == "--" || !is_option(word) {
             break;
         }
         match with_option(NO_OPTIONS, word) {
