@@ -1,5 +1,5 @@
 -- What is known of the accepted pattern, from what is reported of its nodes.
-use Rattle.std.proofs.Common.{◌≡◌, Bool, true, false, List, [], sym, ap, ap₂, subst, ◌∙◌}
+use Rattle.std.proofs.Common.{◌≡◌, Bool, false, List, [], sym, ap, ap₂, subst, ◌∙◌}
 use Rattle.std.specs.List.{zip}
 use Rattle.regress_tree.specs.Setting.{Setting}
 use Rattle.regress_tree.specs.Tree.{Tree}

@@ -1,20 +1,18 @@
 -- A pattern of which nothing is reported has no differing construct.
-use Rattle.std.proofs.Common.{◌≡◌, ◌≢◌, ℕ, ◌+◌, ◌-◌, ◌≤◌, Bool, true, false, cond, not, ◌&&◌, ◌||◌, ◌==◌, List, [], ◌∷◌, ◌++◌, length, Option, Some, None, refl, sym, ap, subst, ◌∙◌, arith}
+use Rattle.std.proofs.Common.{◌≡◌, ◌≢◌, ℕ, ◌+◌, ◌-◌, Bool, true, false, cond, not, ◌&&◌, ◌||◌, ◌==◌, List, [], ◌∷◌, ◌++◌, length, Option, Some, None, refl, sym, ap, subst, ◌∙◌, arith}
 use Rattle.std.specs.List.{All}
 use Rattle.std.proofs.lemmas.Bool.{false≢true, or_left, or_right, lt-ltb}
-use Rattle.regress_base.specs.Table.{Table}
 use Rattle.regress_base.specs.declared.types.Flags.{Flags}
-use Rattle.regress_base.specs.declared.types.Quantifier.{Quantifier}
 use Rattle.regress_tree.specs.Reading.{Direction, forwards}
 use Rattle.regress_tree.specs.Setting.{Setting}
 use Rattle.regress_lexer.specs.Modifiers.{Change, changed, switched as switched_to}
 use Rattle.regress_lexer.specs.Source.{Source, closing, bar}
 use Rattle.regress_lexer.proofs.lemmas.After.{IsSuffix, after_same, after_after, after_drop, after_shorter}
 use Rattle.regress_base.specs.Intervals.{intervals_of}
-use Rattle.regress_classes.specs.ClassSets.{Value, has_strings}
+use Rattle.regress_classes.specs.ClassSets.{has_strings}
 use Rattle.regress_syntax.specs.Grammar.{IsPattern, AreTerms, IsItem}
 use Rattle.regress_syntax.specs.Meaning.{is_in_class, longest_first, groups_named, direction_of_group}
-use Rattle.regress_syntax.specs.Productions.{Context, context_inside, single, opens, head_of_item, allows, has_name, head_at, optional_quantifier_at}
+use Rattle.regress_syntax.specs.Productions.{Context, context_inside, single, opens, head_of_item, allows, has_name, head_at}
 use Rattle.regress_syntax.specs.Syntax.{Name, is_named, by_number, by_name, Atom, literal, dot, anchor, boundary, class_escape, class, class_set, string_property, back_reference, Group, grouping, modified, capture, look, Pattern, Terms, Item, one, either, no_terms, more_terms, atom, group, opened_by, counts_of_item, counts_of_terms, counts_of_term, names}
 use Rattle.regress_syntax.proofs.lemmas.Productions.{head_at-ends, head_at-shortens, optional_quantifier_at-ends}
 use Rattle.regress_parse.specs.Accepted.{own_context, IsDerived}
@@ -25,11 +23,10 @@ use Rattle.regress_ecma.specs.Atoms.{numbers_of}
 use Rattle.regress_ecma.specs.Characters.{switched, update_modifiers}
 use Rattle.regress_ecma.specs.Compile.{flags_inside}
 use Rattle.regress_ecma.specs.Differences.{differs_at_atom, differs, differs_in_terms, differs_in_item}
-use Rattle.regress_differences.specs.declared.kind.DifferenceKind.TheVariants.{CaseClosure}
 use Rattle.regress_differences.specs.CaseMode.{is_somewhere, switches_on, may_ignore_case}
 use Rattle.regress_differences.specs.Reported.{reported}
 use Rattle.regress_differences.proofs.QuietLemmas.{IsQuiet, HaveNoKind, split, split_order, all_quiet, without_spans, one_reference, property_reported, points_reported, class_reported}
-use Rattle.regress_differences.proofs.HeadLemmas.{AtomFits, HeadFits, head_fits}
+use Rattle.regress_differences.proofs.HeadLemmas.{AtomFits, head_fits}
 use Rattle.regress_differences.proofs.SourceLemmas.{somewhere-after, somewhere-here, remaining}
 
 -- ---- the remaining source

@@ -1,13 +1,13 @@
 -- The start of an item: modifiers that switch the flag i on are found there, and what the grammar has of an atom.
-use Rattle.std.proofs.Common.{◌≡◌, ℕ, zero, suc, nat_le, Bool, true, false, cond, ◌&&◌, ◌||◌, ◌==◌, List, [], ◌∷◌, drop, Option, Some, None, is_some, refl, sym, ap, ◌∙◌}
+use Rattle.std.proofs.Common.{◌≡◌, ℕ, zero, suc, nat_le, Bool, true, false, cond, ◌&&◌, ◌||◌, ◌==◌, List, [], ◌∷◌, drop, Option, Some, None, is_some, ap, ◌∙◌}
 use Rattle.std.proofs.lemmas.Bool.{and_parts}
 use Rattle.regress_base.specs.Intervals.{Bounds}
 use Rattle.regress_base.specs.Table.{Table}
 use Rattle.regress_base.specs.declared.charclasses.CharacterClassType.{CharacterClassType}
-use Rattle.regress_lexer.specs.Source.{Source, Found, found_map, opening, question_mark, first_production, is_at}
+use Rattle.regress_lexer.specs.Source.{Source, Found, opening, question_mark, first_production, is_at}
 use Rattle.regress_lexer.specs.Digits.{is_decimal, number, front}
 use Rattle.regress_lexer.specs.Escapes.{escape_at}
-use Rattle.regress_lexer.specs.Modifiers.{Change, switched, modifiers_at}
+use Rattle.regress_lexer.specs.Modifiers.{switched, modifiers_at}
 use Rattle.regress_lexer.specs.Quantifiers.{quantifier_at}
 use Rattle.regress_lexer.proofs.lemmas.InRange.{Finds, finds_none, finds_some, finds_cond, finds_then, finds_map}
 use Rattle.regress_lexer.proofs.lemmas.Sources.{EachProduction, no_more, ◌also◌, first_production-has}
@@ -17,7 +17,7 @@ use Rattle.regress_classes.specs.ClassSets.{Value, has_strings, unless_negated_s
 use Rattle.regress_base.specs.Limits.{max_nesting_depth}
 use Rattle.regress_syntax.specs.Syntax.{Atom, literal, dot, anchor, boundary, class_escape, class, class_set, string_property, back_reference, by_number, by_name, grouping, modified, capture, look}
 use Rattle.regress_syntax.specs.Names.{group_name_at}
-use Rattle.regress_syntax.specs.Productions.{Context, Head, single, opens, angle_at, after_question_mark_at, group_at, has_names, has_name, character_at, property_atom, property_atom_at, number_reference_at, name_reference_at, escape_productions, escaped_by, escaped_at, brackets_at, atom_productions, atom_by, head_at}
+use Rattle.regress_syntax.specs.Productions.{Context, Head, single, opens, angle_at, after_question_mark_at, has_names, has_name, character_at, property_atom, property_atom_at, number_reference_at, name_reference_at, escape_productions, escaped_by, escaped_at, brackets_at, atom_productions, atom_by, head_at}
 use Rattle.regress_differences.specs.CaseMode.{has_icase, switches_on}
 
 -- Whatever is found has the trivial property.
@@ -44,8 +44,8 @@ class_set_by-apart table unicode (suc n) t =
 -- ---- atoms
 
 module _ (ctx : Context) where
-  -- What the grammar has of an atom at the start of `s`: a negated class set has no strings, a property of strings begins
-  -- with a backslash, and a reference by name with `\k`, where some group has the name.
+  -- What the grammar has of an atom at the start of `s`: a negated class set has no strings, a property of strings
+  -- begins with a backslash, and a reference by name with `\k`, where some group has the name.
   abbrev pub AtomFits : (s : Source) → Atom → Type 0
   AtomFits s (literal flags c) = Unit {0}
   AtomFits s (dot flags) = Unit {0}

@@ -1,7 +1,6 @@
 -- What a walk lists in several calls.
-use Rattle.std.proofs.Common.{◌≡◌, ℕ, Bool, List, [], ◌∷◌, ◌++◌, length, drop, refl, sym, ap, ap₂, ◌∙◌, append-nil, append_assoc, subst}
-use Rattle.std.specs.List.{zip, filter_map}
-use Rattle.std.proofs.lemmas.List.{length-append}
+use Rattle.std.proofs.Common.{◌≡◌, Bool, List, [], ◌∷◌, ◌++◌, length, drop, refl, sym, ap, ap₂, ◌∙◌, append-nil, append_assoc}
+use Rattle.std.specs.List.{zip}
 use Rattle.std.proofs.lemmas.List.Elements.{filter_map-append}
 use Rattle.regress_tree.specs.Tree.{Tree}
 use Rattle.regress_lexer.specs.Source.{Source}

@@ -1,6 +1,6 @@
 -- What the calls of a walk in postorder add together.
-use Rattle.std.proofs.Common.{◌≡◌, ℕ, Bool, true, List, [], ◌∷◌, ◌++◌, refl, sym, ap, ap₂, subst}
-use Rattle.regress_tree.specs.Tree.{Tree, Trees, leaf, cat, alt, wrapped, no_trees, more_trees}
+use Rattle.std.proofs.Common.{◌≡◌, ℕ, Bool, true, List, [], ◌∷◌, ◌++◌, refl, ap, ap₂, subst}
+use Rattle.regress_tree.specs.Tree.{Tree, Trees, cat, alt, wrapped, more_trees}
 use Rattle.regress_tree.specs.Visits.{Visited, after_children, Inside, in_leaf, in_cat, in_alt, in_wrapped, ListVisited, no_more, one_more}
 use Rattle.regress_spans.specs.Paired.{postorder, postorder_of_list}
 

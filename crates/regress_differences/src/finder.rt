@@ -11,8 +11,8 @@ use regress_parse::Span;
 use regress_tree::ir::{Node, Walk, walk};
 use std::alloc::{AllocError, Global};
 
-/// Returns what is reported of the tree of a pattern, given the spans of its nodes in postorder. With `icase` the flag i
-/// may be in force somewhere in the pattern.
+/// Returns what is reported of the tree of a pattern, given the spans of its nodes in postorder. With `icase` the flag
+/// i may be in force somewhere in the pattern.
 ///
 /// # Errors
 /// Returns [`AllocError`] if an allocation fails.
@@ -23,7 +23,8 @@ pub(crate) fn find_differences(
     node: &Node,
     spans: &[Span],
 ) -> Result<Vec<Difference>, AllocError>
-    ensures { IfOk result (λ found. found.items ≡ reported icase pattern.now (zip (postorder (tree node.now)) spans.now)) }
+    ensures { IfOk result (λ found.
+        found.items ≡ reported icase pattern.now (zip (postorder (tree node.now)) spans.now)) }
 {
     let mut finder = Finder {
         alloc,

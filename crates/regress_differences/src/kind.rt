@@ -8,8 +8,8 @@ pub enum DifferenceKind {
     /// A class, a class escape such as `\w`, or a property, where the flag i may be in force: its set is closed under
     /// case folding.
     CaseClosure,
-    /// A property of strings, which is not compared with ECMA-262, or a class that contains strings, where the flag i may
-    /// be in force.
+    /// A property of strings, which is not compared with ECMA-262, or a class that contains strings, where the flag i
+    /// may be in force.
     StringSet,
     /// A reference by name to several groups, which is an alternation.
     SameName,

@@ -27,9 +27,9 @@ use std::alloc::Global;
 /// Returns the constructs of a pattern that may match otherwise than in ECMA-262, or that are not compared with it, in
 /// the order of the spans of [`try_parse_with_spans`].
 ///
-/// If there are none, the theorem of [`first_outcome_is_the_match`] applies to the pattern, provided that v comes with u
-/// and that the table has the case data of Unicode, as `unicode_tables` has. The converse does not hold: if the flag i may
-/// be in force somewhere, all classes of the pattern are reported.
+/// If there are none, the theorem of [`first_outcome_is_the_match`] applies to the pattern, provided that v comes with
+/// u and that the table has the case data of Unicode, as `unicode_tables` has. The converse does not hold: if the flag i
+/// may be in force somewhere, all classes of the pattern are reported.
 ///
 /// What only one of the two accepts is not reported, and neither is that texts are lists of code points without u.
 ///

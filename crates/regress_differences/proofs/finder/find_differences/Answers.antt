@@ -1,4 +1,4 @@
-use Rattle.std.proofs.Common.{rules, ◌≡◌, ◌++◌, ◌∙◌, refl, ap, sym, List}
+use Rattle.std.proofs.Common.{rules, ◌≡◌, ◌++◌, ◌∙◌, refl, ap, List}
 use Rattle.std.specs.List.{zip}
 use Rattle.regress_tree.specs.Tree.{tree}
 use Rattle.regress_spans.specs.Paired.{postorder}

@@ -1,4 +1,4 @@
-use Rattle.std.proofs.Common.{◌≡◌, List, [], length, sym, ap, subst, ◌∙◌}
+use Rattle.std.proofs.Common.{List, [], length, sym, subst}
 use Rattle.std.specs.List.{All}
 use Rattle.regress_tree.specs.Tree.{tree}
 use Rattle.regress_syntax.specs.SettingOf.{setting_of}
