@@ -1,4 +1,5 @@
 //! Tests.
 
+mod differences;
 mod examples;
 mod theorems;

@@ -1,6 +1,7 @@
 //! The examples of the doc comments up to `regress_front`: each line of an example is here. Expected values are from
 //! ECMA-262, the Unicode Character Database and docs/ir.md.
 
+use regress_differences::{DifferenceKind, differences};
 use regress_escape::escape;
 use regress_front::bytesearch::{ByteSearcher, Needle};
 use regress_front::codepointset::{CodePointSet, Interval};
@@ -314,6 +315,25 @@ fn the_examples_of_parsing_hold(rt: HostRuntime) -> Result<(), Fail> {
         let points = code_points(alloc, "a|b")?;
         // 3, one for each code point, and one more for the bar
         assert_eq!(rt; node_bound(&points, Flags::default()), 7);
+    }
+    Ok(())
+}
+
+#[test]
+fn the_example_of_differences_holds(rt: HostRuntime) -> Result<(), Fail> {
+    let alloc = rt.alloc();
+    // a construct differs
+    {
+        let tables = Tables::small(alloc)?;
+        let points = code_points(alloc, "a[k]")?;
+        let flags = Flags {
+            icase: true,
+            ..Flags::default()
+        };
+        let found = differences(alloc, &points, flags, &tables)?;
+        assert_eq!(rt; found.len(), 1);
+        assert_eq!(rt; found[0].kind, DifferenceKind::CaseClosure);
+        assert_eq!(rt; found[0].span, Span { start: 1, end: 4 });
     }
     Ok(())
 }

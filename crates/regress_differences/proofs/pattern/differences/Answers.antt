@@ -1,0 +1,40 @@
+use Rattle.std.proofs.Common.{List, [], length, sym, subst}
+use Rattle.std.specs.List.{All}
+use Rattle.regress_tree.specs.Tree.{tree}
+use Rattle.regress_syntax.specs.SettingOf.{setting_of}
+use Rattle.regress_parse.specs.Accepted.{own_context}
+use Rattle.regress_parse.specs.declared.span.Span.{Span}
+use Rattle.regress_parse.specs.Spans.{IsWithin}
+use Rattle.regress_spans.specs.Paired.{postorder}
+use Rattle.regress_differences.specs.declared.kind.Difference.{Difference}
+use Rattle.regress_differences.proofs.AcceptedLemmas.{listed, none_differs_of_accepted}
+use Rattle.regress_differences.proofs.WithinLemmas.{reported-spans}
+use Rattle.regress_differences.proofs.pattern.differences.Goals as goal
+
+pub returns-clause-listed : goal.returns-clause-listed
+returns-clause-listed c =
+    listed (setting_of c.args.flags c.args.tables.now) c.args.pattern.now c.in_ok-find_differences.field-0.items
+    (postorder (tree c.in_ok-parsed.parsed.regex.node)) c.deref.result.now c.in_ok-parsed.parsed.spans.items c.may_ignore_case-icase.result
+    c.in_ok-find_differences.ensures c.may_ignore_case-icase.ensures c.deref.ensures.value c.in_ok-parsed.ensures.paired
+
+pub returns-clause-within : goal.returns-clause-within
+returns-clause-within c =
+    let whole : Span = record { start = 0; end = length c.args.pattern.now } in
+    let ts = postorder (tree c.in_ok-parsed.parsed.regex.node) in
+    let all = subst (λ (ss : List Span). All (IsWithin whole) ss) (sym c.deref.ensures.value) c.in_ok-parsed.ensures.within in
+    subst (λ (ds : List Difference). All (λ d. IsWithin whole d.span) ds) (sym c.in_ok-find_differences.ensures)
+    (reported-spans c.may_ignore_case-icase.result c.args.pattern.now (IsWithin whole) ts c.deref.result.now all)
+
+pub returns-clause-none : goal.returns-clause-none
+returns-clause-none c =
+    none_differs_of_accepted (setting_of c.args.flags c.args.tables.now) c.args.pattern.now c.in_ok-parsed.ensures.only
+    c.in_ok-find_differences.field-0.items (returns-clause-listed c)
+
+pub returns-clause-comparable : goal.returns-clause-comparable
+returns-clause-comparable c = λ none maps with_u p accepted. record {
+  maps = maps;
+  with_u = with_u;
+  proper =
+      c.first_outcome_is_the_match.ensures.proper (own_context (setting_of c.args.flags c.args.tables.now) p) p c.args.pattern.now [] accepted.derived;
+  same = returns-clause-none c none p accepted;
+}

@@ -1,0 +1,11 @@
+//! Reports the constructs of a pattern that may match otherwise than in ECMA-262, with their positions.
+#![tactic(auto)]
+
+mod case_mode;
+mod finder;
+mod kind;
+mod pattern;
+
+pub use kind::{Difference, DifferenceKind};
+pub use pattern::differences;
+pub use regress_parse::{PlacedFault, Span};

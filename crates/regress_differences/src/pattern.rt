@@ -1,0 +1,95 @@
+//! Reports the differences of a whole pattern.
+ghost use Rattle.std.specs.Prelude.{◌≡◌, true, false, [], length, All, IfOk};
+ghost use Rattle.regress_unicode.specs.TableOf.{table_of};
+ghost use Rattle.regress_lexer.specs.Source.{IsCodePoint};
+ghost use Rattle.regress_syntax.specs.Syntax.{Pattern, names};
+ghost use Rattle.regress_syntax.specs.SettingOf.{setting_of};
+ghost use Rattle.regress_parse.specs.Accepted.{IsAccepted, NoneIsAccepted, IsTrueOf, MayExceed, OfAccepted};
+ghost use Rattle.regress_parse.specs.Fault.{RejectedOnlyIf, ReportsKindAt, HasTextOfKind, unplaced, HasPositionWithin};
+ghost use Rattle.regress_parse.specs.Settled.{IsFinal, IsAtFirstDuplicate};
+ghost use Rattle.regress_parse.specs.Spans.{IsWithin};
+ghost use Rattle.regress_spans.specs.Paired.{spanned_of};
+ghost use Rattle.regress_ecma.specs.Compared.{IsComparable};
+ghost use Rattle.regress_ecma.specs.Differences.{HasCaseDataOfUnicode, differs};
+ghost use Rattle.regress_differences.specs.CaseMode.{may_ignore_case};
+ghost use Rattle.regress_differences.specs.Reported.{reported};
+
+use crate::case_mode::may_ignore_case;
+use crate::finder::find_differences;
+use crate::kind::Difference;
+use regress_base::types::Flags;
+use regress_ecma::first_outcome_is_the_match;
+use regress_parse::PlacedFault;
+use regress_spans::try_parse_with_spans;
+use regress_unicode::Tables;
+use std::alloc::Global;
+
+/// Returns the constructs of a pattern that may match otherwise than in ECMA-262, or that are not compared with it, in
+/// the order of the spans of [`try_parse_with_spans`].
+///
+/// If there are none, the theorem of [`first_outcome_is_the_match`] applies to the pattern, provided that v comes with
+/// u and that the table has the case data of Unicode, as `unicode_tables` has. The converse does not hold: if the flag i
+/// may be in force somewhere, all classes of the pattern are reported.
+///
+/// What only one of the two accepts is not reported, and neither is that texts are lists of code points without u.
+///
+/// # Preconditions
+/// Each element of `pattern` is a code point, at most U+10FFFF.
+///
+/// # Errors
+/// - [`PlacedFault::Syntax`] if the pattern is rejected, as by [`try_parse_with_spans`].
+/// - [`PlacedFault::Memory`] if an allocation fails.
+///
+/// # Complexity
+/// As for [`try_parse_with_spans`], and as for a walk in postorder.
+///
+/// # Examples
+/// ```
+/// let tables = Tables::small(alloc)?;
+/// let points = code_points(alloc, "a[k]")?;
+/// let flags = Flags {
+///     icase: true,
+///     ..Flags::default()
+/// };
+/// let found = differences(alloc, &points, flags, &tables)?;
+/// assert_eq!(rt; found.len(), 1);
+/// assert_eq!(rt; found[0].kind, DifferenceKind::CaseClosure);
+/// assert_eq!(rt; found[0].span, Span { start: 1, end: 4 });
+/// ```
+pub fn differences(
+    alloc: Global,
+    pattern: &[u32],
+    flags: Flags,
+    tables: &Tables,
+) -> Result<Vec<Difference>, PlacedFault>
+    requires { All IsCodePoint pattern.now }
+
+    // The nodes of the pattern that are reported, each with its span.
+    ensures listed { let setting = setting_of flags tables.now in
+        IfOk result (λ found. (p : Pattern) × (accepted : IsAccepted setting pattern.now p)
+        × (found.items
+        ≡ reported (may_ignore_case flags pattern.now) pattern.now (spanned_of setting pattern.now p accepted.derived))) }
+    ensures within { IfOk result (λ found.
+        All (λ d. IsWithin (record { start = 0; end = length pattern.now }) d.span) found.items) }
+
+    // If none is reported, then no construct of the pattern differs, and the pattern can be compared.
+    ensures none { IfOk result (λ found. found.items ≡ [] →
+        OfAccepted (setting_of flags tables.now) pattern.now (λ p. differs (names p) flags p ≡ false)) }
+    ensures comparable { IfOk result (λ found. found.items ≡ [] → HasCaseDataOfUnicode (table_of tables.now) →
+        (flags.unicode_sets ≡ true → flags.unicode ≡ true) →
+        OfAccepted (setting_of flags tables.now) pattern.now (IsComparable (setting_of flags tables.now))) }
+
+    // The errors of `try_parse_with_spans`.
+    ensures rejected { RejectedOnlyIf (unplaced result) (NoneIsAccepted (setting_of flags tables.now) pattern.now) }
+    ensures text { HasTextOfKind result }
+    ensures reported { ReportsKindAt result (λ kind position. IsTrueOf (setting_of flags tables.now) pattern.now kind) }
+    ensures limits { ReportsKindAt result (λ kind position. MayExceed pattern.now kind) }
+    ensures position { HasPositionWithin (length pattern.now) result }
+    ensures settled { ReportsKindAt result (IsFinal (setting_of flags tables.now) pattern.now) }
+    ensures duplicate { ReportsKindAt result (IsAtFirstDuplicate (setting_of flags tables.now) pattern.now) }
+{
+    first_outcome_is_the_match();
+    let parsed = try_parse_with_spans(alloc, pattern, flags, tables)?;
+    let icase = may_ignore_case(pattern, flags);
+    Ok(find_differences(alloc, pattern, icase, &parsed.regex.node, &parsed.spans)?)
+}
