@@ -23,17 +23,19 @@ enum Way {
 /// The largest product of the number of instructions and of positions in the text for which a matcher makes tables.
 const MOST: usize = 1_000_000;
 
-/// Returns the first result that is not the expected one: by backtracking, by a matcher of the optimized tree, or by
-/// tables if the program is linear.
+/// Returns the first result that is not the expected one: by backtracking, unless the question is `linear`; by a matcher
+/// of the optimized tree; or by tables if the program is linear.
 pub(crate) fn match_difference(
     alloc: Global,
     line: &str,
     tables: &Arc<Tables>,
 ) -> Result<Option<String>, Fault> {
     let (fields, expected) = split_expected(alloc, line)?;
-    let found = difference_by(alloc, fields, &expected, tables, Way::Backtracking)?;
-    if found.is_some() {
-        return Ok(found);
+    if !fields.starts_with("linear\t") {
+        let found = difference_by(alloc, fields, &expected, tables, Way::Backtracking)?;
+        if found.is_some() {
+            return Ok(found);
+        }
     }
     // with tables there is no limit
     if expected.as_str() == "out of steps" {

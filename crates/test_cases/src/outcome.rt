@@ -30,7 +30,7 @@ pub(crate) enum Question {
 
 pub(crate) fn parse_question(call: &mut Call) -> Question {
     let field = call.field();
-    if field == "find" {
+    if field == "find" || field == "linear" {
         return Question::First(STEPS);
     }
     if field == "all" {
