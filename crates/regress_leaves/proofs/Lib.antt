@@ -1,5 +1,4 @@
 pub mod lemmas
-pub mod BetweenLemmas
 pub mod ReadingLemmas
 pub mod WordLemmas
 pub mod ReferenceLemmas

@@ -1,17 +1,17 @@
 //! What leaves match.
-ghost use Rattle.std.specs.Prelude.{◌≡◌, ◌-◌, ◌<◌, [], ◌∷◌, true, None, IfOk, drop, length, nat_eq, option_map, slice_index, if◌then◌else◌};
+ghost use Rattle.std.specs.Prelude.{◌≡◌, ◌<◌, [], ◌∷◌, true, None, drop, length, nat_eq, option_map, slice_index, if◌then◌else◌};
 ghost use Rattle.std.specs.List.{starts_with};
 ghost use Rattle.regress_base.specs.Listing.{lists};
 ghost use Rattle.regress_base.specs.Table.{denotes};
 ghost use Rattle.regress_tree.specs.Assertions.{at_anchor, at_boundary, is_line_terminator, is_word_character, passes};
 ghost use Rattle.regress_tree.specs.Matching.{steps};
 ghost use Rattle.regress_tree.specs.Reading.{backwards, forwards, of_bytes, direction_if};
-ghost use Rattle.regress_tree.specs.References.{all_of, back_reference, in_order, characters_from};
+ghost use Rattle.regress_tree.specs.References.{all_of, back_reference, in_order};
 ghost use Rattle.regress_tree.specs.Steps.{MatchState, these_bytes};
 ghost use Rattle.regress_tree.specs.Tree.{tree};
 ghost use Rattle.regress_unicode.specs.TableOf.{table_of};
 ghost use Rattle.regress_prefilter.specs.OneCharacter.{sole_character, takes_one, test_of};
-ghost use Rattle.regress_leaves.specs.Leaves.{put, read_of, has_one_outcome, is_simple, GoesTo, one_of};
+ghost use Rattle.regress_leaves.specs.Leaves.{put, read_of, is_simple, GoesTo, one_of};
 ghost use Rattle.regress_leaves.specs.Subject.{subject};
 
 use crate::characters::{denotes, is_line_terminator, is_word_character};
@@ -19,7 +19,6 @@ use crate::known::Known;
 use crate::reading::{next_read, read_after, read_before};
 use crate::rules::MatchContext;
 use regress_tree::ir::{AnchorType, Node};
-use std::alloc::{AllocError, Global};
 
 /// Returns the position at which a leaf ends that is matched from `position`, or `None` if it fails. The leaf is neither a
 /// backreference nor a set of strings.
@@ -49,43 +48,6 @@ pub fn simple_leaf(
             position,
         ),
         _ => one_character(text, rules, node, position),
-    }
-}
-
-/// Returns whether a node is a leaf other than a backreference or a set of strings.
-pub fn is_simple(node: &Node) -> bool
-    ensures { result ≡ is_simple (tree node.now) }
-{
-    match node {
-        Node::Empty
-        | Node::Goal
-        | Node::Char { .. }
-        | Node::ByteSequence(_)
-        | Node::ByteSet(_)
-        | Node::CharSet(_)
-        | Node::MatchAny
-        | Node::MatchAnyExceptLineTerminator
-        | Node::Anchor { .. }
-        | Node::WordBoundary { .. }
-        | Node::Bracket(_) => true,
-        Node::BackRef { .. }
-        | Node::StringSet { .. }
-        | Node::Cat(_)
-        | Node::Alt(..)
-        | Node::CaptureGroup { .. }
-        | Node::Loop { .. }
-        | Node::Loop1CharBody { .. }
-        | Node::LookaroundAssertion { .. } => false,
-    }
-}
-
-/// Returns whether a node is a leaf with at most one outcome, which is any but a set of strings.
-pub fn is_leaf(node: &Node) -> bool
-    ensures { result ≡ has_one_outcome (tree node.now) }
-{
-    match node {
-        Node::BackRef { .. } => true,
-        _ => is_simple(node),
     }
 }
 
@@ -281,30 +243,6 @@ fn is_word(known: Known<'_>, unicode_icase: bool, neighbour: Option<(u32, usize)
         Some((c, _)) => is_word_character(known, unicode_icase, c),
         None => false,
     }
-}
-
-/// Returns the characters of a span of the text.
-///
-/// # Errors
-/// Returns [`AllocError`] if an allocation fails.
-pub fn characters_between(
-    alloc: Global,
-    text: &str,
-    start: usize,
-    end: usize,
-) -> Result<Vec<u32>, AllocError>
-    ensures { IfOk result (λ found. found.items ≡ characters_from (of_bytes text.now) (end - start) start end) }
-{
-    let mut found = Vec::new(alloc);
-    let mut position = start;
-    while position < end {
-        let Some((c, to)) = read_after(text, position) else {
-            break;
-        };
-        found.push(c)?;
-        position = to;
-    }
-    Ok(found)
 }
 
 /// Returns the position after the characters, in the direction of matching, or `None` if the text does not match them.
