@@ -182,9 +182,9 @@ impl Regex {
     ///
     /// # Complexity
     /// If [`Regex::is_linear`], the steps are at most [`Regex::steps_per_character`] for each byte of the text, and once
-    /// more; a step takes constant time, but for literals, sets and the groups that an iteration unsets. Else the time is
-    /// at most the step limit and the length of `text` together, times a factor that depends only on the pattern and the
-    /// tables.
+    /// more; a step takes constant time, but for literals, sets, the groups that an iteration unsets, and the alternatives
+    /// that it passes over because the next byte excludes them. Else the time is at most the step limit and the length of
+    /// `text` together, times a factor that depends only on the pattern and the tables.
     pub fn find_from(
         &self,
         alloc: Global,

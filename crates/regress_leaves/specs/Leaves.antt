@@ -1,14 +1,9 @@
 -- Leaves with at most one outcome that set no group.
-use Rattle.std.specs.Prelude.{◌≡◌, ℕ, Bool, true, false, List, [], ◌∷◌, map, Option, Some, None}
-use Rattle.std.specs.Box.{boxed_slice_items}
-use Rattle.std.specs.Global.{Global}
-use Rattle.std.specs.declared.boxed.BoxedSlice.{BoxedSlice}
-use Rattle.regress_base.specs.Table.{denotes}
+use Rattle.std.specs.Prelude.{◌≡◌, ℕ, Bool, true, false, List, [], ◌∷◌, Option, Some, None}
 use Rattle.regress_prefilter.specs.OneCharacter.{test_of}
 use Rattle.regress_tree.specs.Matching.{steps}
 use Rattle.regress_tree.specs.Reading.{Direction, Read, of_bytes}
 use Rattle.regress_tree.specs.Steps.{MatchState, Matcher, one_character}
-use Rattle.regress_tree.specs.Strings.{any_string}
 use Rattle.regress_tree.specs.Tree.{Leaf, back_ref, string_set, Tree, leaf}
 use Rattle.regress_leaves.specs.Subject.{Subject}
 
@@ -20,11 +15,6 @@ put s (Some k) = record s { position = k } ∷ []
 -- a pair of a character and the position after it, as a record
 abbrev pub read_of : ℕ × ℕ → Read
 read_of r = record { character = r.0; position = r.1 }
-
--- the alternatives of a set of strings, tried in order
-abbrev pub any_of : Subject → (icase : Bool) → List (BoxedSlice ℕ Global) → Matcher
-any_of u icase strings =
-    any_string u.direction (of_bytes u.bytes) (denotes u.setting.table icase u.setting.flags.unicode) (map boxed_slice_items strings)
 
 -- the leaf is no set of strings, so it has at most one outcome
 abbrev pub has_one_outcome_leaf : Leaf → Bool
@@ -54,7 +44,3 @@ one_of d bytes t = one_character d (of_bytes bytes) (test_of t)
 -- From the position the part has one outcome, which moves to `to` and sets no group, or none, whatever the captures are.
 abbrev pub GoesTo : Subject → (position : ℕ) → Tree → Option ℕ → Type 0
 GoesTo u position t to = (s : MatchState) → s.position ≡ position → steps u.setting u.bytes u.direction t s ≡ put s to
-
--- The part has no outcome from the position.
-abbrev pub FailsAt : Subject → (position : ℕ) → Tree → Type 0
-FailsAt u position t = GoesTo u position t None

@@ -1,18 +1,11 @@
 -- What leaves match, in the form in which the code computes it.
-use Rattle.std.proofs.Common.{◌≡◌, ℕ, zero, suc, ◌+◌, ◌-◌, ◌≤◌, ◌<◌, Bool, true, false, ◌&&◌, List, [], ◌∷◌, ◌++◌, flat_map, length, drop, get_or, Option, Some, None, refl, sym, ap, ap₂, ◌∙◌, arith, append-nil, map, if◌then◌else◌, nat_eq, nat_le}
-use Rattle.std.specs.Box.{boxed_slice_items}
-use Rattle.std.specs.Global.{Global}
+use Rattle.std.proofs.Common.{◌≡◌, ℕ, ◌+◌, ◌-◌, ◌≤◌, ◌<◌, Bool, true, false, ◌&&◌, List, [], ◌∷◌, ◌++◌, flat_map, length, drop, get_or, Option, Some, None, refl, sym, ap, ap₂, ◌∙◌, arith, append-nil, if◌then◌else◌, nat_eq, nat_le}
 use Rattle.std.specs.List.{starts_with}
-use Rattle.std.specs.Option.{is_some}
-use Rattle.std.specs.declared.boxed.BoxedSlice.{BoxedSlice}
 use Rattle.std.proofs.lemmas.List.{drop_more, length-reverse}
-use Rattle.regress_base.specs.Table.{denotes}
-use Rattle.regress_tree.specs.Reading.{Direction, forwards, backwards, Reading, Read, next_character, of_bytes}
-use Rattle.regress_tree.specs.References.{all_of, in_order, characters_from, back_reference, match_again}
+use Rattle.regress_tree.specs.Reading.{Direction, forwards, backwards, Reading, Read, next_character}
+use Rattle.regress_tree.specs.References.{all_of, in_order}
 use Rattle.regress_tree.specs.Strings.{any_string}
 use Rattle.regress_tree.specs.Steps.{MatchState, one_character, moved, these_bytes, hold_at}
-use Rattle.regress_leaves.specs.Leaves.{any_of, put}
-use Rattle.regress_leaves.specs.Subject.{Subject}
 
 module _ (d : Direction) (r : Reading) where
   -- a test of one character: at the end of the input, a failed test, a passed test
@@ -113,30 +106,9 @@ module _ (d : Direction) (r : Reading) (same : ℕ → ℕ → Bool) (cs : List 
   order_yes read some tested so_far =
       sym (all_yes d r same (get_or cs i 0) (drop (i + 1) cs) (record s { position = here }) read some tested) ∙ sym here_of ∙ so_far
 
--- backreferences: to an unset group, and to a set one
-pub back_none : (d : Direction) (r : Reading) (same : ℕ → ℕ → Bool) (id : ℕ) (s : MatchState) → get_or s.captures id None ≡ None →
-    back_reference d r same id s ≡ s ∷ []
-unfolding back_reference
-back_none d r same id s none = ap (λ span. match_again d r same span s) none
-
-pub back_some : (d : Direction) (r : Reading) (same : ℕ → ℕ → Bool) (id start end : ℕ) (s : MatchState) → get_or s.captures id None ≡ Some (start, end) →
-    back_reference d r same id s ≡ all_of d r same (in_order d (characters_from r (end - start) start end)) s
-unfolding back_reference
-back_some d r same id start end s some = ap (λ span. match_again d r same span s) some
-
--- an element of a list does not depend on the default
-pub get_or_at : {A : Type 0} (xs : List A) (i : ℕ) (v w : A) → get_or xs i v ≡ v → i < length xs → get_or xs i w ≡ v
-get_or_at [] i v w is within = absurd (omega (arith, within))
-get_or_at (x ∷ xs) zero v w is within = is
-get_or_at (x ∷ xs) (suc i) v w is within = get_or_at xs i v w is (omega (arith, within))
-
 pub none_of : {A : Type 0} (o : Option A) → ((x : A) → o ≡ Some x → ⊥) → o ≡ None
 none_of None h = refl
 none_of (Some x) h = absurd (h x refl)
-
-pub not_some : {A : Type 0} (o : Option A) → is_some o ≡ false → o ≡ None
-not_some None h = refl
-not_some (Some x) h = let bad : ⊥ = cc in absurd bad
 
 pub holds_is : (test : ℕ → Bool) (s : MatchState) (b : Bool) → test s.position ≡ b → hold_at test s ≡ (if b then s ∷ [] else [])
 unfolding hold_at
@@ -150,24 +122,3 @@ pub any-cons : (d : Direction) (r : Reading) (same : ℕ → ℕ → Bool) (stri
     any_string d r same (string ∷ strings) s ≡ all_of d r same (in_order d string) s ++ any_string d r same strings s
 unfolding any_string
 any-cons d r same string strings s = refl
-
--- a set of strings is its first string and then the others
-pub any_first : (u : Subject) (icase : Bool) (all rest : List (BoxedSlice ℕ Global)) (first : BoxedSlice ℕ Global) (to : Option ℕ) (s : MatchState) →
-    all ≡ first ∷ rest →
-    put s to ≡ all_of u.direction (of_bytes u.bytes) (denotes u.setting.table icase u.setting.flags.unicode)
-    (in_order u.direction (boxed_slice_items first)) s →
-    any_of u icase all s ≡ put s to ++ any_of u icase rest s
-any_first u icase all rest first to s split found =
-    let same = denotes u.setting.table icase u.setting.flags.unicode in
-    ap (λ (strings : List (BoxedSlice ℕ Global)). any_of u icase strings s) split
-    ∙ any-cons u.direction (of_bytes u.bytes) same (boxed_slice_items first) (map boxed_slice_items rest) s
-    ∙ ap (λ xs. xs ++ any_of u icase rest s) (sym found)
-
--- the same, where strings that fail are skipped before and after the first
-pub any_opened : (u : Subject) (icase : Bool) (all left rest others : List (BoxedSlice ℕ Global)) (first : BoxedSlice ℕ Global) (to found : Option ℕ)
-    (s : MatchState) → any_of u icase left s ≡ any_of u icase all s → left ≡ first ∷ rest →
-    put s to ≡ all_of u.direction (of_bytes u.bytes) (denotes u.setting.table icase u.setting.flags.unicode)
-    (in_order u.direction (boxed_slice_items first)) s →
-    any_of u icase others s ≡ any_of u icase rest s → to ≡ found → any_of u icase all s ≡ put s found ++ any_of u icase others s
-any_opened u icase all left rest others first to found s opened split occurs after is =
-    sym opened ∙ any_first u icase left rest first to s split occurs ∙ ap₂ (λ (k : Option ℕ) xs. put s k ++ xs) is (sym after)
