@@ -33,11 +33,7 @@ pub fn compile(
 ///
 /// # Errors
 /// Returns [`CompileFault::TooLong`] if the program is too long, and [`CompileFault::Memory`] if an allocation fails.
-pub fn prepare(
-    alloc: Global,
-    regex: Regex,
-    tables: &Arc<Tables>,
-) -> Result<Matcher, CompileFault> {
+pub fn prepare(alloc: Global, regex: Regex, tables: &Arc<Tables>) -> Result<Matcher, CompileFault> {
     Matcher::new(alloc, regex, tables, Limits::default())
 }
 

@@ -53,7 +53,7 @@ impl Regex {
     ghost use Rattle.std.specs.Arc.{arc_value};
     ghost use Rattle.regress_front.specs.Bound.{HasAtMost};
     ghost use Rattle.regress_front.specs.SettingOf.{setting_of as setting_under};
-        ghost use Rattle.regress_match.specs.Matched.{IsInside};
+    ghost use Rattle.regress_match.specs.Matched.{IsInside};
     ghost use Rattle.regress_match.specs.Matcher.{IsFactorOf};
     ghost use Rattle.regress_match.specs.Searched.{AreAllMatches};
     ghost use Rattle.regress_program.specs.Found.{Finds};
