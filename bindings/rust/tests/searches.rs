@@ -185,7 +185,7 @@ fn flags_are_letters() {
 fn limits_are_kept() {
     let options = Options {
         steps: 100,
-        nodes: 10,
+        nodes: 100,
         table: Table::Small,
     };
     let flags = Flags::default();
@@ -193,7 +193,7 @@ fn limits_are_kept() {
         Regex::with_options(&"a".repeat(1000), flags, options).unwrap_err(),
         Error::TooLarge
     );
-    // More than a million instructions, in a small tree.
+    // Too many instructions, in a small tree.
     assert_eq!(
         Regex::new("(?:(?:ab){1000}){1000}").unwrap_err(),
         Error::TooLarge
