@@ -234,7 +234,7 @@ static void errors(void) {
           && kind == 0 && position == 0);
     CHECK(compiled("a", 64, &regex) == REGRESS_BAD_INPUT);
     CHECK(regress_compile((const uint8_t *)"abcdef", 6, SMALL, 0, 1, &regex, &kind, &position) == REGRESS_TOO_LARGE);
-    /* more than a million instructions, in a small tree */
+    /* too many instructions, in a small tree */
     CHECK(compiled("(?:(?:ab){1000}){1000}", SMALL, &regex) == REGRESS_TOO_LARGE && kind == 0 && position == 0);
     CHECK(regex.inside == &mark_of_caller);
     CHECK(regress_compile((const uint8_t *)"(a*)*\\1b", 8, SMALL, 1, 0, &regex, &kind, &position) == REGRESS_OK);

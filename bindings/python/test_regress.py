@@ -214,7 +214,7 @@ class Calls(unittest.TestCase):
         with self.assertRaises(regress.error) as caught:
             regress.compile('a' * 1000, nodes=10)
         self.assertEqual(caught.exception.kind, 'TooLarge')
-        # More than a million instructions, in a small tree.
+        # Too many instructions, in a small tree.
         with self.assertRaises(regress.error) as caught:
             regress.compile('(?:(?:ab){1000}){1000}')
         self.assertEqual(caught.exception.kind, 'TooLarge')
