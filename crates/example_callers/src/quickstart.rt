@@ -1,5 +1,9 @@
 //! The callers that docs/guide.md shows: one parses a pattern, the next one compiles its tree, and the last one finds its
 //! matches in a text.
+ghost use Rattle.std.specs.Prelude.{◌≡◌, IfOk};
+ghost use Rattle.regress_front.specs.Tree.{tree};
+ghost use Rattle.regress_match.specs.Matcher.{matcher_tree};
+
 use regress_front::ir::Regex;
 use regress_front::optimizer::parse_and_optimize;
 use regress_front::parse::ParseFault;
@@ -33,7 +37,9 @@ pub fn compile(
 ///
 /// # Errors
 /// Returns [`CompileFault::TooLong`] if the program is too long, and [`CompileFault::Memory`] if an allocation fails.
-pub fn prepare(alloc: Global, regex: Regex, tables: &Arc<Tables>) -> Result<Matcher, CompileFault> {
+pub fn prepare(alloc: Global, regex: Regex, tables: &Arc<Tables>) -> Result<Matcher, CompileFault>
+    ensures { IfOk result (λ matcher. matcher_tree matcher ≡ tree regex.node) }
+{
     Matcher::new(alloc, regex, tables, Limits::default())
 }
 
