@@ -72,7 +72,7 @@ fn a_regular_expression_has_limits(rt: HostRuntime) -> Result<(), Fail> {
         instructions: 5,
         ..Options::default()
     };
-    match Regex::with_options(alloc, "a{5}", Flags::default(), options, &tables) {
+    match Regex::with_options(alloc, "[ab]{5}", Flags::default(), options, &tables) {
         Err(Error::TooLarge) => {}
         _ => assert!(rt; false, "its program is too long"),
     }
