@@ -100,12 +100,12 @@ uint32_t regress_find_all(regress_regex *handle, const uint8_t *text, size_t len
 /* Returns whether the pattern matches somewhere in the text: OK or NO_MATCH; or OUT_OF_STEPS, MEMORY or BAD_INPUT. */
 uint32_t regress_is_match(regress_regex *handle, const uint8_t *text, size_t length);
 
-/* Writes the text with its leftmost match replaced, in UTF-8, to `out`, a buffer of `room` bytes: the text as it is if it
-   has no match.
+/* Writes the text with its leftmost match replaced, in UTF-8, to `out`, a buffer of `room` bytes: the text as it is if
+   it has no match.
 
-   `replacement` is a template as for replace of JavaScript: $$ is a dollar sign, $& the match, $` the text before it, $'
-   the text after it, $1 to $99 the capture of a group, and $<name> that of the group with this name. An unset group is
-   empty. Everything else is taken as it is, and no template is rejected.
+   `replacement` is a template as for replace of JavaScript: $$ is a dollar sign, $& the match, $` the text before it,
+   $' the text after it, $1 to $99 the capture of a group, and $<name> that of the group with this name. An unset group
+   is empty. Everything else is taken as it is, and no template is rejected.
 
    Returns OK, ROOM, OUT_OF_STEPS, MEMORY or BAD_INPUT: the last if the text or the template is not UTF-8. `needed` is
    the length of the result in bytes with OK and ROOM, else 0. */

@@ -139,9 +139,9 @@ uint32_t regress_front_tell_fault_of_text(const uint8_t *pattern, size_t pattern
 
    Writes the encoding of its tree to `words`, a buffer of `room` words; words after the encoding are unchanged. For OK
    and ROOM `needed` is the length of the encoding in words, else 0: call with `room` 0 first, and then with a buffer of
-   that size. For FAULT `kind` is the kind of the syntax error, one of REGRESS_FRONT_KIND_.., and `place` its position, a
-   code-point index from 0 to the pattern's length, else both are 0. With a NULL pointer that is not allowed, nothing is
-   written. */
+   that size. For FAULT `kind` is the kind of the syntax error, one of REGRESS_FRONT_KIND_.., and `place` its position,
+   a code-point index from 0 to the pattern's length, else both are 0. With a NULL pointer that is not allowed, nothing
+   is written. */
 REGRESS_FRONT_INLINE uint32_t regress_front_parse(const uint32_t *pattern, size_t pattern_length, uint32_t flags,
                                                   uint32_t optimize, uint32_t *words, size_t room, size_t *needed,
                                                   uint32_t *kind, size_t *place) {

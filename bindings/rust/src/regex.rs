@@ -14,9 +14,9 @@
 //! # Ok::<(), Box<dyn std::error::Error>>(())
 //! ```
 //!
-//! A search takes linear time if the pattern has neither a back reference nor a lookaround that captures, and is not too
-//! long. Any other backtracks within a step limit ([`Options`]), so that it also ends for untrusted patterns and texts. It
-//! fails with a [`SearchError`] at the limit.
+//! A search takes linear time if the pattern has neither a back reference nor a lookaround that captures, and is not
+//! too long. Any other backtracks within a step limit ([`Options`]), so that it also ends for untrusted patterns and
+//! texts. It fails with a [`SearchError`] at the limit.
 
 mod error;
 mod escape;
@@ -61,8 +61,8 @@ struct Compiled {
 #[derive(Clone, Copy, Debug, PartialEq, Eq)]
 pub struct Options {
     /// The number of steps that one search may take if it does not take linear time: with a back reference, with a
-    /// capture group in a lookaround that is not negated, or with more than a thousand instructions. 0 is the default, a
-    /// billion, which takes about a minute at most. A call that is about all matches is one search.
+    /// capture group in a lookaround that is not negated, or with more than a thousand instructions. 0 is the default,
+    /// a billion, which takes about a minute at most. A call that is about all matches is one search.
     pub steps: u64,
     /// The number of nodes that the tree of the pattern may have; 0 is the default, a million.
     pub nodes: usize,
@@ -100,8 +100,8 @@ impl Regex {
     ///
     /// # Errors
     /// - [`Error::Syntax`] if the pattern is rejected.
-    /// - [`Error::TooLarge`] if its tree may have more nodes than `options.nodes`, whether or not it is valid; or if its
-    ///   program has more instructions than the library allows, where the body of a loop `{n,m}` counts m times.
+    /// - [`Error::TooLarge`] if its tree may have more nodes than `options.nodes`, whether or not it is valid; or if
+    ///   its program has more instructions than the library allows, where the body of a loop `{n,m}` counts m times.
     /// - [`Error::Memory`] if the library is out of memory.
     pub fn with_options(pattern: &str, flags: Flags, options: Options) -> Result<Regex, Error> {
         if !ffi::has_abi() {
