@@ -1,0 +1,18 @@
+// node count.js FILE PATTERN FLAGS all|first: prints the number of matches, and the CPU seconds of the search.
+const [file, pattern, flags, mode] = process.argv.slice(2);
+const text = require('fs').readFileSync(file, 'utf8');
+let regex;
+try {
+  // JavaScript has v or u, not both
+  regex = new RegExp(pattern, flags.includes('v') ? flags.replace('u', '') + 'g' : flags + 'g');
+} catch {
+  process.exit(1);
+}
+const before = process.cpuUsage();
+let count = 0;
+for (const _ of text.matchAll(regex)) {
+  count += 1;
+  if (mode === 'first') break;
+}
+const used = process.cpuUsage(before);
+console.log(count, (used.user + used.system) / 1e6);

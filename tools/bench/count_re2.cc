@@ -1,0 +1,30 @@
+// count_re2 FILE PATTERN all|first: prints the number of matches, and the CPU seconds of the search.
+#include <cstdio>
+#include <cstring>
+#include <ctime>
+#include <fstream>
+#include <iterator>
+#include <string>
+
+#include <re2/re2.h>
+
+int main(int, char **argv) {
+    std::ifstream file(argv[1]);
+    std::string text((std::istreambuf_iterator<char>(file)), std::istreambuf_iterator<char>());
+    RE2::Options options;
+    options.set_log_errors(false);
+    RE2 regex(argv[2], options);
+    if (!regex.ok()) return 1;
+    bool all = !strcmp(argv[3], "all");
+    re2::StringPiece found;
+    size_t count = 0, from = 0;
+    clock_t before = clock();
+    while (from <= text.size() && regex.Match(text, from, text.size(), RE2::UNANCHORED, &found, 1)) {
+        count++;
+        if (!all) break;
+        from = found.data() - text.data() + found.size();
+        // behind an empty match the next character is skipped
+        if (found.empty()) do from++; while (from < text.size() && (text[from] & 0xC0) == 0x80);
+    }
+    printf("%zu %f\n", count, double(clock() - before) / CLOCKS_PER_SEC);
+}
