@@ -63,6 +63,22 @@ class V8(unittest.TestCase):
                 failures.append('%s\n    found: %s' % (name, shown))
         self.conclude(failures, count)
 
+    def test_all_matches(self):
+        failures = []
+        count = 0
+        for name, (_, call, flags, pattern, text, result) in cases('v8_all.tsv'):
+            count += 1
+            self.assertEqual(call, 'all')
+            matches = [
+                ' '.join('-' if span == (-1, -1) else '%d-%d' % span
+                         for span in (found.span(number) for number in range(found.re.groups + 1)))
+                for found in compiled(flags, pattern).finditer(text)
+            ]
+            shown = ' | '.join(matches) or 'none'
+            if shown != result:
+                failures.append('%s\n    found: %s' % (name, shown))
+        self.conclude(failures, count)
+
     def test_replaced_and_split_texts(self):
         failures = []
         count = 0
