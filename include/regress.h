@@ -4,8 +4,8 @@
    Patterns and texts are UTF-8, each with its length in bytes, and not terminated by a zero. Positions in a text are
    byte offsets, positions in a pattern are code-point indices.
 
-   Every call but regress_abi_version and regress_group_count returns a status. A call writes nothing but what its
-   status says. Each writes the size of its result to `needed` where it has one: with REGRESS_ROOM it is the size that
+   Every call returns a status, unless its comment names another result. A call writes nothing but what its status says.
+   Each writes the size of its result to `needed` where it has one: with REGRESS_ROOM it is the size that
    the buffer has to have, and the buffer is unchanged, so call again with a buffer of that size.
 
    No pointer may be NULL or dangling, even if its length is 0. Buffers must not overlap each other or the input. A
@@ -27,7 +27,7 @@ extern "C" {
 /* The version of this header, and that of the calls: it grows when a call, a status or a number changes its meaning,
    and not when one is added. */
 #define REGRESS_VERSION "0.1.0"
-#define REGRESS_ABI_VERSION 1u
+#define REGRESS_ABI_VERSION 2u
 
 /* A handle to a compiled regular expression. `inside` is the library's own. */
 typedef struct regress_regex {
@@ -55,6 +55,20 @@ typedef struct regress_regex {
    U+00C0 to U+00F6. */
 #define REGRESS_SMALL_TABLE 32u
 
+/* The limits of a compiled pattern; 0 is the default of each, so {0, 0, 0, 0} are the default limits.
+
+   - steps: the steps of a search that is not linear, by default a billion, about a minute at most.
+   - nodes: the nodes of the tree of the pattern, as regress_front_node_bound_utf8 bounds them, by default a million.
+   - instructions: those of its program, where the body of a loop {n,m} counts m times, by default 250,000.
+   - tables: the number of instructions up to which a search may be linear, by default a thousand. It takes up to two
+     bits of memory for each instruction and byte of the text. */
+typedef struct regress_limits {
+    uint64_t steps;
+    size_t nodes;
+    size_t instructions;
+    size_t tables;
+} regress_limits;
+
 /* What a group without a capture has as its start and its end. */
 #define REGRESS_UNSET SIZE_MAX
 
@@ -63,17 +77,20 @@ uint32_t regress_abi_version(void);
 
 /* Compiles a pattern, and writes `handle`. A handle that it had before is not freed.
 
-   A search takes linear time if the pattern has neither a back reference nor a capture group in a lookaround that is
-   not negated, and is not too long: at most a thousand instructions. `steps` is the number of steps that any other
-   search may take, and `nodes` the number of nodes that the tree of the pattern may have; 0 is the default, a billion
-   steps, about a minute at most, and a million nodes. The number of instructions is limited too, where the body of a
-   loop {n,m} counts m times.
-
    Returns OK, SYNTAX, TOO_LARGE, MEMORY or BAD_INPUT. With OK `handle` is written, else it is unchanged. With SYNTAX
    `kind` is the kind of the syntax error and `position` its position, from 0 to the number of code points of the
    pattern; else both are 0. The kinds are the numbers REGRESS_FRONT_KIND_.. of regress_front.h. */
-uint32_t regress_compile(const uint8_t *pattern, size_t length, uint32_t flags, uint64_t steps, size_t nodes,
+uint32_t regress_compile(const uint8_t *pattern, size_t length, uint32_t flags, const regress_limits *limits,
                          regress_regex *handle, uint32_t *kind, size_t *position);
+
+/* Returns 1 if searches take linear time, which limits.steps does not apply to, else 0. They do if the pattern has
+   neither a back reference nor a capture group in a lookaround that is not negated, and if it has at most limits.tables
+   instructions. */
+uint32_t regress_is_linear(regress_regex *handle);
+
+/* Returns an upper bound for the steps of a search for each byte of a text, and once more; at most UINT64_MAX. The
+   result is 0 if searches are not linear. */
+uint64_t regress_steps_per_character(regress_regex *handle);
 
 /* Searches for the leftmost match that starts at the byte offset `from` or later.
 

@@ -134,6 +134,9 @@ uint32_t regress_front_tell_fault(const uint32_t *pattern, size_t pattern_length
                                  size_t room, size_t *needed, uint32_t *kind, size_t *place);
 uint32_t regress_front_tell_fault_of_text(const uint8_t *pattern, size_t pattern_length, uint32_t flags, uint8_t *text,
                                          size_t room, size_t *needed, uint32_t *kind, size_t *place);
+uint32_t regress_front_bound_nodes(const uint32_t *pattern, size_t pattern_length, uint32_t flags, size_t *bound);
+uint32_t regress_front_bound_nodes_of_text(const uint8_t *pattern, size_t pattern_length, uint32_t flags,
+                                           size_t *bound);
 
 /* Parses a pattern of code points, each at most 10FFFF, surrogates included.
 
@@ -196,6 +199,32 @@ REGRESS_FRONT_INLINE uint32_t regress_front_fault_utf8(const char *pattern, size
     }
     return regress_front_tell_fault_of_text(pattern ? (const uint8_t *)pattern : &no_byte, pattern_length, flags,
                                             text ? (uint8_t *)text : &no_text, room, needed, kind, place);
+}
+
+/* Writes an upper bound on the number of nodes of the tree of a pattern of code points to `bound`, or SIZE_MAX, which
+   is no bound. Test it before an untrusted pattern is parsed: n references by name to n groups of this name make n * n
+   nodes. A pattern without references by name has at most 5 times its length and 3 more.
+
+   Returns OK or BAD_INPUT: no syntax error is reported. `bound` is 0 with BAD_INPUT, and unchanged with a NULL pointer
+   that is not allowed. */
+REGRESS_FRONT_INLINE uint32_t regress_front_node_bound(const uint32_t *pattern, size_t pattern_length, uint32_t flags,
+                                                       size_t *bound) {
+    uint32_t none = 0;
+    if ((!pattern && pattern_length) || !bound) {
+        return REGRESS_FRONT_BAD_INPUT;
+    }
+    return regress_front_bound_nodes(pattern ? pattern : &none, pattern_length, flags, bound);
+}
+
+/* As regress_front_node_bound, for a pattern in UTF-8. It also returns MEMORY, with 0 as `bound`. */
+REGRESS_FRONT_INLINE uint32_t regress_front_node_bound_utf8(const char *pattern, size_t pattern_length, uint32_t flags,
+                                                            size_t *bound) {
+    uint8_t no_byte = 0;
+    if ((!pattern && pattern_length) || !bound) {
+        return REGRESS_FRONT_BAD_INPUT;
+    }
+    return regress_front_bound_nodes_of_text(pattern ? (const uint8_t *)pattern : &no_byte, pattern_length, flags,
+                                             bound);
 }
 
 /* Returns the name of a kind of node as docs/ir.md has it, such as "Char"; NULL for a number that is no kind. */

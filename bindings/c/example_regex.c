@@ -49,11 +49,12 @@ int main(int count, char **arguments) {
         return 2;
     }
     regress_regex regex;
+    regress_limits limits = {0, 0, 0, 0};
     uint32_t kind;
     size_t position;
     const char *pattern = arguments[1];
-    uint32_t status = regress_compile((const uint8_t *)pattern, strlen(pattern), REGRESS_UNICODE, 0, 0, &regex, &kind,
-                                      &position);
+    uint32_t status = regress_compile((const uint8_t *)pattern, strlen(pattern), REGRESS_UNICODE, &limits, &regex,
+                                      &kind, &position);
     if (status == REGRESS_SYNTAX) {
         uint8_t message[128];
         size_t needed;

@@ -32,11 +32,12 @@ static void escape(const uint8_t *text, size_t most, uint32_t flags) {
     size_t needed, position, spans[2];
     uint32_t kind;
     regress_regex regex = {NULL};
+    regress_limits limits = {0, 0, 0, 0};
     uint32_t status = regress_escape(text, most, out, sizeof out, &needed);
     if (status == REGRESS_BAD_INPUT || (status == REGRESS_ROOM && needed <= 4 * most)) {
         return;
     }
-    if (status != REGRESS_OK || regress_compile(out, needed, flags, 0, 0, &regex, &kind, &position) != REGRESS_OK
+    if (status != REGRESS_OK || regress_compile(out, needed, flags, &limits, &regex, &kind, &position) != REGRESS_OK
         || regress_find(&regex, text, most, 0, spans, 2, &needed) != REGRESS_OK || spans[0] != 0 || spans[1] != most) {
         abort();
     }
@@ -54,7 +55,8 @@ int LLVMFuzzerTestOneInput(const uint8_t *data, size_t size) {
     const uint8_t *pattern = data + 2, *text = pattern + length;
     uint32_t kind;
     regress_regex regex = {NULL};
-    uint32_t status = regress_compile(pattern, length, flags, 100000, 10000, &regex, &kind, &position);
+    regress_limits limits = {100000, 10000, 0, 0};
+    uint32_t status = regress_compile(pattern, length, flags, &limits, &regex, &kind, &position);
     if (status == REGRESS_SYNTAX) {
         static uint8_t message[128];
         uint32_t told = regress_error_message(kind, message, sizeof message, &needed);
@@ -88,6 +90,9 @@ int LLVMFuzzerTestOneInput(const uint8_t *data, size_t size) {
                 abort();
             }
         }
+    }
+    if (regress_is_linear(&regex) && (status == REGRESS_OUT_OF_STEPS || tested == REGRESS_OUT_OF_STEPS)) {
+        abort();
     }
     if ((status == REGRESS_OK && tested != REGRESS_OK) || (status == REGRESS_NO_MATCH && tested != REGRESS_NO_MATCH)) {
         abort();

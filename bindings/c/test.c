@@ -269,6 +269,37 @@ static void refuse_text(const char *pattern, uint32_t flags) {
     CHECK(wanting > 0);
 }
 
+static void bounds(void) {
+    const uint32_t points[] = {0x61, 0x7C, 0x62}, no_point = 0x110000;
+    size_t bound = MARK;
+    /* 3, one for each code point, and one more for the bar */
+    CHECK(regress_front_node_bound(points, 3, SMALL, &bound) == REGRESS_FRONT_OK && bound == 7);
+    CHECK(regress_front_node_bound_utf8("a|b", 3, SMALL, &bound) == REGRESS_FRONT_OK && bound == 7);
+    CHECK(regress_front_node_bound_utf8("\xC3\xA9", 2, SMALL, &bound) == REGRESS_FRONT_OK && bound == 4);
+    CHECK(regress_front_node_bound(NULL, 0, SMALL, &bound) == REGRESS_FRONT_OK && bound == 3);
+    CHECK(regress_front_node_bound_utf8(NULL, 0, SMALL, &bound) == REGRESS_FRONT_OK && bound == 3);
+    /* two for each of the two names at each of the references; a pattern that is rejected has a bound too */
+    CHECK(regress_front_node_bound_utf8("(?<a>(?<b>\\k\\k", 14, SMALL, &bound) == REGRESS_FRONT_OK && bound == 25);
+    CHECK(regress_front_node_bound_utf8("[a]", 3, SMALL, &bound) == REGRESS_FRONT_OK && bound == 6);
+    CHECK(regress_front_node_bound_utf8("[a]", 3, REGRESS_FRONT_UNICODE_SETS, &bound) == REGRESS_FRONT_OK
+          && bound == 10);
+    CHECK(regress_front_node_bound(&no_point, 1, SMALL, &bound) == REGRESS_FRONT_BAD_INPUT && bound == 0);
+    CHECK(regress_front_node_bound(points, 3, 64, &bound) == REGRESS_FRONT_BAD_INPUT && bound == 0);
+    CHECK(regress_front_node_bound_utf8("\xFF", 1, SMALL, &bound) == REGRESS_FRONT_BAD_INPUT && bound == 0);
+    CHECK(regress_front_node_bound_utf8("a", 1, 64, &bound) == REGRESS_FRONT_BAD_INPUT && bound == 0);
+    bound = MARK;
+    CHECK(regress_front_node_bound(NULL, 1, SMALL, &bound) == REGRESS_FRONT_BAD_INPUT && bound == MARK);
+    CHECK(regress_front_node_bound_utf8(NULL, 1, SMALL, &bound) == REGRESS_FRONT_BAD_INPUT && bound == MARK);
+    CHECK(regress_front_node_bound(points, 3, SMALL, NULL) == REGRESS_FRONT_BAD_INPUT);
+    CHECK(regress_front_node_bound_utf8("a", 1, SMALL, NULL) == REGRESS_FRONT_BAD_INPUT);
+    /* the code points of a pattern are allocated, and nothing else is */
+    requests = 0;
+    refused = 0;
+    CHECK(regress_front_node_bound(points, 3, SMALL, &bound) == REGRESS_FRONT_OK && bound == 7 && requests == 0);
+    CHECK(regress_front_node_bound_utf8("a|b", 3, SMALL, &bound) == REGRESS_FRONT_MEMORY && bound == 0);
+    refused = -1;
+}
+
 int main(int count, char **arguments) {
     /* With `small`, the table of all of Unicode, which takes thousands of allocations, is skipped. */
     int small = count > 1 && strcmp(arguments[1], "small") == 0;
@@ -278,6 +309,7 @@ int main(int count, char **arguments) {
     bad_input();
     faults();
     kinds_of_faults();
+    bounds();
     refuse("(?<a>x)|(?<a>y)\\k<a>", SMALL, REGRESS_FRONT_PARSED);
     refuse("(?<=ab)c{2}[a-c]+|[^a]", SMALL | REGRESS_FRONT_ICASE, REGRESS_FRONT_OPTIMIZED);
     refuse("a)", SMALL, REGRESS_FRONT_PARSED);

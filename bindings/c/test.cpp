@@ -10,9 +10,10 @@ static bool finds() {
     const char pattern[] = "(b)|c";
     const uint8_t text[] = {'a', 'b', 'c'};
     regress_regex regex;
+    regress_limits limits = {0, 0, 0, 0};
     uint32_t kind;
     size_t position, needed, spans[4];
-    if (regress_compile(reinterpret_cast<const uint8_t *>(pattern), std::strlen(pattern), REGRESS_SMALL_TABLE, 0, 0,
+    if (regress_compile(reinterpret_cast<const uint8_t *>(pattern), std::strlen(pattern), REGRESS_SMALL_TABLE, &limits,
                         &regex, &kind, &position) != REGRESS_OK) {
         return false;
     }

@@ -52,8 +52,15 @@ static size_t spans[ROOM + 1];
 static size_t needed, position;
 static uint32_t kind;
 
+static const regress_limits default_limits = {0, 0, 0, 0};
+static const regress_limits one_step = {1, 0, 0, 0};
+
+static uint32_t compiled_within(const regress_limits *limits, const char *pattern, regress_regex *regex) {
+    return regress_compile((const uint8_t *)pattern, strlen(pattern), SMALL, limits, regex, &kind, &position);
+}
+
 static uint32_t compiled(const char *pattern, uint32_t flags, regress_regex *regex) {
-    return regress_compile((const uint8_t *)pattern, strlen(pattern), flags, 0, 0, regex, &kind, &position);
+    return regress_compile((const uint8_t *)pattern, strlen(pattern), flags, &default_limits, regex, &kind, &position);
 }
 
 static void mark(void) {
@@ -210,7 +217,7 @@ static void replaces(void) {
     CHECK(compiled("", SMALL, &regex) == REGRESS_OK);
     CHECK(all_replaced(&regex, "\xE2\x82\xAC", "-", ROOM) == REGRESS_OK && are_bytes("-\xE2\x82\xAC-"));
     regress_free(&regex);
-    CHECK(regress_compile((const uint8_t *)"(a*)*\\1b", 8, SMALL, 1, 0, &regex, &kind, &position) == REGRESS_OK);
+    CHECK(compiled_within(&one_step, "(a*)*\\1b", &regex) == REGRESS_OK);
     CHECK(all_replaced(&regex, "aaaaaaaaaaaaaaaaaaaaaaaaaaaaaaaa", "c", ROOM) == REGRESS_OUT_OF_STEPS && are_none());
     CHECK(replaced(&regex, "aaaaaaaaaaaaaaaaaaaaaaaaaaaaaaaa", "c", ROOM) == REGRESS_OUT_OF_STEPS && are_none());
     regress_free(&regex);
@@ -230,14 +237,12 @@ static void errors(void) {
     int mark_of_caller;
     regress_regex regex = {&mark_of_caller};
     CHECK(compiled("ab)", SMALL, &regex) == REGRESS_SYNTAX && kind == 1 && position == 2);
-    CHECK(regress_compile((const uint8_t *)"\xFF", 1, SMALL, 0, 0, &regex, &kind, &position) == REGRESS_BAD_INPUT
-          && kind == 0 && position == 0);
+    CHECK(compiled("\xFF", SMALL, &regex) == REGRESS_BAD_INPUT && kind == 0 && position == 0);
     CHECK(compiled("a", 64, &regex) == REGRESS_BAD_INPUT);
-    CHECK(regress_compile((const uint8_t *)"abcdef", 6, SMALL, 0, 1, &regex, &kind, &position) == REGRESS_TOO_LARGE);
     /* too many instructions, in a small tree */
     CHECK(compiled("(?:(?:ab){1000}){1000}", SMALL, &regex) == REGRESS_TOO_LARGE && kind == 0 && position == 0);
     CHECK(regex.inside == &mark_of_caller);
-    CHECK(regress_compile((const uint8_t *)"(a*)*\\1b", 8, SMALL, 1, 0, &regex, &kind, &position) == REGRESS_OK);
+    CHECK(compiled_within(&one_step, "(a*)*\\1b", &regex) == REGRESS_OK);
     CHECK(found(&regex, "aaaaaaaaaaaaaaaaaaaaaaaaaaaaaaaa", 0, ROOM) == REGRESS_OUT_OF_STEPS && needed == 0
           && spans[0] == MARK);
     /* the default limit would be enough */
@@ -246,8 +251,35 @@ static void errors(void) {
     CHECK(regress_is_match(&regex, (const uint8_t *)"\xFF", 1) == REGRESS_BAD_INPUT);
     regress_free(&regex);
     /* a linear search has no step limit */
-    CHECK(regress_compile((const uint8_t *)"(a*)*b", 6, SMALL, 1, 0, &regex, &kind, &position) == REGRESS_OK);
+    CHECK(compiled_within(&one_step, "(a*)*b", &regex) == REGRESS_OK);
     CHECK(found(&regex, "aaaaaaaaaaaaaaaaaaaaaaaaaaaaaaaa", 0, ROOM) == REGRESS_NO_MATCH);
+    regress_free(&regex);
+}
+
+static void limits(void) {
+    regress_regex regex;
+    regress_limits nodes = {0, 5, 0, 0}, instructions = {0, 0, 5, 0}, tables = {1, 0, 0, 1};
+    CHECK(compiled_within(&nodes, "ab", &regex) == REGRESS_OK);
+    regress_free(&regex);
+    CHECK(compiled_within(&nodes, "abc", &regex) == REGRESS_TOO_LARGE);
+    CHECK(compiled_within(&instructions, "a", &regex) == REGRESS_OK);
+    regress_free(&regex);
+    CHECK(compiled_within(&instructions, "(?:(a)|b){9}", &regex) == REGRESS_TOO_LARGE);
+    CHECK(compiled("(?:(?:ab){400}){700}", SMALL, &regex) == REGRESS_TOO_LARGE);
+    instructions.instructions = 10000000;
+    CHECK(compiled_within(&instructions, "(?:(?:ab){400}){700}", &regex) == REGRESS_OK);
+    regress_free(&regex);
+    /* a program that is too long for tables is searched within the step limit */
+    CHECK(compiled_within(&tables, "(a*)*b", &regex) == REGRESS_OK);
+    CHECK(regress_is_linear(&regex) == 0 && regress_steps_per_character(&regex) == 0);
+    CHECK(found(&regex, "aaaaaaaaaaaaaaaaaaaaaaaaaaaaaaaa", 0, ROOM) == REGRESS_OUT_OF_STEPS);
+    regress_free(&regex);
+    CHECK(compiled("(a*)*b", SMALL, &regex) == REGRESS_OK);
+    CHECK(regress_is_linear(&regex) == 1 && regress_steps_per_character(&regex) > 0);
+    CHECK(found(&regex, "ab", 0, ROOM) == REGRESS_OK && ARE(0, 2, 0, 1));
+    regress_free(&regex);
+    CHECK(compiled("(?=(a))b", SMALL, &regex) == REGRESS_OK);
+    CHECK(regress_is_linear(&regex) == 0 && regress_steps_per_character(&regex) == 0);
     regress_free(&regex);
 }
 
@@ -274,6 +306,7 @@ static void refuse(const char *pattern, const char *text) {
             requests = refused = 0;
             CHECK(name(&regex, 1, ROOM) == (regress_group_count(&regex) ? REGRESS_OK : REGRESS_BAD_INPUT));
             CHECK(message(kind ? kind : 1, ROOM) == REGRESS_OK);
+            CHECK((regress_is_linear(&regex) == 1) == (regress_steps_per_character(&regex) > 0));
             CHECK(requests == 0);
             refused = -1;
             CHECK(found_all(&regex, text, ROOM) == REGRESS_OK && memcmp(spans, expected, sizeof expected) == 0);
@@ -369,6 +402,7 @@ int main(void) {
     searches();
     rooms();
     errors();
+    limits();
     names();
     messages();
     replaces();

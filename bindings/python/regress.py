@@ -29,10 +29,10 @@ a str or bytes of a bytes. A lone surrogate in a str raises UnicodeEncodeError, 
 UnicodeDecodeError.
 
 A search takes linear time, unless the pattern has a back reference, a group in a lookaround that is not negated, or
-more than a thousand instructions. Then it backtracks within a limit of steps, so that it also ends for untrusted
-patterns and texts: at the limit it raises the exception error of the kind 'OutOfSteps'. Ctrl-C takes effect when the
-search has ended. Threads may search with a pattern at the same time; it is compiled once more at the first search of
-each.
+more than a thousand instructions (Pattern.is_linear). Then it backtracks within a limit of steps, so that it also ends
+for untrusted patterns and texts: at the limit it raises the exception error of the kind 'OutOfSteps'. Ctrl-C takes
+effect when the search has ended. Threads may search with a pattern at the same time; it is compiled once more at the
+first search of each.
 
 The module calls the shared library libregress.so in its folder, or the file that the environment variable
 REGRESS_LIBRARY names. The searches of the library are proved to be right; this module is tested.
@@ -46,13 +46,13 @@ import sys
 import threading
 import weakref
 
-__all__ = ['compile', 'escape', 'error', 'Pattern', 'Match']
+__all__ = ['compile', 'escape', 'node_bound', 'error', 'Pattern', 'Match']
 __version__ = '0.1.0'
 
 _OK, _NO_MATCH, _MEMORY, _ROOM, _BAD_INPUT, _SYNTAX, _TOO_LARGE, _OUT_OF_STEPS = range(8)
 # The status for a syntax error of the calls for trees.
 _FAULT = 1
-_ABI_VERSION = 1
+_ABI_VERSION = 2
 _UNSET = ctypes.c_size_t(-1).value
 
 # The flags of the library. JavaScript's v includes u.
@@ -89,12 +89,17 @@ class error(Exception):
         self.kind = kind
 
 
-def compile(pattern, flags='', *, steps=None, nodes=None):
+def compile(pattern, flags='', *, steps=None, nodes=None, instructions=None, tables=None):
     """Compiles a pattern to a Pattern.
 
-    flags are JavaScript's letters. steps limits the number of steps of one search that does not take linear time, a
-    billion by default, which takes about a minute at most. nodes limits the size of the pattern, a million by default.
-    A Pattern is returned as it is, if no flags are given.
+    flags are JavaScript's letters. A Pattern is returned as it is, if no flags are given. The limits are:
+
+        steps         the steps of one search that does not take linear time; a billion by default, which takes about a
+                      minute at most
+        nodes         the nodes of the tree of the pattern, as node_bound() bounds them; a million by default
+        instructions  those of its program, where the body of a loop {n,m} counts m times; 250,000 by default
+        tables        the instructions up to which a search may take linear time; a thousand by default. It takes up to
+                      two bits of memory for each instruction and byte of the text
 
     Raises error if the pattern or the flags are rejected.
     """
@@ -102,7 +107,7 @@ def compile(pattern, flags='', *, steps=None, nodes=None):
         if flags:
             raise ValueError('flags are not allowed with a compiled pattern')
         return pattern
-    return Pattern(pattern, flags, steps, nodes)
+    return Pattern(pattern, flags, steps, nodes, instructions, tables)
 
 
 def escape(text):
@@ -123,26 +128,45 @@ def escape(text):
     return pattern.decode()
 
 
+def node_bound(pattern, flags=''):
+    """Returns an upper bound on the number of nodes of the tree of a pattern, also of one that is rejected.
+
+        >>> import regress
+        >>> regress.node_bound('a|b')
+        7
+    """
+    data = _utf8(_pattern_text(pattern))
+    bits = _bits(_letters(flags, pattern))
+    bound = ctypes.c_size_t()
+    status = _library.regress_front_bound_nodes_of_text(data, len(data), bits, ctypes.byref(bound))
+    if status != _OK:
+        raise _failure(status)
+    return bound.value
+
+
 class Pattern:
     """A compiled regular expression. compile() makes it.
 
     Attributes:
         pattern: its text
         flags: its flags, as letters in alphabetical order
+        is_linear: whether searches take linear time, so that the limit of steps does not apply to them
+        steps_per_character: an upper bound for the steps of a search for each byte of the text in UTF-8, and once more,
+            or None if searches are not linear
         groups: the number of its groups
         groupindex: a dict from the names of groups to their numbers; if groups share a name, that of the first
     """
 
-    def __init__(self, pattern, flags='', steps=None, nodes=None):
-        if not isinstance(pattern, (str, bytes)):
-            raise TypeError('a pattern is a str or bytes, not %s' % type(pattern).__name__)
-        self.pattern = pattern
+    def __init__(self, pattern, flags='', steps=None, nodes=None, instructions=None, tables=None):
+        self.pattern = _pattern_text(pattern)
         self.flags = _letters(flags, pattern)
-        self._limits = (steps, nodes)
-        self._program = _Program(_utf8(pattern), self._bits(), self._limits, pattern)
+        self._limits = (steps, nodes, instructions, tables)
+        self._program = _Program(_utf8(pattern), _bits(self.flags), self._limits, pattern)
         # For fullmatch, at its first call.
         self._full = None
         self._names = self._program.names()
+        self.steps_per_character = self._program.steps_per_character or None
+        self.is_linear = self.steps_per_character is not None
         self.groups = self._program.groups
         self.groupindex = {}
         for number, name in enumerate(self._names, 1):
@@ -173,7 +197,7 @@ class Pattern:
         """
         if self._full is None:
             wrapped = b'(?:' + _utf8(self.pattern) + b')(?![^])'
-            self._full = _Program(wrapped, self._bits(), self._limits, self.pattern, offset=3)
+            self._full = _Program(wrapped, _bits(self.flags), self._limits, self.pattern, offset=3)
         text = _Text(self, string, pos, endpos)
         found = self._first(self._full, text)
         return found if found and found._spans[0] == text.from_offset else None
@@ -200,7 +224,10 @@ class Pattern:
         repl is a template, as the documentation of the module explains, or a function that returns a str, or bytes,
         for a Match.
         """
-        return self.subn(repl, string, count)[0]
+        if callable(repl) or count not in (0, 1):
+            return self.subn(repl, string, count)[0]
+        text = _Text(self, string)
+        return text.part(self._program.handle().replace(text.data, _utf8(_same_type(self, repl)), count))
 
     def subn(self, repl, string, count=0):
         """Returns a tuple of the string as by sub(), and the number of matches that were replaced."""
@@ -248,9 +275,6 @@ class Pattern:
             splits += 1
         parts.append(text.part(text.data[from_offset:]))
         return parts
-
-    def _bits(self):
-        return sum(_FLAGS[letter] for letter in self.flags)
 
     def _first(self, program, text):
         """Returns the leftmost match in a text."""
@@ -420,6 +444,13 @@ class _Regex(ctypes.Structure):
     _fields_ = [('inside', ctypes.c_void_p)]
 
 
+class _Limits(ctypes.Structure):
+    """The regress_limits of regress.h. 0 is the default of each."""
+
+    _fields_ = [('steps', ctypes.c_uint64), ('nodes', ctypes.c_size_t), ('instructions', ctypes.c_size_t),
+                ('tables', ctypes.c_size_t)]
+
+
 class _Handle:
     """A handle of the library, and the calls with it. It stays on the thread that has compiled it."""
 
@@ -429,12 +460,13 @@ class _Handle:
         self._thread = threading.get_ident()
         kind, position = ctypes.c_uint32(), ctypes.c_size_t()
         status = _library.regress_compile(
-            program.pattern, len(program.pattern), program.flags, program.steps or 0, program.nodes or 0,
+            program.pattern, len(program.pattern), program.flags, ctypes.byref(program.limits),
             ctypes.byref(self._regex), ctypes.byref(kind), ctypes.byref(position))
         if status == _SYNTAX:
             raise _syntax_error(program)
         self._check(status)
         self.groups = _library.regress_group_count(ctypes.byref(self._regex))
+        self.steps_per_character = _library.regress_steps_per_character(ctypes.byref(self._regex))
 
     def __del__(self, get_ident=threading.get_ident):
         # At the end of the program values of a thread may be deleted by another one.
@@ -449,6 +481,17 @@ class _Handle:
         """Returns the spans of all matches. If the first buffer is too small for them, the search is made again."""
         room = max(64 * (self.groups + 1), len(data) // 4)
         return self._spans(room, _library.regress_find_all, data, len(data))
+
+    def replace(self, data, template, count):
+        """Returns the text with its first match replaced by a template, or with count 0 all matches."""
+        function = _library.regress_replace if count else _library.regress_replace_all
+        regex = ctypes.byref(self._regex)
+        # If more is needed, the search is made again.
+        room = 2 * len(data) + len(template) + 64
+        status, out = _call(ctypes.c_char, room, _OK, lambda *buffer: function(
+            regex, data, len(data), template, len(template), *buffer))
+        self._check(status)
+        return out
 
     def _spans(self, room, function, *arguments):
         regex = ctypes.byref(self._regex)
@@ -478,11 +521,12 @@ class _Program:
                 raise ValueError('a limit is from 1 to sys.maxsize')
         self.pattern = pattern
         self.flags = flags
-        self.steps, self.nodes = limits
+        self.limits = _Limits(*[limit or 0 for limit in limits])
         # The pattern of the caller, and the number of code points before it.
         self.source = source
         self.offset = offset
         self.groups = self.handle().groups
+        self.steps_per_character = self.handle().steps_per_character
 
     def handle(self):
         """Returns the handle of this thread."""
@@ -625,6 +669,18 @@ def _letters(flags, pattern):
     return ''.join(letter for letter in _FLAGS if letter in flags)
 
 
+def _bits(letters):
+    """Returns flags as the library has them."""
+    return sum(_FLAGS[letter] for letter in letters)
+
+
+def _pattern_text(pattern):
+    """Returns the text of a pattern, which has to be a str or bytes."""
+    if not isinstance(pattern, (str, bytes)):
+        raise TypeError('a pattern is a str or bytes, not %s' % type(pattern).__name__)
+    return pattern
+
+
 def _same_type(pattern, string):
     """Returns a text for a pattern, or a template, which has to be of the type of the pattern."""
     if isinstance(pattern.pattern, str):
@@ -715,16 +771,21 @@ def _load():
     except OSError as cause:
         raise ImportError('the library cannot be loaded: %s (bindings/python/build makes it)' % cause) from cause
     number, size, wide = ctypes.c_uint32, ctypes.c_size_t, ctypes.c_uint64
-    handle, data = ctypes.POINTER(_Regex), ctypes.c_char_p
+    handle, limits, data = ctypes.POINTER(_Regex), ctypes.POINTER(_Limits), ctypes.c_char_p
     numbers, sizes, octets = ctypes.POINTER(number), ctypes.POINTER(size), ctypes.POINTER(ctypes.c_char)
+    replacing = number, handle, data, size, data, size, octets, size, sizes
     calls = {
         'regress_abi_version': (number,),
-        'regress_compile': (number, data, size, number, wide, size, handle, numbers, sizes),
+        'regress_compile': (number, data, size, number, limits, handle, numbers, sizes),
         'regress_find': (number, handle, data, size, size, sizes, size, sizes),
         'regress_find_all': (number, handle, data, size, sizes, size, sizes),
+        'regress_replace': replacing,
+        'regress_replace_all': replacing,
         'regress_group_count': (size, handle),
+        'regress_steps_per_character': (wide, handle),
         'regress_escape': (number, data, size, octets, size, sizes),
         'regress_free': (None, handle),
+        'regress_front_bound_nodes_of_text': (number, data, size, number, sizes),
         'regress_front_parse_text': (number, data, size, number, number, numbers, size, sizes, numbers, sizes),
         'regress_front_tell_fault_of_text': (number, data, size, number, octets, size, sizes, numbers, sizes),
     }

@@ -63,6 +63,22 @@ class V8(unittest.TestCase):
                 failures.append('%s\n    found: %s' % (name, shown))
         self.conclude(failures, count)
 
+    def test_all_matches(self):
+        failures = []
+        count = 0
+        for name, (_, call, flags, pattern, text, result) in cases('v8_all.tsv'):
+            count += 1
+            self.assertEqual(call, 'all')
+            matches = [
+                ' '.join('-' if span == (-1, -1) else '%d-%d' % span
+                         for span in (found.span(number) for number in range(found.re.groups + 1)))
+                for found in compiled(flags, pattern).finditer(text)
+            ]
+            shown = ' | '.join(matches) or 'none'
+            if shown != result:
+                failures.append('%s\n    found: %s' % (name, shown))
+        self.conclude(failures, count)
+
     def test_replaced_and_split_texts(self):
         failures = []
         count = 0
@@ -70,7 +86,8 @@ class V8(unittest.TestCase):
             count += 1
             pattern = compiled(flags, pattern)
             if call == 'replace':
-                results = [pattern.sub(last, text, 1), pattern.sub(lambda found: found.expand(last), text, 1)]
+                results = [pattern.sub(last, text, 1), pattern.subn(last, text, 1)[0]]
+                results.append(pattern.sub(lambda found: found.expand(last), text, 1))
             elif call == 'replace_all':
                 results = [pattern.sub(last, text), pattern.subn(last, text)[0]]
             else:
@@ -225,6 +242,35 @@ class Calls(unittest.TestCase):
             self.assertEqual(caught.exception.kind, 'OutOfSteps')
         with self.assertRaises(ValueError):
             regress.compile('a', steps=0)
+        # A linear search has no limit of steps, unless the program is too long for tables.
+        self.assertIsNone(regress.compile('(a*)*b', steps=1).search('a' * 1000))
+        with self.assertRaises(regress.error) as caught:
+            regress.compile('(a*)*b', steps=1, tables=1).search('a' * 1000)
+        self.assertEqual(caught.exception.kind, 'OutOfSteps')
+        large = '(?:(?:ab){400}){700}'
+        with self.assertRaises(regress.error) as caught:
+            regress.compile(large)
+        self.assertEqual(caught.exception.kind, 'TooLarge')
+        self.assertTrue(regress.compile(large, instructions=10_000_000))
+
+    def test_linear_patterns(self):
+        pattern = regress.compile('(a*)*b')
+        self.assertTrue(pattern.is_linear)
+        self.assertGreater(pattern.steps_per_character, 0)
+        for pattern in (regress.compile('(a*)*b', tables=1), regress.compile(r'(a)\1')):
+            self.assertFalse(pattern.is_linear)
+            self.assertIsNone(pattern.steps_per_character)
+
+    def test_node_bound(self):
+        # 3, one for each code point, and one more for the bar.
+        self.assertEqual(regress.node_bound('a|b'), 7)
+        self.assertEqual(regress.node_bound('é'), 4)
+        self.assertEqual(regress.node_bound('é'.encode()), 4)
+        self.assertEqual(regress.node_bound('(['), 5)
+        self.assertEqual(regress.node_bound('[a]', 'v'), 10)
+        self.assertGreater(regress.node_bound('(?<a>x)|' * 1000 + r'\k<a>' * 1000), 2_000_000)
+        self.assertRaises(TypeError, regress.node_bound, 1)
+        self.assertRaises(regress.error, regress.node_bound, 'a', 'x')
 
     def test_types(self):
         for pattern, text in (('a', b'a'), (b'a', 'a'), ('a', None)):
@@ -352,12 +398,17 @@ class Memory(unittest.TestCase):
                 ('finditer', lambda: [found.span() for found in pattern.finditer(text)]),
                 ('finditer from 1', lambda: [found.span() for found in pattern.finditer(text, 1)]),
                 ('sub', lambda: pattern.sub('<$1>', text)),
+                ('sub of the first match', lambda: pattern.sub('<$1>', text, 1)),
+                ('subn', lambda: pattern.subn('<$1>', text)),
                 ('split', lambda: pattern.split(text)),
             ):
                 self.each_refused(name, call)
 
     def test_escape(self):
         self.each_refused('escape', lambda: regress.escape('1 + 1'))
+
+    def test_node_bound(self):
+        self.each_refused('node_bound', lambda: regress.node_bound('a|b'))
 
 
 if __name__ == '__main__':

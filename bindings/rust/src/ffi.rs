@@ -23,12 +23,21 @@ pub(crate) const TREE_BAD_INPUT: u32 = 4;
 pub(crate) const UNSET: usize = usize::MAX;
 
 /// The version of the calls that this crate makes.
-const ABI_VERSION: u32 = 1;
+const ABI_VERSION: u32 = 2;
 
 /// A `regress_regex` of the library.
 #[repr(C)]
 struct RegressRegex {
     inside: *mut c_void,
+}
+
+/// The `regress_limits` of the library. 0 is the default of each.
+#[repr(C)]
+pub(crate) struct Limits {
+    pub(crate) steps: u64,
+    pub(crate) nodes: usize,
+    pub(crate) instructions: usize,
+    pub(crate) tables: usize,
 }
 
 extern "C" {
@@ -38,8 +47,7 @@ extern "C" {
         pattern: *const u8,
         length: usize,
         flags: u32,
-        steps: u64,
-        nodes: usize,
+        limits: *const Limits,
         handle: *mut RegressRegex,
         kind: *mut u32,
         position: *mut usize,
@@ -90,6 +98,8 @@ extern "C" {
 
     fn regress_group_count(handle: *mut RegressRegex) -> usize;
 
+    fn regress_steps_per_character(handle: *mut RegressRegex) -> u64;
+
     fn regress_escape(
         text: *const u8,
         length: usize,
@@ -121,6 +131,13 @@ extern "C" {
         needed: *mut usize,
         kind: *mut u32,
         place: *mut usize,
+    ) -> u32;
+
+    fn regress_front_bound_nodes(
+        pattern: *const u32,
+        pattern_length: usize,
+        flags: u32,
+        bound: *mut usize,
     ) -> u32;
 }
 
@@ -160,7 +177,7 @@ pub(crate) fn has_abi() -> bool {
 }
 
 /// Compiles a pattern. Returns the status if that fails.
-pub(crate) fn compile(pattern: &str, flags: u32, steps: u64, nodes: usize) -> Result<Handle, u32> {
+pub(crate) fn compile(pattern: &str, flags: u32, limits: &Limits) -> Result<Handle, u32> {
     let mut handle = RegressRegex {
         inside: ptr::null_mut(),
     };
@@ -171,8 +188,7 @@ pub(crate) fn compile(pattern: &str, flags: u32, steps: u64, nodes: usize) -> Re
             start_of(pattern),
             pattern.len(),
             flags,
-            steps,
-            nodes,
+            limits,
             &mut handle,
             &mut kind,
             &mut position,
@@ -264,6 +280,12 @@ impl Handle {
         // SAFETY: the handle is alive.
         unsafe { regress_group_count(&mut self.0) }
     }
+
+    /// Returns the bound for the steps of a search for each byte of a text, 0 if searches are not linear.
+    pub(crate) fn steps_per_character(&mut self) -> u64 {
+        // SAFETY: the handle is alive.
+        unsafe { regress_steps_per_character(&mut self.0) }
+    }
 }
 
 /// Writes the pattern that matches a text, in UTF-8.
@@ -325,6 +347,15 @@ pub(crate) fn tree_fault(pattern: &[u32], flags: u32) -> (Output<u8>, u32, usize
         }
     });
     (output, kind, place)
+}
+
+/// Returns the bound of the number of nodes of a pattern's tree, and the status.
+pub(crate) fn node_bound(pattern: &[u32], flags: u32) -> (u32, usize) {
+    let mut bound = 0;
+    // SAFETY: as for `tree_words`.
+    let status =
+        unsafe { regress_front_bound_nodes(pattern.as_ptr(), pattern.len(), flags, &mut bound) };
+    (status, bound)
 }
 
 /// Makes a call with a buffer, and once more if it is too small: with one of the size that the call reports.

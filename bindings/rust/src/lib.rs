@@ -30,6 +30,8 @@ mod words;
 
 pub use flags::{Flags, FlagsError, Table};
 pub use kind::FaultKind;
-pub use library::{parse, parse_and_optimize, parse_and_optimize_str, parse_str, Fault};
+pub use library::{
+    node_bound, parse, parse_and_optimize, parse_and_optimize_str, parse_str, Fault,
+};
 pub use node::{AnchorType, BracketContents, Interval, Node, Quantifier, RightSide};
 pub use regex::{escape, Error, Match, Matches, Options, Regex, SearchError};

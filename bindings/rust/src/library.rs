@@ -43,7 +43,8 @@ impl Error for Fault {}
 /// Parses a pattern of code points, surrogates included, and returns its tree.
 ///
 /// An allocation of this crate's own that fails aborts, as elsewhere in `std`. The size of the tree is not limited: for
-/// untrusted patterns bound their length, or compile them by [`Regex::with_options`](crate::Regex::with_options).
+/// untrusted patterns test [`node_bound`] first, or compile them by
+/// [`Regex::with_options`](crate::Regex::with_options).
 ///
 /// # Errors
 /// Returns [`Fault::Syntax`] if the pattern is rejected, [`Fault::Memory`] if the library is out of memory, and
@@ -74,6 +75,23 @@ pub fn parse_str(pattern: &str, flags: Flags, table: Table) -> Result<Node, Faul
 /// As [`parse`].
 pub fn parse_and_optimize_str(pattern: &str, flags: Flags, table: Table) -> Result<Node, Fault> {
     parse_and_optimize(&code_points(pattern), flags, table)
+}
+
+/// Returns an upper bound on the number of nodes of the tree of a pattern, whatever the table; at most `usize::MAX`,
+/// which is no bound. Test it before an untrusted pattern is parsed. It is defined for any pattern, also for one that
+/// is rejected.
+///
+/// n references by name to n groups of this name make n² nodes. A pattern without references by name has at most 5
+/// times its length and 3 more.
+///
+/// # Errors
+/// Returns [`Fault::NoCodePoint`] if a number is not a code point.
+pub fn node_bound(pattern: &[u32], flags: Flags) -> Result<usize, Fault> {
+    match ffi::node_bound(pattern, bits(flags, Table::Small)) {
+        (ffi::OK, bound) => Ok(bound),
+        (TREE_BAD_INPUT, _) => Err(Fault::NoCodePoint),
+        _ => Err(Fault::Library),
+    }
 }
 
 pub(crate) fn code_points(text: &str) -> Vec<u32> {

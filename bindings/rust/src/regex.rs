@@ -15,8 +15,8 @@
 //! ```
 //!
 //! A search takes linear time if the pattern has neither a back reference nor a lookaround that captures, and is not
-//! too long. Any other backtracks within a step limit ([`Options`]), so that it also ends for untrusted patterns and
-//! texts. It fails with a [`SearchError`] at the limit.
+//! too long ([`Regex::is_linear`]). Any other backtracks within a step limit ([`Options`]), so that it also ends for
+//! untrusted patterns and texts. It fails with a [`SearchError`] at the limit.
 
 mod error;
 mod escape;
@@ -53,19 +53,27 @@ pub struct Regex {
 struct Compiled {
     recipe: Arc<Recipe>,
     flags: Flags,
+    /// The bound for the steps of a search for each byte of a text, 0 if searches are not linear.
+    steps_per_character: u64,
     /// The name of each group, in order.
     names: Vec<Option<String>>,
 }
 
-/// The limits of a regular expression, and its table of Unicode.
+/// The limits of a regular expression, 0 for the default of each, and its table of Unicode.
 #[derive(Clone, Copy, Debug, PartialEq, Eq)]
 pub struct Options {
-    /// The number of steps that one search may take if it does not take linear time: with a back reference, with a
-    /// capture group in a lookaround that is not negated, or with more than a thousand instructions. 0 is the default,
+    /// The number of steps that one search may take if it does not take linear time ([`Regex::is_linear`]). By default
     /// a billion, which takes about a minute at most. A call that is about all matches is one search.
     pub steps: u64,
-    /// The number of nodes that the tree of the pattern may have; 0 is the default, a million.
+    /// The number of nodes that the tree of the pattern may have, as [`node_bound`](crate::node_bound) bounds it. By
+    /// default a million.
     pub nodes: usize,
+    /// The number of instructions that the program of the pattern may have, where the body of a loop `{n,m}` counts m
+    /// times. By default 250,000.
+    pub instructions: usize,
+    /// The number of instructions up to which a search may be linear. By default a thousand. It takes up to two bits of
+    /// memory for each instruction and byte of the text.
+    pub tables: usize,
     pub table: Table,
 }
 
@@ -74,6 +82,8 @@ impl Default for Options {
         Options {
             steps: 1_000_000_000,
             nodes: 1_000_000,
+            instructions: 250_000,
+            tables: 1_000,
             table: Table::Whole,
         }
     }
@@ -101,7 +111,7 @@ impl Regex {
     /// # Errors
     /// - [`Error::Syntax`] if the pattern is rejected.
     /// - [`Error::TooLarge`] if its tree may have more nodes than `options.nodes`, whether or not it is valid; or if
-    ///   its program has more instructions than the library allows, where the body of a loop `{n,m}` counts m times.
+    ///   its program has more instructions than `options.instructions`.
     /// - [`Error::Memory`] if the library is out of memory.
     pub fn with_options(pattern: &str, flags: Flags, options: Options) -> Result<Regex, Error> {
         if !ffi::has_abi() {
@@ -110,11 +120,18 @@ impl Regex {
         let recipe = Arc::new(Recipe {
             pattern: pattern.to_owned(),
             bits: bits(flags, options.table),
-            steps: options.steps,
-            nodes: options.nodes,
+            limits: ffi::Limits {
+                steps: options.steps,
+                nodes: options.nodes,
+                instructions: options.instructions,
+                tables: options.tables,
+            },
         });
         let failed = |status| compile_error(status, pattern, recipe.bits);
-        let count = with_handle(&recipe, |handle| handle.group_count()).map_err(failed)?;
+        let asked = with_handle(&recipe, |handle| {
+            (handle.group_count(), handle.steps_per_character())
+        });
+        let (count, steps_per_character) = asked.map_err(failed)?;
         // Only a pattern with a name is parsed to its tree.
         let names = match pattern.contains("(?<") {
             true => group_names(&parse_str(pattern, flags, options.table)?, count),
@@ -124,6 +141,7 @@ impl Regex {
             compiled: Arc::new(Compiled {
                 recipe,
                 flags,
+                steps_per_character,
                 names,
             }),
         })
@@ -284,6 +302,21 @@ impl Regex {
     /// Returns the flags.
     pub fn flags(&self) -> Flags {
         self.compiled.flags
+    }
+
+    /// Returns whether searches take time linear in the length of the text, so that [`Options::steps`] does not apply
+    /// to them.
+    ///
+    /// They do if the pattern has neither a back reference nor a capture group in a lookaround that is not negated, and
+    /// if its program has at most [`Options::tables`] instructions.
+    pub fn is_linear(&self) -> bool {
+        self.compiled.steps_per_character > 0
+    }
+
+    /// Returns an upper bound for the steps of a search for each byte of a text, and once more; at most `u64::MAX`. The
+    /// result is `None` if searches are not linear.
+    pub fn steps_per_character(&self) -> Option<u64> {
+        Some(self.compiled.steps_per_character).filter(|_| self.is_linear())
     }
 
     /// Returns the number of capture groups, without the whole match.

@@ -1,8 +1,8 @@
 //! Tests of the public functions.
 
 use regress_front::{
-    parse, parse_and_optimize, parse_and_optimize_str, parse_str, Fault, FaultKind, Flags,
-    Interval, Node, Table,
+    node_bound, parse, parse_and_optimize, parse_and_optimize_str, parse_str, Fault, FaultKind,
+    Flags, Interval, Node, Table,
 };
 
 fn points(text: &str) -> Vec<u32> {
@@ -81,6 +81,23 @@ fn a_number_that_is_no_code_point_is_rejected() {
         parse(&[0x110000], Flags::default(), Table::Whole),
         Err(Fault::NoCodePoint)
     );
+}
+
+#[test]
+fn the_number_of_nodes_is_bounded() {
+    let flags = Flags::default();
+    let sets = Flags {
+        unicode_sets: true,
+        ..flags
+    };
+    // 3, one for each code point, and one more for the bar.
+    assert_eq!(node_bound(&points("a|b"), flags), Ok(7));
+    assert_eq!(node_bound(&points("[a]"), flags), Ok(6));
+    assert_eq!(node_bound(&points("[a]"), sets), Ok(10));
+    assert_eq!(node_bound(&[], flags), Ok(3));
+    assert_eq!(node_bound(&[0x110000], flags), Err(Fault::NoCodePoint));
+    let many = "(?<a>x)|".repeat(1000) + &"\\k<a>".repeat(1000);
+    assert!(node_bound(&points(&many), flags).unwrap() > 2_000_000);
 }
 
 #[test]

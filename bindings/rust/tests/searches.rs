@@ -187,6 +187,7 @@ fn limits_are_kept() {
         steps: 100,
         nodes: 100,
         table: Table::Small,
+        ..Options::default()
     };
     let flags = Flags::default();
     assert_eq!(
@@ -207,6 +208,39 @@ fn limits_are_kept() {
     let mut matches = regex.find_iter(&text);
     assert!(matches.next().unwrap().is_err());
     assert!(matches.next().is_none());
+}
+
+#[test]
+fn linear_searches_have_no_step_limit() {
+    let within = |pattern, options| Regex::with_options(pattern, Flags::default(), options);
+    let steps = Options {
+        steps: 1,
+        ..Options::default()
+    };
+    let text = "a".repeat(1000);
+    let regex = within("(a*)*b", steps).unwrap();
+    assert!(regex.is_linear());
+    assert!(regex.steps_per_character().is_some_and(|steps| steps > 0));
+    assert_eq!(regex.is_match(&text), Ok(false));
+    let regex = within("(a*)*b", Options { tables: 1, ..steps }).unwrap();
+    assert!(!regex.is_linear());
+    assert_eq!(regex.steps_per_character(), None);
+    assert_eq!(regex.is_match(&text), Err(SearchError::OutOfSteps));
+    assert!(!Regex::new(r"(a)\1").unwrap().is_linear());
+}
+
+#[test]
+fn the_number_of_instructions_is_limited() {
+    let within = |instructions| {
+        let options = Options {
+            instructions,
+            ..Options::default()
+        };
+        Regex::with_options("(?:(?:ab){400}){700}", Flags::default(), options)
+    };
+    assert_eq!(within(0).unwrap_err(), Error::TooLarge);
+    assert_eq!(within(1000).unwrap_err(), Error::TooLarge);
+    assert!(within(10_000_000).is_ok());
 }
 
 #[test]

@@ -106,6 +106,27 @@ fn first_matches_are_those_of_v8() {
 }
 
 #[test]
+fn all_matches_are_those_of_v8() {
+    let cases = cases("v8_all.tsv");
+    let mut failures = Vec::new();
+    for case in &cases {
+        let [_, _, flags, pattern, text] = &case.fields[..] else {
+            panic!("{}", case.name)
+        };
+        let all = compile(flags, pattern).find_all(text).expect(&case.name);
+        let all: Vec<String> = all.iter().map(|found| spans(text, found)).collect();
+        let found = match all.is_empty() {
+            true => "none".into(),
+            false => all.join(" | "),
+        };
+        if found != case.result {
+            failures.push(format!("{}\n    found: {found}", case.name));
+        }
+    }
+    conclude(&failures, cases.len());
+}
+
+#[test]
 fn replaced_and_split_texts_are_those_of_v8() {
     let cases = cases("v8_replaces.tsv");
     let mut failures = Vec::new();

@@ -8,12 +8,19 @@ use Rattle.regress.specs.Limits.{default_options}
 use Rattle.regress.specs.declared.limits.Options.{Options}
 use Rattle.regress.specs.declared.pattern.Regex.{Regex}
 use Rattle.regress_c.specs.Results.{IsError}
+use Rattle.regress_c.specs.declared.limits.Limits.{Limits}
 
--- the limits on steps and nodes, where 0 is the default; the others are the default
-abbrev pub limits_of : (steps nodes : ℕ) → Options
-limits_of steps nodes = record default_options {
-  steps = if steps == 0 then default_options.steps else steps;
-  nodes = if nodes == 0 then default_options.nodes else nodes;
+-- a limit, where 0 is the default
+abbrev pub or_default : (limit default : ℕ) → ℕ
+or_default limit default = if limit == 0 then default else limit
+
+-- the limits, where 0 is the default of each
+abbrev pub limits_of : Limits → Options
+limits_of l = record {
+  steps = or_default l.steps default_options.steps;
+  nodes = or_default l.nodes default_options.nodes;
+  instructions = or_default l.instructions default_options.instructions;
+  tables = or_default l.tables default_options.tables;
 }
 
 -- The status, `kind`, `position`, and the handle before and after. `Asked` states that the arguments are valid.

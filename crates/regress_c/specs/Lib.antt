@@ -9,3 +9,4 @@ pub mod CompileResults
 pub mod TextResults
 pub mod ReplaceResults
 pub mod EscapeResults
+pub mod BoundResults

@@ -2,7 +2,7 @@
 ghost use Rattle.std.specs.Prelude.{◌≡◌, chars, IfErr, IfOk};
 ghost use Rattle.regress.specs.Compiled.{IsCompiled};
 ghost use Rattle.regress.specs.Failures.{IsDue};
-ghost use Rattle.regress_c.specs.CompileResults.{CompileResult, limits_of};
+ghost use Rattle.regress_c.specs.CompileResults.{CompileResult};
 ghost use Rattle.regress_c.specs.Request.{setting_by, IsTextRequest};
 
 use super::handle::Handle;
@@ -55,19 +55,6 @@ pub(crate) fn write_compiled(
             Err(Error::Memory) => MEMORY,
         },
         Err(_) => BAD_INPUT,
-    }
-}
-
-/// Returns the limits, where 0 is the default.
-pub(crate) fn options_of(steps: u64, nodes: usize) -> Options
-    ensures { result ≡ limits_of steps nodes }
-{
-    let default = Options::default();
-    Options {
-        steps: if steps == 0 { default.steps } else { steps },
-        nodes: if nodes == 0 { default.nodes } else { nodes },
-        instructions: default.instructions,
-        tables: default.tables,
     }
 }
 

@@ -1,6 +1,6 @@
 //! The functions that C calls to compile a pattern, and to search for it. include/regress.h documents them.
-ghost use Rattle.std.specs.Prelude.{◌≡◌, IfSome, IsUtf8, None, length};
-ghost use Rattle.regress.specs.Compiled.{groups_of, outcomes_of};
+ghost use Rattle.std.specs.Prelude.{◌≡◌, if◌then◌else◌, IfSome, IsUtf8, None, is_some, length, min, option_map, unwrap_or};
+ghost use Rattle.regress.specs.Compiled.{factor_of, groups_of, outcomes_of};
 ghost use Rattle.regress.specs.Found.{MatchesSomewhere};
 ghost use Rattle.regress_c.specs.CompileResults.{CompileResult, limits_of};
 ghost use Rattle.regress_c.specs.Request.{setting_by, IsTextRequest};
@@ -9,48 +9,46 @@ ghost use Rattle.regress_c.specs.Spans.{AreEndsOfAll, AreEndsOfFirst};
 ghost use Rattle.regress_c.specs.TextResults.{HasGroup, HasKind, IsMessage, IsNameOf, TextResult};
 ghost use Rattle.regress_program.specs.Found.{Finds};
 
-use super::compiling::{options_of, write_compiled};
+use super::compiling::write_compiled;
 use super::handle::Handle;
+use super::limits::Limits;
 use super::{searches, texts};
 use std::alloc::Global;
 
-const ABI_VERSION: u32 = 1;
+const ABI_VERSION: u32 = 2;
 
 /// Returns the version of these functions.
 #[unsafe(no_mangle)]
 pub extern "C" fn regress_abi_version() -> u32
-    ensures { result ≡ 1 }
+    ensures { result ≡ 2 }
 {
     ABI_VERSION
 }
 
 /// Compiles a pattern in UTF-8, and writes its handle. A handle that was there before is not freed.
 ///
-/// `steps` and `nodes` are the limits, 0 for the default.
-///
 /// # Errors
 /// Returns a status: 0 for success, 2 if an allocation failed, 4 if the arguments are invalid, 5 if the pattern is
-/// rejected, and 6 if it may have more nodes than allowed, or if its program is too long. `handle` is changed only with 0, and `kind` and `position`
-/// are 0 unless it is 5.
+/// rejected, and 6 if it may have more nodes or instructions than the limits allow. `handle` is changed only with 0, and
+/// `kind` and `position` are 0 unless it is 5.
 #[unsafe(no_mangle)]
 pub extern "C" fn regress_compile(
     alloc: Global,
     pattern: &[u8],
     flags: u32,
-    steps: u64,
-    nodes: usize,
+    limits: &Limits,
     handle: &mut Handle,
     kind: &mut u32,
     position: &mut usize,
 ) -> u32
-    ensures status { CompileResult (IsTextRequest pattern.now flags 0) (setting_by flags) pattern.now (limits_of steps nodes)
+    ensures status { CompileResult (IsTextRequest pattern.now flags 0) (setting_by flags) pattern.now (limits_of limits.now)
         handle.old.value result kind.new position.new handle.new.value }
 {
     write_compiled(
         alloc,
         pattern,
         flags,
-        options_of(steps, nodes),
+        limits.options(),
         handle,
         kind,
         position,
@@ -132,6 +130,39 @@ pub extern "C" fn regress_is_match(alloc: Global, handle: &mut Handle, text: &[u
     let status = searches::test(alloc, &regex, text);
     *handle = Handle::of(regex);
     status
+}
+
+/// Returns whether searches are known to take time linear in the length of the text: 1 if so, else 0.
+///
+/// # Preconditions
+/// The handle is one of a compiled pattern.
+#[unsafe(no_mangle)]
+pub extern "C" fn regress_is_linear(alloc: Global, handle: &mut Handle) -> u32
+    requires { handle.old.value ≡ None → ⊥ }
+    ensures same { handle.new.value ≡ handle.old.value }
+    ensures linear { IfSome handle.old.value (λ regex. result ≡ (if is_some (factor_of regex) then 1 else 0)) }
+{
+    let regex = handle.take(alloc);
+    let is_linear = regex.is_linear();
+    *handle = Handle::of(regex);
+    if is_linear { 1 } else { 0 }
+}
+
+/// Returns an upper bound for the steps of a search for each byte of a text, counting its end as one more; at most
+/// `u64::MAX`. The result is 0 if searches are not known to take linear time.
+///
+/// # Preconditions
+/// The handle is one of a compiled pattern.
+#[unsafe(no_mangle)]
+pub extern "C" fn regress_steps_per_character(alloc: Global, handle: &mut Handle) -> u64
+    requires { handle.old.value ≡ None → ⊥ }
+    ensures same { handle.new.value ≡ handle.old.value }
+    ensures steps { IfSome handle.old.value (λ regex. result ≡ unwrap_or (option_map (λ n. min n u64.MAX) (factor_of regex)) 0) }
+{
+    let regex = handle.take(alloc);
+    let steps = regex.steps_per_character();
+    *handle = Handle::of(regex);
+    steps.unwrap_or(0)
 }
 
 /// Returns the number of capture groups, without the whole match.

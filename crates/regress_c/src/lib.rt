@@ -1,6 +1,7 @@
 //! The library for C. include/regress.h and include/regress_front.h document its functions.
 #![tactic(auto)]
 
+mod bound;
 mod buffer;
 mod compiling;
 mod entry;
@@ -8,6 +9,7 @@ mod entry_regex;
 mod entry_replace;
 mod escaping;
 mod handle;
+mod limits;
 mod loose;
 mod replacing;
 mod request;

@@ -1,7 +1,7 @@
 //! The handles of each thread. A handle stays on the thread that has compiled it, so a pattern is compiled once in each
 //! thread that searches with it.
 
-use crate::ffi::{self, Handle};
+use crate::ffi::{self, Handle, Limits};
 use std::cell::RefCell;
 use std::collections::HashMap;
 use std::sync::{Arc, Weak};
@@ -11,13 +11,12 @@ pub(crate) struct Recipe {
     pub(crate) pattern: String,
     /// The flags and the table as the library has them.
     pub(crate) bits: u32,
-    pub(crate) steps: u64,
-    pub(crate) nodes: usize,
+    pub(crate) limits: Limits,
 }
 
 impl Recipe {
     fn compile(&self) -> Result<Handle, u32> {
-        ffi::compile(&self.pattern, self.bits, self.steps, self.nodes)
+        ffi::compile(&self.pattern, self.bits, &self.limits)
     }
 
     /// Returns the key in the handles of a thread. No other recipe has it while a `Weak` refers to this one.

@@ -9,5 +9,5 @@ returns c = record {
       subst
       (λ options. CompileResult (IsTextRequest c.args.pattern.now c.args.flags 0) (setting_by c.args.flags) c.args.pattern.now options
       c.args.handle.now.value c.write_compiled.result c.write_compiled.new.kind c.write_compiled.new.position c.write_compiled.new.handle.value)
-      c.options_of.ensures c.write_compiled.ensures.status;
+      c.options.ensures c.write_compiled.ensures.status;
 }

@@ -1,0 +1,51 @@
+//! The functions that C calls to bound the number of nodes of a tree.
+ghost use Rattle.std.specs.Prelude.{chars};
+ghost use Rattle.regress_c.specs.BoundResults.{BoundResult};
+ghost use Rattle.regress_c.specs.Request.{flags_of, IsRequest, IsTextRequest};
+
+use super::request::{is_request, parse_flags, read_points};
+use super::results::{BAD_INPUT, MEMORY, OK};
+use regress_front::parse::node_bound;
+use std::alloc::Global;
+
+/// Writes an upper bound on the number of nodes of the tree of a pattern in code points, at most `usize::MAX`, which is
+/// no bound. It is defined for any code points, also for those of no pattern.
+///
+/// # Errors
+/// Returns a status: 0 for success, and 4 if the arguments are invalid. `bound` is 0 unless the status is 0.
+#[unsafe(no_mangle)]
+pub extern "C" fn regress_front_bound_nodes(pattern: &[u32], flags: u32, bound: &mut usize) -> u32
+    ensures status { BoundResult (IsRequest pattern.now flags 0) (flags_of flags) pattern.now result bound.new }
+{
+    *bound = 0;
+    if !is_request(pattern, flags, 0) {
+        return BAD_INPUT;
+    }
+    *bound = node_bound(pattern, parse_flags(flags));
+    OK
+}
+
+/// As `regress_front_bound_nodes`, for a pattern in UTF-8.
+///
+/// # Errors
+/// As `regress_front_bound_nodes`; a pattern that is not UTF-8 is an invalid argument. The status is 2 if an allocation
+/// failed.
+#[unsafe(no_mangle)]
+pub extern "C" fn regress_front_bound_nodes_of_text(
+    alloc: Global,
+    pattern: &[u8],
+    flags: u32,
+    bound: &mut usize,
+) -> u32
+    ensures status { BoundResult (IsTextRequest pattern.now flags 0) (flags_of flags) (chars pattern.now) result bound.new }
+{
+    *bound = 0;
+    match read_points(alloc, pattern, flags, 0) {
+        Ok(Some(points)) => {
+            *bound = node_bound(&points, parse_flags(flags));
+            OK
+        }
+        Ok(None) => BAD_INPUT,
+        Err(_) => MEMORY,
+    }
+}
