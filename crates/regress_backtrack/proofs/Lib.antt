@@ -1,4 +1,5 @@
 pub mod OwnedLemmas
+pub mod PassLemmas
 pub mod CandidateLemmas
 pub mod FrontLemmas
 pub mod LeafLemmas

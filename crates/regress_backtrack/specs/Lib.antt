@@ -5,6 +5,7 @@ pub mod Fronts
 pub mod Machine
 pub mod Next
 pub mod Owned
+pub mod Passes
 pub mod Run
 pub mod Searched
 pub mod Starts

@@ -7,6 +7,7 @@ use Rattle.regress_program.specs.Shape.{Fits}
 use Rattle.regress_leaves.specs.Subject.{subject}
 use Rattle.regress_backtrack.specs.Code.{code_routines}
 use Rattle.regress_backtrack.specs.Fronts.{AreFrontsOf}
+use Rattle.regress_backtrack.specs.Passes.{ArePasses}
 use Rattle.regress_backtrack.specs.Views.{ops_in}
 use Rattle.regress_backtrack.specs.declared.input.Input.{Input}
 use Rattle.regress_backtrack.specs.declared.machine.Machine.{Machine}
@@ -45,6 +46,7 @@ pub record IsInput (input : Input) : Type 0 where
   pub direction : direction_if input.rules.backwards ≡ routine.direction
   pub first : input.first ≡ routine.entry
   pub fronts : AreFrontsOf input.fronts.now routine.direction routine.ops
+  pub passes : ArePasses input.passes.now input.fronts.now input.instructions.now
 
 -- A run is at this instruction.
 pub record CanStep (input : Input) (op : Op) (p : Place) : Type 0 where

@@ -3,11 +3,14 @@ ghost use Rattle.std.specs.Prelude.{◌≡◌, ◌≤◌, ◌<◌, ◌++◌, ℕ
 ghost use Rattle.regress_program.specs.Program.{Out, either};
 ghost use Rattle.regress_backtrack.specs.Machine.{Groups, at, groups_of, points, rewound};
 ghost use Rattle.regress_backtrack.specs.Next.{Fails, Inside, IsInput, Leads, Solve, ahead};
+ghost use Rattle.regress_backtrack.specs.Passes.{ArePassed, IsBeside};
+ghost use Rattle.regress_tree.specs.Reading.{direction_if};
 ghost use Rattle.regress_backtrack.specs.declared.step.Next.TheVariants.{OutOfSteps};
 
-use crate::input::{Input, front_at, instruction_at};
+use crate::input::{Input, counts_at, front_at, instruction_at};
 use crate::instruction::Instruction;
 use crate::machine::{Machine, Place};
+use crate::passes::count_at;
 use crate::step::Next;
 use crate::sweep::sweep;
 use std::alloc::AllocError;
@@ -128,12 +131,67 @@ fn pass_over(input: &Input<'_, '_>, place: Place) -> Place
     here
 }
 
-/// Returns the other alternative of a choice whose preferred one is known to fail.
+/// Returns an instruction before a choice that has the same outcomes as the choice, since the preferred alternatives up
+/// to it are known to fail.
 ///
 /// # Preconditions
 /// The place is inside the routine and the text.
 #[inline(always)]
 fn other_alternative(input: &Input<'_, '_>, place: Place) -> Option<usize>
+    requires input { IsInput input.now }
+    requires pc { place.pc < length input.now.instructions.now }
+    requires position { place.position ≤ length input.now.text.now }
+    ensures earlier { IfSome result (λ other. other < place.pc) }
+    ensures same { IfSome result (λ other. (outs : ℕ → Out) (g : Groups) → Solve input.now outs →
+        outs input.now.index (at (record place { pc = other }) g) ≡ outs input.now.index (at place g)) }
+{
+    let Some(count) = passed_at(input, place) else {
+        return next_alternative(input, place);
+    };
+    if count == 0 {
+        return None;
+    }
+    Some(place.pc - count)
+}
+
+/// Returns the number of choices from a place on that are passed over at once, or `None` if it is not known.
+///
+/// # Preconditions
+/// The routines are a program.
+#[inline(always)]
+fn passed_at(input: &Input<'_, '_>, place: Place) -> Option<usize>
+    requires input { IsInput input.now }
+    ensures passed { IfSome result (λ count. (b : ℕ) × IsBeside (direction_if input.now.rules.backwards) input.now.text.now place.position b
+        × ArePassed input.now.fronts.now input.now.instructions.now b place.pc count) }
+    ensures within { IfSome result (λ count. count ≤ place.pc) }
+{
+    let counts = counts_at(input, place.pc);
+    if counts.is_empty() {
+        return None;
+    }
+    let b = byte_beside(input.text, input.rules.backwards, place.position)?;
+    Some(usize::from(count_at(counts, b)))
+}
+
+/// Returns the byte next to a position, or `None` at the start and the end of the text.
+#[inline(always)]
+fn byte_beside(text: &str, backwards: bool, position: usize) -> Option<u8>
+    ensures { IfSome result (λ b. IsBeside (direction_if backwards) text.now position b) }
+{
+    let bytes = text.as_bytes();
+    if position == 0 || position >= bytes.len() {
+        return None;
+    }
+    let next = if backwards { position - 1 } else { position };
+    Some(bytes[next])
+}
+
+/// Returns the other alternative of a choice whose preferred one is known to fail.
+///
+/// # Preconditions
+/// The place is inside the routine and the text.
+#[inline(always)]
+fn next_alternative(input: &Input<'_, '_>, place: Place) -> Option<usize>
     requires input { IsInput input.now }
     requires pc { place.pc < length input.now.instructions.now }
     requires position { place.position ≤ length input.now.text.now }

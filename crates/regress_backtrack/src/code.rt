@@ -6,6 +6,7 @@ ghost use Rattle.regress_program.specs.Shape.{IsForwards, IsProgram};
 ghost use Rattle.regress_program.specs.Unique.{forwards-prop, program-prop};
 ghost use Rattle.regress_backtrack.specs.Candidates.{BeginsAt, BeginsAt-prop};
 ghost use Rattle.regress_backtrack.specs.Fronts.{HaveFronts, HaveFronts-prop};
+ghost use Rattle.regress_backtrack.specs.Passes.{HavePasses, HavePasses-prop};
 ghost use Rattle.regress_backtrack.specs.Views.{program_in};
 
 use crate::instruction::Routine;
@@ -37,6 +38,7 @@ pub struct Code {
     ghost counted: { instructions ≡ min (total (program_in tests.items routines.items)) 18446744073709551615 },
     ghost begins: { BeginsAt candidates (program_in tests.items routines.items) } by { BeginsAt-prop candidates (program_in tests.items routines.items) },
     ghost fronted: { HaveFronts tests.items routines.items } by { HaveFronts-prop tests.items routines.items },
+    ghost passing: { HavePasses routines.items } by { HavePasses-prop routines.items },
     ghost linear_if: { linear ≡ is_linear (program_in tests.items routines.items) },
 }
 

@@ -3,10 +3,12 @@ ghost use Rattle.std.specs.Prelude.{◌≡◌, ◌<◌, IfSome, MatchOption, Non
 ghost use Rattle.regress_leaves.specs.Subject.{subject};
 ghost use Rattle.regress_backtrack.specs.Code.{code_routines};
 ghost use Rattle.regress_backtrack.specs.Next.{IsInput};
+ghost use Rattle.regress_backtrack.specs.Passes.{AreCounts};
 
 use crate::code::Code;
 use crate::front::Front;
 use crate::instruction::Instruction;
+use crate::passes::Pass;
 use crate::test::Test;
 use regress_leaves::rules::MatchContext;
 
@@ -25,6 +27,8 @@ pub struct Input<'c, 'x> {
     pub instructions: &'c [Instruction],
     /// The fronts of the instructions.
     pub fronts: &'c [Front],
+    /// The passes of the instructions.
+    pub passes: &'c [Pass],
     /// The index of the instruction at which a match starts.
     pub first: usize,
 }
@@ -57,6 +61,7 @@ pub fn input_for<'c, 'x>(
         index,
         instructions: &routine.instructions,
         fronts: &routine.fronts,
+        passes: &routine.passes,
         first: routine.entry,
     }
 }
@@ -96,5 +101,19 @@ pub fn front_at<'c>(input: &Input<'c, '_>, pc: usize) -> Option<&'c Front>
         Some(&input.fronts[pc])
     } else {
         None
+    }
+}
+
+/// Returns the number of choices that are passed over from an instruction of the routine on, for each byte. It is empty
+/// if there is no instruction with this index.
+#[inline(always)]
+pub fn counts_at<'c>(input: &Input<'c, '_>, pc: usize) -> &'c [u8]
+    requires { IsInput input.now }
+    ensures { AreCounts input.now.fronts.now input.now.instructions.now pc result.now }
+{
+    if pc < input.passes.len() {
+        &input.passes[pc].counts
+    } else {
+        &[]
     }
 }

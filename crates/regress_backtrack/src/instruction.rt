@@ -1,6 +1,7 @@
 //! Instructions and routines that borrow nothing.
 
 use crate::front::Front;
+use crate::passes::Pass;
 
 /// An instruction of a routine, as [`regress_program::instruction::Instruction`], which names its leaf by an index. It
 /// names the instructions after it by their indices in the routine.
@@ -90,4 +91,6 @@ pub struct Routine {
     pub backwards: bool,
     /// The fronts of the instructions.
     pub fronts: Vec<Front>,
+    /// The passes of the instructions.
+    pub passes: Vec<Pass>,
 }

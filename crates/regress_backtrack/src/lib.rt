@@ -13,6 +13,7 @@ mod lent;
 mod machine;
 mod outcome;
 mod owned;
+mod passes;
 mod run;
 mod search;
 mod start;

@@ -12,11 +12,13 @@ ghost use Rattle.regress_backtrack.specs.Candidates.{BeginsAt};
 ghost use Rattle.regress_backtrack.specs.Code.{code_flags, code_groups, code_routines};
 ghost use Rattle.regress_backtrack.specs.Fronts.{HaveFronts};
 ghost use Rattle.regress_backtrack.specs.Owned.{Grown, KeepsFronts, Means};
+ghost use Rattle.regress_backtrack.specs.Passes.{ArePasses, HavePasses};
 ghost use Rattle.regress_backtrack.specs.Views.{op_in, ops_in, program_in, routine_in};
 
 use crate::code::Code;
 use crate::front::fronts_of;
 use crate::instruction::{Instruction, Routine};
+use crate::passes::passes_of;
 use crate::start::start_of;
 use crate::test::Test;
 use regress_prefilter::candidates::{Candidates, candidates_of};
@@ -96,6 +98,7 @@ fn own_routines(
 ) -> Result<Vec<Routine>, AllocError>
     ensures program { IfOk result (λ owned. program_in tests.new.items owned.items ≡ program_of routines.now) }
     ensures fronts { IfOk result (λ owned. HaveFronts tests.new.items owned.items) }
+    ensures passes { IfOk result (λ owned. HavePasses owned.items) }
 {
     let mut owned = Vec::with_capacity(alloc, routines.len())?;
     for routine in routines {
@@ -117,14 +120,17 @@ fn own_routine(
     ensures grown { IfOk result (λ _. Grown tests.old.items tests.new.items) }
     ensures means { IfOk result (λ owned. Means routine_in tests.new.items owned (routine_of routine.now)) }
     ensures fronts { IfOk result (KeepsFronts tests.new.items) }
+    ensures passes { IfOk result (λ owned. ArePasses owned.passes.items owned.fronts.items owned.instructions.items) }
 {
     let instructions = own_instructions(alloc, &routine.instructions, tests)?;
     let fronts = fronts_of(alloc, tests, &instructions, routine.backwards)?;
+    let passes = passes_of(alloc, &fronts, &instructions)?;
     Ok(Routine {
         instructions,
         entry: routine.entry,
         backwards: routine.backwards,
         fronts,
+        passes,
     })
 }
 

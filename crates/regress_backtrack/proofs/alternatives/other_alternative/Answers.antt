@@ -1,26 +1,13 @@
-use Rattle.std.proofs.Common.{◌++◌, Some, sym, ap, ◌∙◌}
-use Rattle.regress_leaves.specs.Subject.{subject}
-use Rattle.regress_program.specs.Program.{goto}
-use Rattle.regress_backtrack.specs.declared.instruction.Instruction.TheVariants as insts
-use Rattle.regress_backtrack.specs.Machine.{at}
-use Rattle.regress_backtrack.proofs.RunLemmas.{can_step, solved}
+use Rattle.std.proofs.Common.{◌≤◌, arith}
+use Rattle.regress_backtrack.proofs.PassLemmas.{all_passed}
 use Rattle.regress_backtrack.proofs.alternatives.other_alternative.Goals as goal
 
-pub returns-then-fails-clause-earlier : goal.returns-then-fails-clause-earlier
-returns-then-fails-clause-earlier c =
-    let input = c.args.input.now in
-    let p = c.args.place in
-    let i = insts.Split c.in-Split.first c.in-Split.second in
-    let read = c.instruction_at.ensures ∙ ap Some c.in-Split.is in
-    (can_step input c.requires.input p i c.requires.pc read input.code.now.is_program c.requires.position).fits.1
+pub returns-clause-earlier : goal.returns-clause-earlier
+returns-clause-earlier c =
+    let within : c.in-Some.count ≤ c.args.place.pc = c.in-Some.ensures.within in
+    omega (arith, within, c.if-count-eq0.false)
 
-pub returns-then-fails-clause-same : goal.returns-then-fails-clause-same
-returns-then-fails-clause-same c = λ outs g solve.
-    let input = c.args.input.now in
-    let p = c.args.place in
-    let u = subject input.rules input.text.now in
-    let i = insts.Split c.in-Split.first c.in-Split.second in
-    let read = c.instruction_at.ensures ∙ ap Some c.in-Split.is in
-    sym
-    (solved input c.requires.input p i c.requires.pc read u.setting u.bytes outs u.direction g solve c.requires.input.direction c.requires.position
-    ∙ ap (λ xs. xs ++ outs input.index (goto c.in-Split.second (at p g))) (c.fails.ensures c.if-fails.true outs g solve))
+pub returns-clause-same : goal.returns-clause-same
+returns-clause-same c = λ outs g solve.
+    let passed = c.in-Some.ensures.passed in
+    all_passed c.args.input.now c.requires.input c.args.place passed.0 passed.1 outs g solve c.args.place.pc c.in-Some.count passed.2

@@ -25,3 +25,6 @@ returns-clause-flags c = ap (λ u. u.setting.flags) (c.rules.ensures [])
 
 pub invariant_of-result-clause-fronted : goal.invariant_of-result-clause-fronted
 invariant_of-result-clause-fronted c = c.in_ok-routines.ensures.fronts
+
+pub invariant_of-result-clause-passing : goal.invariant_of-result-clause-passing
+invariant_of-result-clause-passing c = c.in_ok-routines.ensures.passes

@@ -2,8 +2,9 @@ use Rattle.std.proofs.Common.{◌≡◌, ◌+◌, ◌++◌, ◌∷◌, [], take,
 use Rattle.std.proofs.lemmas.List.{map-append, take_all, take_more}
 use Rattle.regress_program.specs.Views.{program_of, routine_of}
 use Rattle.regress_backtrack.specs.Fronts.{HaveFronts}
+use Rattle.regress_backtrack.specs.Passes.{ArePasses, HavePasses}
 use Rattle.regress_backtrack.specs.Views.{program_in, routine_in}
-use Rattle.regress_backtrack.proofs.OwnedLemmas.{fronts_more, fronts_settled, one_more, settled}
+use Rattle.regress_backtrack.proofs.OwnedLemmas.{fronts_more, fronts_settled, one_more, pushed, settled}
 use Rattle.regress_backtrack.proofs.owned.own_routines.Goals as goal
 
 pub loop-routine-preserved : goal.loop-routine-preserved
@@ -26,6 +27,10 @@ loop-routine-preserved c =
           subst (HaveFronts (new ++ more)) (sym c.in_ok-push.ensures.items)
           (fronts_more old new c.loop-routine.owned.items c.in_ok-copy.copy c.in_ok-copy.ensures.grown c.loop-routine.invariant.fronts
           c.in_ok-copy.ensures.fronts more);
+      passes =
+          subst HavePasses (sym c.in_ok-push.ensures.items)
+          (pushed (λ k r. ArePasses r.passes.items r.fronts.items r.instructions.items) c.loop-routine.owned.items c.in_ok-copy.copy c.loop-routine.invariant.passes
+          c.in_ok-copy.ensures.passes);
     }
 
 pub returns-clause-fronts : goal.returns-clause-fronts
@@ -35,3 +40,6 @@ pub returns-clause-program : goal.returns-clause-program
 returns-clause-program c =
     settled program_in c.loop-routine.tests.items c.loop-routine.owned.items _ c.loop-routine.invariant.means
     ∙ ap program_of (take_all c.loop-routine.routine-index c.args.routines.now c.loop-routine-test.false)
+
+pub returns-clause-passes : goal.returns-clause-passes
+returns-clause-passes c = c.loop-routine.invariant.passes

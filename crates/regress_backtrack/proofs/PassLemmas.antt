@@ -1,0 +1,154 @@
+-- Choices that are passed over.
+use Rattle.std.proofs.Common.{◌≡◌, ℕ, zero, suc, ◌+◌, ◌-◌, ◌≤◌, ◌<◌, ◌==◌, ◌&&◌, Bool, true, false, not, List, [], ◌∷◌, ◌++◌, length, get_or, slice_get, Option, Some, None, refl, sym, ap, ◌∙◌, subst, arith}
+use Rattle.std.proofs.lemmas.Option.{slice_get_within}
+use Rattle.regress_base.specs.ByteBitmap.{contains}
+use Rattle.regress_base.specs.declared.bytesearch.bitmap.ByteBitmap.{ByteBitmap}
+use Rattle.regress_leaves.specs.Subject.{subject}
+use Rattle.regress_program.specs.Program.{Out, goto, matcher_of}
+use Rattle.regress_tree.specs.Reading.{direction_if}
+use Rattle.regress_tree.specs.Steps.{MatchState}
+use Rattle.regress_backtrack.specs.Code.{code_routines}
+use Rattle.regress_backtrack.specs.declared.front.Front.{Front}
+use Rattle.regress_backtrack.specs.declared.front.Front.TheVariants as kinds
+use Rattle.regress_backtrack.specs.declared.input.Input.{Input}
+use Rattle.regress_backtrack.specs.declared.instruction.Instruction.{Instruction}
+use Rattle.regress_backtrack.specs.declared.instruction.Instruction.TheVariants as insts
+use Rattle.regress_backtrack.specs.declared.machine.Place.{Place}
+use Rattle.regress_backtrack.specs.Fronts.{IsOutside, next_to}
+use Rattle.regress_backtrack.specs.Machine.{Groups, at}
+use Rattle.regress_backtrack.specs.Next.{IsInput, Solve}
+use Rattle.regress_backtrack.specs.Passes.{AreCounts, ArePassed, IsBeside, IsPreferred, is_excluded, is_passed}
+use Rattle.regress_backtrack.proofs.RunLemmas.{solved}
+
+-- an instruction that is passed over, with what it names
+record Passed (fronts : List Front) (instructions : List Instruction) (b pc : ℕ) : Type 0 where
+  first : ℕ
+  set : ByteBitmap
+  after : 0 < pc
+  is : slice_get instructions pc ≡ Some (insts.Split first (pc - 1))
+  front : slice_get fronts first ≡ Some (kinds.Bytes set)
+  out : contains set b ≡ false
+
+both_left : (a b : Bool) → (a && b) ≡ true → a ≡ true
+both_left true b is = refl
+both_left false b is = let bad : ⊥ = cc in absurd bad
+
+both_right : (a b : Bool) → (a && b) ≡ true → b ≡ true
+both_right true b is = is
+both_right false b is = let bad : ⊥ = cc in absurd bad
+
+not_true : (b : Bool) → not b ≡ true → b ≡ false
+not_true true is = let bad : ⊥ = cc in absurd bad
+not_true false is = refl
+
+same_number : (a b : ℕ) → (a == b) ≡ true → a ≡ b
+same_number a b is = grind arith
+
+excluded_set : (o : Option Front) (b : ℕ) → is_excluded o b ≡ true → (set : ByteBitmap) × (o ≡ Some (kinds.Bytes set)) × (contains set b ≡ false)
+excluded_set None b is = let bad : ⊥ = cc in absurd bad
+excluded_set (Some kinds.Any) b is = let bad : ⊥ = cc in absurd bad
+excluded_set (Some (kinds.Bytes set)) b is = (set, refl, not_true _ is)
+
+passed_by : (fronts : List Front) (instructions : List Instruction) (b pc : ℕ) (o : Option Instruction) → slice_get instructions pc ≡ o →
+    is_passed fronts b pc o ≡ true → Passed fronts instructions b pc
+passed_by fronts instructions b pc (Some (insts.Split first second)) here is =
+    let number : second + 1 ≡ pc = same_number (second + 1) pc (both_left (second + 1 == pc) _ is) in
+    let found : (set : ByteBitmap) × (slice_get fronts first ≡ Some (kinds.Bytes set)) × (contains set b ≡ false) =
+    excluded_set (slice_get fronts first) b (both_right (second + 1 == pc) _ is) in
+    record {
+      first = first;
+      set = found.0;
+      after = omega (arith, number);
+      is = here ∙ ap (λ k. Some (insts.Split first k)) (omega (arith, number));
+      front = found.1;
+      out = found.2;
+    }
+passed_by fronts instructions b pc None here is = let bad : ⊥ = cc in absurd bad
+passed_by fronts instructions b pc (Some insts.Accept) here is = let bad : ⊥ = cc in absurd bad
+passed_by fronts instructions b pc (Some insts.Fail) here is = let bad : ⊥ = cc in absurd bad
+passed_by fronts instructions b pc (Some (insts.Leaf leaf next)) here is = let bad : ⊥ = cc in absurd bad
+passed_by fronts instructions b pc (Some (insts.BeginLoop greedy body next)) here is = let bad : ⊥ = cc in absurd bad
+passed_by fronts instructions b pc (Some (insts.Repeat greedy body next)) here is = let bad : ⊥ = cc in absurd bad
+passed_by fronts instructions b pc (Some (insts.EndLoop next)) here is = let bad : ⊥ = cc in absurd bad
+passed_by fronts instructions b pc (Some (insts.Unset start end next)) here is = let bad : ⊥ = cc in absurd bad
+passed_by fronts instructions b pc (Some (insts.BeginGroup next)) here is = let bad : ⊥ = cc in absurd bad
+passed_by fronts instructions b pc (Some (insts.EndGroup id next)) here is = let bad : ⊥ = cc in absurd bad
+passed_by fronts instructions b pc (Some (insts.Look negate routine next)) here is = let bad : ⊥ = cc in absurd bad
+
+-- there are as many instructions as are passed over
+pub passed_within : (fronts : List Front) (instructions : List Instruction) (b pc count : ℕ) → ArePassed fronts instructions b pc count → count ≤ pc
+passed_within fronts instructions b pc zero all = omega arith
+passed_within fronts instructions b pc (suc n) all =
+    let last = passed_by fronts instructions b (pc - n) (slice_get instructions (pc - n)) refl (all n (omega arith)) in
+    let after : 0 < pc - n = last.after in
+    omega (arith, after)
+
+-- ---- the outcomes stay the same
+
+module _ (input : Input) (is : IsInput input) (p : Place) (b : ℕ)
+    (beside : IsBeside (direction_if input.rules.backwards) input.text.now p.position b) (outs : ℕ → Out) (g : Groups) (solve : Solve input outs) where
+  abbrev pub outs_from : ℕ → List MatchState
+  outs_from pc = outs input.index (at (record p { pc = pc }) g)
+
+  outside : (set : ByteBitmap) → contains set b ≡ false → IsOutside is.routine.direction set input.text.now p.position
+  outside set out =
+      let same : get_or input.text.now (next_to is.routine.direction p.position) 0 ≡ b =
+      ap (λ d. get_or input.text.now (next_to d p.position) 0) (sym is.direction) ∙ beside.is in
+      record {
+        after = beside.after;
+        before = beside.before;
+        byte = subst (λ k. k < 256) (sym same) beside.small;
+        out = ap (contains set) same ∙ out;
+      }
+
+  one_passed : (pc : ℕ) → Passed input.fronts.now input.instructions.now b pc → outs_from (pc - 1) ≡ outs_from pc
+  one_passed pc passed =
+      let u = subject input.rules input.text.now in
+      let here : Place = record p { pc = pc } in
+      let i = insts.Split passed.first (pc - 1) in
+      let fails = is.fronts u.setting input.text.now (matcher_of u.setting input.text.now (code_routines input.code.now) outs) (outs input.index)
+      (solve input.index is.routine is.is) passed.first (kinds.Bytes passed.set) passed.front (goto passed.first (at here g)) refl
+      (outside passed.set passed.out) in
+      let before : p.position < length input.text.now = beside.before in
+      sym
+      (solved input is here i (slice_get_within input.instructions.now pc i passed.is) passed.is u.setting u.bytes outs u.direction g solve is.direction
+      (omega (arith, before))
+      ∙ ap (λ xs. xs ++ outs input.index (goto (pc - 1) (at here g))) fails)
+
+  pub all_passed : (pc count : ℕ) → ArePassed input.fronts.now input.instructions.now b pc count → outs_from (pc - count) ≡ outs_from pc
+  all_passed pc zero all = ap outs_from (omega arith)
+  all_passed pc (suc n) all =
+      let last = passed_by input.fronts.now input.instructions.now b (pc - n) (slice_get input.instructions.now (pc - n)) refl (all n (omega arith)) in
+      let number : pc - suc n ≡ (pc - n) - 1 = omega arith in
+      ap outs_from number ∙ one_passed (pc - n) last ∙ all_passed pc n (λ j lt. all j (omega (arith, lt)))
+
+-- ---- counts
+
+pub no_counts : (fronts : List Front) (instructions : List Instruction) (pc : ℕ) → AreCounts fronts instructions pc []
+no_counts fronts instructions pc = λ b n is j lt. let bad : ⊥ = cc in absurd bad
+
+got : (xs : List ℕ) (b i : ℕ) → i < get_or xs b 0 → slice_get xs b ≡ Some (get_or xs b 0)
+got [] b i lt = let bad : ⊥ = omega (arith, lt) in absurd bad
+got (x ∷ xs) zero i lt = refl
+got (x ∷ xs) (suc b) i lt = got xs b i lt
+
+-- what is passed over by the count for a byte, or by 0 without one
+pub counted : (fronts : List Front) (instructions : List Instruction) (pc : ℕ) (counts : List ℕ) → AreCounts fronts instructions pc counts → (b : ℕ) →
+    ArePassed fronts instructions b pc (get_or counts b 0)
+counted fronts instructions pc counts are b = λ j lt. are b (get_or counts b 0) (got counts b j lt) j lt
+
+module _ (fronts : List Front) (instructions : List Instruction) (pc : ℕ) (set : ByteBitmap) (preferred : IsPreferred fronts pc (slice_get instructions pc) set)
+    (before : List ℕ) (counted : AreCounts fronts instructions (pc - 1) before) (b : ℕ) (n : ℕ) (out : contains set b ≡ false) (le : n ≤ get_or before b 0 + 1) where
+  passed_at : (j : ℕ) → j < n → is_passed fronts b (pc - j) (slice_get instructions (pc - j)) ≡ true
+  passed_at zero lt = subst (λ k. is_passed fronts b k (slice_get instructions k) ≡ true) (omega arith) (preferred b out)
+  passed_at (suc i) lt =
+      let less : i < get_or before b 0 = omega (arith, lt, le) in
+      let number : (pc - 1) - i ≡ pc - suc i = omega arith in
+      subst (λ k. is_passed fronts b k (slice_get instructions k) ≡ true) number (counted b (get_or before b 0) (got before b i less) i less)
+
+pub more_counts : (fronts : List Front) (instructions : List Instruction) (pc : ℕ) (set : ByteBitmap) → IsPreferred fronts pc (slice_get instructions pc) set →
+    (before counts : List ℕ) → AreCounts fronts instructions (pc - 1) before →
+    ((b n : ℕ) → slice_get counts b ≡ Some n → 0 < n → (contains set b ≡ false) × (n ≤ get_or before b 0 + 1)) → AreCounts fronts instructions pc counts
+more_counts fronts instructions pc set preferred before counts counted are = λ b n is j lt.
+    let more = are b n is (omega (arith, lt)) in
+    passed_at fronts instructions pc set preferred before counted b n more.0 more.1 j lt
