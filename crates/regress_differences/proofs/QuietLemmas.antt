@@ -2,7 +2,7 @@
 use Rattle.std.proofs.Common.{◌≡◌, ◌≢◌, ℕ, Bool, true, false, cond, not, ◌||◌, ◌==◌, nat_lt, List, [], ◌∷◌, ◌++◌, length, drop, map, Option, Some, None, refl, sym, subst, ◌∙◌}
 use Rattle.std.specs.List.{All, cons_option}
 use Rattle.std.specs.Option.{option_map}
-use Rattle.std.proofs.lemmas.Bool.{false≢true, or_parts}
+use Rattle.std.proofs.lemmas.Bool.{false≢true}
 use Rattle.std.proofs.lemmas.List.Elements.{All-nil, All-cons, All-head, All-tail}
 use Rattle.regress_base.specs.Intervals.{Bounds}
 use Rattle.regress_tree.specs.Reading.{Direction, forwards, backwards}
@@ -33,6 +33,10 @@ no_kind : (b : Bool) (f : DifferenceKind → Difference) (k : Option DifferenceK
 no_kind true f None long none = refl
 no_kind true f (Some kind) long none = cc (none)
 no_kind false f k long none = cc (long)
+
+no_first : {A : Type 0} (b : Bool) (a : A) (o : Option A) → cond b (Some a) o ≡ None → (b ≡ false) × (o ≡ None)
+no_first true a o none = cc (none)
+no_first false a o none = (refl, none)
 
 no_choice : {A : Type 0} (b : Bool) (a : A) → cond b (Some a) None ≡ None → b ≡ false
 no_choice true a none = cc (none)
@@ -94,13 +98,13 @@ module _ (icase : Bool) (t : Source) where
   -- A property of strings is reported.
   pub property_reported : is_at 92 t ≡ true → (written : List (List ℕ)) (i : Bool) → kind_of icase t (leaf (string_set written i)) ≡ None → ⊥
   property_reported backslash written i none =
-      false≢true (sym (or_parts (is_at 92 t) icase (no_choice (is_at 92 t || icase) StringSet none)).0 ∙ backslash)
+      false≢true (sym (no_first (is_at 92 t) StringSet (cond icase (Some CaseClosure) None) none).0 ∙ backslash)
 
   pub points_reported : cond icase (Some CaseClosure) None ≡ None → icase ≡ false
   points_reported none = no_choice icase CaseClosure none
 
   strings_reported : (written : List (List ℕ)) (i : Bool) → kind_of icase t (leaf (string_set written i)) ≡ None → icase ≡ false
-  strings_reported written i none = (or_parts (is_at 92 t) icase (no_choice (is_at 92 t || icase) StringSet none)).1
+  strings_reported written i none = points_reported (no_first (is_at 92 t) StringSet (cond icase (Some CaseClosure) None) none).1
 
   -- A class with the flag v is reported if case may be ignored.
   pub class_reported : (strings points empty : Bool) (written : List (List ℕ)) (i invert : Bool) (intervals : List Bounds) →

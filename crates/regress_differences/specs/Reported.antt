@@ -26,7 +26,8 @@ module _ (icase : Bool) where
   -- `[\q{}]`. An empty alternative has an empty span.
   kind_of_leaf t empty = if icase then Some CaseClosure else None
   -- a property of strings, or a class
-  kind_of_leaf t (string_set strings icase_of_strings) = if is_at (char "\\") t || icase then Some StringSet else None
+  kind_of_leaf t (string_set strings icase_of_strings) =
+      if is_at (char "\\") t then Some StringSet else if icase then Some CaseClosure else None
   kind_of_leaf t l = None
 
   -- why a node with a span that is not empty is reported, if it is

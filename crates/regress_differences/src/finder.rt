@@ -89,9 +89,9 @@ fn kind_of(icase: bool, source: &[u32], node: &Node) -> Option<DifferenceKind>
     ensures { result ≡ kind_of icase source.now (tree node.now) }
 {
     match node {
-        Node::Bracket(_) | Node::Empty => icase.then_some(DifferenceKind::CaseClosure),
-        Node::StringSet { .. } => {
-            (is_at(source, '\\') || icase).then_some(DifferenceKind::StringSet)
+        Node::StringSet { .. } if is_at(source, '\\') => Some(DifferenceKind::StringSet),
+        Node::Bracket(_) | Node::Empty | Node::StringSet { .. } => {
+            icase.then_some(DifferenceKind::CaseClosure)
         }
         Node::Alt(left, right) if is_reference(left) && is_reference(right) => {
             is_after_first(source, 'k').then_some(DifferenceKind::SameName)
