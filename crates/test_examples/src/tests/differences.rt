@@ -75,9 +75,17 @@ fn constructs_that_agree_are_not_reported(rt: HostRuntime) -> Result<(), Fail> {
         icase: true,
         ..Flags::default()
     };
+    let unicode = Flags {
+        unicode: true,
+        ..icase
+    };
     let cases = [
         ("", icase),
         ("^k|s*?$", icase),
+        // with i: class escapes, and classes without characters whose case variants depend on u
+        ("\\d\\D\\s\\S", icase),
+        ("[0-9a-f][^\"\\s][^,]", icase),
+        ("[k-s]\\w\\W[^\\w]", unicode),
         ("(?=.)(?<!\\b)", icase),
         ("[k]\\w", Flags::default()),
         ("(?-i:[k])", Flags::default()),
