@@ -1,6 +1,5 @@
 -- Sets of characters with the flag i, where both agree.
-use Rattle.std.proofs.Common.{◌≡◌, ℕ, ◌<◌, ◌≤◌, ◌==◌, Bool, true, false, not, ◌&&◌, ◌||◌, List, [], ◌∷◌, ◌++◌, if◌then◌else◌, refl, sym, ap, ap₂, ◌∙◌, arith, ⊎_elim}
-use Rattle.std.specs.Char.{IsScalar}
+use Rattle.std.proofs.Common.{◌≡◌, ℕ, ◌<◌, ◌≤◌, ◌==◌, Bool, true, false, not, ◌&&◌, ◌||◌, [], ◌∷◌, ◌++◌, if◌then◌else◌, refl, sym, ap, ap₂, ◌∙◌, ⊎_elim}
 use Rattle.std.proofs.lemmas.Bool.{cases_lt, eq-eqb, eqb-true, false≢true, and_parts, or_parts}
 use Rattle.regress_base.specs.Classes.{digits, white_space, line_terminators, word_characters as basic_word_characters}
 use Rattle.regress_base.specs.Intervals.{code_point_max, is_member, intervals_of, IsCanonical}
@@ -13,7 +12,7 @@ use Rattle.regress_base.proofs.lemmas.Literals.{scalar_in_range}
 use Rattle.regress_base.proofs.lemmas.Sets.{intervals_of-canonical, intervals_of-member, no_member_past_end}
 use Rattle.regress_classes.specs.ClassProductions.{members_of}
 use Rattle.regress_tree.specs.Assertions.{differ}
-use Rattle.regress_syntax.specs.Meaning.{is_in_word, is_in_class}
+use Rattle.regress_syntax.specs.Meaning.{is_in_class}
 use Rattle.regress_ecma.specs.Notation.{CharSet}
 use Rattle.regress_ecma.specs.Characters.{canonicalize, has_some, all_characters, character_complement, word_characters, is_extra_word_character, class_escape_set, character_class_escape}
 use Rattle.regress_ecma.specs.CharacterMatchers.{is_found}

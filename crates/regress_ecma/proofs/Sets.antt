@@ -1,19 +1,15 @@
 -- Sets of characters under case folding.
-use Rattle.std.proofs.Common.{◌≡◌, ℕ, ◌<◌, ◌≤◌, nat_le, nat_lt, ◌==◌, Bool, true, false, not, ◌&&◌, ◌||◌, List, [], ◌∷◌, ◌++◌, if◌then◌else◌, refl, sym, ap, ap₂, ◌∙◌, arith, ⊎_elim, ◌⊎◌, inr}
-use Rattle.std.specs.List.{list_any}
-use Rattle.std.specs.Char.{IsScalar}
+use Rattle.std.proofs.Common.{◌≡◌, ℕ, ◌<◌, ◌≤◌, nat_le, nat_lt, ◌==◌, Bool, true, false, not, ◌&&◌, ◌||◌, [], ◌∷◌, ◌++◌, if◌then◌else◌, refl, sym, ap, ap₂, ◌∙◌, arith, ⊎_elim, ◌⊎◌, inr}
 use Rattle.std.proofs.lemmas.Bool.{cases_lt, eq-eqb, eqb-true, false≢true}
 use Rattle.std.proofs.lemmas.Bool.Decides.{nat_tests}
 use Rattle.regress_base.specs.Classes.{line_terminators, word_characters as basic_word_characters}
 use Rattle.regress_base.specs.Intervals.{code_point_max, is_member, is_within, intervals_of}
-use Rattle.regress_base.specs.Listing.{lists, code_points}
 use Rattle.regress_base.specs.Table.{Table, denotes, is_in_closure}
 use Rattle.regress_base.specs.Table as Table
 use Rattle.regress_base.specs.declared.charclasses.CharacterClassType.{CharacterClassType}
 use Rattle.regress_base.specs.declared.charclasses.CharacterClassType.TheVariants.{Digits, Spaces, Words}
 use Rattle.regress_base.specs.declared.types.Flags.{Flags}
 use Rattle.regress_classes.specs.ClassProductions.{members_of}
-use Rattle.regress_base.proofs.lemmas.Listings.{lists-head, lists-tail, lists-interval}
 use Rattle.regress_base.proofs.lemmas.Literals.{scalar_in_range}
 use Rattle.regress_base.proofs.lemmas.Sets.{intervals_of-member}
 use Rattle.regress_tree.specs.Assertions.{differ, is_line_terminator}

@@ -1,11 +1,10 @@
 -- Classes that may differ with the flag i.
-use Rattle.std.proofs.Common.{◌≡◌, ℕ, ◌≤◌, nat_le, ◌==◌, Bool, true, false, ◌&&◌, ◌||◌, List, ap₂, ◌∙◌, cond, refl, arith}
-use Rattle.std.proofs.lemmas.Bool.{and_parts, eq-eqb, false≢true}
+use Rattle.std.proofs.Common.{◌≡◌, ℕ, ◌≤◌, nat_le, ◌==◌, Bool, true, false, ◌&&◌, ◌||◌, List, ap₂, cond, refl, arith}
+use Rattle.std.proofs.lemmas.Bool.{and_parts, eq-eqb}
 use Rattle.std.proofs.lemmas.Bool.Decides.{nat_tests}
 use Rattle.regress_base.specs.Intervals.{Bounds, code_point_max, is_member, is_within}
 use Rattle.regress_base.specs.Table.{Table, is_in_closure}
 use Rattle.regress_base.specs.declared.types.Flags.{Flags}
-use Rattle.regress_ecma.specs.Characters.{has_some}
 use Rattle.regress_ecma.specs.Differences.{unlike, has_unlike, has_ends, differs_in_case}
 use Rattle.regress_ecma.proofs.Members.{has_some_from, has_some_gives}
 
