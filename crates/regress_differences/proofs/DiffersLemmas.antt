@@ -1,5 +1,5 @@
 -- A pattern of which nothing is reported has no differing construct.
-use Rattle.std.proofs.Common.{◌≡◌, ◌≢◌, ℕ, ◌+◌, ◌-◌, Bool, true, false, cond, not, ◌&&◌, ◌||◌, ◌==◌, List, [], ◌∷◌, ◌++◌, length, Option, Some, None, refl, sym, ap, subst, ◌∙◌, arith}
+use Rattle.std.proofs.Common.{◌≡◌, ◌≢◌, ℕ, ◌+◌, ◌-◌, ◌≤◌, Bool, true, false, cond, not, ◌&&◌, ◌||◌, ◌==◌, List, [], ◌∷◌, ◌++◌, length, Option, Some, None, refl, sym, ap, ap₂, subst, ◌∙◌, arith}
 use Rattle.std.specs.List.{All}
 use Rattle.std.proofs.lemmas.Bool.{false≢true, or_left, or_right, lt-ltb}
 use Rattle.regress_base.specs.declared.types.Flags.{Flags}
@@ -8,7 +8,11 @@ use Rattle.regress_tree.specs.Setting.{Setting}
 use Rattle.regress_lexer.specs.Modifiers.{Change, changed, switched as switched_to}
 use Rattle.regress_lexer.specs.Source.{Source, closing, bar}
 use Rattle.regress_lexer.proofs.lemmas.After.{IsSuffix, after_same, after_after, after_drop, after_shorter}
-use Rattle.regress_base.specs.Intervals.{intervals_of}
+use Rattle.regress_base.specs.Intervals.{Bounds, code_point_max, is_member, intervals_of}
+use Rattle.regress_base.specs.Table.{Table, is_in_closure}
+use Rattle.regress_base.specs.declared.charclasses.CharacterClassType.{CharacterClassType}
+use Rattle.regress_base.proofs.lemmas.Sets.{intervals_of-member}
+use Rattle.regress_classes.specs.ClassProductions.{members_of}
 use Rattle.regress_classes.specs.ClassSets.{has_strings}
 use Rattle.regress_syntax.specs.Grammar.{IsPattern, AreTerms, IsItem}
 use Rattle.regress_syntax.specs.Meaning.{is_in_class, longest_first, groups_named, direction_of_group}
@@ -22,9 +26,10 @@ use Rattle.regress_spans.specs.Paired.{postorder, beside, spanned_of_pattern, sp
 use Rattle.regress_ecma.specs.Atoms.{numbers_of}
 use Rattle.regress_ecma.specs.Characters.{switched, update_modifiers}
 use Rattle.regress_ecma.specs.Compile.{flags_inside}
-use Rattle.regress_ecma.specs.Differences.{differs_at_atom, differs, differs_in_terms, differs_in_item}
-use Rattle.regress_differences.specs.CaseMode.{is_somewhere, switches_on, may_ignore_case}
-use Rattle.regress_differences.specs.Reported.{reported}
+use Rattle.regress_ecma.proofs.lemmas.InCase.{member_closed, differs_in_case-more}
+use Rattle.regress_ecma.specs.Differences.{is_words, has_unlike, has_ends, differs_in_case, differs_at_atom, differs, differs_in_terms, differs_in_item}
+use Rattle.regress_differences.specs.CaseMode.{is_somewhere, switches_on, flags_somewhere}
+use Rattle.regress_differences.specs.Reported.{class_escape_at, class_may_differ, reported}
 use Rattle.regress_differences.proofs.QuietLemmas.{IsQuiet, HaveNoKind, split, split_order, all_quiet, without_spans, one_reference, property_reported, points_reported, class_reported}
 use Rattle.regress_differences.proofs.HeadLemmas.{AtomFits, head_fits}
 use Rattle.regress_differences.proofs.SourceLemmas.{somewhere-after, somewhere-here, remaining}
@@ -89,7 +94,16 @@ neither : (a b : Bool) → a ≡ false → b ≡ false → (a || b) ≡ false
 neither true b first second = first
 neither false b first second = second
 
-module _ (all : List (Option Name)) (icase : Bool) (source : Source) where
+-- A class escape may differ by its kind.
+escape_differs : (widest : Flags) (t : Source) (closed : List Bounds) (kind : CharacterClassType) (negated : Bool) →
+    class_escape_at t ≡ Some (kind, negated) → class_may_differ widest t closed ≡ (not widest.unicode && is_words kind)
+escape_differs widest t closed kind negated begins =
+    ap (λ (letter : Option (CharacterClassType × Bool)). elim letter as (λ _. Bool) [
+      | Some named ↦ not widest.unicode && is_words named.0
+      | None ↦ differs_in_case widest closed
+    ]) begins
+
+module _ (all : List (Option Name)) (widest : Flags) (source : Source) where
   abbrev whole : ℕ
   whole = length source
 
@@ -97,8 +111,10 @@ module _ (all : List (Option Name)) (icase : Bool) (source : Source) where
   record IsCovered (ctx : Context) (t : Source) : Type 0 where
     same_names : ctx.names ≡ all
     suffix : IsSuffix source t
-    here : ctx.setting.flags.icase ≡ true → icase ≡ true
-    ahead : is_somewhere switches_on t ≡ true → icase ≡ true
+    here : ctx.setting.flags.icase ≡ true → widest.icase ≡ true
+    ahead : is_somewhere switches_on t ≡ true → widest.icase ≡ true
+    unicode : ctx.setting.flags.unicode ≡ widest.unicode
+    unicode_sets : ctx.setting.flags.unicode_sets ≡ widest.unicode_sets
 
   covered-after : (ctx : Context) (t rest : Source) → IsSuffix t rest → IsCovered ctx t → IsCovered ctx rest
   covered-after ctx t rest h w = record {
@@ -106,6 +122,8 @@ module _ (all : List (Option Name)) (icase : Bool) (source : Source) where
     suffix = after_after source t rest w.suffix h;
     here = w.here;
     ahead = λ e. w.ahead (somewhere-after switches_on t rest h e);
+    unicode = w.unicode;
+    unicode_sets = w.unicode_sets;
   }
 
   covered-inside : (kind : Group) (ctx : Context) (t mid : Source) → IsCovered ctx t → head_at ctx t ≡ Some (opens kind, mid) →
@@ -118,9 +136,11 @@ module _ (all : List (Option Name)) (icase : Bool) (source : Source) where
         suffix = after.suffix;
         here = by change.icase ((head_fits ctx t).each (opens (modified change), mid) head);
         ahead = after.ahead;
+        unicode = after.unicode;
+        unicode_sets = after.unicode_sets;
       }
     where
-      by : (o : Option Bool) → (switched_to o false ≡ true → switches_on t ≡ true) → switched_to o ctx.setting.flags.icase ≡ true → icase ≡ true
+      by : (o : Option Bool) → (switched_to o false ≡ true → switches_on t ≡ true) → switched_to o ctx.setting.flags.icase ≡ true → widest.icase ≡ true
       by None on e = w.here e
       by (Some new) on e = w.ahead (somewhere-here t (on e))
   covered-inside (capture name) ctx t mid w head = covered-after ctx t mid ((head_at-ends ctx t).each (opens (capture name), mid) head) w
@@ -128,91 +148,129 @@ module _ (all : List (Option Name)) (icase : Bool) (source : Source) where
       covered-after ctx t mid ((head_at-ends ctx t).each (opens (look negate direction), mid) head) w
 
   -- Where classes are not reported, the flag i is not in force.
-  off : (b : Bool) → (b ≡ true → icase ≡ true) → icase ≡ false → b ≡ false
+  off : (b : Bool) → (b ≡ true → widest.icase ≡ true) → widest.icase ≡ false → b ≡ false
   off false on none = refl
   off true on none = absurd (false≢true (sym none ∙ on refl))
 
+  -- What is not reported does not differ, if it differs only where it is reported.
+  not_both : (b i differs reported : Bool) → (b ≡ true → i ≡ true) → (differs ≡ true → reported ≡ true) → (i && reported) ≡ false → (b && differs) ≡ false
+  not_both false i differs reported on more none = refl
+  not_both true i false reported on more none = refl
+  not_both true i true reported on more none =
+      absurd (false≢true (sym none ∙ rw (on refl, more refl) refl))
+
+  -- The set of a class has its members, where the flag i is in force and where not.
+  in_closed : (table : Table) (flags : Flags) (members : List Bounds) (c : ℕ) → c ≤ code_point_max → is_member members c ≡ true →
+      is_member (intervals_of (is_in_class table flags false members)) c ≡ true
+  in_closed table flags members c le member =
+      intervals_of-member (is_in_class table flags false members) c le ∙ by flags.icase
+    where
+      by : (i : Bool) → (cond i (is_in_closure table members c) (is_member members c)) ≡ true
+      by true = member_closed table members c le member
+      by false = member
+
+  class_differs : (ctx : Context) (flags : Flags) (members : List Bounds) (t : Source) → IsCovered ctx t → class_escape_at t ≡ None →
+      differs_in_case ctx.setting.flags members ≡ true →
+      class_may_differ widest t (intervals_of (is_in_class ctx.setting.table flags false members)) ≡ true
+  class_differs ctx flags members t w begins differs =
+      let closed = intervals_of (is_in_class ctx.setting.table flags false members) in
+      ap (λ (letter : Option (CharacterClassType × Bool)). elim letter as (λ _. Bool) [
+        | Some named ↦ not widest.unicode && is_words named.0
+        | None ↦ differs_in_case widest closed
+      ]) begins
+      ∙ sym (ap₂ (λ (v u : Bool). v || cond u (has_ends closed) (has_unlike closed)) w.unicode_sets w.unicode)
+      ∙ differs_in_case-more ctx.setting.flags members closed (in_closed ctx.setting.table flags members) differs
+
   atom_same : (ctx : Context) (a : Atom) (t : Source) → IsCovered ctx t → AtomFits ctx t a →
-      HaveNoKind icase t (postorder (tree_of_atom ctx.setting.table ctx.names a)) → differs_at_atom all ctx.setting.flags a ≡ false
+      HaveNoKind widest t (postorder (tree_of_atom ctx.setting.table ctx.names a)) → differs_at_atom all ctx.setting.flags a ≡ false
   atom_same ctx (literal flags c) t w fits none = refl
   atom_same ctx (dot flags) t w fits none = refl
   atom_same ctx (anchor flags kind) t w fits none = refl
   atom_same ctx (boundary flags inverted) t w fits none = refl
-  atom_same ctx (class_escape flags kind negated) t w fits none = off ctx.setting.flags.icase w.here (points_reported icase t none.0)
-  atom_same ctx (class flags inverted members) t w fits none = off ctx.setting.flags.icase w.here (points_reported icase t none.0)
+  atom_same ctx (class_escape flags kind negated) t w fits none =
+      let closed = intervals_of (is_in_class ctx.setting.table flags negated (members_of kind)) in
+      not_both ctx.setting.flags.icase widest.icase (not ctx.setting.flags.unicode && is_words kind) (class_may_differ widest t closed) w.here
+      (λ differs. escape_differs widest t closed kind negated fits ∙ ap (λ (u : Bool). not u && is_words kind) (sym w.unicode) ∙ differs)
+      (points_reported widest t closed none.0)
+  atom_same ctx (class flags inverted members) t w fits none =
+      let closed = intervals_of (is_in_class ctx.setting.table flags false members) in
+      not_both ctx.setting.flags.icase widest.icase (differs_in_case ctx.setting.flags members) (class_may_differ widest t closed) w.here
+      (class_differs ctx flags members t w fits) (points_reported widest t closed none.0)
   atom_same ctx (class_set flags negated value) t w fits none =
       let closed = intervals_of (is_in_class ctx.setting.table flags false value.members) in
       neither ctx.setting.flags.icase (negated && has_strings value)
       (off ctx.setting.flags.icase w.here
-      (class_reported icase t (not (length value.strings == 0)) (negated || not (length closed == 0)) value.has_empty
+      (class_reported widest t (record { no_escape = fits.0; sets = sym w.unicode_sets ∙ fits.1 }) (not (length value.strings == 0)) (negated || not (length closed == 0)) value.has_empty
       (longest_first value.strings) flags.icase negated closed none))
-      fits
-  atom_same ctx (string_property flags written) t w fits none = absurd (property_reported icase t fits written flags.icase none.0)
+      fits.2
+  atom_same ctx (string_property flags written) t w fits none = absurd (property_reported widest t fits written flags.icase none.0)
   atom_same ctx (back_reference flags (by_number n)) t w fits none = refl
   atom_same ctx (back_reference flags (by_name name)) t w fits none =
       subst (λ (names : List (Option Name)). not (length (numbers_of name 1 names) == 1) ≡ false) w.same_names
       (subst (λ (ns : List ℕ). not (length ns == 1) ≡ false) (named_same name 1 ctx.names)
-      (one_reference icase t fits.0 flags.icase (groups_named name 1 ctx.names) (some_named name 1 ctx.names fits.1) none))
+      (one_reference widest t fits.0 flags.icase (groups_named name 1 ctx.names) (some_named name 1 ctx.names fits.1) none))
 
   mutual
     -- Nothing is reported of the nodes with their spans.
     pattern_same : (ctx : Context) (d : Direction) (n : ℕ) (p : Pattern) (t rest : Source) → IsCovered ctx t → (h : IsPattern ctx p t rest) →
-        All (IsQuiet icase source) (spanned_of_pattern whole ctx d n p t rest h) → differs all ctx.setting.flags p ≡ false
+        All (IsQuiet widest source) (spanned_of_pattern whole ctx d n p t rest h) → differs all ctx.setting.flags p ≡ false
     pattern_same ctx d n (one ts) t rest w (terms, last) quiet =
-        terms_same ctx d n ts t rest w terms (split (IsQuiet icase source) (spanned_of_terms whole ctx d n ts t rest terms) _ quiet).0
+        terms_same ctx d n ts t rest w terms (split (IsQuiet widest source) (spanned_of_terms whole ctx d n ts t rest terms) _ quiet).0
     pattern_same ctx d n (either ts p) t rest w (mid, terms, others) quiet =
         let m = n + (counts_of_terms ts).groups in
         let first = spanned_of_terms whole ctx d n ts t (bar ∷ mid) terms in
         let alternative = first ++ beside (concatenation d (trees_of_terms ctx.setting.table ctx.names d n ts))
         (span_of_alternative (how_many ts) (between whole t (bar ∷ mid))) in
-        let inner = split (IsQuiet icase source) (alternative ++ spanned_of_pattern whole ctx d m p mid rest others) _ quiet in
-        let sides = split (IsQuiet icase source) alternative (spanned_of_pattern whole ctx d m p mid rest others) inner.0 in
+        let inner = split (IsQuiet widest source) (alternative ++ spanned_of_pattern whole ctx d m p mid rest others) _ quiet in
+        let sides = split (IsQuiet widest source) alternative (spanned_of_pattern whole ctx d m p mid rest others) inner.0 in
         neither (differs_in_terms all ctx.setting.flags ts) (differs all ctx.setting.flags p)
-        (terms_same ctx d n ts t (bar ∷ mid) w terms (split (IsQuiet icase source) first _ sides.0).0)
+        (terms_same ctx d n ts t (bar ∷ mid) w terms (split (IsQuiet widest source) first _ sides.0).0)
         (pattern_same ctx d m p mid rest
         (covered-after ctx t mid (after_after t (bar ∷ mid) mid (terms-ends ctx ts t (bar ∷ mid) terms) (after_drop 1 (bar ∷ mid))) w) others sides.1)
 
     terms_same : (ctx : Context) (d : Direction) (n : ℕ) (ts : Terms) (t rest : Source) → IsCovered ctx t → (h : AreTerms ctx ts t rest) →
-        All (IsQuiet icase source) (spanned_of_terms whole ctx d n ts t rest h) → differs_in_terms all ctx.setting.flags ts ≡ false
+        All (IsQuiet widest source) (spanned_of_terms whole ctx d n ts t rest h) → differs_in_terms all ctx.setting.flags ts ≡ false
     terms_same ctx d n no_terms t rest w h quiet = refl
     terms_same ctx d n (more_terms x q xs) t rest w (mid, after, item, times, others) quiet =
         let item_nodes = spanned_of_item whole ctx d n x t mid item in
         let looped = tree_of_quantified q n (n + (counts_of_item x).groups) (tree_of_item ctx.setting.table ctx.names d n x) in
         let m = n + (counts_of_term x q).groups in
-        let parts = split_order icase source d (item_nodes ++ beside looped (span_of_times q (between whole t after)))
+        let parts = split_order widest source d (item_nodes ++ beside looped (span_of_times q (between whole t after)))
         (spanned_of_terms whole ctx d m xs after rest others) quiet in
         neither (differs_in_item all ctx.setting.flags x) (differs_in_terms all ctx.setting.flags xs)
-        (item_same ctx d n x t mid w item (split (IsQuiet icase source) item_nodes _ parts.0).0)
+        (item_same ctx d n x t mid w item (split (IsQuiet widest source) item_nodes _ parts.0).0)
         (terms_same ctx d m xs after rest
         (covered-after ctx t after (after_after t mid after (item-ends ctx x t mid item)
         ((optional_quantifier_at-ends ctx (allows ctx.setting.flags.unicode (head_of_item x)) mid).each (q, after) times)) w) others parts.1)
 
     item_same : (ctx : Context) (d : Direction) (n : ℕ) (x : Item) (t rest : Source) → IsCovered ctx t → (h : IsItem ctx x t rest) →
-        All (IsQuiet icase source) (spanned_of_item whole ctx d n x t rest h) → differs_in_item all ctx.setting.flags x ≡ false
+        All (IsQuiet widest source) (spanned_of_item whole ctx d n x t rest h) → differs_in_item all ctx.setting.flags x ≡ false
     item_same ctx d n (atom a) t rest w head quiet =
         let long = lt-ltb (whole - length t) (whole - length rest)
         (omega (arith, after_shorter source t w.suffix, head_at-shortens ctx t (single a, rest) head)) in
         atom_same ctx a t w ((head_fits ctx t).each (single a, rest) head)
-        (without_spans icase t source (between whole t rest) long (remaining source t w.suffix)
+        (without_spans widest t source (between whole t rest) long (remaining source t w.suffix)
         (postorder (tree_of_atom ctx.setting.table ctx.names a)) quiet)
     item_same ctx d n (group kind p) t rest w (mid, head, body) quiet =
         let inside = direction_of_group kind d in
         subst (λ (flags : Flags). differs all flags p ≡ false) (inside_same kind ctx)
         (pattern_same (context_inside kind ctx) inside (n + opened_by kind) p mid (closing ∷ rest)
         (covered-inside kind ctx t mid w head) body
-        (split (IsQuiet icase source) (spanned_of_pattern whole (context_inside kind ctx) inside (n + opened_by kind) p mid (closing ∷ rest) body) _ quiet).0)
+        (split (IsQuiet widest source) (spanned_of_pattern whole (context_inside kind ctx) inside (n + opened_by kind) p mid (closing ∷ rest) body) _ quiet).0)
 
 -- If nothing is reported of the nodes of a pattern, none of its constructs differs.
 pub none_differs : (setting : Setting) (source : Source) (p : Pattern) (derived : IsDerived setting source p) →
-    reported (may_ignore_case setting.flags source) source (spanned_of setting source p derived) ≡ [] → differs (names p) setting.flags p ≡ false
+    reported (flags_somewhere setting.flags source) source (spanned_of setting source p derived) ≡ [] → differs (names p) setting.flags p ≡ false
 none_differs setting source p derived none =
-    let icase = may_ignore_case setting.flags source in
+    let widest = flags_somewhere setting.flags source in
     let inner = spanned_of_pattern (length source) (own_context setting p) forwards 0 p source [] derived in
-    pattern_same (names p) icase source (own_context setting p) forwards 0 p source []
+    pattern_same (names p) widest source (own_context setting p) forwards 0 p source []
     (record {
       same_names = refl;
       suffix = after_same source;
       here = or_left setting.flags.icase (is_somewhere switches_on source);
       ahead = or_right setting.flags.icase (is_somewhere switches_on source);
+      unicode = refl;
+      unicode_sets = refl;
     })
-    derived (split (IsQuiet icase source) inner _ (all_quiet icase source (spanned_of setting source p derived) none)).0
+    derived (split (IsQuiet widest source) inner _ (all_quiet widest source (spanned_of setting source p derived) none)).0

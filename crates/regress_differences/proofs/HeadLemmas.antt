@@ -1,6 +1,6 @@
 -- The start of an item: modifiers that switch the flag i on are found there, and what the grammar has of an atom.
-use Rattle.std.proofs.Common.{◌≡◌, ℕ, zero, suc, nat_le, Bool, true, false, cond, ◌&&◌, ◌||◌, ◌==◌, List, [], ◌∷◌, drop, Option, Some, None, is_some, ap, ◌∙◌}
-use Rattle.std.proofs.lemmas.Bool.{and_parts}
+use Rattle.std.proofs.Common.{◌≡◌, ℕ, zero, suc, nat_le, Bool, true, false, cond, ◌&&◌, ◌||◌, ◌==◌, List, [], ◌∷◌, drop, Option, Some, None, is_some, refl, ap, ◌∙◌}
+use Rattle.std.proofs.lemmas.Bool.{and_parts, eqb-true}
 use Rattle.regress_base.specs.Intervals.{Bounds}
 use Rattle.regress_base.specs.Table.{Table}
 use Rattle.regress_base.specs.declared.charclasses.CharacterClassType.{CharacterClassType}
@@ -19,6 +19,7 @@ use Rattle.regress_syntax.specs.Syntax.{Atom, literal, dot, anchor, boundary, cl
 use Rattle.regress_syntax.specs.Names.{group_name_at}
 use Rattle.regress_syntax.specs.Productions.{Context, Head, single, opens, angle_at, after_question_mark_at, has_names, has_name, character_at, property_atom, property_atom_at, number_reference_at, name_reference_at, escape_productions, escaped_by, escaped_at, brackets_at, atom_productions, atom_by, head_at}
 use Rattle.regress_differences.specs.CaseMode.{has_icase, switches_on}
+use Rattle.regress_differences.specs.Reported.{class_escape_at}
 
 -- Whatever is found has the trivial property.
 any_found : {A : Type 0} (found : Found A) → Finds (λ _. Unit {0}) found
@@ -44,16 +45,18 @@ class_set_by-apart table unicode (suc n) t =
 -- ---- atoms
 
 module _ (ctx : Context) where
-  -- What the grammar has of an atom at the start of `s`: a negated class set has no strings, a property of strings
-  -- begins with a backslash, and a reference by name with `\k`, where some group has the name.
+  -- What the grammar has of an atom at the start of `s`: a class escape is there, and no other class begins as one. A
+  -- class set needs the flag v, and if it is negated, it has no strings. A property of strings begins with a backslash,
+  -- and a reference by name with `\k`, where some group has the name.
   abbrev pub AtomFits : (s : Source) → Atom → Type 0
   AtomFits s (literal flags c) = Unit {0}
   AtomFits s (dot flags) = Unit {0}
   AtomFits s (anchor flags kind) = Unit {0}
   AtomFits s (boundary flags inverted) = Unit {0}
-  AtomFits s (class_escape flags kind negated) = Unit {0}
-  AtomFits s (class flags inverted members) = Unit {0}
-  AtomFits s (class_set flags negated value) = AreApart (negated, value)
+  AtomFits s (class_escape flags kind negated) = class_escape_at s ≡ Some (kind, negated)
+  AtomFits s (class flags inverted members) = class_escape_at s ≡ None
+  AtomFits s (class_set flags negated value) =
+      (class_escape_at s ≡ None) × (ctx.setting.flags.unicode_sets ≡ true) × AreApart (negated, value)
   AtomFits s (string_property flags written) = is_at 92 s ≡ true
   AtomFits s (back_reference flags (by_number n)) = Unit {0}
   AtomFits s (back_reference flags (by_name name)) = (is_at 107 (drop 1 s) ≡ true) × (has_name name ctx.names ≡ true)
@@ -62,21 +65,22 @@ module _ (ctx : Context) where
     character_fits : (c : ℕ) (t : Source) → Finds (AtomFits s) (character_at ctx c t)
     character_fits c t = finds_map (λ _. Unit {0}) (AtomFits s) _ (escape_at ctx.setting.flags.unicode (c ∷ t)) (λ x _. tt) (any_found _)
 
-    property_fits : is_at 92 s ≡ true → (negated : Bool) (x : Property × Source) → Finds (AtomFits s) (property_atom ctx negated x)
-    property_fits backslash negated (of_points members, t) =
+    property_fits : is_at 92 s ≡ true → class_escape_at s ≡ None → (negated : Bool) (x : Property × Source) →
+        Finds (AtomFits s) (property_atom ctx negated x)
+    property_fits backslash none negated (of_points members, t) =
         finds_some (AtomFits s) (_, t) (by (negated && ctx.setting.flags.icase) false negated (complement members) members)
       where
         by : (b : Bool) (i j : Bool) (ms ns : List Bounds) →
             AtomFits s (cond b (class ctx.setting.flags i ms) (class ctx.setting.flags j ns))
-        by true i j ms ns = tt
-        by false i j ms ns = tt
-    property_fits backslash negated (of_strings written, t) =
+        by true i j ms ns = none
+        by false i j ms ns = none
+    property_fits backslash none negated (of_strings written, t) =
         finds_cond (AtomFits s) negated _ _ (λ _. finds_none (AtomFits s)) (λ _. finds_some (AtomFits s) (_, t) backslash)
 
-    property_at_fits : is_at 92 s ≡ true → (negated : Bool) (t : Source) → Finds (AtomFits s) (property_atom_at ctx negated t)
-    property_at_fits backslash negated t =
+    property_at_fits : is_at 92 s ≡ true → class_escape_at s ≡ None → (negated : Bool) (t : Source) → Finds (AtomFits s) (property_atom_at ctx negated t)
+    property_at_fits backslash none negated t =
         finds_then (λ _. Unit {0}) (AtomFits s) (property_at ctx.setting.flags.unicode_sets ctx.setting.table t) (property_atom ctx negated)
-        (any_found _) (λ x _. property_fits backslash negated x)
+        (any_found _) (λ x _. property_fits backslash none negated x)
 
     number_fits : (c : ℕ) (t : Source) → Finds (AtomFits s) (number_reference_at ctx c t)
     number_fits c t =
@@ -89,41 +93,50 @@ module _ (ctx : Context) where
         (λ x _. finds_cond (AtomFits s) (has_name x.0 ctx.names) _ _ (λ e. finds_some (AtomFits s) _ (letter, e)) (λ _. finds_none (AtomFits s)))
 
   -- an escape after the code point b, which is a backslash
-  escapes_fit : (b : ℕ) → (b == 92) ≡ true → (c : ℕ) (t : Source) →
+  escapes_fit : (b : ℕ) → (b == 92) ≡ true → (c : ℕ) (t : Source) → class_escape_at (b ∷ c ∷ t) ≡ None →
       EachProduction (λ found. Finds (AtomFits (b ∷ c ∷ t)) found) (escape_productions ctx c t)
-  escapes_fit b backslash c t =
+  escapes_fit b backslash c t none =
       (λ _. finds_some (AtomFits (b ∷ c ∷ t)) _ tt)
       also (λ _. finds_some (AtomFits (b ∷ c ∷ t)) _ tt)
       also (λ _. finds_some (AtomFits (b ∷ c ∷ t)) _ tt)
-      also (λ _. property_at_fits (b ∷ c ∷ t) backslash _ t)
+      also (λ _. property_at_fits (b ∷ c ∷ t) backslash none _ t)
       also (λ _. number_fits (b ∷ c ∷ t) c t)
       also (λ e. name_fits (b ∷ c ∷ t) (and_parts (c == 107) (ctx.setting.flags.unicode || has_names ctx.names) e).0 t)
       also (λ _. character_fits (b ∷ c ∷ t) c t)
       also no_more
 
   escaped_by-fits : (b : ℕ) → (b == 92) ≡ true → (c : ℕ) (t : Source) → Finds (AtomFits (b ∷ c ∷ t)) (escaped_by ctx c t)
-  escaped_by-fits b backslash c t = by (class_letter c)
+  escaped_by-fits b backslash c t = by (class_letter c) refl
     where
-      by : (letter : Option (CharacterClassType × Bool)) →
+      begins : (letter : Option (CharacterClassType × Bool)) → class_letter c ≡ letter → class_escape_at (b ∷ c ∷ t) ≡ letter
+      begins letter is = ap (λ (test : Bool). cond test (class_letter c) None) backslash ∙ is
+
+      by : (letter : Option (CharacterClassType × Bool)) → class_letter c ≡ letter →
           Finds (AtomFits (b ∷ c ∷ t)) (elim letter as (λ _. Found Atom) [
             | Some named ↦ Some (class_escape ctx.setting.flags named.0 named.1, t)
             | None ↦ first_production (escape_productions ctx c t)
           ])
-      by (Some named) = finds_some (AtomFits (b ∷ c ∷ t)) _ tt
-      by None =
+      by (Some named) is = finds_some (AtomFits (b ∷ c ∷ t)) _ (begins (Some named) is)
+      by None is =
           first_production-has (λ found. Finds (AtomFits (b ∷ c ∷ t)) found) (escape_productions ctx c t) (finds_none (AtomFits (b ∷ c ∷ t)))
-          (escapes_fit b backslash c t)
+          (escapes_fit b backslash c t (begins None is))
 
   escaped_fits : (b : ℕ) → (b == 92) ≡ true → (t : Source) → Finds (AtomFits (b ∷ t)) (escaped_at ctx t)
   escaped_fits b backslash [] = finds_none (AtomFits (b ∷ []))
   escaped_fits b backslash (c ∷ t) = escaped_by-fits b backslash c t
 
-  brackets_fit : (s t : Source) → Finds (AtomFits s) (brackets_at ctx t)
-  brackets_fit s t =
+  brackets_fit : (s t : Source) → class_escape_at s ≡ None → Finds (AtomFits s) (brackets_at ctx t)
+  brackets_fit s t none =
       finds_cond (AtomFits s) ctx.setting.flags.unicode_sets _ _
-      (λ _. finds_map AreApart (AtomFits s) _ (class_set_at ctx.setting.table ctx.setting.flags.unicode t) (λ x apart. apart)
+      (λ sets. finds_map AreApart (AtomFits s) _ (class_set_at ctx.setting.table ctx.setting.flags.unicode t) (λ x apart. (none, sets, apart))
       (class_set_by-apart ctx.setting.table ctx.setting.flags.unicode max_nesting_depth t))
-      (λ _. finds_map (λ _. Unit {0}) (AtomFits s) _ (class_at ctx.setting.table ctx.setting.flags.unicode t) (λ x _. tt) (any_found _))
+      (λ _. finds_map (λ _. Unit {0}) (AtomFits s) _ (class_at ctx.setting.table ctx.setting.flags.unicode t) (λ x _. none) (any_found _))
+
+  -- an opening bracket is no backslash
+  opens_no_escape : (c : ℕ) (t : Source) → (c == 91) ≡ true → class_escape_at (c ∷ t) ≡ None
+  opens_no_escape c t bracket =
+      let is : c ≡ 91 = eqb-true c 91 bracket in
+      ap (λ (d : ℕ). class_escape_at (d ∷ t)) is
 
   atoms_fit : (c : ℕ) (t : Source) → EachProduction (λ found. Finds (AtomFits (c ∷ t)) found) (atom_productions ctx c t)
   atoms_fit c t =
@@ -131,7 +144,7 @@ module _ (ctx : Context) where
       also (λ _. finds_some (AtomFits (c ∷ t)) _ tt)
       also (λ _. finds_some (AtomFits (c ∷ t)) _ tt)
       also (λ backslash. escaped_fits c backslash t)
-      also (λ _. brackets_fit (c ∷ t) t)
+      also (λ bracket. brackets_fit (c ∷ t) t (opens_no_escape c t bracket))
       also (λ _. finds_cond (AtomFits (c ∷ t)) (ctx.setting.flags.unicode || is_some (quantifier_at (c ∷ t))) _ _
       (λ _. finds_none (AtomFits (c ∷ t))) (λ _. finds_some (AtomFits (c ∷ t)) _ tt))
       also (λ _. finds_some (AtomFits (c ∷ t)) _ tt)

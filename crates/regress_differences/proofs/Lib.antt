@@ -1,5 +1,6 @@
 mod SourceLemmas
 mod HeadLemmas
+mod UnlikeLemmas
 mod QuietLemmas
 mod WithinLemmas
 mod DiffersLemmas

@@ -1,7 +1,8 @@
 -- What a walk lists in several calls.
-use Rattle.std.proofs.Common.{◌≡◌, Bool, List, [], ◌∷◌, ◌++◌, length, drop, refl, sym, ap, ap₂, ◌∙◌, append-nil, append_assoc}
+use Rattle.std.proofs.Common.{◌≡◌, List, [], ◌∷◌, ◌++◌, length, drop, refl, sym, ap, ap₂, ◌∙◌, append-nil, append_assoc}
 use Rattle.std.specs.List.{zip}
 use Rattle.std.proofs.lemmas.List.Elements.{filter_map-append}
+use Rattle.regress_base.specs.declared.types.Flags.{Flags}
 use Rattle.regress_tree.specs.Tree.{Tree}
 use Rattle.regress_lexer.specs.Source.{Source}
 use Rattle.regress_parse.specs.declared.span.Span.{Span}
@@ -27,17 +28,17 @@ drop-both (x ∷ xs) [] [] = refl
 drop-both (x ∷ xs) (y ∷ ys) [] = refl
 drop-both (x ∷ xs) ys (s ∷ ss) = drop-both xs ys ss
 
-reported-append : (icase : Bool) (source : Source) (xs ys : List Tree) (ss : List Span) →
-    reported icase source (zip xs ss) ++ reported icase source (zip ys (drop (length xs) ss)) ≡ reported icase source (zip (xs ++ ys) ss)
-reported-append icase source xs ys ss =
-    sym (ap (reported icase source) (zip-append xs ys ss)
-    ∙ filter_map-append (reported_at icase source) (zip xs ss) (zip ys (drop (length xs) ss)))
+reported-append : (flags : Flags) (source : Source) (xs ys : List Tree) (ss : List Span) →
+    reported flags source (zip xs ss) ++ reported flags source (zip ys (drop (length xs) ss)) ≡ reported flags source (zip (xs ++ ys) ss)
+reported-append flags source xs ys ss =
+    sym (ap (reported flags source) (zip-append xs ys ss)
+    ∙ filter_map-append (reported_at flags source) (zip xs ss) (zip ys (drop (length xs) ss)))
 
 -- ---- the calls
 
 pub Lists-none : (a : Finder) → Lists a a []
 Lists-none a = record {
-  icase = refl;
+  flags = refl;
   pattern = refl;
   spans = refl;
   before = λ enough. enough;
@@ -46,16 +47,16 @@ Lists-none a = record {
 
 pub Lists-then : (a b c : Finder) (xs ys : List Tree) → Lists a b xs → Lists b c ys → Lists a c (xs ++ ys)
 Lists-then a b c xs ys first second = record {
-  icase = second.icase ∙ first.icase;
+  flags = second.flags ∙ first.flags;
   pattern = second.pattern ∙ first.pattern;
   spans = second.spans ∙ ap (drop (length ys)) first.spans ∙ drop-both xs ys a.spans.now;
   before = λ enough. first.before (second.before enough);
   listed = λ enough.
       second.listed enough
       ∙ ap₂ (λ (found rest : List Difference). found ++ rest) (first.listed (second.before enough))
-      (rw (first.icase, first.pattern, first.spans) refl)
+      (rw (first.flags, first.pattern, first.spans) refl)
       ∙ append_assoc a.found.items _ _
-      ∙ ap (λ ds. a.found.items ++ ds) (reported-append a.icase a.pattern.now xs ys a.spans.now);
+      ∙ ap (λ ds. a.found.items ++ ds) (reported-append a.flags a.pattern.now xs ys a.spans.now);
 }
 
 -- after the walk, the list is the one that the last call left

@@ -21,3 +21,7 @@ switches_on t = is_at opening t && is_at question_mark (drop 1 t) && has_icase (
 -- The pattern has the flag i, or what looks like such modifiers. In a class they are literals, and count too.
 abbrev pub may_ignore_case : Flags → Source → Bool
 may_ignore_case flags source = flags.icase || is_somewhere switches_on source
+
+-- the flags of the pattern, with i if it may be matched with i somewhere
+abbrev pub flags_somewhere : Flags → Source → Flags
+flags_somewhere flags source = record flags { icase = may_ignore_case flags source }

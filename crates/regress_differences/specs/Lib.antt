@@ -1,4 +1,5 @@
 pub mod CaseMode
+pub mod Kinds
 pub mod Reported
 pub mod Listed
 -- re-exports what the public contract cites from other crates, so that a caller names one library

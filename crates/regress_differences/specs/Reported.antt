@@ -1,8 +1,13 @@
 -- What is reported of a tree: which nodes may be those of a construct that differs from ECMA-262, and why.
-use Rattle.std.specs.Prelude.{Bool, true, false, ◌&&◌, ◌||◌, List, drop, filter_map, Option, Some, None, option_map, if◌then◌else◌, nat_lt}
+use Rattle.std.specs.Prelude.{Bool, true, false, not, ◌&&◌, ◌==◌, List, [], ◌∷◌, drop, filter_map, Option, Some, None, option_map, if◌then◌else◌, nat_lt}
+use Rattle.regress_base.specs.Intervals.{Bounds}
+use Rattle.regress_base.specs.declared.charclasses.CharacterClassType.{CharacterClassType}
+use Rattle.regress_base.specs.declared.types.Flags.{Flags}
 use Rattle.regress_tree.specs.Tree.{Leaf, empty, bracket, back_ref, string_set, Tree, leaf, cat, alt, wrapped}
 use Rattle.regress_lexer.specs.Source.{Source, char, is_at}
+use Rattle.regress_classes.specs.ClassProductions.{class_letter}
 use Rattle.regress_parse.specs.declared.span.Span.{Span}
+use Rattle.regress_ecma.specs.Differences.{is_words, differs_in_case}
 use Rattle.regress_differences.specs.declared.kind.Difference.{Difference}
 use Rattle.regress_differences.specs.declared.kind.DifferenceKind.{DifferenceKind}
 use Rattle.regress_differences.specs.declared.kind.DifferenceKind.TheVariants.{CaseClosure, StringSet, SameName}
@@ -18,15 +23,33 @@ is_reference (cat parts) = false
 is_reference (alt left right) = false
 is_reference (wrapped w body) = false
 
--- whether the pattern may be matched with the flag i somewhere
-module _ (icase : Bool) where
+-- the class escape at the start of the source, such as `\w`
+abbrev pub letter_at : Source → Option (CharacterClassType × Bool)
+letter_at [] = None
+letter_at (c ∷ t) = class_letter c
+
+abbrev pub class_escape_at : Source → Option (CharacterClassType × Bool)
+class_escape_at [] = None
+class_escape_at (c ∷ t) = if c == char "\\" then letter_at t else None
+
+-- the flags of the pattern, with i if it may be matched with i somewhere
+module _ (flags : Flags) where
+  -- A class that may differ with i. Its set is closed already.
+  abbrev pub class_may_differ : (t : Source) → List Bounds → Bool
+  class_may_differ t closed =
+      elim (class_escape_at t) [
+        | Some named ↦ not flags.unicode && is_words named.0
+        | None ↦ differs_in_case flags closed
+      ]
+
   -- `t` is the source from the start of the leaf's span on.
   abbrev pub kind_of_leaf : (t : Source) → Leaf → Option DifferenceKind
-  kind_of_leaf t (bracket invert intervals) = if icase then Some CaseClosure else None
+  kind_of_leaf t (bracket invert intervals) = if flags.icase && class_may_differ t intervals then Some CaseClosure else None
   -- `[\q{}]`. An empty alternative has an empty span.
-  kind_of_leaf t empty = if icase then Some CaseClosure else None
+  kind_of_leaf t empty = if flags.icase then Some CaseClosure else None
   -- a property of strings, or a class
-  kind_of_leaf t (string_set strings icase_of_strings) = if is_at (char "\\") t || icase then Some StringSet else None
+  kind_of_leaf t (string_set strings icase_of_strings) =
+      if is_at (char "\\") t then Some StringSet else if flags.icase then Some CaseClosure else None
   kind_of_leaf t l = None
 
   -- why a node with a span that is not empty is reported, if it is

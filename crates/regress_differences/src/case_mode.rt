@@ -1,18 +1,21 @@
 //! Whether a pattern may be matched with the flag i somewhere.
 ghost use Rattle.std.specs.Prelude.{◌≡◌};
-ghost use Rattle.regress_differences.specs.CaseMode.{is_somewhere, switches_on, may_ignore_case};
+ghost use Rattle.regress_differences.specs.CaseMode.{is_somewhere, switches_on, flags_somewhere};
 
 use regress_base::types::Flags;
 use regress_lexer::modifiers::parse_modifiers;
 
-/// Returns whether the pattern has the flag i, or what looks like modifiers that switch it on.
+/// Returns the flags, with i if the pattern has what looks like modifiers that switch it on.
 ///
 /// # Complexity
 /// Linear in the length of the pattern.
-pub(crate) fn may_ignore_case(pattern: &[u32], flags: Flags) -> bool
-    ensures { result ≡ may_ignore_case flags pattern.now }
+pub(crate) fn flags_somewhere(pattern: &[u32], flags: Flags) -> Flags
+    ensures { result ≡ flags_somewhere flags pattern.now }
 {
-    flags.icase || is_switched_on(pattern)
+    Flags {
+        icase: flags.icase || is_switched_on(pattern),
+        ..flags
+    }
 }
 
 /// Whether modifiers that switch the flag i on begin somewhere.

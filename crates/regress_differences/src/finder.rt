@@ -3,33 +3,38 @@ ghost use Rattle.std.specs.Prelude.{◌≡◌, drop, zip, IfOk};
 ghost use Rattle.regress_lexer.specs.Source.{is_at};
 ghost use Rattle.regress_tree.specs.Tree.{tree};
 ghost use Rattle.regress_spans.specs.Paired.{postorder};
-ghost use Rattle.regress_differences.specs.Reported.{is_reference, kind_of, reported_at, reported};
+ghost use Rattle.regress_differences.specs.Reported.{is_reference, class_escape_at, class_may_differ, kind_of, reported_at, reported};
 ghost use Rattle.regress_differences.specs.Listed.{Notes};
 
 use crate::kind::{Difference, DifferenceKind};
+use crate::unlike::differs_in_case;
+use regress_base::charclasses::CharacterClassType;
+use regress_base::codepointset::CodePointSet;
+use regress_base::types::Flags;
+use regress_classes::class_escape::class_letter;
 use regress_parse::Span;
 use regress_tree::ir::{Node, Walk, walk};
 use std::alloc::{AllocError, Global};
 
-/// Returns what is reported of the tree of a pattern, given the spans of its nodes in postorder. With `icase` the flag
-/// i may be in force somewhere in the pattern.
+/// Returns what is reported of the tree of a pattern, given the spans of its nodes in postorder. The flags have i if it
+/// may be in force somewhere in the pattern.
 ///
 /// # Errors
 /// Returns [`AllocError`] if an allocation fails.
 pub(crate) fn find_differences(
     alloc: Global,
     pattern: &[u32],
-    icase: bool,
+    flags: Flags,
     node: &Node,
     spans: &[Span],
 ) -> Result<Vec<Difference>, AllocError>
     ensures { IfOk result (λ found.
-        found.items ≡ reported icase pattern.now (zip (postorder (tree node.now)) spans.now)) }
+        found.items ≡ reported flags pattern.now (zip (postorder (tree node.now)) spans.now)) }
 {
     let mut finder = Finder {
         alloc,
         pattern,
-        icase,
+        flags,
         spans,
         found: Vec::new(alloc),
         out_of_memory: false,
@@ -47,7 +52,8 @@ pub(crate) fn find_differences(
 struct Finder<'a> {
     alloc: Global,
     pattern: &'a [u32],
-    icase: bool,
+    /// The flags of the pattern, with i if it may be in force somewhere.
+    flags: Flags,
     /// The spans of the nodes that are not visited yet.
     spans: &'a [Span],
     found: Vec<Difference>,
@@ -61,7 +67,7 @@ impl Finder<'_> {
         ensures notes { Notes self.old self.new (tree node.now) }
     {
         if let [span, rest @ ..] = self.spans {
-            if let Some(difference) = reported_at(self.icase, self.pattern, node, *span) {
+            if let Some(difference) = reported_at(self.flags, self.pattern, node, *span) {
                 if self.found.push(difference).is_err() {
                     self.out_of_memory = true;
                 }
@@ -72,11 +78,11 @@ impl Finder<'_> {
 }
 
 /// Returns what is reported of a node with this span.
-fn reported_at(icase: bool, pattern: &[u32], node: &Node, span: Span) -> Option<Difference>
-    ensures { result ≡ reported_at icase pattern.now (tree node.now, span) }
+fn reported_at(flags: Flags, pattern: &[u32], node: &Node, span: Span) -> Option<Difference>
+    ensures { result ≡ reported_at flags pattern.now (tree node.now, span) }
 {
     if span.start < span.end {
-        let kind = kind_of(icase, pattern.get(span.start..).unwrap_or(&[]), node)?;
+        let kind = kind_of(flags, pattern.get(span.start..).unwrap_or(&[]), node)?;
         Some(Difference { kind, span })
     } else {
         None
@@ -85,17 +91,41 @@ fn reported_at(icase: bool, pattern: &[u32], node: &Node, span: Span) -> Option<
 
 /// Returns why a node with a span that is not empty is reported, if it is. `source` is the source from the start of the
 /// span on.
-fn kind_of(icase: bool, source: &[u32], node: &Node) -> Option<DifferenceKind>
-    ensures { result ≡ kind_of icase source.now (tree node.now) }
+fn kind_of(flags: Flags, source: &[u32], node: &Node) -> Option<DifferenceKind>
+    ensures { result ≡ kind_of flags source.now (tree node.now) }
 {
     match node {
-        Node::Bracket(_) | Node::Empty => icase.then_some(DifferenceKind::CaseClosure),
-        Node::StringSet { .. } => {
-            (is_at(source, '\\') || icase).then_some(DifferenceKind::StringSet)
+        Node::StringSet { .. } if is_at(source, '\\') => Some(DifferenceKind::StringSet),
+        Node::Bracket(contents) => {
+            let differs = flags.icase && class_may_differ(flags, source, &contents.cps);
+            differs.then_some(DifferenceKind::CaseClosure)
+        }
+        Node::Empty | Node::StringSet { .. } => {
+            flags.icase.then_some(DifferenceKind::CaseClosure)
         }
         Node::Alt(left, right) if is_reference(left) && is_reference(right) => {
             is_after_first(source, 'k').then_some(DifferenceKind::SameName)
         }
+        _ => None,
+    }
+}
+
+/// Returns whether a class whose source begins so may differ with the flag i. Its set is closed already.
+fn class_may_differ(flags: Flags, source: &[u32], closed: &CodePointSet) -> bool
+    ensures { result ≡ class_may_differ flags source.now closed.now }
+{
+    match class_escape_at(source) {
+        Some((kind, _)) => !flags.unicode && kind == CharacterClassType::Words,
+        None => differs_in_case(flags, closed),
+    }
+}
+
+/// Returns the class escape at the start of a source.
+fn class_escape_at(source: &[u32]) -> Option<(CharacterClassType, bool)>
+    ensures { result ≡ class_escape_at source.now }
+{
+    match source {
+        [backslash, letter, ..] if *backslash == u32::from('\\') => class_letter(*letter),
         _ => None,
     }
 }

@@ -1,18 +1,49 @@
 //! What is reported.
+ghost use Rattle.std.specs.Prelude.{◌≡◌};
+ghost use Rattle.regress_differences.specs.Kinds.{name_of, text_of};
 
 use regress_parse::Span;
 
 /// Why a construct is reported. `docs/differences.md` has the differences.
 #[derive(Clone, Copy, Debug, PartialEq, Eq)]
 pub enum DifferenceKind {
-    /// A class, a class escape such as `\w`, or a property, where the flag i may be in force: its set is closed under
-    /// case folding.
+    /// A class, a class escape such as `\w`, or a property of code points, where the flag i may be in force: its set is
+    /// closed under case folding.
     CaseClosure,
-    /// A property of strings, which is not compared with ECMA-262, or a class that contains strings, where the flag i
-    /// may be in force.
+    /// A property of strings, which is not compared with ECMA-262.
     StringSet,
     /// A reference by name to several groups, which is an alternation.
     SameName,
+}
+
+impl DifferenceKind {
+    /// Returns the name of the kind, which never changes: `case-closure`, `string-set` or `same-name`.
+    pub fn name(&self) -> &'static str
+        ensures { result.now ≡ name_of self.now }
+    {
+        match self {
+            DifferenceKind::CaseClosure => "case-closure",
+            DifferenceKind::StringSet => "string-set",
+            DifferenceKind::SameName => "same-name",
+        }
+    }
+
+    /// Returns a sentence about the difference, with an example, without a full stop.
+    pub fn text(&self) -> &'static str
+        ensures { result.now ≡ text_of self.now }
+    {
+        match self {
+            DifferenceKind::CaseClosure =>
+                "with the flag i other characters may match than in JavaScript: \
+                 [k] without u also matches U+212A, and [\\W] with u also matches k",
+            DifferenceKind::StringSet =>
+                "the strings of a property such as \\p{RGI_Emoji} are tried in the order of the Unicode table, \
+                 in JavaScript the longest first",
+            DifferenceKind::SameName =>
+                "a reference to several groups of one name tries each of them, and an unset group gives the empty \
+                 string: (?:(?<a>x)|(?<a>y))\\k<a> matches y of yy, in JavaScript yy",
+        }
+    }
 }
 
 /// A construct that may match otherwise than in ECMA-262.

@@ -5,6 +5,7 @@ mod case_mode;
 mod finder;
 mod kind;
 mod pattern;
+mod unlike;
 
 pub use kind::{Difference, DifferenceKind};
 pub use pattern::differences;

@@ -11,10 +11,10 @@ ghost use Rattle.regress_parse.specs.Spans.{IsWithin};
 ghost use Rattle.regress_spans.specs.Paired.{spanned_of};
 ghost use Rattle.regress_ecma.specs.Compared.{IsComparable};
 ghost use Rattle.regress_ecma.specs.Differences.{HasCaseDataOfUnicode, differs};
-ghost use Rattle.regress_differences.specs.CaseMode.{may_ignore_case};
+ghost use Rattle.regress_differences.specs.CaseMode.{flags_somewhere};
 ghost use Rattle.regress_differences.specs.Reported.{reported};
 
-use crate::case_mode::may_ignore_case;
+use crate::case_mode::flags_somewhere;
 use crate::finder::find_differences;
 use crate::kind::Difference;
 use regress_base::types::Flags;
@@ -29,7 +29,7 @@ use std::alloc::Global;
 ///
 /// If there are none, the theorem of [`first_outcome_is_the_match`] applies to the pattern, provided that v comes with
 /// u and that the table has the case data of Unicode, as `unicode_tables` has. The converse does not hold: if the flag i
-/// may be in force somewhere, all classes of the pattern are reported.
+/// may be in force somewhere, some classes are reported that do not differ.
 ///
 /// What only one of the two accepts is not reported, and neither is that texts are lists of code points without u.
 ///
@@ -68,7 +68,7 @@ pub fn differences(
     ensures listed { let setting = setting_of flags tables.now in
         IfOk result (λ found. (p : Pattern) × (accepted : IsAccepted setting pattern.now p)
         × (found.items
-        ≡ reported (may_ignore_case flags pattern.now) pattern.now (spanned_of setting pattern.now p accepted.derived))) }
+        ≡ reported (flags_somewhere flags pattern.now) pattern.now (spanned_of setting pattern.now p accepted.derived))) }
     ensures within { IfOk result (λ found.
         All (λ d. IsWithin (record { start = 0; end = length pattern.now }) d.span) found.items) }
 
@@ -90,6 +90,6 @@ pub fn differences(
 {
     first_outcome_is_the_match();
     let parsed = try_parse_with_spans(alloc, pattern, flags, tables)?;
-    let icase = may_ignore_case(pattern, flags);
-    Ok(find_differences(alloc, pattern, icase, &parsed.regex.node, &parsed.spans)?)
+    let widest = flags_somewhere(pattern, flags);
+    Ok(find_differences(alloc, pattern, widest, &parsed.regex.node, &parsed.spans)?)
 }

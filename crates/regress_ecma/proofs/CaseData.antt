@@ -1,53 +1,18 @@
 -- The table of all of Unicode has the case data of Unicode, by tests of the bounds of its entries.
-use Rattle.std.proofs.Common.{◌≡◌, ℕ, ℤ, pos, negsuc, ◌+◌, ◌-◌, ◌%◌, ◌≤◌, Bool, true, false, ◌&&◌, ◌||◌, nat_le, nat_lt, ◌==◌, cond, ◌⊎◌, inl, inr, List, [], ◌∷◌, refl, sym, ap, ◌∙◌, arith}
-use Rattle.std.specs.List.{list_any, list_all}
-use Rattle.std.proofs.lemmas.Bool.{and_parts, false≢true}
+use Rattle.std.proofs.Common.{◌≡◌, ℕ, ℤ, pos, negsuc, ◌+◌, ◌-◌, ◌%◌, ◌<◌, ◌≤◌, Bool, true, false, not, ◌&&◌, ◌||◌, nat_le, nat_lt, ◌==◌, cond, ◌⊎◌, inl, inr, List, [], ◌∷◌, refl, sym, ap, ap₂, ◌∙◌, arith, ⊎_elim}
+use Rattle.std.specs.List.{list_all}
+use Rattle.std.proofs.lemmas.Bool.{cases_lt, and_parts, eq-eqb, eqb-true, false≢true}
 use Rattle.std.proofs.lemmas.Bool.Decides.{nat_tests}
-use Rattle.regress_base.specs.Classes.{line_terminators, word_characters}
+use Rattle.regress_base.specs.Classes.{word_characters}
 use Rattle.regress_base.specs.Intervals.{Bounds, is_member, is_within}
+use Rattle.regress_base.specs.Listing.{lists, code_points}
+use Rattle.regress_base.proofs.lemmas.Listings.{lists-interval}
 use Rattle.regress_unicode.specs.FoldEntries.{FoldEntry, moved, is_in_mapping, image_in_mapping, image}
 use Rattle.regress_ucd.specs.UnicodeTable.{unicode_parts, unicode_table}
 use Rattle.regress_ucd.proofs.lemmas.ValidTable.{unicode_valid}
-use Rattle.regress_ecma.specs.Differences.{HasCaseDataOfUnicode, IsClosed}
-
--- ---- bounds
-
--- no number between the bounds is in the set
-abbrev is_outside : List Bounds → Bounds → Bool
-is_outside set iv = list_all (λ other. nat_lt iv.last other.first || nat_lt other.last iv.first) set
-
--- all numbers between the bounds are in the set
-abbrev is_inside : List Bounds → Bounds → Bool
-is_inside set iv = list_any (λ other. nat_le other.first iv.first && nat_le iv.last other.last) set
-
-not_outside : (set : List Bounds) (iv : Bounds) (c : ℕ) → is_outside set iv ≡ true → is_within iv c ≡ true → is_member set c ≡ true → ⊥
-unfolding is_member is_within
-not_outside [] iv c h within member = false≢true member
-not_outside (other ∷ set) iv c h within member =
-    let parts = and_parts (nat_lt iv.last other.first || nat_lt other.last iv.first) _ h in
-    let not_here : (nat_le other.first c && nat_le c other.last) ≡ false = grind (arith, nat_tests, parts.0, within) in
-    not_outside set iv c parts.1 within (rw not_here at member)
-
-inside : (set : List Bounds) (iv : Bounds) (c : ℕ) → is_inside set iv ≡ true → is_within iv c ≡ true → is_member set c ≡ true
-unfolding is_member is_within
-inside [] iv c h within = h
-inside (other ∷ set) iv c h within =
-    by_tests (is_within other c) (nat_le other.first iv.first && nat_le iv.last other.last) refl refl h (λ t. inside set iv c t within)
-  where
-    by_tests : (here test : Bool) → is_within other c ≡ here → (nat_le other.first iv.first && nat_le iv.last other.last) ≡ test →
-        (test || is_inside set iv) ≡ true → (is_inside set iv ≡ true → is_member set c ≡ true) → (here || is_member set c) ≡ true
-    by_tests true test e t h later = refl
-    by_tests false true e t h later = absurd (grind (arith, nat_tests, e, t, within))
-    by_tests false false e t h later = later h
-
--- a member between the first bounds makes what is between the second ones a member
-carried : (set : List Bounds) (from to : Bounds) (a b : ℕ) → (is_outside set from || is_inside set to) ≡ true →
-    is_within from a ≡ true → is_within to b ≡ true → is_member set a ≡ true → is_member set b ≡ true
-carried set from to a b h from_a to_b member = by_test (is_outside set from) refl h
-  where
-    by_test : (none : Bool) → is_outside set from ≡ none → (none || is_inside set to) ≡ true → is_member set b ≡ true
-    by_test true e t = absurd (not_outside set from a e from_a member)
-    by_test false e t = inside set to b t to_b
+use Rattle.regress_ecma.specs.Differences.{HasCaseDataOfUnicode, HasVariantsIn, unlike, cased}
+use Rattle.regress_ecma.proofs.Outside.{is_outside, is_inside, not_outside, inside, carried}
+use Rattle.regress_ecma.proofs.Sets.{same_truth}
 
 -- ---- entries
 
@@ -112,9 +77,9 @@ comes_from set entry = is_outside set (targets entry) || is_inside set (sources 
 abbrev stays_in : List Bounds → FoldEntry → Bool
 stays_in set entry = is_outside set (sources entry) || is_inside set (targets entry)
 
--- it maps no member of the set, and nothing to one
-abbrev avoids : List Bounds → FoldEntry → Bool
-avoids set entry = is_outside set (sources entry) && is_outside set (targets entry)
+-- it maps members of the set to members, and no other code point
+abbrev moves_in : List Bounds → FoldEntry → Bool
+moves_in set entry = is_inside set (sources entry) && is_inside set (targets entry)
 
 -- ---- what follows for all entries
 
@@ -139,28 +104,153 @@ member_after set entries h c member = elim (stays_or_moves (stays_in set) entrie
   | inr by ↦ carried set (sources by.0) (targets by.0) c (image entries c) by.1.passes by.1.from_source by.1.to_target member
 ]
 
-closed : (set : List Bounds) (entries : List FoldEntry) → list_all (avoids set) entries ≡ true → IsClosed (image entries) set
-closed set entries h a b member same =
-    let own : image entries a ≡ a = elim (stays_or_moves (avoids set) entries h a) [
+variants : (set : List Bounds) (entries : List FoldEntry) → list_all (moves_in set) entries ≡ true → HasVariantsIn set (image entries)
+variants set entries h a b none same =
+    let own : image entries a ≡ a = elim (stays_or_moves (moves_in set) entries h a) [
       | inl stays ↦ stays
-      | inr by ↦ absurd (not_outside set (sources by.0) a (and_parts _ (is_outside set (targets by.0)) by.1.passes).0 by.1.from_source member)
+      | inr by ↦ absurd (false≢true (sym none
+          ∙ inside set (sources by.0) a (and_parts _ (is_inside set (targets by.0)) by.1.passes).0 by.1.from_source))
     ] in
-    let into : is_member set (image entries b) ≡ true = ap (is_member set) (same ∙ own) ∙ member in
-    elim (stays_or_moves (avoids set) entries h b) [
-      | inl stays ↦ sym (ap (is_member set) stays) ∙ into
-      | inr by ↦ absurd (not_outside set (targets by.0) (image entries b) (and_parts (is_outside set (sources by.0)) _ by.1.passes).1 by.1.to_target into)
+    elim (stays_or_moves (moves_in set) entries h b) [
+      | inl stays ↦ sym stays ∙ same ∙ own
+      | inr by ↦ absurd (false≢true (sym none ∙ ap (is_member set) (sym (same ∙ own))
+          ∙ inside set (targets by.0) (image entries b) (and_parts (is_inside set (sources by.0)) _ by.1.passes).1 by.1.to_target))
     ]
+
+-- ---- ASCII
+
+-- what ASCII has as lower and upper case
+abbrev lower : ℕ → ℕ
+lower c = cond (nat_le 0x41 c && nat_le c 0x5A) (c + 32) c
+
+abbrev upper : ℕ → ℕ
+upper c = cond (nat_le 0x61 c && nat_le c 0x7A) (c - 32) c
+
+-- all numbers below 128
+abbrev ascii : List ℕ
+ascii = code_points (record { first = 0; last = 127 })
+
+in_all : (q : ℕ → Bool) (xs : List ℕ) (m : ℕ) → list_all q xs ≡ true → lists xs m ≡ true → q m ≡ true
+in_all q [] m h member = absurd (false≢true member)
+in_all q (x ∷ xs) m h member =
+    let parts = and_parts (q x) (list_all q xs) h in
+    by_test (x == m) refl member (in_all q xs m parts.1)
+  where
+    by_test : (b : Bool) → (x == m) ≡ b → (b || lists xs m) ≡ true → (lists xs m ≡ true → q m ≡ true) → q m ≡ true
+    by_test true e t later = sym (ap q (eqb-true x m e)) ∙ (and_parts (q x) (list_all q xs) h).0
+    by_test false e t later = later t
+
+in_ascii : (q : ℕ → Bool) → list_all q ascii ≡ true → (c : ℕ) → c < 128 → q c ≡ true
+unfolding is_within
+in_ascii q h c below =
+    in_all q ascii c h (lists-interval (record { first = 0; last = 127 }) c ∙ grind (arith, nat_tests, below))
+
+-- The same lower case means the same upper case.
+same_case : (a b : ℕ) → (upper b == upper a) ≡ (lower b == lower a)
+same_case a b = grind (arith, nat_tests)
+
+-- the lower case of the ASCII letters but K and S
+abbrev letters : List Bounds
+letters = record { first = 0x61; last = 0x6A } ∷ record { first = 0x6C; last = 0x72 } ∷ record { first = 0x74; last = 0x7A } ∷ []
+
+-- it maps only ASCII to such letters
+abbrev gives_ascii : FoldEntry → Bool
+gives_ascii entry = nat_lt (sources entry).last 128 || is_outside letters (targets entry)
+
+letters_below : (c : ℕ) → is_member letters c ≡ true → c < 128
+unfolding is_member is_within
+letters_below c member = grind (arith, nat_tests, member)
+
+ascii_before : (entries : List FoldEntry) → list_all gives_ascii entries ≡ true → (c : ℕ) → is_member letters (image entries c) ≡ true → c < 128
+unfolding is_within
+ascii_before entries h c member = elim (stays_or_moves gives_ascii entries h c) [
+  | inl stays ↦ letters_below c (sym (ap (is_member letters) stays) ∙ member)
+  | inr by ↦ by_test by.0 by.1 (nat_lt (sources by.0).last 128) refl by.1.passes
+]
+  where
+    by_test : (entry : FoldEntry) → IsMovedBy gives_ascii c (image entries c) entry → (b : Bool) → nat_lt (sources entry).last 128 ≡ b →
+        (b || is_outside letters (targets entry)) ≡ true → c < 128
+    by_test entry by true e t = grind (arith, nat_tests, e, by.from_source)
+    by_test entry by false e t = absurd (not_outside letters (targets entry) (image entries c) t by.to_target member)
+
+module _ (folds uppers : List FoldEntry) (folded : (c : ℕ) → c < 128 → image folds c ≡ lower c) (raised : (c : ℕ) → c < 128 → image uppers c ≡ upper c)
+    (from_ascii : (c : ℕ) → is_member letters (image folds c) ≡ true → c < 128) (above : (c : ℕ) → 128 ≤ c → 128 ≤ image uppers c) where
+  ascii_same : (a b : ℕ) → a < 128 → b < 128 → (image uppers b == image uppers a) ≡ (image folds b == image folds a)
+  ascii_same a b low_a low_b =
+      ap₂ (λ (x y : ℕ). x == y) (raised b low_b) (raised a low_a) ∙ same_case a b
+      ∙ sym (ap₂ (λ (x y : ℕ). x == y) (folded b low_b) (folded a low_a))
+
+  upper_low : (a : ℕ) → a < 128 → upper a < 128
+  upper_low a low = grind (arith, nat_tests, low)
+
+  letter_same : (a b : ℕ) → a < 128 → is_member letters (lower a) ≡ true → (image uppers b == image uppers a) ≡ (image folds b == image folds a)
+  letter_same a b low letter =
+      same_truth _ _
+      (λ h.
+      let same : image uppers b ≡ image uppers a = eqb-true _ _ h in
+      let below : b < 128 = ⊎_elim (λ (under : b < 128). under)
+      (λ (over : 128 ≤ b). absurd (omega (arith, above b over, upper_low a low, same, raised a low))) (cases_lt b 128) in
+      sym (ascii_same a b low below) ∙ h)
+      (λ h.
+      let same : image folds b ≡ lower a = eqb-true _ _ h ∙ folded a low in
+      ascii_same a b low (from_ascii b (ap (is_member letters) same ∙ letter)) ∙ h)
+
+-- a member of `cased` that is not in `unlike`
+abbrev is_letter_or_not : ℕ → Bool
+is_letter_or_not c = is_member unlike c || (not (is_member cased c) || is_member letters (lower c))
+
+cased_below : (c : ℕ) → is_member unlike c ≡ false → is_member cased c ≡ true → c < 128
+unfolding is_member is_within unlike
+cased_below c none member = grind (arith, nat_tests, none, member)
+
+letter_of : (c : ℕ) → is_member unlike c ≡ false → is_member cased c ≡ true → is_member letters (lower c) ≡ true
+unfolding is_member is_within unlike
+letter_of c none member = by_test (is_member unlike c) (is_member cased c) none member (in_ascii is_letter_or_not refl c (cased_below c none member))
+  where
+    by_test : (u v : Bool) → u ≡ false → v ≡ true → (u || (not v || is_member letters (lower c))) ≡ true → is_member letters (lower c) ≡ true
+    by_test true v e f t = absurd (false≢true (sym e))
+    by_test false true e f t = t
+    by_test false false e f t = absurd (false≢true f)
 
 -- ---- the table of all of Unicode
 
+folded_ascii : list_all (λ c. image unicode_parts.folds c == lower c) ascii ≡ true
+unfolding unicode_parts image
+folded_ascii = refl
+
+raised_ascii : list_all (λ c. image unicode_parts.uppers c == upper c) ascii ≡ true
+unfolding unicode_parts image
+raised_ascii = refl
+
+unicode_same : (a b : ℕ) → is_member unlike a ≡ false →
+    (image unicode_parts.uppers b == image unicode_parts.uppers a) ≡ (image unicode_parts.folds b == image unicode_parts.folds a)
+unfolding unicode_parts unlike
+unicode_same a b none = by_test (is_member cased a) refl
+  where
+    folded : (c : ℕ) → c < 128 → image unicode_parts.folds c ≡ lower c
+    folded c low = eqb-true _ _ (in_ascii (λ c. image unicode_parts.folds c == lower c) folded_ascii c low)
+
+    raised : (c : ℕ) → c < 128 → image unicode_parts.uppers c ≡ upper c
+    raised c low = eqb-true _ _ (in_ascii (λ c. image unicode_parts.uppers c == upper c) raised_ascii c low)
+
+    by_test : (c : Bool) → is_member cased a ≡ c → (image unicode_parts.uppers b == image unicode_parts.uppers a) ≡ (image unicode_parts.folds b == image unicode_parts.folds a)
+    by_test true e =
+        letter_same unicode_parts.folds unicode_parts.uppers folded raised (ascii_before unicode_parts.folds refl) (above_ascii unicode_parts.uppers refl) a b
+        (cased_below a none e) (letter_of a none e)
+    by_test false e =
+        same_truth _ _
+        (λ h. let same : b ≡ a = variants cased unicode_parts.uppers refl a b e (eqb-true _ _ h) in eq-eqb _ _ (ap (image unicode_parts.folds) same))
+        (λ h. let same : b ≡ a = variants cased unicode_parts.folds refl a b e (eqb-true _ _ h) in eq-eqb _ _ (ap (image unicode_parts.uppers) same))
+
 pub unicode_case_data : HasCaseDataOfUnicode unicode_table
-unfolding unicode_table unicode_parts
+unfolding unicode_table unicode_parts unlike
 unicode_case_data = record {
   idempotent = unicode_valid.fold.idempotent;
   in_range = unicode_valid.fold.in_range;
   upper_ascii = above_ascii unicode_parts.uppers refl;
   upper_words = member_before word_characters unicode_parts.uppers refl;
   folded_words = member_after word_characters unicode_parts.folds refl;
-  folded_lines = closed line_terminators unicode_parts.folds refl;
-  upper_lines = closed line_terminators unicode_parts.uppers refl;
+  folded_variants = variants cased unicode_parts.folds refl;
+  upper_variants = variants cased unicode_parts.uppers refl;
+  same_variants = unicode_same;
 }

@@ -2,7 +2,10 @@ pub mod lemmas
 mod Bridge
 mod Groups
 mod CharacterSets
+mod Members
+mod Outside
 mod Sets
+mod IgnoredCase
 mod Theorem
 mod BackReferences
 mod Strings

@@ -1,19 +1,15 @@
 -- Sets of characters under case folding.
-use Rattle.std.proofs.Common.{◌≡◌, ℕ, ◌<◌, ◌≤◌, nat_le, nat_lt, ◌==◌, Bool, true, false, not, ◌&&◌, ◌||◌, List, [], ◌∷◌, ◌++◌, if◌then◌else◌, refl, sym, ap, ap₂, ◌∙◌, arith, ⊎_elim, ◌⊎◌, inr}
-use Rattle.std.specs.List.{list_any}
-use Rattle.std.specs.Char.{IsScalar}
+use Rattle.std.proofs.Common.{◌≡◌, ℕ, ◌<◌, ◌≤◌, nat_le, nat_lt, ◌==◌, Bool, true, false, not, ◌&&◌, ◌||◌, [], ◌∷◌, ◌++◌, if◌then◌else◌, refl, sym, ap, ap₂, ◌∙◌, arith, ⊎_elim, ◌⊎◌, inr}
 use Rattle.std.proofs.lemmas.Bool.{cases_lt, eq-eqb, eqb-true, false≢true}
 use Rattle.std.proofs.lemmas.Bool.Decides.{nat_tests}
-use Rattle.regress_base.specs.Classes.{word_characters as basic_word_characters}
+use Rattle.regress_base.specs.Classes.{line_terminators, word_characters as basic_word_characters}
 use Rattle.regress_base.specs.Intervals.{code_point_max, is_member, is_within, intervals_of}
-use Rattle.regress_base.specs.Listing.{lists, code_points}
 use Rattle.regress_base.specs.Table.{Table, denotes, is_in_closure}
 use Rattle.regress_base.specs.Table as Table
 use Rattle.regress_base.specs.declared.charclasses.CharacterClassType.{CharacterClassType}
 use Rattle.regress_base.specs.declared.charclasses.CharacterClassType.TheVariants.{Digits, Spaces, Words}
 use Rattle.regress_base.specs.declared.types.Flags.{Flags}
 use Rattle.regress_classes.specs.ClassProductions.{members_of}
-use Rattle.regress_base.proofs.lemmas.Listings.{lists-head, lists-tail, lists-interval}
 use Rattle.regress_base.proofs.lemmas.Literals.{scalar_in_range}
 use Rattle.regress_base.proofs.lemmas.Sets.{intervals_of-member}
 use Rattle.regress_tree.specs.Assertions.{differ, is_line_terminator}
@@ -22,7 +18,9 @@ use Rattle.regress_ecma.specs.Notation.{CharSet}
 use Rattle.regress_ecma.specs.Characters.{has_either_unicode_flag, canonicalize, upper_case, has_some, all_characters, character_complement, word_characters, is_extra_word_character, class_escape_set, character_class_escape}
 use Rattle.regress_ecma.specs.CharacterMatchers.{is_found}
 use Rattle.regress_ecma.specs.Atoms.{one_character, dot_set, without_line_terminators}
-use Rattle.regress_ecma.specs.Differences.{HasCaseDataOfUnicode}
+use Rattle.regress_ecma.specs.Differences.{HasCaseDataOfUnicode, unlike, cased}
+use Rattle.regress_ecma.proofs.Members.{or-right, has_some_from, has_some_gives}
+use Rattle.regress_ecma.proofs.Outside.{apart}
 use Rattle.regress_ecma.proofs.CharacterSets.{IsSetOf}
 
 pub same_truth : (a b : Bool) → (a ≡ true → b ≡ true) → (b ≡ true → a ≡ true) → a ≡ b
@@ -30,58 +28,6 @@ same_truth true true f g = refl
 same_truth true false f g = absurd (false≢true (f refl))
 same_truth false true f g = absurd (false≢true (g refl))
 same_truth false false f g = refl
-
--- ---- some member of a set
-
-or-right : (b : Bool) → (b || true) ≡ true
-or-right true = refl
-or-right false = refl
-
-list_any_from : (q : ℕ → Bool) (xs : List ℕ) (m : ℕ) → lists xs m ≡ true → q m ≡ true → list_any q xs ≡ true
-list_any_from q [] m member h = absurd (false≢true member)
-list_any_from q (x ∷ xs) m member h = by_test (x == m) refl member (λ t. list_any_from q xs m t h)
-  where
-    by_test : (b : Bool) → (x == m) ≡ b → (b || lists xs m) ≡ true → (lists xs m ≡ true → list_any q xs ≡ true) → (q x || list_any q xs) ≡ true
-    by_test true e t later =
-        let same : x ≡ m = eqb-true x m e in
-        let here : q x ≡ true = ap q same ∙ h in
-        rw here refl
-    by_test false e t later = rw (later t) (or-right (q x))
-
-list_any_gives : (q : ℕ → Bool) (xs : List ℕ) → list_any q xs ≡ true → (m : ℕ) × (lists xs m ≡ true) × (q m ≡ true)
-list_any_gives q [] h = absurd (false≢true h)
-list_any_gives q (x ∷ xs) h = by_test (q x) refl h (list_any_gives q xs)
-  where
-    by_test : (b : Bool) → q x ≡ b → (b || list_any q xs) ≡ true →
-        (list_any q xs ≡ true → (m : ℕ) × (lists xs m ≡ true) × (q m ≡ true)) → (m : ℕ) × (lists (x ∷ xs) m ≡ true) × (q m ≡ true)
-    by_test true e t later = (x, lists-head x xs, e)
-    by_test false e t later = let found = later t in (found.0, lists-tail x xs found.0 found.1, found.2)
-
-pub has_some_from : (q : ℕ → Bool) (set : CharSet) (m : ℕ) → is_member set m ≡ true → q m ≡ true → has_some q set ≡ true
-unfolding is_member
-has_some_from q [] m member h = absurd (false≢true member)
-has_some_from q (iv ∷ ivs) m member h = by_test (is_within iv m) refl member (λ t. has_some_from q ivs m t h)
-  where
-    by_test : (b : Bool) → is_within iv m ≡ b → (b || is_member ivs m) ≡ true → (is_member ivs m ≡ true → has_some q ivs ≡ true) →
-        (list_any q (code_points iv) || has_some q ivs) ≡ true
-    by_test true e t later = rw (list_any_from q (code_points iv) m (lists-interval iv m ∙ e) h) refl
-    by_test false e t later = rw (later t) (or-right (list_any q (code_points iv)))
-
-pub has_some_gives : (q : ℕ → Bool) (set : CharSet) → has_some q set ≡ true → (m : ℕ) × (is_member set m ≡ true) × (q m ≡ true)
-unfolding is_member
-has_some_gives q [] h = absurd (false≢true h)
-has_some_gives q (iv ∷ ivs) h = by_test (list_any q (code_points iv)) refl h (has_some_gives q ivs)
-  where
-    by_test : (b : Bool) → list_any q (code_points iv) ≡ b → (b || has_some q ivs) ≡ true →
-        (has_some q ivs ≡ true → (m : ℕ) × (is_member ivs m ≡ true) × (q m ≡ true)) →
-        (m : ℕ) × ((is_within iv m || is_member ivs m) ≡ true) × (q m ≡ true)
-    by_test true e t later =
-        let found = list_any_gives q (code_points iv) e in
-        let within : is_within iv found.0 ≡ true = sym (lists-interval iv found.0) ∙ found.1 in
-        (found.0, rw within refl, found.2)
-    by_test false e t later =
-        let found = later t in
-        (found.0, rw found.1 (or-right (is_within iv found.0)), found.2)
 
 -- ---- canonical forms
 
@@ -119,23 +65,23 @@ module _ (table : Table) (maps : HasCaseDataOfUnicode table) (rer : Flags) (with
       by_test true = refl
       by_test false = refl
 
-  found_if : rer.icase ≡ true → (set : CharSet) (ch : ℕ) →
+  pub found_if : rer.icase ≡ true → (set : CharSet) (ch : ℕ) →
       is_found table rer set ch ≡ has_some (λ a. canonicalize table rer a == canonicalize table rer ch) set
   found_if icase set ch =
       ap (λ (b : Bool). if b then has_some (λ a. canonicalize table rer a == canonicalize table rer ch) set else is_member set ch) icase
 
-  found_plain : rer.icase ≡ false → (set : CharSet) (ch : ℕ) → is_found table rer set ch ≡ is_member set ch
+  pub found_plain : rer.icase ≡ false → (set : CharSet) (ch : ℕ) → is_found table rer set ch ≡ is_member set ch
   found_plain icase set ch =
       ap (λ (b : Bool). if b then has_some (λ a. canonicalize table rer a == canonicalize table rer ch) set else is_member set ch) icase
 
   -- The members that have the canonical form of ch.
-  found_gives : (set : CharSet) (ch : ℕ) → has_some (λ a. canonicalize table rer a == canonicalize table rer ch) set ≡ true →
+  pub found_gives : (set : CharSet) (ch : ℕ) → has_some (λ a. canonicalize table rer a == canonicalize table rer ch) set ≡ true →
       (m : ℕ) × (is_member set m ≡ true) × (canonicalize table rer m ≡ canonicalize table rer ch)
   found_gives set ch h =
       let found = has_some_gives (λ a. canonicalize table rer a == canonicalize table rer ch) set h in
       (found.0, found.1, eqb-true (canonicalize table rer found.0) (canonicalize table rer ch) found.2)
 
-  found_from : (set : CharSet) (ch m : ℕ) → is_member set m ≡ true → canonicalize table rer m ≡ canonicalize table rer ch →
+  pub found_from : (set : CharSet) (ch m : ℕ) → is_member set m ≡ true → canonicalize table rer m ≡ canonicalize table rer ch →
       has_some (λ a. canonicalize table rer a == canonicalize table rer ch) set ≡ true
   found_from set ch m member same = has_some_from (λ a. canonicalize table rer a == canonicalize table rer ch) set m member (eq-eqb _ _ same)
 
@@ -214,7 +160,7 @@ module _ (table : Table) (maps : HasCaseDataOfUnicode table) (rer : Flags) (with
       (λ (low : ch ≤ 0x2029). omega arith)
       (cases_lt 0x2029 ch)
 
-  member_all : (ch : ℕ) → ch ≤ code_point_max → is_member (record { first = 0; last = code_point_max } ∷ []) ch ≡ true
+  pub member_all : (ch : ℕ) → ch ≤ code_point_max → is_member (record { first = 0; last = code_point_max } ∷ []) ch ≡ true
   unfolding is_member is_within
   member_all ch le = grind (arith, nat_tests)
 
@@ -238,15 +184,23 @@ module _ (table : Table) (maps : HasCaseDataOfUnicode table) (rer : Flags) (with
       ∙ ap (λ (b : Bool). b && not (is_line_terminator ch)) (intervals_of-member (λ c. table.fold c == c) ch le)
   member_dot false false ch le = member_without ch le
 
+  -- No other character has the canonical form of a character without case variants.
+  pub canonical-variants : rer.icase ≡ true → (a b : ℕ) → is_member cased a ≡ false → canonicalize table rer b ≡ canonicalize table rer a → b ≡ a
+  canonical-variants icase a b none same =
+      by_test rer.unicode (sym (canonicalize-same icase b) ∙ same ∙ canonicalize-same icase a)
+    where
+      by_test : (u : Bool) → Table.canonicalize table u b ≡ Table.canonicalize table u a → b ≡ a
+      by_test true e = maps.folded_variants a b none e
+      by_test false e = maps.upper_variants a b none e
+
+  lines_uncased : (c : ℕ) → is_line_terminator c ≡ true → is_member cased c ≡ false
+  unfolding unlike
+  lines_uncased c line = apart cased line_terminators refl c line
+
   -- A character with the canonical form of a line terminator is one.
   line-closed : rer.icase ≡ true → (a b : ℕ) → is_line_terminator a ≡ true → canonicalize table rer b ≡ canonicalize table rer a →
       is_line_terminator b ≡ true
-  line-closed icase a b line same =
-      by_test rer.unicode (sym (canonicalize-same icase b) ∙ same ∙ canonicalize-same icase a)
-    where
-      by_test : (u : Bool) → Table.canonicalize table u b ≡ Table.canonicalize table u a → is_line_terminator b ≡ true
-      by_test true e = maps.folded_lines a b line e
-      by_test false e = maps.upper_lines a b line e
+  line-closed icase a b line same = ap is_line_terminator (canonical-variants icase a b (lines_uncased a line) same) ∙ line
 
   abbrev folded_sets : Bool
   folded_sets = rer.unicode_sets && rer.icase
@@ -276,7 +230,7 @@ module _ (table : Table) (maps : HasCaseDataOfUnicode table) (rer : Flags) (with
           and_parts-second (not folded_sets || (table.fold m == m)) (is_any rer m) (sym (dot_member m (line-le m e)) ∙ member)
       by_test false e = ap (λ (b : Bool). rer.dot_all || not b) e ∙ or-right rer.dot_all
 
-  plain_sets : rer.icase ≡ false → folded_sets ≡ false
+  pub plain_sets : rer.icase ≡ false → folded_sets ≡ false
   plain_sets e = ap (λ (b : Bool). rer.unicode_sets && b) e ∙ by_test rer.unicode_sets
     where
       by_test : (v : Bool) → (v && false) ≡ false
@@ -292,7 +246,8 @@ module _ (table : Table) (maps : HasCaseDataOfUnicode table) (rer : Flags) (with
       let canonical : (c : ℕ) → canonicalize table rer c ≡ table.fold c =
       λ c. canonicalize-same icase c ∙ ap (λ (b : Bool). Table.canonicalize table b c) u in
       let any_folded : is_any rer (table.fold ch) ≡ true =
-      not_line rer.dot_all ch (table.fold ch) any (λ line. maps.folded_lines (table.fold ch) ch line (sym twice)) in
+      not_line rer.dot_all ch (table.fold ch) any (λ line.
+      ap is_line_terminator (maps.folded_variants (table.fold ch) ch (lines_uncased (table.fold ch) line) (sym twice)) ∙ line) in
       let member : is_member (dot_set table rer) (table.fold ch) ≡ true =
       dot_member (table.fold ch) (maps.in_range ch le)
       ∙ ap₂ (λ (a b : Bool). (not folded_sets || a) && b) (eq-eqb _ _ twice) any_folded
@@ -321,7 +276,7 @@ module _ (table : Table) (maps : HasCaseDataOfUnicode table) (rer : Flags) (with
 
   -- ---- word characters
 
-  member-append : (xs ys : CharSet) (c : ℕ) → is_member (xs ++ ys) c ≡ (is_member xs c || is_member ys c)
+  pub member-append : (xs ys : CharSet) (c : ℕ) → is_member (xs ++ ys) c ≡ (is_member xs c || is_member ys c)
   unfolding is_member
   member-append [] ys c = refl
   member-append (x ∷ xs) ys c = ap (λ (b : Bool). is_within x c || b) (member-append xs ys c) ∙ assoc (is_within x c) (is_member xs c) (is_member ys c)
@@ -345,9 +300,9 @@ module _ (table : Table) (maps : HasCaseDataOfUnicode table) (rer : Flags) (with
       absurd (⊎_elim (λ (h : false ≡ true). false≢true h) (λ (h : false ≡ true). false≢true h) (gives refl))
   either_or false false false gives one other = refl
 
-  closure-if : (ch : ℕ) → ch ≤ code_point_max → is_in_closure table basic_word_characters ch ≡ has_some (λ m. table.fold m == table.fold ch) basic_word_characters
+  pub closure-if : (set : CharSet) (ch : ℕ) → ch ≤ code_point_max → is_in_closure table set ch ≡ has_some (λ m. table.fold m == table.fold ch) set
   unfolding is_in_closure
-  closure-if ch le =
+  closure-if set ch le =
       let small : nat_le ch code_point_max ≡ true = grind (arith, nat_tests) in
       rw small refl
 
@@ -364,7 +319,7 @@ module _ (table : Table) (maps : HasCaseDataOfUnicode table) (rer : Flags) (with
       inr (sym (ap is_basic same) ∙ maps.folded_words found.0 found.1))
       (λ h. has_some_from (λ m. table.fold m == table.fold ch) basic_word_characters ch h (eq-eqb _ _ refl))
       (λ h. has_some_from (λ m. table.fold m == table.fold ch) basic_word_characters (table.fold ch) h (eq-eqb _ _ (maps.idempotent ch)))
-      ∙ sym (closure-if ch le)
+      ∙ sym (closure-if basic_word_characters ch le)
   word_by false u icase ch le =
       let uppers : canonicalize table rer ch ≡ table.uppercase ch = canonicalize-same icase ch ∙ ap (λ (b : Bool). Table.canonicalize table b ch) u in
       ap (λ (c : ℕ). is_basic ch || (not (is_basic ch) && is_basic c)) uppers
@@ -376,12 +331,9 @@ module _ (table : Table) (maps : HasCaseDataOfUnicode table) (rer : Flags) (with
   abbrev closed_if : ℕ → Bool → Bool
   closed_if ch b = if b then is_in_closure table basic_word_characters ch else is_basic ch
 
-  pub word_member : (ch : ℕ) → IsScalar ch → is_member (word_characters table rer) ch ≡ is_in_word table rer ch
-  word_member ch scalar' = by_test rer.icase refl rer.unicode refl
+  pub word_member : (ch : ℕ) → ch ≤ code_point_max → is_member (word_characters table rer) ch ≡ is_in_word table rer ch
+  word_member ch le = by_test rer.icase refl rer.unicode refl
     where
-      le : ch ≤ code_point_max
-      le = scalar_in_range ch scalar'
-
       and-false : (u : Bool) → (u && false) ≡ false
       and-false true = refl
       and-false false = refl

@@ -7,6 +7,7 @@ use Rattle.std.specs.Char.{IsScalar}
 use Rattle.regress_base.specs.Classes.{line_terminators}
 use Rattle.regress_base.specs.Intervals.{is_member}
 use Rattle.regress_base.specs.Table.{Table, denotes}
+use Rattle.regress_base.specs.declared.charclasses.CharacterClassType.{CharacterClassType}
 use Rattle.regress_base.specs.declared.types.AnchorType.{AnchorType}
 use Rattle.regress_base.specs.declared.types.AnchorType.TheVariants.{StartOfLine, EndOfLine}
 use Rattle.regress_base.specs.declared.types.Flags.{Flags}
@@ -17,23 +18,26 @@ use Rattle.regress_tree.specs.References.{back_reference as back_reference_steps
 use Rattle.regress_tree.specs.Setting.{Setting}
 use Rattle.regress_tree.specs.Steps as Steps
 use Rattle.regress_tree.specs.Steps.{IsStateOf, IsCaptureOf, hold_at, dedup, ◌then_◌}
+use Rattle.regress_base.proofs.lemmas.Literals.{scalar_in_range}
+use Rattle.regress_classes.specs.ClassProductions.{members_of}
 use Rattle.regress_classes.specs.ClassSets.{Value, has_strings}
 use Rattle.regress_syntax.specs.Meaning.{is_in_class, along, any_reference, groups_named, is_literal, is_any, is_in_word, atom_steps, pattern_steps, terms_steps, item_steps, quantified_steps, meaning}
 use Rattle.regress_syntax.specs.Syntax.{Name, names, Atom, literal, dot, anchor, boundary, class_escape, class, class_set, string_property, back_reference, by_number, by_name, is_named, Group, grouping, modified, capture, look, Pattern, Terms, Item, one, either, no_terms, more_terms, atom, group, counts_of_item, counts_of_term, counts_of_terms}
-use Rattle.regress_ecma.specs.Notation.{failure, Matcher}
-use Rattle.regress_ecma.specs.Characters.{character_complement, word_characters}
+use Rattle.regress_ecma.specs.Notation.{CharSet, failure, Matcher}
+use Rattle.regress_ecma.specs.Characters.{character_class_escape, character_complement, word_characters}
 use Rattle.regress_ecma.specs.Repetition.{match_sequence}
 use Rattle.regress_ecma.specs.CharacterMatchers.{is_same, backreference_matcher}
 use Rattle.regress_ecma.specs.Assertions.{is_in_at, index_before, is_word_char, accept, compile_anchor, compile_boundary}
 use Rattle.regress_ecma.specs.Atoms.{numbers_of, compile_atom}
 use Rattle.regress_ecma.specs.Compile.{compile_pattern, quantified, flags_inside, compile_disjunction, compile_alternative, compile_term}
-use Rattle.regress_ecma.specs.Differences.{HasCaseDataOfUnicode, flags_of, IsInOrder, IsProper, AreProper, IsProperItem, differs_at_atom, differs, differs_in_terms, differs_in_item}
+use Rattle.regress_ecma.specs.Differences.{HasCaseDataOfUnicode, flags_of, IsInOrder, IsProper, AreProper, IsProperItem, is_words, differs_in_case, differs_at_atom, differs, differs_in_terms, differs_in_item}
 use Rattle.regress_ecma.specs.Compared.{state_on, IsComparable}
 use Rattle.regress_ecma.proofs.Bridge.{first_result, Agrees, Agrees-empty, Agrees-or, Agrees-then, Agrees-repeat}
 use Rattle.regress_ecma.proofs.Groups.{Agrees-capture, Agrees-look, Agrees-hold}
 use Rattle.regress_ecma.proofs.BackReferences.{Agrees-back_reference}
 use Rattle.regress_ecma.proofs.Strings.{Agrees-strings, Agrees-no_strings}
-use Rattle.regress_ecma.proofs.CharacterSets.{Agrees-character, passes-after, passes-before}
+use Rattle.regress_ecma.proofs.IgnoredCase.{class_in_case, escape_in_case}
+use Rattle.regress_ecma.proofs.CharacterSets.{IsSetOf, Agrees-character, passes-after, passes-before}
 use Rattle.regress_ecma.proofs.Sets.{same-literal, literal_set, dot_is_set, word_member, class_is_set, complement_is_set, escape_is_set}
 
 or-none : (a b : Bool) → (a || b) ≡ false → (a ≡ false) × (b ≡ false)
@@ -139,6 +143,24 @@ module _ (setting : Setting) (maps : HasCaseDataOfUnicode setting.table) (with_u
       value.strings parts.0 (character_complement setting.table rer value.members) (is_in_class setting.table rer true value.members)
       (complement_is_set setting.table maps rer (with_u_in rer flags) plain value.members) value.has_empty parts.1
 
+  escape_set : (rer : Flags) → HasFlagsOf rer → (kind : CharacterClassType) (negated : Bool) → differs_at_atom all rer (class_escape rer kind negated) ≡ false →
+      IsSetOf setting.table rer (character_class_escape setting.table rer kind negated) false (is_in_class setting.table rer negated (members_of kind))
+  escape_set rer flags kind negated none = by_test rer.icase refl none
+    where
+      by_test : (i : Bool) → rer.icase ≡ i → (i && (not rer.unicode && is_words kind)) ≡ false →
+          IsSetOf setting.table rer (character_class_escape setting.table rer kind negated) false (is_in_class setting.table rer negated (members_of kind))
+      by_test true e same = escape_in_case setting.table maps rer (with_u_in rer flags) e kind negated same
+      by_test false e same = escape_is_set setting.table maps rer (with_u_in rer flags) e kind negated
+
+  members_set : (rer : Flags) → HasFlagsOf rer → (inverted : Bool) (members : CharSet) → (rer.icase && differs_in_case rer members) ≡ false →
+      IsSetOf setting.table rer members inverted (is_in_class setting.table rer inverted members)
+  members_set rer flags inverted members none = by_test rer.icase refl none
+    where
+      by_test : (i : Bool) → rer.icase ≡ i → (i && differs_in_case rer members) ≡ false →
+          IsSetOf setting.table rer members inverted (is_in_class setting.table rer inverted members)
+      by_test true e same = class_in_case setting.table maps rer (with_u_in rer flags) e inverted members same
+      by_test false e same = class_is_set setting.table maps rer (with_u_in rer flags) e inverted members
+
   abbrev AtomAgrees : Direction → Atom → Flags → Type 0
   AtomAgrees d a rer =
       HasFlagsOf rer → differs_at_atom all rer a ≡ false →
@@ -151,11 +173,12 @@ module _ (setting : Setting) (maps : HasCaseDataOfUnicode setting.table) (with_u
       Agrees-character setting.table rer _ false (is_any rer) text is_text (dot_is_set setting.table maps rer (with_u_in rer flags)) d
   atom_agrees d (anchor rer kind) flags none = Agrees-anchor text is_text d rer kind
   atom_agrees d (boundary rer inverted) flags none =
-      Agrees-boundary text is_text d setting.table rer (is_in_word setting.table rer) (word_member setting.table maps rer (with_u_in rer flags)) inverted
+      Agrees-boundary text is_text d setting.table rer (is_in_word setting.table rer)
+      (λ ch scalar'. word_member setting.table maps rer (with_u_in rer flags) ch (scalar_in_range ch scalar')) inverted
   atom_agrees d (class_escape rer kind negated) flags none =
-      Agrees-character setting.table rer _ false _ text is_text (escape_is_set setting.table maps rer (with_u_in rer flags) none kind negated) d
+      Agrees-character setting.table rer _ false _ text is_text (escape_set rer flags kind negated none) d
   atom_agrees d (class rer inverted members) flags none =
-      Agrees-character setting.table rer members inverted _ text is_text (class_is_set setting.table maps rer (with_u_in rer flags) none inverted members) d
+      Agrees-character setting.table rer members inverted _ text is_text (members_set rer flags inverted members none) d
   atom_agrees d (class_set rer negated value) flags none =
       let parts = or-none rer.icase (negated && has_strings value) none in
       class_set_agrees d rer flags parts.0 negated value parts.1

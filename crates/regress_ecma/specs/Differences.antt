@@ -1,18 +1,38 @@
 -- For which syntax trees, flags and tables the dialect is compared with ECMA-262.
-use Rattle.std.specs.Prelude.{◌&&◌, ◌==◌, not, length, ◌≡◌, ℕ, ◌≤◌, Bool, true, false, ◌||◌, List, Option, Some, None, IfSome}
-use Rattle.regress_base.specs.Classes.{line_terminators, word_characters}
+use Rattle.std.specs.Prelude.{◌&&◌, ◌==◌, not, length, ◌≡◌, ℕ, ◌≤◌, Bool, true, false, ◌||◌, if◌then◌else◌, List, [], ◌∷◌, Option, Some, None, IfSome}
+use Rattle.regress_base.specs.Classes.{word_characters}
 use Rattle.regress_base.specs.Intervals.{Bounds, code_point_max, is_member}
 use Rattle.regress_base.specs.Table.{Table, IsIdempotent}
+use Rattle.regress_base.specs.declared.charclasses.CharacterClassType.{CharacterClassType}
+use Rattle.regress_base.specs.declared.charclasses.CharacterClassType.TheVariants.{Digits, Spaces, Words}
 use Rattle.regress_base.specs.declared.types.Flags.{Flags}
 use Rattle.regress_base.specs.declared.types.Quantifier.{Quantifier}
 use Rattle.regress_classes.specs.ClassSets.{has_strings}
 use Rattle.regress_syntax.specs.Syntax.{Name, by_number, by_name, Atom, literal, dot, anchor, boundary, class_escape, class, class_set, string_property, back_reference, Pattern, Terms, Item, one, either, no_terms, more_terms, atom, group}
+use Rattle.regress_ecma.specs.Characters.{has_some}
 use Rattle.regress_ecma.specs.Atoms.{numbers_of}
 use Rattle.regress_ecma.specs.Compile.{flags_inside}
 
--- What maps to the same character as a member of the set is a member.
-abbrev pub IsClosed : (ℕ → ℕ) → List Bounds → Type 0
-IsClosed f set = (a b : ℕ) → is_member set a ≡ true → f b ≡ f a → is_member set b ≡ true
+-- Intervals that have all characters whose case variants are not the same with and without u, and others. Of the ASCII
+-- letters, K and S have a variant outside of ASCII only with u.
+unfoldable pub unlike : List Bounds
+unlike =
+    record { first = 0x4B; last = 0x4B } ∷ record { first = 0x53; last = 0x53 } ∷ record { first = 0x6B; last = 0x6B }
+    ∷ record { first = 0x73; last = 0x73 } ∷ record { first = 0xB5; last = 0xB5 } ∷ record { first = 0xC0; last = 0xD6 }
+    ∷ record { first = 0xD8; last = 0xF6 } ∷ record { first = 0xF8; last = 0x586 } ∷ record { first = 0x10A0; last = 0x10FF }
+    ∷ record { first = 0x13A0; last = 0x13FD } ∷ record { first = 0x1C80; last = 0x1FFC }
+    ∷ record { first = 0x2126; last = 0x2184 } ∷ record { first = 0x24B6; last = 0x24E9 }
+    ∷ record { first = 0x2C00; last = 0x2D2D } ∷ record { first = 0xA640; last = 0xABBF }
+    ∷ record { first = 0xFB00; last = 0xFB06 } ∷ record { first = 0xFF21; last = 0xFF5A }
+    ∷ record { first = 0x10400; last = 0x1E943 } ∷ []
+
+-- intervals that have all characters with case variants, and others: the ASCII letters, and those
+abbrev pub cased : List Bounds
+cased = record { first = 0x41; last = 0x5A } ∷ record { first = 0x61; last = 0x7A } ∷ unlike
+
+-- No other character maps to what a character outside of these intervals maps to.
+abbrev pub HasVariantsIn : List Bounds → (ℕ → ℕ) → Type 0
+HasVariantsIn set f = (a b : ℕ) → is_member set a ≡ false → f b ≡ f a → b ≡ a
 
 -- Facts about the case mappings of Unicode that a table need not have. Those about the upper case make the last steps of
 -- 22.2.2.7.3 Canonicalize, and the assertion of 22.2.2.9.3 WordCharacters, true of the table's map.
@@ -22,8 +42,9 @@ pub record HasCaseDataOfUnicode (table : Table) : Type 0 where
   pub upper_ascii : (c : ℕ) → 128 ≤ c → 128 ≤ table.uppercase c
   pub upper_words : (c : ℕ) → is_member word_characters (table.uppercase c) ≡ true → is_member word_characters c ≡ true
   pub folded_words : (c : ℕ) → is_member word_characters c ≡ true → is_member word_characters (table.fold c) ≡ true
-  pub folded_lines : IsClosed table.fold line_terminators
-  pub upper_lines : IsClosed table.uppercase line_terminators
+  pub folded_variants : HasVariantsIn cased table.fold
+  pub upper_variants : HasVariantsIn cased table.uppercase
+  pub same_variants : (a b : ℕ) → is_member unlike a ≡ false → (table.uppercase b == table.uppercase a) ≡ (table.fold b == table.fold a)
 
 -- ---- syntax trees of accepted patterns
 
@@ -59,6 +80,24 @@ abbrev mutual
 
 -- ---- differing constructs
 
+abbrev pub is_words : CharacterClassType → Bool
+is_words Digits = false
+is_words Spaces = false
+is_words Words = true
+
+-- Some member may have other case variants with u than without.
+abbrev pub has_unlike : List Bounds → Bool
+has_unlike = has_some (is_member unlike)
+
+-- The least and the greatest code point are members, as of a class that contains `\W`.
+abbrev pub has_ends : List Bounds → Bool
+has_ends members = is_member members 0 && is_member members code_point_max
+
+-- A class that may differ with i: without u `[k]`; with u `[\W]`, which the tree does not tell from other classes with the
+-- same members; with v `\P{Lu}`, likewise.
+abbrev pub differs_in_case : Flags → List Bounds → Bool
+differs_in_case rer members = rer.unicode_sets || (if rer.unicode then has_ends members else has_unlike members)
+
 module _ (names : List (Option Name)) where
   -- An atom that may match something else than in ECMA-262 (docs/differences.md), or that is not compared.
   abbrev pub differs_at_atom : Flags → Atom → Bool
@@ -66,10 +105,9 @@ module _ (names : List (Option Name)) where
   differs_at_atom rer (dot flags) = false
   differs_at_atom rer (anchor flags kind) = false
   differs_at_atom rer (boundary flags inverted) = false
-  -- `\w` with i, without u. With u it is not compared.
-  differs_at_atom rer (class_escape flags kind negated) = rer.icase
-  -- `[k]` with i, without u; `[\W]` and `\P{Lu}` with u, whose members the tree does not tell from those of other classes
-  differs_at_atom rer (class flags inverted members) = rer.icase
+  -- `\w` with i, without u
+  differs_at_atom rer (class_escape flags kind negated) = rer.icase && (not rer.unicode && is_words kind)
+  differs_at_atom rer (class flags inverted members) = rer.icase && differs_in_case rer members
   -- with i, `[[^A]]` and `[[A-Z]&&[a-z]]`, likewise. The grammar has no strings in a negated class.
   differs_at_atom rer (class_set flags negated value) = rer.icase || (negated && has_strings value)
   -- not compared

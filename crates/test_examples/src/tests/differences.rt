@@ -54,7 +54,7 @@ fn constructs_that_differ_are_reported(rt: HostRuntime) -> Result<(), Fail> {
         ("[[A-Z]&&[a-z]]", sets(true), CaseClosure, 0, 14),
         ("[\\q{}]", sets(true), CaseClosure, 0, 6),
         ("(?i:[k])", none, CaseClosure, 4, 7),
-        ("[\\q{ab}]", sets(true), StringSet, 0, 8),
+        ("[\\q{ab}]", sets(true), CaseClosure, 0, 8),
         ("x\\p{RGI_Emoji}", sets(false), StringSet, 1, 14),
         ("(?:(?<a>x)|(?<a>y))\\k<a>", none, SameName, 19, 24),
     ];
@@ -75,9 +75,17 @@ fn constructs_that_agree_are_not_reported(rt: HostRuntime) -> Result<(), Fail> {
         icase: true,
         ..Flags::default()
     };
+    let unicode = Flags {
+        unicode: true,
+        ..icase
+    };
     let cases = [
         ("", icase),
         ("^k|s*?$", icase),
+        // with i: class escapes, and classes without characters whose case variants depend on u
+        ("\\d\\D\\s\\S", icase),
+        ("[0-9a-f][^\"\\s][^,]", icase),
+        ("[k-s]\\w\\W[^\\w]", unicode),
         ("(?=.)(?<!\\b)", icase),
         ("[k]\\w", Flags::default()),
         ("(?-i:[k])", Flags::default()),
@@ -91,6 +99,23 @@ fn constructs_that_agree_are_not_reported(rt: HostRuntime) -> Result<(), Fail> {
     for (pattern, flags) in cases {
         let found = reported(alloc, pattern, flags, &tables)?;
         assert!(rt; found.is_empty());
+    }
+    Ok(())
+}
+
+#[test]
+fn kinds_have_a_name_and_a_text(rt: HostRuntime) -> Result<(), Fail> {
+    for (kind, name, example) in [
+        (
+            CaseClosure,
+            "case-closure",
+            "[k] without u also matches U+212A",
+        ),
+        (StringSet, "string-set", "\\p{RGI_Emoji}"),
+        (SameName, "same-name", "(?:(?<a>x)|(?<a>y))\\k<a>"),
+    ] {
+        assert_eq!(rt; kind.name(), name);
+        assert!(rt; kind.text().contains(example));
     }
     Ok(())
 }

@@ -17,6 +17,6 @@ returns c =
       adds = λ a b t u d lookbehind skip call. (search rules, rw (← call.on) (search rules));
       leaves = λ a b t u d lookbehind skip call. call.leaves;
     }) _ _ _ _ _ _ c.walk.ensures.visited in
-    let found = reported c.args.icase c.args.pattern.now (zip (postorder (tree c.args.node.now)) c.args.spans.now) in
+    let found = reported c.args.flags c.args.pattern.now (zip (postorder (tree c.args.node.now)) c.args.spans.now) in
     ended _ c.walk.new.func.0.now.found.items (search rules) found
     (lists.1.listed (search rules) ∙ ap (λ (ds : List Difference). ds ++ found) c.new.ensures.items)
