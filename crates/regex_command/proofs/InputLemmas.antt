@@ -1,5 +1,5 @@
 -- Inputs are searched one after another.
-use Rattle.std.proofs.Common.{◌≡◌, ◌∙◌, ℕ, suc, ◌+◌, ◌<◌, Bool, false, ◌||◌, List, [], ◌∷◌, ◌++◌, Option, Some, None, length, map, take, drop, get_or, refl, sym, ap, subst, arith, append-nil, drop-cons, take-append-drop}
+use Rattle.std.proofs.Common.{◌≡◌, ◌∙◌, ℕ, suc, ◌+◌, ◌<◌, Bool, true, false, ◌||◌, List, [], ◌∷◌, ◌++◌, Option, Some, None, length, map, take, drop, get_or, refl, sym, ap, subst, arith, append-nil, drop-cons, take-append-drop}
 use Rattle.std.specs.Prelude.{nat_lt, String, string_bytes, codes}
 use Rattle.std.specs.Io.KnownBytes.{Appends}
 use Rattle.std.specs.List.{FoldsTo}
@@ -7,8 +7,9 @@ use Rattle.std.specs.declared.alloc.Global.{Global}
 use Rattle.std.proofs.lemmas.Fn.{FoldsTo-push}
 use Rattle.std.proofs.lemmas.List.{get_or-map, length-map, take_more}
 use Rattle.regress_arguments.proofs.lemmas.Output.{appends_both}
+use Rattle.regex_command.proofs.FoldLemmas.{stays}
 use Rattle.regress.specs.declared.pattern.Regex.{Regex}
-use Rattle.regex_command.specs.Inputs.{Input, IsInputStep, Result, WritesInput, WritesSomeOf, inputs_of, named_files}
+use Rattle.regex_command.specs.Inputs.{Input, IsInputStep, Result, WritesInput, WritesInputs, WritesSomeOf, has_ended, inputs_of, named_files}
 use Rattle.regex_command.specs.Job.{Job, Named}
 use Rattle.regex_command.specs.Searched.{SearchesFirst}
 
@@ -30,15 +31,28 @@ module _ (r : Regex) (job : Job) (inputs : List Input) (before : Option (List �
   none_yet = record { bytes = []; steps = refl; written = appends_nothing before }
 
   module _ (i : ℕ) (any : Bool) (between : Option (List ℕ)) (sofar : FirstInputs i any between) where
+    -- The inputs that are left are passed over.
+    pub ended : has_ended job any ≡ true → WritesInputs r job inputs before between any
+    ended is = (
+      sofar.bytes,
+      subst (λ all. FoldsTo (IsInputStep r job) nothing all (record { any = any; written = sofar.bytes })) (take-append-drop i inputs)
+          (stays (IsInputStep r job) nothing (record { any = any; written = sofar.bytes }) (take i inputs) (drop i inputs)
+          (λ input. record { passed = λ _. refl; searched = λ goes_on. let bad : ⊥ = cc (goes_on, is) in absurd bad }) sofar.steps),
+      sofar.written,
+    )
+
     module _ (input : Input) (within : i < length inputs) (here : get_or inputs i input ≡ input) (after : Option (List ℕ)) where
-      pub one_more : (is : Bool) → WritesInput r job input.0 input.1 between after is → FirstInputs (i + 1) (any || is) after
-      one_more is took = record {
+      pub one_more : has_ended job any ≡ false → (is : Bool) → WritesInput r job input.0 input.1 between after is → FirstInputs (i + 1) (any || is) after
+      one_more goes_on is took = record {
         bytes = sofar.bytes ++ took.0;
         steps = subst (λ some. FoldsTo (IsInputStep r job) nothing some (record { any = any || is; written = sofar.bytes ++ took.0 }))
             (sym (take_more inputs i input within ∙ ap (λ x. take i inputs ++ x ∷ []) here))
             (FoldsTo-push (IsInputStep r job) nothing (take i inputs) (record { any = any; written = sofar.bytes }) input
             (record { any = any || is; written = sofar.bytes ++ took.0 }) sofar.steps
-            (record { any = is; bytes = took.0; written = took.1; next = refl }));
+            (record {
+              passed = λ ended. let bad : ⊥ = cc (goes_on, ended) in absurd bad;
+              searched = λ _. record { any = is; bytes = took.0; written = took.1; next = refl };
+            }));
         written = appends_both before between after sofar.bytes took.0 sofar.written took.2;
       }
 

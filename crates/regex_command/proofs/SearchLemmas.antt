@@ -1,6 +1,6 @@
 -- The lines of an input are searched one after another.
 use mir.Val.{bool_byte}
-use Rattle.std.proofs.Common.{◌≡◌, inl, inr, ℕ, ◌+◌, ◌≤◌, Bool, true, false, List, [], ◌∷◌, ◌++◌, Option, Some, None, refl, sym, ap, subst, arith, append-nil}
+use Rattle.std.proofs.Common.{◌≡◌, inl, inr, ℕ, ◌+◌, ◌≤◌, Bool, true, false, List, [], ◌∷◌, ◌++◌, Option, Some, None, refl, sym, ap, subst, arith, append-nil, ◌∙◌}
 use Rattle.std.specs.Prelude.{Result, Ok, Err, IfErr, nat_lt}
 use Rattle.std.specs.Result.{IsErrAnd}
 use Rattle.std.specs.Io.KnownBytes.{Appends, IsAtEnd}
@@ -12,17 +12,34 @@ use Rattle.regress.specs.declared.pattern.Regex.{Regex}
 use Rattle.regex_command.specs.Ending.{OrOutput}
 use Rattle.regex_command.specs.Inputs.{WritesInput}
 use Rattle.regex_command.specs.Job.{Job, Named}
+use Rattle.regex_command.specs.Lines.{AreLinesOf}
 use Rattle.regex_command.specs.Reading.{IsRead}
 use Rattle.regex_command.specs.Reply.{IsReply}
-use Rattle.regex_command.specs.Searched.{IsStep, Progress, SearchesAll, SearchesFirst, at_start, front_of, one_if, written_at_end}
+use Rattle.regex_command.specs.Searched.{IsSearchedLine, IsStep, Progress, SearchesAll, SearchesFirst, at_start, front_of, is_enough, one_if, written_at_end}
 use Rattle.regex_command.specs.declared.failure.Failure.{Failure}
 use Rattle.regex_command.specs.declared.reading.Next.{Next}
 use Rattle.regex_command.specs.declared.reading.Next.TheVariants.{Line, LastLine, End}
+use Rattle.regex_command.proofs.FoldLemmas.{stays}
 use Rattle.regex_command.proofs.LineLemmas.{HasRead, begins, goes_on, ended, ended_by_last, stopped}
 
 appends_nothing : (known : Option (List ℕ)) → Appends known known []
 appends_nothing None = tt
 appends_nothing (Some bytes) = sym (append-nil bytes)
+
+-- the lines and those after them
+whole_of : (old : Option (List ℕ)) (lines : List (List ℕ)) (are : AreLinesOf old false lines) → AreLinesOf old true (lines ++ are.others)
+whole_of old lines are = record {
+  text = are.text;
+  known = are.known;
+  others = [];
+  whole = are.whole ∙ sym (append-nil (lines ++ are.others));
+  all = λ _. refl;
+}
+
+-- Once enough lines are selected, a line changes nothing.
+passed_over : (r : Regex) (job : Job) (place : Named) (p : Progress) → is_enough job p.selected ≡ true → (line : List ℕ) → IsStep r job place p line p
+passed_over r job place p enough line =
+    record { passed = λ _. refl; searched = λ few. let bad : ⊥ = cc (few, enough) in absurd bad }
 
 module _ (r : Regex) (job : Job) (place : Named) (old before : Option (List ℕ)) where
   -- how far the search is: what the reader has lost, and what was written
@@ -55,7 +72,7 @@ module _ (r : Regex) (job : Job) (place : Named) (old before : Option (List ℕ)
       )
 
   module _ (now between after : Option (List ℕ)) (number selected : ℕ) (sofar : SoFar now between number selected) (line : List ℕ) (is_selected : Bool)
-      (reply : Took between after (IsReply r line job (front_of job place (number + 1)) is_selected)) where
+      (few : is_enough job selected ≡ false) (reply : Took between after (IsReply r line job (front_of job place (number + 1)) is_selected)) where
     abbrev next : Progress
     next = record {
       lines = number + 1;
@@ -63,8 +80,8 @@ module _ (r : Regex) (job : Job) (place : Named) (old before : Option (List ℕ)
       written = sofar.progress.written ++ reply.0;
     }
 
-    step : IsStep r job place sofar.progress line next
-    step = record {
+    searched : IsSearchedLine r job place sofar.progress line next
+    searched = record {
       selected = is_selected;
       bytes = reply.0;
       reply = subst (λ n. IsReply r line job (front_of job place (n + 1)) is_selected reply.0) (sym sofar.number_is) reply.1;
@@ -73,6 +90,12 @@ module _ (r : Regex) (job : Job) (place : Named) (old before : Option (List ℕ)
         selected = sym sofar.selected_is i + one_if is_selected;
         written = sofar.progress.written ++ reply.0;
       };
+    }
+
+    step : IsStep r job place sofar.progress line next
+    step = record {
+      passed = λ enough. let bad : ⊥ = cc (sofar.selected_is, few, enough) in absurd bad;
+      searched = λ _. searched;
     }
 
     within : (b : Bool) → selected + one_if b ≤ number + 1
@@ -108,6 +131,20 @@ module _ (r : Regex) (job : Job) (place : Named) (old before : Option (List ℕ)
     all is = (
       sofar.progress,
       record { lines = sofar.lines; are = ended old now sofar.lines sofar.read is; steps = sofar.steps },
+      sofar.selected_is,
+      sofar.written,
+    )
+
+    -- The lines that are left are passed over.
+    pub enough : is_enough job selected ≡ true → SearchesAll r job place old before after selected
+    enough is = (
+      sofar.progress,
+      record {
+        lines = sofar.lines ++ (stopped old now sofar.lines sofar.read).others;
+        are = whole_of old sofar.lines (stopped old now sofar.lines sofar.read);
+        steps = stays (IsStep r job place) at_start sofar.progress sofar.lines (stopped old now sofar.lines sofar.read).others
+            (passed_over r job place sofar.progress (ap (is_enough job) sofar.selected_is ∙ is)) sofar.steps;
+      },
       sofar.selected_is,
       sofar.written,
     )

@@ -1,5 +1,5 @@
 -- The request that the arguments make.
-use Rattle.std.specs.Prelude.{ℕ, Bool, true, false, not, ◌&&◌, ◌||◌, List, [], ◌∷◌, map, Option, Some, None, option_and_then, if◌then◌else◌, bytes_eq, codes, String, string_bytes}
+use Rattle.std.specs.Prelude.{ℕ, Bool, true, false, not, ◌&&◌, ◌||◌, List, [], ◌∷◌, map, Option, Some, None, is_none, option_and_then, if◌then◌else◌, bytes_eq, codes, String, string_bytes}
 use Rattle.std.specs.declared.alloc.Global.{Global}
 use Rattle.regress_base.specs.declared.types.Flags.{Flags}
 use Rattle.regex_command.specs.Job.{Job, matching, replacing, splitting}
@@ -13,7 +13,7 @@ use Rattle.regex_command.specs.declared.asked.Request as code
 use Rattle.regex_command.specs.declared.options.Options.{Options}
 use Rattle.regex_command.specs.declared.task.Selection.{Selection}
 use Rattle.regex_command.specs.declared.task.Shown.{Shown}
-use Rattle.regex_command.specs.declared.task.Shown.TheVariants.{Lines, Matches, Count, Names}
+use Rattle.regex_command.specs.declared.task.Shown.TheVariants.{Lines, Matches, Count, Names, Nothing}
 
 -- a job for the lines of files, or of standard input if there are none
 pub record Request : Type 0 where
@@ -43,10 +43,11 @@ is_lines Lines = true
 is_lines Matches = false
 is_lines Count = false
 is_lines Names = false
+is_lines Nothing = false
 
 -- no option that only `match` has is given
 abbrev pub is_plain : Selection → Bool
-is_plain s = not s.invert && not s.numbers && is_lines s.shown
+is_plain s = not s.invert && not s.numbers && is_lines s.shown && is_none s.max_count
 
 -- a search with the flags of the options
 abbrev pub search_with : Options → Job → (pattern : String Global) → (files : List (String Global)) → Ask
@@ -68,7 +69,7 @@ search_of Split options (pattern ∷ files) =
 -- `[OPTION..]` and what follows, or the help
 abbrev pub command_of : Command → List (String Global) → Option Ask
 command_of command words =
-    option_and_then (λ found. if found.0.help then Some help else search_of command found.0 found.1) (options_of no_options words)
+    option_and_then (λ found. if found.0.help then Some help else search_of command found.0 found.1) (options_of false no_options words)
 
 -- one text
 abbrev pub escape_of : List (String Global) → Option Ask

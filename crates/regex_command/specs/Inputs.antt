@@ -1,11 +1,13 @@
 -- What is written for all inputs.
-use Rattle.std.specs.Prelude.{◌≡◌, ℕ, Bool, true, false, ◌||◌, List, [], ◌∷◌, ◌++◌, length, map, Option, None, codes, nat_lt}
+use Rattle.std.specs.Prelude.{◌≡◌, ℕ, Bool, true, false, ◌&&◌, ◌||◌, List, [], ◌∷◌, ◌++◌, length, map, Option, None, codes, nat_lt}
 use Rattle.std.specs.Io.KnownBytes.{Appends}
 use Rattle.std.specs.List.{FoldsTo}
 use Rattle.regress_arguments.specs.Output.{Took}
 use Rattle.regress.specs.declared.pattern.Regex.{Regex}
-use Rattle.regex_command.specs.Job.{Job, Named}
+use Rattle.regex_command.specs.Job.{Job, Named, matching, replacing, splitting}
 use Rattle.regex_command.specs.Searched.{IsSearched, Progress, written_at_end}
+use Rattle.regex_command.specs.declared.task.Shown.{Shown}
+use Rattle.regex_command.specs.declared.task.Shown.TheVariants.{Lines, Matches, Count, Names, Nothing}
 
 -- an input: its name, and its bytes if they are known
 abbrev pub Input : Type 0
@@ -25,6 +27,19 @@ pub record Result : Type 0 where
   pub any : Bool
   pub written : List ℕ
 
+abbrev pub is_nothing : Shown → Bool
+is_nothing Lines = false
+is_nothing Matches = false
+is_nothing Count = false
+is_nothing Names = false
+is_nothing Nothing = true
+
+-- A line is selected, and nothing is shown.
+abbrev pub has_ended : Job → (any : Bool) → Bool
+has_ended (matching s) any = is_nothing s.shown && any
+has_ended (replacing template) any = false
+has_ended splitting any = false
+
 module _ (r : Regex) (job : Job) where
   -- what is written for an input: what its lines yield, and what is shown at its end
   pub record IsWritten (place : Named) (input : Option (List ℕ)) (any : Bool) (bytes : List ℕ) : Type 0 where
@@ -36,12 +51,17 @@ module _ (r : Regex) (job : Job) where
   abbrev pub WritesInput : Named → (input old new : Option (List ℕ)) → (any : Bool) → Type 0
   WritesInput place input old new any = Took old new (IsWritten place input any)
 
-  -- One input further.
-  pub record IsInputStep (before : Result) (input : Input) (after : Result) : Type 0 where
+  -- One input further, and it is searched.
+  pub record IsSearchedInput (before : Result) (input : Input) (after : Result) : Type 0 where
     pub any : Bool
     pub bytes : List ℕ
     pub written : IsWritten input.0 input.1 any bytes
     pub next : after ≡ record { any = before.any || any; written = before.written ++ bytes }
+
+  -- One input further: it is passed over if the search ended before it.
+  pub record IsInputStep (before : Result) (input : Input) (after : Result) : Type 0 where
+    pub passed : has_ended job before.any ≡ true → after ≡ before
+    pub searched : has_ended job before.any ≡ false → IsSearchedInput before input after
 
   -- all inputs in order
   abbrev pub WritesInputs : List Input → (old new : Option (List ℕ)) → (any : Bool) → Type 0

@@ -1,17 +1,19 @@
 -- The options before the pattern.
-use Rattle.std.specs.Prelude.{ℕ, Bool, true, false, not, ◌||◌, ◌&&◌, List, [], ◌∷◌, Option, Some, None, option_and_then, if◌then◌else◌, ◌==◌, bytes_eq, codes, drop, length, slice_index, String, string_bytes}
+use Rattle.std.specs.Prelude.{ℕ, Bool, true, false, not, ◌||◌, ◌&&◌, ◌^◌, nat_lt, List, [], ◌∷◌, Option, Some, None, option_and_then, option_map, if◌then◌else◌, ◌==◌, bytes_eq, codes, drop, length, slice_index, String, string_bytes}
 use Rattle.std.specs.List.{starts_with}
+use Rattle.std.specs.Str.{all_ascii_digits}
+use Rattle.std.specs.Str.Parse.{digits_value}
 use Rattle.std.specs.declared.alloc.Global.{Global}
 use Rattle.regress_arguments.specs.Letters.{no_flags}
 use Rattle.regress_arguments.specs.Letters as flags
 use Rattle.regress_base.specs.declared.types.Flags.{Flags}
 use Rattle.regex_command.specs.declared.options.Options.{Options}
 use Rattle.regex_command.specs.declared.task.Shown.{Shown}
-use Rattle.regex_command.specs.declared.task.Shown.TheVariants.{Lines, Matches, Count, Names}
+use Rattle.regex_command.specs.declared.task.Shown.TheVariants.{Lines, Matches, Count, Names, Nothing}
 
 -- the options where none is given
 abbrev pub no_options : Options
-no_options = record { help = false; flags = no_flags; selection = record { invert = false; numbers = false; shown = Lines } }
+no_options = record { help = false; flags = no_flags; selection = record { invert = false; numbers = false; shown = Lines; max_count = None } }
 
 -- the text after a prefix, if it has that
 abbrev pub after_prefix : List ℕ → List ℕ → Option (List ℕ)
@@ -27,6 +29,10 @@ js_flags options flags =
 abbrev pub with_flags : Options → (letters : List ℕ) → Option Options
 with_flags options letters = option_and_then (js_flags options) (flags.with_letters no_flags letters)
 
+-- the options with `flags=LETTERS`
+abbrev pub with_named_flags : Options → List ℕ → Option Options
+with_named_flags options name = option_and_then (with_flags options) (after_prefix (codes "flags=") name)
+
 abbrev pub with_shown : Options → Shown → Options
 with_shown options shown = record options { selection = record options.selection { shown = shown } }
 
@@ -40,6 +46,7 @@ with_letter options c =
     else if c == 111 then Some (with_shown options Matches)
     else if c == 99 then Some (with_shown options Count)
     else if c == 108 then Some (with_shown options Names)
+    else if c == 113 then Some (with_shown options Nothing)
     else None
 
 -- the options with those that have these letters
@@ -47,27 +54,49 @@ abbrev pub with_letters : Options → List ℕ → Option Options
 with_letters options [] = Some options
 with_letters options (c ∷ cs) = option_and_then (λ more. with_letters more cs) (with_letter options c)
 
+-- the number that decimal digits denote, if it has 64 bits
+abbrev pub count_of : List ℕ → Option ℕ
+count_of text =
+    if not (length text == 0) && all_ascii_digits text && nat_lt (digits_value 10 text) (2 ^ 64) then Some (digits_value 10 text) else None
+
+-- the options with at most this many selected lines
+abbrev pub with_count : Options → (text : List ℕ) → Option Options
+with_count options text =
+    option_map (λ count. record options { selection = record options.selection { max_count = Some count } }) (count_of text)
+
 -- the options with the one that has this name
 abbrev pub with_long : Options → List ℕ → Option Options
 with_long options name =
     if bytes_eq name (codes "help") then Some (record options { help = true })
-    else option_and_then (with_flags options) (after_prefix (codes "flags=") name)
+    else if bytes_eq name (codes "quiet") then Some (with_shown options Nothing)
+    else if starts_with (λ b c. b == c) name (codes "max-count=") then option_and_then (with_count options) (after_prefix (codes "max-count=") name)
+    else with_named_flags options name
 
--- the options with those of an argument: two hyphens and a name, or a hyphen and letters
+-- the options with those of an argument: two hyphens and a name, `-m` and a number, or a hyphen and letters
 abbrev pub with_option : Options → List ℕ → Option Options
 with_option options word =
     if starts_with (λ b c. b == c) word (codes "--") then option_and_then (with_long options) (after_prefix (codes "--") word)
+    else if starts_with (λ b c. b == c) word (codes "-m") then option_and_then (with_count options) (after_prefix (codes "-m") word)
     else option_and_then (with_letters options) (after_prefix (codes "-") word)
 
 -- a hyphen, and more
 abbrev pub is_option : List ℕ → Bool
 is_option word = slice_index word 0 == 45 && not (bytes_eq word (codes "-"))
 
--- The options, and the arguments after them. Options end at `--`, or before an argument that is none.
-abbrev pub options_of : Options → List (String Global) → Option (Options × List (String Global))
-options_of options [] = Some (options, [])
-options_of options (first ∷ rest) =
+-- The argument after this one is a number.
+abbrev pub takes_count : List ℕ → Bool
+takes_count word = bytes_eq word (codes "-m") || bytes_eq word (codes "--max-count")
+
+-- The options, and the arguments after them. Options end at `--`, or before an argument that is none. `awaits` states
+-- that the first argument is the number of the option before it.
+abbrev pub options_of : (awaits : Bool) → Options → List (String Global) → Option (Options × List (String Global))
+options_of true options [] = None
+options_of true options (first ∷ rest) =
+    option_and_then (λ more. options_of false more rest) (with_count options (string_bytes first))
+options_of false options [] = Some (options, [])
+options_of false options (first ∷ rest) =
     if is_option (string_bytes first) then
     (if bytes_eq (string_bytes first) (codes "--") then Some (options, rest)
-    else option_and_then (λ more. options_of more rest) (with_option options (string_bytes first)))
+    else if takes_count (string_bytes first) then options_of true options rest
+    else option_and_then (λ more. options_of false more rest) (with_option options (string_bytes first)))
     else Some (options, first ∷ rest)

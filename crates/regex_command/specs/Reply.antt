@@ -8,7 +8,7 @@ use Rattle.regress.specs.Found.{MatchesSomewhere}
 use Rattle.regress.specs.Replaced.{IsSplit, ReplacesAll}
 use Rattle.regress.specs.declared.pattern.Regex.{Regex}
 use Rattle.regex_command.specs.declared.task.Shown.{Shown}
-use Rattle.regex_command.specs.declared.task.Shown.TheVariants.{Lines, Matches, Count, Names}
+use Rattle.regex_command.specs.declared.task.Shown.TheVariants.{Lines, Matches, Count, Names, Nothing}
 use Rattle.regex_command.specs.Job.{Job, matching, replacing, splitting}
 
 -- the bytes and a line feed
@@ -35,6 +35,7 @@ module _ (r : Regex) (line : List ℕ) where
   Shows Matches front bytes = ShowsMatches front bytes
   Shows Count front bytes = bytes ≡ []
   Shows Names front bytes = bytes ≡ []
+  Shows Nothing front bytes = bytes ≡ []
 
   -- nothing is written for a line that is not selected
   abbrev pub ShowsIf : (selected : Bool) → Shown → (front bytes : List ℕ) → Type 0

@@ -125,6 +125,7 @@ pub(crate) fn is_plain(selection: Selection) -> bool
             invert: false,
             numbers: false,
             shown: Shown::Lines,
+            max_count: None,
         } => true,
         _ => false,
     }

@@ -1,20 +1,20 @@
 //! The files that are searched, or standard input.
-ghost use Rattle.std.specs.Prelude.{IfOk, IfErr, None, map, string_bytes};
+ghost use Rattle.std.specs.Prelude.{◌≡◌, IfOk, IfErr, None, map, string_bytes};
 ghost use Rattle.regex_command.specs.Ending.{IsLate, OrOutput};
-ghost use Rattle.regex_command.specs.Inputs.{WritesInput, WritesInputs, WritesSomeOf, inputs_of, named_files};
+ghost use Rattle.regex_command.specs.Inputs.{WritesInput, WritesInputs, WritesSomeOf, has_ended, inputs_of, named_files};
 ghost use Rattle.regex_command.specs.Job.{job, named};
 ghost use Rattle.regex_command.specs.Searched.{SearchesFirst};
 
 use crate::failure::Failure;
 use crate::place::Place;
 use crate::searching::{search_lines, write_end};
-use crate::task::Task;
+use crate::task::{Selection, Shown, Task};
 use regress::Regex;
 use std::alloc::Global;
 use std::fs::{File, Files};
 use std::io::{BufRead, BufReader, Read, Write};
 
-/// Searches files in order, or `input` if there are none, and returns whether a line is selected.
+/// Searches files in order until the search ends, or `input` if there are none, and returns whether a line is selected.
 pub(crate) fn search_all<'a, R: Files, I: Read + Drop, W: Write>(
     rt: &R,
     alloc: Global,
@@ -56,6 +56,9 @@ fn search_files<'a, R: Files, W: Write>(
     let in_front = files.len() > 1;
     let mut any = false;
     for file in files {
+        if has_ended(task, any) {
+            return Ok(any);
+        }
         let place = Place {
             name: file.as_str(),
             in_front,
@@ -63,6 +66,21 @@ fn search_files<'a, R: Files, W: Write>(
         any |= search_file(rt, alloc, regex, task, place, out)?;
     }
     Ok(any)
+}
+
+/// Returns whether the search ends before the next input.
+fn has_ended(task: Task<'_>, any: bool) -> bool
+    ensures { result ≡ has_ended (job task.entry) any }
+{
+    match task {
+        Task::Match(
+            Selection {
+                shown: Shown::Nothing,
+                ..
+            },
+        ) => any,
+        _ => false,
+    }
 }
 
 /// Searches a file.

@@ -225,11 +225,13 @@ syntax, over all of Unicode.
   -h, --help       this help
   --               end of the options: PATTERN may begin with a hyphen
 Of match only, and -no is -n -o:
-  -v  select the lines without a match
-  -n  write the number of each line before it
-  -o  write each match that is not empty on a line, instead of the lines
-  -c  write only how many lines are selected
-  -l  write only the names of the files in which a line is selected
+  -v      select the lines without a match
+  -m NUM  select at most NUM lines of each file, the first ones; also --max-count=NUM
+  -n      write the number of each line before it
+  -o      write each match that is not empty on a line, instead of the lines
+  -c      write only how many lines are selected
+  -l      write only the names of the files in which a line is selected
+  -q      write nothing, and end at the first selected line; also --quiet
 
 exit status:
   0  a line is selected, or the output of replace, split or escape is written

@@ -1,6 +1,6 @@
 //! The options before the pattern.
-ghost use Rattle.std.specs.Prelude.{◌≡◌, option_map};
-ghost use Rattle.regex_command.specs.Options.{is_option, no_options, options_of, with_flags, with_letter, with_letters, with_long, with_option};
+ghost use Rattle.std.specs.Prelude.{◌≡◌, false, option_map};
+ghost use Rattle.regex_command.specs.Options.{count_of, is_option, no_options, options_of, takes_count, with_count, with_flags, with_letter, with_letters, with_long, with_named_flags, with_option};
 
 use crate::task::{Selection, Shown};
 use regress_arguments::parse_flags;
@@ -27,12 +27,13 @@ pub(crate) const NO_OPTIONS: Options = Options {
         invert: false,
         numbers: false,
         shown: Shown::Lines,
+        max_count: None,
     },
 };
 
 /// Parses the options, and returns them with the arguments after them; `None` if one is unknown.
 pub(crate) fn read_options(args: &[String]) -> Option<(Options, &[String])>
-    ensures { option_map (λ found. (found.0, found.1.now)) result ≡ options_of no_options args.now }
+    ensures { option_map (λ found. (found.0, found.1.now)) result ≡ options_of false no_options args.now }
 {
     let mut options = NO_OPTIONS;
     let mut rest = args;
@@ -44,8 +45,16 @@ pub(crate) fn read_options(args: &[String]) -> Option<(Options, &[String])>
         if word == "--" {
             return Some((options, after));
         }
-        options = with_option(options, word)?;
-        rest = after;
+        if takes_count(word) {
+            let [count, after @ ..] = after else {
+                return None;
+            };
+            options = with_count(options, count.as_str())?;
+            rest = after;
+        } else {
+            options = with_option(options, word)?;
+            rest = after;
+        }
     }
     Some((options, rest))
 }
@@ -57,6 +66,13 @@ pub(crate) fn is_option(word: &str) -> bool
     word.starts_with('-') && word != "-"
 }
 
+/// Returns whether the argument after an option is its number.
+pub(crate) fn takes_count(word: &str) -> bool
+    ensures { result ≡ takes_count word.now }
+{
+    word == "-m" || word == "--max-count"
+}
+
 /// Adds an option, or several by their letters; `None` if one is unknown.
 pub(crate) fn with_option(options: Options, word: &str) -> Option<Options>
     ensures { result ≡ with_option options word.now }
@@ -64,7 +80,10 @@ pub(crate) fn with_option(options: Options, word: &str) -> Option<Options>
     if word.starts_with("--") {
         with_long(options, word.strip_prefix("--")?)
     } else {
-        with_letters(options, word.strip_prefix("-")?)
+        match word.strip_prefix("-m") {
+            Some(count) => with_count(options, count),
+            None => with_letters(options, word.strip_prefix("-")?),
+        }
     }
 }
 
@@ -78,7 +97,44 @@ fn with_long(options: Options, name: &str) -> Option<Options>
             ..options
         });
     }
+    if name == "quiet" {
+        return Some(with_shown(options, Shown::Nothing));
+    }
+    match name.strip_prefix("max-count=") {
+        Some(count) => with_count(options, count),
+        None => with_named_flags(options, name),
+    }
+}
+
+/// Adds the option `flags=LETTERS`.
+fn with_named_flags(options: Options, name: &str) -> Option<Options>
+    ensures { result ≡ with_named_flags options name.now }
+{
     with_flags(options, name.strip_prefix("flags=")?)
+}
+
+/// Sets how many lines are selected at most.
+pub(crate) fn with_count(options: Options, text: &str) -> Option<Options>
+    ensures { result ≡ with_count options text.now }
+{
+    let count = read_count(text)?;
+    Some(Options {
+        selection: Selection {
+            max_count: Some(count),
+            ..options.selection
+        },
+        ..options
+    })
+}
+
+/// Parses decimal digits.
+fn read_count(text: &str) -> Option<u64>
+    ensures { result ≡ count_of text.now }
+{
+    if text.starts_with('+') {
+        return None;
+    }
+    text.parse::<u64>().ok()
 }
 
 /// Adds the options with these letters.
@@ -126,6 +182,7 @@ fn with_letter(options: Options, letter: u8) -> Option<Options>
         b'o' => Some(with_shown(options, Shown::Matches)),
         b'c' => Some(with_shown(options, Shown::Count)),
         b'l' => Some(with_shown(options, Shown::Names)),
+        b'q' => Some(with_shown(options, Shown::Nothing)),
         _ => None,
     }
 }

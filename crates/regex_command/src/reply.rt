@@ -72,7 +72,7 @@ fn shown(
     match shown {
         Shown::Lines => Ok(format!(in alloc; "{front}{line}\n")?),
         Shown::Matches => all_matches(alloc, regex, front, line),
-        Shown::Count | Shown::Names => Ok(String::new(alloc)),
+        Shown::Count | Shown::Names | Shown::Nothing => Ok(String::new(alloc)),
     }
 }
 

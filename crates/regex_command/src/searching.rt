@@ -6,7 +6,7 @@ ghost use Rattle.regex_command.specs.Reading.{IsRead};
 ghost use Rattle.regress_arguments.specs.Output.{Took};
 ghost use Rattle.regex_command.specs.Ending.{IsLate, OrOutput};
 ghost use Rattle.regex_command.specs.Job.{job, named};
-ghost use Rattle.regex_command.specs.Searched.{SearchesAll, SearchesFirst, front_of, has_numbers, name_of, written_at_end};
+ghost use Rattle.regex_command.specs.Searched.{SearchesAll, SearchesFirst, front_of, has_numbers, is_enough, name_of, needs_one, reaches, written_at_end};
 ghost use Rattle.regex_command.specs.declared.failure.Failure.TheVariants.{Output};
 
 use crate::failure::Failure;
@@ -19,7 +19,7 @@ use std::alloc::{AllocError, Global};
 use std::io::{self, BufRead, ErrorKind, Write};
 use std::str;
 
-/// Writes what a task shows of each line of an input, and returns how many lines are selected.
+/// Writes what a task shows of each line of an input until enough are selected, and returns how many are.
 pub(crate) fn search_lines<'a, B: BufRead, W: Write>(
     alloc: Global,
     regex: &Regex,
@@ -36,6 +36,9 @@ pub(crate) fn search_lines<'a, B: BufRead, W: Write>(
     let mut number: u64 = 0;
     let mut selected: u64 = 0;
     while number < u64::MAX {
+        if is_enough(task, selected) {
+            return Ok(selected);
+        }
         let next = next_line(reader, place, &mut bytes)?;
         if let Next::End = next {
             return Ok(selected);
@@ -48,6 +51,37 @@ pub(crate) fn search_lines<'a, B: BufRead, W: Write>(
         }
     }
     Err(Failure::TooLong(place.name))
+}
+
+/// Returns whether this many selected lines are enough.
+fn is_enough(task: Task<'_>, selected: u64) -> bool
+    ensures { result ≡ is_enough (job task.entry) selected }
+{
+    match task {
+        Task::Match(selection) => {
+            reaches(selection.max_count, selected) || (needs_one(selection.shown) && selected > 0)
+        }
+        Task::Replace(_) | Task::Split => false,
+    }
+}
+
+fn reaches(limit: Option<u64>, number: u64) -> bool
+    ensures { result ≡ reaches limit number }
+{
+    match limit {
+        Some(limit) => number >= limit,
+        None => false,
+    }
+}
+
+/// Returns whether what is shown does not depend on lines after the first selected one.
+fn needs_one(shown: Shown) -> bool
+    ensures { result ≡ needs_one shown }
+{
+    match shown {
+        Shown::Lines | Shown::Matches | Shown::Count => false,
+        Shown::Names | Shown::Nothing => true,
+    }
 }
 
 /// Reads the next line.
@@ -167,6 +201,6 @@ fn end(alloc: Global, task: Task<'_>, place: Place<'_>, selected: u64) -> Result
             Ok(end)
         }
         Shown::Names if selected > 0 => Ok(format!(in alloc; "{}\n", place.name)?),
-        Shown::Lines | Shown::Matches | Shown::Names => Ok(String::new(alloc)),
+        Shown::Lines | Shown::Matches | Shown::Names | Shown::Nothing => Ok(String::new(alloc)),
     }
 }

@@ -19,6 +19,8 @@ pub(crate) struct Selection {
     /// Whether the number of a line is shown.
     pub(crate) numbers: bool,
     pub(crate) shown: Shown,
+    /// How many lines of an input are selected at most.
+    pub(crate) max_count: Option<u64>,
 }
 
 /// What is shown of the selected lines.
@@ -31,4 +33,6 @@ pub(crate) enum Shown {
     Count,
     /// Only the name of the input, if there is one.
     Names,
+    /// Nothing: the search ends at the first one.
+    Nothing,
 }

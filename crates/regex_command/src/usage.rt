@@ -1,7 +1,7 @@
 //! The message about invalid arguments.
 
 use crate::asked::is_plain;
-use crate::options::{NO_OPTIONS, is_option, read_options, with_option};
+use crate::options::{NO_OPTIONS, is_option, read_options, takes_count, with_count, with_option};
 use regress_arguments::write_visible;
 use std::io::{self, Write};
 
@@ -22,6 +22,8 @@ enum UsageError<'a> {
     UnknownOption(&'a str),
     /// The letters of this option are not flags of JavaScript.
     InvalidFlags(&'a str),
+    /// This is no number of 64 bits, or an option with one that is none.
+    InvalidCount(&'a str),
     /// Only `match` has this option.
     OnlyOfMatch(&'a str),
     /// There is an argument more than the command has.
@@ -35,6 +37,7 @@ pub(crate) fn write_usage_error<E: Write>(args: &[String], err: &mut E) -> io::R
         UsageError::UnknownCommand(word) => ("unknown command", word),
         UsageError::UnknownOption(word) => ("unknown option", word),
         UsageError::InvalidFlags(word) => ("invalid flags", word),
+        UsageError::InvalidCount(word) => ("invalid number", word),
         UsageError::OnlyOfMatch(word) => ("only match has the option", word),
         UsageError::Unexpected(word) => ("unexpected argument", word),
     };
@@ -59,21 +62,51 @@ fn usage_error(args: &[String]) -> UsageError<'_> {
     }
 }
 
+/// Returns why an option of a command that searches is invalid, if it is; `after` has the arguments after it.
+fn option_error<'a>(command: &str, word: &'a str, after: &'a [String]) -> Option<UsageError<'a>> {
+    let (options, error) = match after {
+        [] if takes_count(word) => return Some(UsageError::Missing("NUM")),
+        [count, ..] if takes_count(word) => (
+            with_count(NO_OPTIONS, count.as_str()),
+            UsageError::InvalidCount(count.as_str()),
+        ),
+        _ => (with_option(NO_OPTIONS, word), word_error(word)),
+    };
+    match options {
+        None => Some(error),
+        Some(options) if command != "match" && !is_plain(options.selection) => {
+            Some(UsageError::OnlyOfMatch(word))
+        }
+        Some(_) => None,
+    }
+}
+
+/// Returns why an option is invalid that is one argument.
+fn word_error(word: &str) -> UsageError<'_> {
+    if word.starts_with("--flags=") {
+        UsageError::InvalidFlags(word)
+    } else if word.starts_with("-m") || word.starts_with("--max-count=") {
+        UsageError::InvalidCount(word)
+    } else {
+        UsageError::UnknownOption(word)
+    }
+}
+
 /// Returns why the arguments of a command that searches are invalid.
 fn search_error<'a>(command: &str, args: &'a [String]) -> UsageError<'a> {
-    for arg in args {
-        let word = arg.as_str();
+    let mut rest = args;
+    while let [first, after @ ..] = rest {
+        let word = first.as_str();
         if word == "--" || !is_option(word) {
             break;
         }
-        match with_option(NO_OPTIONS, word) {
-            None if word.starts_with("--flags=") => return UsageError::InvalidFlags(word),
-            None => return UsageError::UnknownOption(word),
-            Some(options) if command != "match" && !is_plain(options.selection) => {
-                return UsageError::OnlyOfMatch(word);
-            }
-            Some(_) => {}
+        if let Some(error) = option_error(command, word, after) {
+            return error;
         }
+        rest = match after {
+            [_, others @ ..] if takes_count(word) => others,
+            _ => after,
+        };
     }
     match read_options(args) {
         Some((_, [_, ..])) => UsageError::Missing("TEMPLATE"),

@@ -1,12 +1,17 @@
-use Rattle.std.proofs.Common.{None, length, map, arith, sym, subst}
+use Rattle.std.proofs.Common.{◌∙◌, None, length, map, arith, sym, subst}
 use Rattle.std.specs.Prelude.{nat_lt, string_bytes}
 use Rattle.regex_command.specs.Ending.{OrOutput}
 use Rattle.regex_command.specs.Inputs.{Input, WritesInput, WritesSomeOf, named_files}
 use Rattle.regex_command.specs.Job.{job}
 use Rattle.regex_command.specs.Searched.{SearchesFirst}
-use Rattle.regex_command.proofs.InputLemmas.{input_at, inputs_length, one_more, some_of}
+use Rattle.regex_command.proofs.InputLemmas.{ended, input_at, inputs_length, one_more, some_of}
 use Rattle.regex_command.proofs.SearchLemmas.{or_output, passed_on}
 use Rattle.regex_command.proofs.inputs.search_files.Goals as goal
+
+pub returns-then-has_ended-clause-all : goal.returns-then-has_ended-clause-all
+returns-then-has_ended-clause-all g c =
+    ended c.args.regex.now (job c.args.task) (named_files (map string_bytes c.args.files.now)) (g.W.Write.contents c.args.out.now)
+    c.loop-file.file-index c.loop-file.any (g.W.Write.contents c.loop-file.out) c.loop-file.invariant (sym c.has_ended.ensures ∙ c.if-has_ended.true)
 
 pub returns-in_err-any-clause-first : goal.returns-in_err-any-clause-first
 returns-in_err-any-clause-first g c =
@@ -38,6 +43,7 @@ loop-file-preserved g c =
     let r = c.args.regex.now in
     let task = job c.args.task in
     one_more r task inputs (g.W.Write.contents c.args.out.now) i c.loop-file.any between c.loop-file.invariant input
-    (omega (arith, c.loop-file-test.true, inputs_length files)) (input_at files i file c.loop-file-test.true (sym c.file-item.is)) after c.in_ok-any.field-0
+    (omega (arith, c.loop-file-test.true, inputs_length files)) (input_at files i file c.loop-file-test.true (sym c.file-item.is)) after
+    (sym c.has_ended.ensures ∙ c.if-has_ended.false) c.in_ok-any.field-0
     (subst (λ name. WritesInput r task (record { name = name; in_front = nat_lt 1 (length files) }) None between after c.in_ok-any.field-0)
     c.as_str.ensures.value c.in_ok-any.ensures.all)

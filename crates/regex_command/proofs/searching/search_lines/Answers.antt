@@ -1,11 +1,17 @@
-use Rattle.std.proofs.Common.{◌≡◌, inr, ap, sym, subst}
+use Rattle.std.proofs.Common.{◌≡◌, ◌∙◌, inr, ap, sym, subst}
 use Rattle.regex_command.specs.Ending.{OrOutput}
 use Rattle.regex_command.specs.Reading.{IsRead}
 use Rattle.regex_command.specs.Searched.{SearchesFirst}
 use Rattle.regex_command.specs.declared.reading.Next.TheVariants.{Line, LastLine}
 use Rattle.regex_command.specs.Job.{job, named}
-use Rattle.regex_command.proofs.SearchLemmas.{all, another, byte_of, first, first_or_output, is_line, last, or_output, passed_on}
+use Rattle.regex_command.proofs.SearchLemmas.{all, another, byte_of, enough, first, first_or_output, is_line, last, or_output, passed_on}
 use Rattle.regex_command.proofs.searching.search_lines.Goals as goal
+
+pub returns-then-is_enough-clause-all : goal.returns-then-is_enough-clause-all
+returns-then-is_enough-clause-all g c =
+    enough c.args.regex.now (job c.args.task) (named c.args.place) (g.B.Read.remaining c.args.reader.now) (g.W.Write.contents c.args.out.now)
+    (g.B.Read.remaining c.loop-number.reader) (g.W.Write.contents c.loop-number.out) c.loop-number.number c.loop-number.selected c.loop-number.invariant
+    (sym c.is_enough.ensures ∙ c.if-is_enough.true)
 
 pub returns-in_err-next-clause-first : goal.returns-in_err-next-clause-first
 returns-in_err-next-clause-first g c =
@@ -36,7 +42,8 @@ returns-in-LastLine-clause-all g c =
     rw (c.from-selected.ensures, byte_of c.in_ok-is_selected.is_selected)
     (last c.args.regex.now (job c.args.task) (named c.args.place) (g.B.Read.remaining c.args.reader.now) (g.W.Write.contents c.args.out.now)
     old (g.W.Write.contents c.loop-number.out) (g.W.Write.contents c.write_reply.new.out) c.loop-number.number
-    c.loop-number.selected c.loop-number.invariant line c.in_ok-is_selected.is_selected c.in_ok-is_selected.ensures.reply new
+    c.loop-number.selected c.loop-number.invariant line c.in_ok-is_selected.is_selected
+    (sym c.is_enough.ensures ∙ c.if-is_enough.false) c.in_ok-is_selected.ensures.reply new
     (subst (λ bytes. IsRead old new bytes LastLine) (sym c.deref.ensures.value) (rw c.in-LastLine.is at c.in_ok-next.ensures.read)))
 
 pub loop-number-preserved : goal.loop-number-preserved
@@ -47,7 +54,8 @@ loop-number-preserved g c =
     rw (c.from-selected.ensures, byte_of c.in_ok-is_selected.is_selected)
     (another c.args.regex.now (job c.args.task) (named c.args.place) (g.B.Read.remaining c.args.reader.now) (g.W.Write.contents c.args.out.now)
     old (g.W.Write.contents c.loop-number.out) (g.W.Write.contents c.write_reply.new.out) c.loop-number.number
-    c.loop-number.selected c.loop-number.invariant line c.in_ok-is_selected.is_selected c.in_ok-is_selected.ensures.reply new
+    c.loop-number.selected c.loop-number.invariant line c.in_ok-is_selected.is_selected
+    (sym c.is_enough.ensures ∙ c.if-is_enough.false) c.in_ok-is_selected.ensures.reply new
     (subst (λ bytes. IsRead old new bytes Line) (sym c.deref.ensures.value)
     (is_line old new _ c.in_ok-next.next c.in_default.not-End c.in_default-next.not-LastLine c.in_ok-next.ensures.read)))
 
