@@ -106,6 +106,9 @@ pub fn front_at<'c>(input: &Input<'c, '_>, pc: usize) -> Option<&'c Front>
 
 /// Returns the number of choices that are passed over from an instruction of the routine on, for each byte. It is empty
 /// if there is no instruction with this index.
+///
+/// # Preconditions
+/// The input is one that `input_for` returns.
 #[inline(always)]
 pub fn counts_at<'c>(input: &Input<'c, '_>, pc: usize) -> &'c [u8]
     requires { IsInput input.now }
