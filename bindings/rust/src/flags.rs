@@ -18,7 +18,7 @@ pub struct Flags {
 /// The table of Unicode data under which a pattern is parsed.
 #[derive(Clone, Copy, Debug, Default, PartialEq, Eq, Hash)]
 pub enum Table {
-    /// All of Unicode. Each call that takes a pattern makes it, in some half a millisecond.
+    /// All of Unicode. Each call that takes a pattern makes it.
     #[default]
     Whole,
     /// A small table, for patterns in ASCII and for tests.
