@@ -31,7 +31,8 @@ use std::alloc::Global;
 /// u and that the table has the case data of Unicode, as `unicode_tables` has. The converse does not hold: if the flag i
 /// may be in force somewhere, some classes are reported that do not differ.
 ///
-/// What only one of the two accepts is not reported, and neither is that texts are lists of code points without u.
+/// What only one of the two accepts is not reported, nor what they parse otherwise (`\u{61}` without u is `u` 61 times in
+/// ECMA-262), nor that texts are lists of code points without u.
 ///
 /// # Preconditions
 /// Each element of `pattern` is a code point, at most U+10FFFF.
