@@ -12,8 +12,7 @@ use Rattle.regress_ucd.specs.declared.cases.TheConstants.{FOLDS, UPPERS}
 use Rattle.regress_ucd.specs.declared.intervals.TheConstants.{INTERVALS, INTERVALS_COUNT}
 use Rattle.regress_ucd.specs.declared.names.TheConstants.{ID_START, ID_CONTINUE, GENERAL_CATEGORY, SCRIPT, SCRIPT_REST, SCRIPT_EXTENSIONS, SCRIPT_EXTENSIONS_REST, BINARY}
 use Rattle.regress_ucd.specs.declared.strings.TheConstants.{STRING_NAMES, STRINGS, STRINGS_COUNT, POINTS, POINTS_COUNT}
-use Rattle.regress_unicode.specs.Listed.{set_at, is_set_at, is_range_within, named_set, named_strings, AreSets, AreStrings}
-use Rattle.regress_ucd.specs.Data.{mapping}
+use Rattle.regress_ucd.specs.Data.{mapping, set_at, is_set_at, is_range_within, named_set, named_strings, AreSets, AreStrings}
 use Rattle.regress_ucd.specs.UnicodeTable.{unicode_parts}
 use Rattle.regress_ucd.proofs.DataLemmas.{packable, is_packable, set_is_valid_at, sets_occur, strings_are_valid_at, canonical_sets, are_strings}
 

@@ -1,4 +1,5 @@
--- Consequences of the tests of the constants: entries can be packed, and each set and each string is within its range.
+-- Consequences of the tests of the constants: a canonical set has valid intervals, given by pairs of ends; entries can
+-- be packed; and each string is within its range.
 use Rattle.std.proofs.Common.{◌≡◌, ℕ, ℤ, pos, negsuc, ◌+◌, ◌*◌, ◌/◌, ◌^◌, ◌≤◌, ◌<◌, ◌≤ℤ◌, ◌⊎◌, inl, inr, Bool, true, ◌&&◌, ◌||◌, ◌==◌, nat_le, nat_lt, IsTrue, List, [], ◌∷◌, ◌++◌, map, All, length, get_or, slice_range, take, drop, zero, suc, ◌-◌, refl, sym, ap, subst, ◌∙◌, arith}
 use Rattle.std.specs.List.{list_all}
 use Rattle.std.proofs.lemmas.Bool.Decides.{nat_tests}
@@ -11,7 +12,57 @@ use Rattle.std.proofs.lemmas.List.Elements.{All-cons, All-nil, All-head, All-tai
 use Rattle.regress_base.specs.Intervals.{Bounds, IsInterval, IsCanonical, is_canonical_from, code_point_max}
 use Rattle.regress_base.specs.Table.{HasCanonicalSets, HasStrings, is_string}
 use Rattle.regress_unicode.specs.FoldEntries.{FoldEntry, IsPackableEntry}
-use Rattle.regress_unicode.specs.Listed.{paired, set_at, strings_at, is_set_at, is_range_within, named_set, named_strings, AreSets, AreStringsAt}
+use Rattle.regress_ucd.specs.Data.{paired, set_at, strings_at, is_set_at, is_range_within, named_set, named_strings, AreSets, AreStringsAt}
+
+intervals_from : (low : ℕ) (ivs : List Bounds) → IsTrue (is_canonical_from low ivs) → All IsInterval ivs
+intervals_from low [] h = All-nil IsInterval
+intervals_from low (iv ∷ ivs) h =
+    let here : IsInterval iv = record { ordered = grind (arith, nat_tests, h); in_range = grind (arith, nat_tests, h) } in
+    let rest : IsTrue (is_canonical_from (iv.last + 2) ivs) = grind (arith, nat_tests, h) in
+    All-cons IsInterval iv ivs here (intervals_from (iv.last + 2) ivs rest)
+
+pub canonical_intervals : (ivs : List Bounds) → IsCanonical ivs → All IsInterval ivs
+canonical_intervals ivs h = intervals_from 0 ivs h
+
+-- ---- pairs of ends
+
+-- the pair at an index, as an interval
+abbrev pub pair_at : List ℕ → ℕ → Bounds
+pair_at ends i = record { first = get_or ends (2 * i) 0; last = get_or ends (2 * i + 1) 0 }
+
+-- the remaining ends begin with a pair
+next_pair : (ends : List ℕ) (i : ℕ) → i < length ends / 2 →
+    paired (drop (2 * i) ends) ≡ pair_at ends i ∷ paired (drop (2 * (i + 1)) ends)
+next_pair ends i lt =
+    let up : 2 * i < length ends = omega (arith, lt) in
+    let both_up : 2 * i + 1 < length ends = omega (arith, lt) in
+    let next : 2 * i + 1 + 1 ≡ 2 * (i + 1) = omega arith in
+    ap paired (drop_more ends (2 * i) 0 up ∙ ap (λ rest. get_or ends (2 * i) 0 ∷ rest) (drop_more ends (2 * i + 1) 0 both_up))
+    ∙ ap (λ k. pair_at ends i ∷ paired (drop k ends)) next
+
+pub interval_there : (ends : List ℕ) (i : ℕ) → i < length ends / 2 → All IsInterval (paired (drop (2 * i) ends)) →
+    IsInterval (pair_at ends i)
+interval_there ends i lt all = All-head IsInterval (pair_at ends i) (paired (drop (2 * (i + 1)) ends)) (subst (All IsInterval) (next_pair ends i lt) all)
+
+pub intervals_left : (ends : List ℕ) (i : ℕ) → i < length ends / 2 → All IsInterval (paired (drop (2 * i) ends)) →
+    All IsInterval (paired (drop (2 * (i + 1)) ends))
+intervals_left ends i lt all = All-tail IsInterval (pair_at ends i) (paired (drop (2 * (i + 1)) ends)) (subst (All IsInterval) (next_pair ends i lt) all)
+
+pub pair_taken : (ends : List ℕ) (i : ℕ) (taken : List Bounds) → i < length ends / 2 → taken ++ paired (drop (2 * i) ends) ≡ paired ends →
+    (taken ++ (pair_at ends i ∷ [])) ++ paired (drop (2 * (i + 1)) ends) ≡ paired ends
+pair_taken ends i taken lt is =
+    append_assoc taken (pair_at ends i ∷ []) (paired (drop (2 * (i + 1)) ends)) ∙ ap (λ rest. taken ++ rest) (sym (next_pair ends i lt)) ∙ is
+
+unpaired : (ends : List ℕ) → length ends ≤ 1 → paired ends ≡ []
+unpaired [] le = refl
+unpaired (first ∷ []) le = refl
+unpaired (first ∷ last ∷ ends) le = absurd (omega (arith, le))
+
+pub all_taken : (ends : List ℕ) (i : ℕ) (taken : List Bounds) → length ends / 2 ≤ i → taken ++ paired (drop (2 * i) ends) ≡ paired ends →
+    taken ≡ paired ends
+all_taken ends i taken le is =
+    let none : paired (drop (2 * i) ends) ≡ [] = unpaired (drop (2 * i) ends) (omega (arith, le, length-drop (2 * i) ends)) in
+    sym (append-nil taken) ∙ ap (λ rest. taken ++ rest) (sym none) ∙ is
 
 -- ---- entries of case mappings
 
@@ -131,6 +182,15 @@ strings_are_valid_at positions points names of_positions of_points is are h =
     All-weaker (λ n. are_strings_in positions of_positions of_points n.0 n.1 ≡ true) (λ n. AreStringsAt positions points n.0 n.1)
     (λ n e. strings_occur_at positions points n.0 n.1 (rw (is, are) e)) names
     (AllPass-from_list_all (λ n. are_strings_in positions of_positions of_points n.0 n.1) names h)
+
+-- ---- the range of a name
+
+pub positions_at : {A : Type 0} (P : ℕ × ℕ → Type 0) (names : List (A × ℕ × ℕ)) (k : ℕ) (d : A × ℕ × ℕ) →
+    All P (map (λ n. (n.1, n.2)) names) → k < length names → P ((get_or names k d).1, (get_or names k d).2)
+positions_at P [] k d h lt = absurd (omega (arith, lt))
+positions_at P (n ∷ names) zero d h lt = All-head P (n.1, n.2) (map (λ n. (n.1, n.2)) names) h
+positions_at P (n ∷ names) (suc k) d h lt =
+    positions_at P names k d (All-tail P (n.1, n.2) (map (λ n. (n.1, n.2)) names) h) (omega (arith, lt))
 
 -- ---- named sets and strings
 

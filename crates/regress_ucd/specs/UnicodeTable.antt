@@ -6,8 +6,7 @@ use Rattle.regress_ucd.specs.declared.cases.TheConstants.{FOLDS, UPPERS}
 use Rattle.regress_ucd.specs.declared.intervals.TheConstants.{INTERVALS}
 use Rattle.regress_ucd.specs.declared.names.TheConstants.{ID_START, ID_CONTINUE, GENERAL_CATEGORY, SCRIPT, SCRIPT_REST, SCRIPT_EXTENSIONS, SCRIPT_EXTENSIONS_REST, BINARY}
 use Rattle.regress_ucd.specs.declared.strings.TheConstants.{STRING_NAMES, STRINGS, POINTS}
-use Rattle.regress_unicode.specs.Listed.{set_at, named_set, named_strings}
-use Rattle.regress_ucd.specs.Data.{mapping}
+use Rattle.regress_ucd.specs.Data.{mapping, set_at, named_set, named_strings}
 
 -- the parts of the table
 unfoldable pub unicode_parts : Parts

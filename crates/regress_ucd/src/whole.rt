@@ -10,8 +10,8 @@ use super::names::{
     SCRIPT_EXTENSIONS_REST, SCRIPT_REST,
 };
 use super::strings::STRING_NAMES;
-use super::tables::mappings;
-use regress_unicode::{NamedSets, NamedStrings, Tables, set_at};
+use super::tables::{all_named_sets, mappings, named_sets, named_strings, set_at};
+use regress_unicode::Tables;
 use std::alloc::{AllocError, Global};
 
 /// Returns the table with all data of Unicode that patterns use, in the version
@@ -25,15 +25,14 @@ use std::alloc::{AllocError, Global};
 /// Returns [`AllocError`] if an allocation fails.
 ///
 /// # Complexity
-/// The case mappings and the characters of identifiers are copied to memory from `alloc`. A property is copied when it
-/// is looked up.
+/// Linear in the size of the data, all of which is copied to memory from `alloc`.
 ///
 /// # Examples
 /// ```
 /// let tables = unicode_tables(alloc)?;
 /// // the simple case folding of LATIN CAPITAL LETTER SHARP S
 /// assert_eq!(rt; fold(0x1E9E, &tables), 0xDF);
-/// match tables.script(alloc, "Greek")? {
+/// match tables.script("Greek") {
 ///     Some(greek) => assert!(rt; greek.contains(0x3B1)),
 ///     None => assert!(rt; false, "Unicode has this script"),
 /// }
@@ -47,10 +46,10 @@ pub fn unicode_tables(alloc: Global) -> Result<Tables, AllocError>
         mappings(alloc, UPPERS)?,
         set_at(alloc, intervals, ID_START.0, ID_START.1)?,
         set_at(alloc, intervals, ID_CONTINUE.0, ID_CONTINUE.1)?,
-        NamedSets::listed(GENERAL_CATEGORY, &[], intervals),
-        NamedSets::listed(SCRIPT, SCRIPT_REST, intervals),
-        NamedSets::listed(SCRIPT_EXTENSIONS, SCRIPT_EXTENSIONS_REST, intervals),
-        NamedSets::listed(BINARY, &[], intervals),
-        NamedStrings::listed(STRING_NAMES, strings(), points()),
+        named_sets(alloc, intervals, GENERAL_CATEGORY)?,
+        all_named_sets(alloc, intervals, SCRIPT, SCRIPT_REST)?,
+        all_named_sets(alloc, intervals, SCRIPT_EXTENSIONS, SCRIPT_EXTENSIONS_REST)?,
+        named_sets(alloc, intervals, BINARY)?,
+        named_strings(alloc, points(), strings(), STRING_NAMES)?,
     ))
 }

@@ -4,7 +4,6 @@ pub mod ListLemmas
 pub mod CaseMapLemmas
 pub mod SmallTableLemmas
 pub mod NamedLemmas
-pub mod ListedLemmas
 pub mod TableLemmas
 pub mod SourceLemmas
 pub mod UnfoldLemmas

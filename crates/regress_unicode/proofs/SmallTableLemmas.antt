@@ -1,11 +1,11 @@
 -- The small table is valid.
-use Rattle.std.proofs.Common.{◌≡◌, ℕ, IsTrue, List, refl}
+use Rattle.std.proofs.Common.{◌≡◌, ℕ, IsTrue, List, String, Vec, Global, refl}
 use Rattle.std.specs.List.{list_all}
 use Rattle.std.proofs.lemmas.List.Sums.{AllPass-from_list_all}
 use Rattle.regress_base.specs.Intervals.{Bounds, is_canonical_from}
 use Rattle.regress_unicode.specs.FoldEntries.{FoldEntry, image}
 use Rattle.regress_base.specs.Table.{Named, HasCanonicalSets}
-use Rattle.regress_unicode.specs.Parts.{AreValidEntries, IsSound, parts_with}
+use Rattle.regress_unicode.specs.Parts.{AreValidEntries, IsSound, parts_from, sets_of, strings_of}
 use Rattle.regress_unicode.specs.SmallTable.{small_folds, small_uppers, small_parts}
 use Rattle.regress_unicode.proofs.lemmas.Soundness.{sound_mappings, word_ascii, sound_from}
 
@@ -31,10 +31,12 @@ small_sound =
 
 -- lists with the contents of the small table make its parts
 pub small_from : (folds uppers : List FoldEntry) (id_start id_continue : List Bounds)
-    (general_category script script_extensions binary : List (Named (List Bounds))) (strings : List (Named (List (List ℕ)))) →
+    (general_category script script_extensions binary : List (String Global × List Bounds))
+    (strings : List (String Global × Vec (Vec ℕ Global) Global)) →
     folds ≡ small_folds → uppers ≡ small_uppers → id_start ≡ small_parts.id_start → id_continue ≡ small_parts.id_continue →
-    general_category ≡ small_parts.general_category → script ≡ small_parts.script →
-    script_extensions ≡ small_parts.script_extensions → binary ≡ small_parts.binary → strings ≡ small_parts.strings →
-    parts_with folds uppers id_start id_continue general_category script script_extensions binary strings ≡ small_parts
+    sets_of general_category ≡ small_parts.general_category → sets_of script ≡ small_parts.script →
+    sets_of script_extensions ≡ small_parts.script_extensions →
+    sets_of binary ≡ small_parts.binary → strings_of strings ≡ small_parts.strings →
+    parts_from folds uppers id_start id_continue general_category script script_extensions binary strings ≡ small_parts
 small_from folds uppers id_start id_continue general_category script script_extensions binary strings e1 e2 e3 e4 e5 e6 e7 e8 e9 =
     rw (e1, e2, e3, e4, e5, e6, e7, e8, e9)

@@ -1,7 +1,5 @@
 pub mod FoldEntries
-pub mod Listed
 pub mod Parts
-pub mod Entries
 pub mod SmallTable
 pub mod Moves
 pub mod ConstructionErrors

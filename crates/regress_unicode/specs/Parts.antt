@@ -39,13 +39,10 @@ entry_of entry = record { name = string_bytes entry.0; value = entry.1 }
 abbrev pub sets_of : List (String Global × List Bounds) → List (Named (List Bounds))
 sets_of entries = map entry_of entries
 
--- strings in memory, as lists of numbers
-abbrev pub values_of : Vec (Vec ℕ Global) Global → List (List ℕ)
-values_of strings = map (λ string. string.items) strings.items
-
 -- the named strings of a list
 abbrev pub strings_of : List (String Global × Vec (Vec ℕ Global) Global) → List (Named (List (List ℕ)))
-strings_of entries = map (λ entry. record { name = string_bytes entry.0; value = values_of entry.1 }) entries
+strings_of entries =
+    map (λ entry. record { name = string_bytes entry.0; value = map (λ string. string.items) entry.1.items }) entries
 
 -- The entries of a case mapping are valid: a binary search finds the entry of a code point, and the result is a case
 -- mapping.
@@ -76,29 +73,19 @@ mappings_alone folds uppers = record {
 }
 
 -- the parts of a value of `Tables`, from its fields
-abbrev pub parts_with :
-    (folds uppers : List FoldEntry) (id_start id_continue : List Bounds)
-    (general_category script script_extensions binary : List (Named (List Bounds)))
-    (strings : List (Named (List (List ℕ))))
-    → Parts
-parts_with folds uppers id_start id_continue general_category script script_extensions binary strings = record {
-  folds = folds;
-  uppers = uppers;
-  id_start = id_start;
-  id_continue = id_continue;
-  general_category = general_category;
-  script = script;
-  script_extensions = script_extensions;
-  binary = binary;
-  strings = strings;
-}
-
--- the same with named sets and strings in memory
 abbrev pub parts_from :
     (folds uppers : List FoldEntry) (id_start id_continue : List Bounds)
     (general_category script script_extensions binary : List (String Global × List Bounds))
     (strings : List (String Global × Vec (Vec ℕ Global) Global))
     → Parts
-parts_from folds uppers id_start id_continue general_category script script_extensions binary strings =
-    parts_with folds uppers id_start id_continue (sets_of general_category) (sets_of script) (sets_of script_extensions) (sets_of binary)
-    (strings_of strings)
+parts_from folds uppers id_start id_continue general_category script script_extensions binary strings = record {
+  folds = folds;
+  uppers = uppers;
+  id_start = id_start;
+  id_continue = id_continue;
+  general_category = sets_of general_category;
+  script = sets_of script;
+  script_extensions = sets_of script_extensions;
+  binary = sets_of binary;
+  strings = strings_of strings;
+}

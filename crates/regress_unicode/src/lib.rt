@@ -3,17 +3,13 @@
 
 ghost use Rattle.std.proofs.Props.{props};
 ghost use Rattle.regress_unicode.specs.LaterTargets.{HasLaterTargets};
-ghost use Rattle.regress_unicode.specs.Parts.{parts_with, IsSound};
+ghost use Rattle.regress_unicode.specs.Parts.{parts_from, IsSound};
 
 mod checks;
 mod closure;
-mod ends;
 mod fold_range;
 mod images;
 mod later;
-mod lookup;
-mod named_sets;
-mod named_strings;
 mod new;
 mod range;
 mod readers;
@@ -23,11 +19,8 @@ mod tables_error;
 mod unfold;
 
 pub use closure::add_icase_code_points;
-pub use ends::set_at;
 pub use fold_range::FoldRange;
 pub use images::{fold, uppercase};
-pub use named_sets::NamedSets;
-pub use named_strings::NamedStrings;
 pub use range::CodePointRange;
 use regress_base::bytesearch::AsciiBitmap;
 use regress_base::codepointset::CodePointSet;
@@ -49,11 +42,11 @@ pub struct Tables {
     later_uppers: AsciiBitmap,
     id_start: CodePointSet,
     id_continue: CodePointSet,
-    general_category: NamedSets,
-    script: NamedSets,
-    script_extensions: NamedSets,
-    binary: NamedSets,
-    strings: NamedStrings,
-    ghost sound: { IsSound (parts_with folds.items uppers.items id_start id_continue general_category script script_extensions binary strings) } by { Prim.hlevel props },
+    general_category: Vec<(String, CodePointSet)>,
+    script: Vec<(String, CodePointSet)>,
+    script_extensions: Vec<(String, CodePointSet)>,
+    binary: Vec<(String, CodePointSet)>,
+    strings: Vec<(String, Vec<Vec<u32>>)>,
+    ghost sound: { IsSound (parts_from folds.items uppers.items id_start id_continue general_category.items script.items script_extensions.items binary.items strings.items) } by { Prim.hlevel props },
     ghost later: { HasLaterTargets later_folds folds.items × HasLaterTargets later_uppers uppers.items } by { Prim.hlevel props },
 }

@@ -9,7 +9,7 @@ use super::checks::{
     have_word_ascii, sets_are_canonical,
 };
 use super::later::later_targets;
-use super::{FoldRange, NamedSets, NamedStrings, Tables, TablesError, Which};
+use super::{FoldRange, Tables, TablesError, Which};
 use regress_base::codepointset::CodePointSet;
 use regress_base::sets::set_is_canonical;
 use std::alloc::Global;
@@ -40,7 +40,7 @@ impl Tables {
     ghost use Rattle.std.specs.Prelude.{◌≡◌, ◌≢◌, alloc_error, IfOk, IfErr};
     ghost use Rattle.regress_unicode.specs.declared.tables_error.TablesError.{TablesError as Rejection};
     ghost use Rattle.regress_unicode.specs.declared.tables_error.TablesError.TheVariants.{Memory};
-    ghost use Rattle.regress_unicode.specs.Parts.{parts_from, parts_with, table_from, IsSound};
+    ghost use Rattle.regress_unicode.specs.Parts.{parts_from, table_from, IsSound};
     ghost use Rattle.regress_unicode.specs.ConstructionErrors.{Meets, IsFirstError};
     ghost use Rattle.regress_unicode.specs.TableOf.{table_of};
 
@@ -115,11 +115,11 @@ impl Tables {
             uppers,
             id_start,
             id_continue,
-            NamedSets::owned(general_category),
-            NamedSets::owned(script),
-            NamedSets::owned(script_extensions),
-            NamedSets::owned(binary),
-            NamedStrings::owned(strings),
+            general_category,
+            script,
+            script_extensions,
+            binary,
+            strings,
         ))
     }
 
@@ -133,14 +133,14 @@ impl Tables {
         uppers: Vec<FoldRange>,
         id_start: CodePointSet,
         id_continue: CodePointSet,
-        general_category: NamedSets,
-        script: NamedSets,
-        script_extensions: NamedSets,
-        binary: NamedSets,
-        strings: NamedStrings,
+        general_category: Vec<(String, CodePointSet)>,
+        script: Vec<(String, CodePointSet)>,
+        script_extensions: Vec<(String, CodePointSet)>,
+        binary: Vec<(String, CodePointSet)>,
+        strings: Vec<(String, Vec<Vec<u32>>)>,
     ) -> Tables
-        requires { IsSound (parts_with folds.items uppers.items id_start id_continue general_category script script_extensions binary strings) }
-        ensures { table_of result ≡ table_from (parts_with folds.items uppers.items id_start id_continue general_category script script_extensions binary strings) }
+        requires { IsSound (parts_from folds.items uppers.items id_start id_continue general_category.items script.items script_extensions.items binary.items strings.items) }
+        ensures { table_of result ≡ table_from (parts_from folds.items uppers.items id_start id_continue general_category.items script.items script_extensions.items binary.items strings.items) }
     {
         let later_folds = later_targets(&folds);
         let later_uppers = later_targets(&uppers);

@@ -1,13 +1,27 @@
 //! Lookups in a table.
+ghost use Rattle.std.specs.Prelude.{◌≡◌, map, option_copied};
+ghost use Rattle.regress_unicode.specs.Parts.{entry_of};
+ghost use Rattle.regress_base.specs.Table.{named};
 
 use super::Tables;
 use regress_base::codepointset::CodePointSet;
-use std::alloc::{AllocError, Global};
+
+/// Returns the value of the first entry with that name, or `None`. Linear in the number of entries.
+fn find<'a, T>(entries: &'a [(String, T)], name: &str) -> Option<&'a T>
+    ensures { option_copied result ≡
+        named name.now (map entry_of entries.now) }
+{
+    for (entry, value) in entries {
+        if entry.as_str() == name {
+            return Some(value);
+        }
+    }
+    None
+}
 
 impl Tables {
-    ghost use Rattle.std.specs.Prelude.{◌≡◌, option_map, IfOk};
+    ghost use Rattle.std.specs.Prelude.{◌≡◌, map, option_map, option_copied};
     ghost use Rattle.regress_base.specs.Table.{named};
-    ghost use Rattle.regress_unicode.specs.Parts.{values_of};
     ghost use Rattle.regress_unicode.specs.TableOf.{table_of};
 
     /// Returns the characters that can begin an identifier (ECMA-262, ID_Start).
@@ -24,70 +38,51 @@ impl Tables {
         &self.id_continue
     }
 
-    /// Returns a copy of the code points with the general category `name`, or `None` if no entry has that name.
+    /// Returns the code points with the general category `name`, or `None` if no entry has that name.
     ///
     /// If several entries have the name, the first one counts. Names are compared exactly.
     ///
-    /// # Errors
-    /// Returns [`AllocError`] if an allocation fails.
-    ///
     /// # Complexity
-    /// Linear in the number of entries and in the size of the set.
-    pub fn general_category(
-        &self,
-        alloc: Global,
-        name: &str,
-    ) -> Result<Option<CodePointSet>, AllocError>
-        ensures { IfOk result (λ set. set ≡ named name.now (table_of self.now).general_category) }
+    /// Linear in the number of entries.
+    pub fn general_category(&self, name: &str) -> Option<&CodePointSet>
+        ensures { option_copied result ≡ named name.now (table_of self.now).general_category }
     {
-        self.general_category.find(alloc, name)
+        find(&self.general_category, name)
     }
 
-    /// Returns a copy of the code points of the script `name`, or `None`. The lookup is that of
+    /// Returns the code points of the script `name`, or `None`. The lookup is that of
     /// [`general_category`](Tables::general_category).
-    ///
-    /// # Errors
-    /// Returns [`AllocError`] if an allocation fails.
-    pub fn script(&self, alloc: Global, name: &str) -> Result<Option<CodePointSet>, AllocError>
-        ensures { IfOk result (λ set. set ≡ named name.now (table_of self.now).script) }
+    pub fn script(&self, name: &str) -> Option<&CodePointSet>
+        ensures { option_copied result ≡ named name.now (table_of self.now).script }
     {
-        self.script.find(alloc, name)
+        find(&self.script, name)
     }
 
-    /// Returns a copy of the code points with the script extension `name`, or `None`. The lookup is that of
+    /// Returns the code points with the script extension `name`, or `None`. The lookup is that of
     /// [`general_category`](Tables::general_category).
-    ///
-    /// # Errors
-    /// Returns [`AllocError`] if an allocation fails.
-    pub fn script_extensions(
-        &self,
-        alloc: Global,
-        name: &str,
-    ) -> Result<Option<CodePointSet>, AllocError>
-        ensures { IfOk result (λ set. set ≡ named name.now (table_of self.now).script_extensions) }
+    pub fn script_extensions(&self, name: &str) -> Option<&CodePointSet>
+        ensures { option_copied result ≡ named name.now (table_of self.now).script_extensions }
     {
-        self.script_extensions.find(alloc, name)
+        find(&self.script_extensions, name)
     }
 
-    /// Returns a copy of the code points with the binary property `name`, or `None`. The lookup is that of
+    /// Returns the code points with the binary property `name`, or `None`. The lookup is that of
     /// [`general_category`](Tables::general_category).
-    ///
-    /// # Errors
-    /// Returns [`AllocError`] if an allocation fails.
-    pub fn binary(&self, alloc: Global, name: &str) -> Result<Option<CodePointSet>, AllocError>
-        ensures { IfOk result (λ set. set ≡ named name.now (table_of self.now).binary) }
+    pub fn binary(&self, name: &str) -> Option<&CodePointSet>
+        ensures { option_copied result ≡ named name.now (table_of self.now).binary }
     {
-        self.binary.find(alloc, name)
+        find(&self.binary, name)
     }
 
-    /// Returns a copy of the strings with the property of strings `name`, or `None`. The lookup is that of
+    /// Returns the strings with the property of strings `name`, or `None`. The lookup is that of
     /// [`general_category`](Tables::general_category).
-    ///
-    /// # Errors
-    /// Returns [`AllocError`] if an allocation fails.
-    pub fn strings(&self, alloc: Global, name: &str) -> Result<Option<Vec<Vec<u32>>>, AllocError>
-        ensures { IfOk result (λ strings. option_map values_of strings ≡ named name.now (table_of self.now).strings) }
+    pub fn strings(&self, name: &str) -> Option<&[Vec<u32>]>
+        ensures { option_map (λ strings. map (λ string. string.items) strings.now) result ≡
+            named name.now (table_of self.now).strings }
     {
-        self.strings.find(alloc, name)
+        match find(&self.strings, name) {
+            Some(strings) => Some(strings.as_slice()),
+            None => None,
+        }
     }
 }

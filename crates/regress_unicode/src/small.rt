@@ -4,7 +4,7 @@ ghost use Rattle.regress_base.specs.Intervals.{IsCanonical};
 ghost use Rattle.regress_unicode.specs.Parts.{sets_of, strings_of};
 ghost use Rattle.regress_unicode.specs.SmallTable.{small_folds, small_uppers, small_parts, small_table, set};
 
-use super::{FoldRange, NamedSets, NamedStrings, Tables};
+use super::{FoldRange, Tables};
 use regress_base::codepointset::{CODE_POINT_MAX, CodePointSet, Interval};
 use std::alloc::{AllocError, Global};
 
@@ -23,8 +23,8 @@ impl Tables {
     /// ```
     /// let tables = Tables::small(alloc)?;
     /// assert_eq!(rt; fold(0x41, &tables), 0x61);
-    /// assert!(rt; tables.script(alloc, "Ogham")?.is_some());
-    /// assert!(rt; tables.script(alloc, "Greek")?.is_none());
+    /// assert!(rt; tables.script("Ogham").is_some());
+    /// assert!(rt; tables.script("Greek").is_none());
     /// ```
     pub fn small(alloc: Global) -> Result<Tables, AllocError>
         ensures { IfOk result (λ tables. table_of tables ≡ small_table) }
@@ -34,11 +34,11 @@ impl Tables {
             small_uppers(alloc)?,
             small_id_start(alloc)?,
             small_id_continue(alloc)?,
-            NamedSets::owned(small_general_category(alloc)?),
-            NamedSets::owned(small_script(alloc)?),
-            NamedSets::owned(small_script(alloc)?),
-            NamedSets::owned(small_binary(alloc)?),
-            NamedStrings::owned(small_strings(alloc)?),
+            small_general_category(alloc)?,
+            small_script(alloc)?,
+            small_script(alloc)?,
+            small_binary(alloc)?,
+            small_strings(alloc)?,
         ))
     }
 }

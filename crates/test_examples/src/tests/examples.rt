@@ -11,8 +11,7 @@ use regress_front::optimizer::{PassAction, Rewrite, optimize, parse_and_optimize
 use regress_front::parse::{Span, node_bound, try_parse, try_parse_with_spans};
 use regress_front::types::Flags;
 use regress_front::unicode::{
-    FoldRange, Tables, add_icase_code_points, expand_code_point, fold, set_at, unfold_char,
-    uppercase,
+    FoldRange, Tables, add_icase_code_points, expand_code_point, fold, unfold_char, uppercase,
 };
 use regress_front::util::code_points;
 use regress_ucd::unicode_tables;
@@ -118,17 +117,12 @@ fn the_examples_of_tables_hold(rt: HostRuntime) -> Result<(), Fail> {
         assert_eq!(rt; fold(0x41, &tables), 0x61);
         assert!(rt; tables.id_start().contains(0x61));
     }
-    // a set is made from the ends of its intervals
-    {
-        let letters = set_at(alloc, &[0x41, 0x5A, 0x61, 0x7A], 0, 4)?;
-        assert!(rt; letters.contains(0x61));
-    }
     // the small table has few properties
     {
         let tables = Tables::small(alloc)?;
         assert_eq!(rt; fold(0x41, &tables), 0x61);
-        assert!(rt; tables.script(alloc, "Ogham")?.is_some());
-        assert!(rt; tables.script(alloc, "Greek")?.is_none());
+        assert!(rt; tables.script("Ogham").is_some());
+        assert!(rt; tables.script("Greek").is_none());
     }
     Ok(())
 }
@@ -139,7 +133,7 @@ fn the_example_of_the_whole_table_holds(rt: HostRuntime) -> Result<(), Fail> {
     let tables = unicode_tables(alloc)?;
     // the simple case folding of LATIN CAPITAL LETTER SHARP S
     assert_eq!(rt; fold(0x1E9E, &tables), 0xDF);
-    match tables.script(alloc, "Greek")? {
+    match tables.script("Greek") {
         Some(greek) => assert!(rt; greek.contains(0x3B1)),
         None => assert!(rt; false, "Unicode has this script"),
     }

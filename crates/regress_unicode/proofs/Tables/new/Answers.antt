@@ -3,7 +3,7 @@ use Rattle.std.proofs.Common.{◌≡◌, List, String, Global, true, sym, subst,
 use Rattle.std.proofs.lemmas.Result.{err_from_is_err_and}
 use Rattle.std.specs.List.{list_all}
 use Rattle.regress_unicode.specs.Parts.{AreValidEntries, parts_from, sets_of}
-use Rattle.regress_base.specs.Table.{is_string, HasCanonicalSets, HasStrings}
+use Rattle.regress_base.specs.Table.{is_string, HasCanonicalSets}
 use Rattle.regress_base.specs.Intervals.{Bounds}
 use Rattle.regress_unicode.proofs.CaseMapLemmas.{case_map}
 use Rattle.regress_unicode.proofs.ConstructionErrorLemmas.{first_by_mappings, identifiers_rejected, strings_rejected, all_met, strings_test}
@@ -55,11 +55,11 @@ from_sound_parts-requires c =
         id_continue = c.set_is_canonical-2.ensures;
         id_start_ascii = identifiers.0;
         id_continue_ascii = identifiers.1;
-        general_category = subst HasCanonicalSets (sym c.owned.ensures) (canonical _ _ c.deref-4.ensures.value c.sets_are_canonical.ensures);
-        script = subst HasCanonicalSets (sym c.owned-2.ensures) (canonical _ _ c.deref-5.ensures.value c.sets_are_canonical-2.ensures);
-        script_extensions = subst HasCanonicalSets (sym c.owned-3.ensures) (canonical _ _ c.deref-6.ensures.value c.sets_are_canonical-3.ensures);
-        binary = subst HasCanonicalSets (sym c.owned-4.ensures) (canonical _ _ c.deref-7.ensures.value c.sets_are_canonical-4.ensures);
-        strings = subst HasStrings (sym c.owned-5.ensures) strings;
+        general_category = canonical _ _ c.deref-4.ensures.value c.sets_are_canonical.ensures;
+        script = canonical _ _ c.deref-5.ensures.value c.sets_are_canonical-2.ensures;
+        script_extensions = canonical _ _ c.deref-6.ensures.value c.sets_are_canonical-3.ensures;
+        binary = canonical _ _ c.deref-7.ensures.value c.sets_are_canonical-4.ensures;
+        strings = strings;
       };
     }
 

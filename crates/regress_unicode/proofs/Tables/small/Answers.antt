@@ -8,13 +8,13 @@ use Rattle.regress_unicode.proofs.Tables.small.Goals as goal
 pub from_sound_parts-requires : goal.from_sound_parts-requires
 from_sound_parts-requires c =
     let same = small_from _ _ _ _ _ _ _ _ _ c.in_ok-small_folds.ensures c.in_ok-small_uppers.ensures c.in_ok-small_id_start.ensures
-    c.in_ok-small_id_continue.ensures (c.owned.ensures ∙ c.in_ok-small_general_category.ensures) (c.owned-3.ensures ∙ c.in_ok-small_script.ensures)
-    (c.owned-5.ensures ∙ c.in_ok-small_script-2.ensures) (c.owned-7.ensures ∙ c.in_ok-small_binary.ensures) (c.owned-8.ensures ∙ c.in_ok-small_strings.ensures) in
+    c.in_ok-small_id_continue.ensures c.in_ok-small_general_category.ensures c.in_ok-small_script.ensures
+    c.in_ok-small_script-2.ensures c.in_ok-small_binary.ensures c.in_ok-small_strings.ensures in
     subst IsSound (sym same) small_sound
 
 pub returns : goal.returns
 unfolding small_table
 returns c =
-    c.from_sound_parts-2.ensures ∙ ap table_from (small_from _ _ _ _ _ _ _ _ _ c.in_ok-small_folds.ensures c.in_ok-small_uppers.ensures c.in_ok-small_id_start.ensures
-    c.in_ok-small_id_continue.ensures (c.owned.ensures ∙ c.in_ok-small_general_category.ensures) (c.owned-3.ensures ∙ c.in_ok-small_script.ensures)
-    (c.owned-5.ensures ∙ c.in_ok-small_script-2.ensures) (c.owned-7.ensures ∙ c.in_ok-small_binary.ensures) (c.owned-8.ensures ∙ c.in_ok-small_strings.ensures))
+    c.from_sound_parts.ensures ∙ ap table_from (small_from _ _ _ _ _ _ _ _ _ c.in_ok-small_folds.ensures c.in_ok-small_uppers.ensures c.in_ok-small_id_start.ensures
+    c.in_ok-small_id_continue.ensures c.in_ok-small_general_category.ensures c.in_ok-small_script.ensures
+    c.in_ok-small_script-2.ensures c.in_ok-small_binary.ensures c.in_ok-small_strings.ensures)

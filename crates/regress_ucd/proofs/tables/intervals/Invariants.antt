@@ -1,8 +1,8 @@
 -- The list has the intervals of the pairs so far, and the remaining ends are intervals.
 use Rattle.std.proofs.Common.{◌≡◌, ◌++◌, ◌*◌, All, drop}
 use Rattle.regress_base.specs.Intervals.{IsInterval}
-use Rattle.regress_unicode.specs.Listed.{paired}
-use Rattle.regress_unicode.proofs.ends.intervals.Given as goal
+use Rattle.regress_ucd.specs.Data.{paired}
+use Rattle.regress_ucd.proofs.tables.intervals.Given as goal
 
 abbrev pub invariant-loop-index : goal.invariant-loop-index
 invariant-loop-index l =

@@ -2,7 +2,7 @@
 use Rattle.std.proofs.Common.{◌≡◌, map, drop}
 use Rattle.regress_unicode.specs.Parts.{entry_of}
 use Rattle.regress_base.specs.Table.{named}
-use Rattle.regress_unicode.proofs.lookup.find.Given as goal
+use Rattle.regress_unicode.proofs.readers.find.Given as goal
 
 abbrev pub invariant-loop-entry : goal.invariant-loop-entry
 invariant-loop-entry g l =

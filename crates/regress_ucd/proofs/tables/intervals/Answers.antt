@@ -1,6 +1,6 @@
 -- The next pair of ends is an interval, and after the last pair there is none.
-use Rattle.regress_unicode.proofs.ListedLemmas.{interval_there, intervals_left, pair_taken, all_taken}
-use Rattle.regress_unicode.proofs.ends.intervals.Goals as goal
+use Rattle.regress_ucd.proofs.DataLemmas.{interval_there, intervals_left, pair_taken, all_taken}
+use Rattle.regress_ucd.proofs.tables.intervals.Goals as goal
 
 pub new-requires-clause-ordered : goal.new-requires-clause-ordered
 new-requires-clause-ordered c = (interval_there c.args.ends.now c.loop-index.index c.loop-index-test.true c.loop-index.invariant.1).ordered
