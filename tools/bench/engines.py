@@ -118,7 +118,7 @@ def built_kit(folder):
     crate = Path(folder) / "crates/count_matches"
     (crate / "src").mkdir(parents=True)
     (Path(folder) / "crates.txt").write_text("count_matches: regex\n")
-    shutil.copy(HERE / "count_matches.rt", crate / "src/main.rt")
+    shutil.copy(HERE / "count_matches.rt.in", crate / "src/main.rt")
     command = ["rt", "run", "--jobs", "1", "--", "a", "all"]
     subprocess.run(command, cwd=crate, stdin=subprocess.DEVNULL, stdout=subprocess.DEVNULL, stderr=subprocess.DEVNULL)
     program = crate / "out/count_matches"
