@@ -2,12 +2,12 @@
 use Rattle.std.specs.Prelude.{ℕ, Bool, true, false, not, ◌&&◌, ◌||◌, List, [], ◌∷◌, map, Option, Some, None, option_map, option_and_then, if◌then◌else◌, bytes_eq, chars, codes, String, string_bytes}
 use Rattle.std.specs.declared.alloc.Global.{Global}
 use Rattle.regress_base.specs.declared.types.Flags.{Flags}
-use Rattle.regress_show.specs.Request.{table_asked}
-use Rattle.regress_show.specs.Request as trees
-use Rattle.regress_show.specs.declared.request.Format.{Format}
-use Rattle.regress_show.specs.declared.request.Format.TheVariants.{Text, Json, Svg}
-use Rattle.regress_show.specs.declared.request.Stage.{Stage}
-use Rattle.regress_show.specs.declared.request.Stage.TheVariants.{Parsed, Both}
+use Rattle.regress_display.specs.Request.{table_asked}
+use Rattle.regress_display.specs.Request as trees
+use Rattle.regress_display.specs.declared.request.Format.{Format}
+use Rattle.regress_display.specs.declared.request.Format.TheVariants.{Text, Json, Svg}
+use Rattle.regress_display.specs.declared.request.Stage.{Stage}
+use Rattle.regress_display.specs.declared.request.Stage.TheVariants.{Parsed, Both}
 use Rattle.regex_command.specs.Job.{Job, matching, replacing, splitting}
 use Rattle.regex_command.specs.Job as jobs
 use Rattle.regex_command.specs.Options.{no_options, options_of}

@@ -8,7 +8,7 @@ use Rattle.regress_front.specs.Setting.{Setting}
 use Rattle.regress_ucd.specs.UnicodeTable.{unicode_table}
 use Rattle.regress.specs.Compiled.{IsCompiled}
 use Rattle.regress.specs.declared.pattern.Regex.{Regex}
-use Rattle.regress_show.specs.Shown.{IsFirstOutput}
+use Rattle.regress_display.specs.Shown.{IsFirstOutput}
 use Rattle.regex_command.specs.Asked.{Ask, Request, escape, help, lint, search, show}
 use Rattle.regex_command.specs.Ending.{IsLate}
 use Rattle.regex_command.specs.Inputs.{WritesInputs, WritesSomeOf, inputs_of}

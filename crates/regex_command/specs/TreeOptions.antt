@@ -1,7 +1,7 @@
 -- The options of `parse` and `draw`.
 use Rattle.std.specs.Prelude.{ℕ, true, false, List, [], ◌∷◌, Option, Some, None, option_map, option_and_then, if◌then◌else◌, bytes_eq, codes, String, string_bytes}
 use Rattle.std.specs.declared.alloc.Global.{Global}
-use Rattle.regress_show.specs.declared.request.Stage.TheVariants.{Parsed, Optimized}
+use Rattle.regress_display.specs.declared.request.Stage.TheVariants.{Parsed, Optimized}
 use Rattle.regex_command.specs.Options.{is_option, no_options, with_option}
 use Rattle.regex_command.specs.declared.tree_options.TreeOptions.{TreeOptions}
 

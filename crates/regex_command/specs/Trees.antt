@@ -1,11 +1,11 @@
 -- What `parse` and `draw` write.
 use Rattle.std.specs.Prelude.{◌≡◌, ⊤, ℕ, Bool, true, false, List, []}
-use Rattle.regress_show.specs.Accepted.{NoneIsAccepted}
-use Rattle.regress_show.specs.Fault.{IsFaultOutput}
-use Rattle.regress_show.specs.Request.{Request}
-use Rattle.regress_show.specs.Shown.{IsOutput}
-use Rattle.regress_show.specs.declared.request.Format.{Format}
-use Rattle.regress_show.specs.declared.request.Format.TheVariants.{Text, Json, Svg}
+use Rattle.regress_display.specs.Accepted.{NoneIsAccepted}
+use Rattle.regress_display.specs.Fault.{IsFaultOutput}
+use Rattle.regress_display.specs.Request.{Request}
+use Rattle.regress_display.specs.Shown.{IsOutput}
+use Rattle.regress_display.specs.declared.request.Format.{Format}
+use Rattle.regress_display.specs.declared.request.Format.TheVariants.{Text, Json, Svg}
 
 -- What is written to standard output for a rejected pattern: its syntax error as JSON, and nothing in the other formats.
 abbrev pub IsFaultWritten : Format → Request → List ℕ → Type 0

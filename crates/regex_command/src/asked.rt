@@ -7,7 +7,7 @@ use crate::options::{Options, read_options};
 use crate::task::{Selection, Shown, Task};
 use crate::tree_request::{LintRequest, View, read_lint, read_show};
 use regress_base::types::Flags;
-use regress_show::Request as TreeRequest;
+use regress_display::Request as TreeRequest;
 
 /// What the arguments ask for.
 #[derive(Clone, Copy)]

@@ -35,9 +35,13 @@ pub(crate) fn print_lint<'a, W: Write, E: Write>(
             print_differences(alloc, &points, &found, out)?;
             Ok(false)
         }
-        Err(PlacedFault::Syntax {
-            error, position, ..
-        }) => {
+        Err(
+            PlacedFault::Syntax {
+                error,
+                position,
+                ..
+            },
+        ) => {
             let _ = write_syntax_error(&error.text, request.pattern, position, err);
             Ok(false)
         }
@@ -88,6 +92,7 @@ fn text_of(kind: DifferenceKind) -> &'static str {
             "ignoring case, other characters may match than in ECMA-262"
         }
         DifferenceKind::StringSet => "strings may match in another order than in ECMA-262",
-        DifferenceKind::SameName => "each group with this name is tried, and an unset one matches the empty string",
+        DifferenceKind::SameName =>
+            "each group with this name is tried, and an unset one matches the empty string",
     }
 }

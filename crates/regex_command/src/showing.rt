@@ -1,16 +1,16 @@
 //! `parse` and `draw`.
 ghost use Rattle.std.specs.Prelude.{◌≡◌, false, ◌⊎◌, IfOk, IfErr, string_bytes};
 ghost use Rattle.regress_arguments.specs.Output.{Took};
-ghost use Rattle.regress_show.specs.Accepted.{IsFault, setting_of_request};
-ghost use Rattle.regress_show.specs.Request.{requested};
-ghost use Rattle.regress_show.specs.Shown.{IsFirstOutput};
+ghost use Rattle.regress_display.specs.Accepted.{IsFault, setting_of_request};
+ghost use Rattle.regress_display.specs.Request.{requested};
+ghost use Rattle.regress_display.specs.Shown.{IsFirstOutput};
 ghost use Rattle.regex_command.specs.Ending.{IsLate, OrOutput};
 ghost use Rattle.regex_command.specs.Trees.{IsAnswer, IsFaultWritten, IsQuietFor};
 ghost use Rattle.regex_command.specs.declared.failure.Failure.TheVariants.{Output};
 
 use crate::failure::{Failure, write_syntax_error};
+use regress_display::{Format, Request, ShowError, show, write_json_fault};
 use regress_parse::{Error, FaultKind};
-use regress_show::{Format, Request, ShowError, show, write_json_fault};
 use std::alloc::Global;
 use std::io::Write;
 

@@ -3,7 +3,7 @@ ghost use Rattle.std.specs.Prelude.{◌≡◌, option_map};
 ghost use Rattle.regex_command.specs.TreeOptions.{no_tree_options, tree_options_of, with_tree_option};
 
 use crate::options::{NO_OPTIONS, Options, is_option, with_option};
-use regress_show::Stage;
+use regress_display::Stage;
 
 /// The options. The last one of a kind takes effect.
 #[derive(Clone, Copy)]

@@ -6,7 +6,7 @@ use crate::asked::{Asked, is_plain};
 use crate::options::read_options;
 use crate::tree_options::read_tree_options;
 use regress_base::types::Flags;
-use regress_show::{Format, Request, Stage};
+use regress_display::{Format, Request, Stage};
 
 /// A command that shows a tree.
 #[derive(Clone, Copy)]

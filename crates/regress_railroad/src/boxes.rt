@@ -26,11 +26,11 @@ pub(crate) fn literal(text: String, either_case: bool) -> Diagram {
     boxed(BoxKind::Literal, label)
 }
 
-/// Returns a box for a set; an empty set has a box for what never matches.
+/// Returns a box for a set; an empty set has a box for what never matches, not for the empty text.
 pub(crate) fn set_box(alloc: Global, label: Option<Label>) -> Diagram {
     match label {
         Some(label) => boxed(BoxKind::Set, label),
-        None => boxed(BoxKind::Never, Label::words(alloc, "nothing")),
+        None => boxed(BoxKind::Never, Label::words(alloc, "no character")),
     }
 }
 

@@ -1,7 +1,7 @@
 //! Labels of boxes, frames and loops.
 
 use crate::symbols::columns;
-use regress_base::types::{AnchorType, Quantifier};
+use regress_base::types::{AnchorType, Flags, Quantifier};
 use std::alloc::{AllocError, Global};
 
 /// The label of a box: words before, a text from the pattern, and words after.
@@ -97,4 +97,22 @@ fn times(alloc: Global, min: usize, max: Option<usize>) -> Result<String, AllocE
         (min, Some(max)) if min == max => Ok(format!(in alloc; "{min} times")?),
         (min, Some(max)) => Ok(format!(in alloc; "{min} to {max} times")?),
     }
+}
+
+/// Returns the letters of flags as JavaScript writes them, where `v` includes `u`; an empty text if there are none.
+pub(crate) fn flags_text(alloc: Global, flags: Flags) -> Result<String, AllocError> {
+    let mut text = String::new(alloc);
+    for (is_set, letter) in [
+        (flags.icase, " i"),
+        (flags.multiline, " m"),
+        (flags.dot_all, " s"),
+        (flags.unicode && !flags.unicode_sets, " u"),
+        (flags.unicode_sets, " v"),
+    ] {
+        if is_set {
+            text.push_str(if text.is_empty() { "flags" } else { "" })?;
+            text.push_str(letter)?;
+        }
+    }
+    Ok(text)
 }

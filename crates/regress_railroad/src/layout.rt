@@ -8,6 +8,7 @@ use crate::row::{Piece, Row};
 use crate::sets::{
     Character, only_character, set_label, set_of_bytes, set_of_characters, strings_label, written,
 };
+use crate::source::excerpt;
 use regress_base::codepointset::CodePointSet;
 use regress_base::types::Quantifier;
 use regress_parse::Span;
@@ -85,6 +86,7 @@ fn add(node: &Node, setting: &mut Setting<'_>, pieces: &mut Pieces) -> Result<()
 fn piece(node: &Node, setting: &mut Setting<'_>) -> Result<Option<Piece>, AllocError> {
     let alloc = setting.alloc;
     let part = match node {
+        Node::Alt(..) if is_reference_by_name(node, setting) => references(node, setting)?,
         Node::Alt(..) => lay_out_tracks(node, setting)?,
         Node::CaptureGroup { id, contents, .. } => {
             let group = u32::from(*id) + 1;
@@ -93,7 +95,7 @@ fn piece(node: &Node, setting: &mut Setting<'_>) -> Result<Option<Piece>, AllocE
         }
         Node::Loop { loopee, quant, .. } | Node::Loop1CharBody { loopee, quant } => {
             let body = lay_out(loopee, setting)?;
-            loop_around(alloc, iterations(alloc, quant)?, body)?
+            loop_around(alloc, iterations(alloc, quant)?, taken(quant, body))?
         }
         Node::LookaroundAssertion {
             negate,
@@ -120,7 +122,9 @@ fn lay_out_tracks(node: &Node, setting: &mut Setting<'_>) -> Result<Diagram, All
     let mut all = Vec::new(setting.alloc);
     all.push(lay_out(left, setting)?)?;
     let mut rest: &Node = right;
-    while let Node::Alt(left, right) = rest {
+    while let Node::Alt(left, right) = rest
+        && !is_reference_by_name(rest, setting)
+    {
         all.push(lay_out(left, setting)?)?;
         rest = right;
     }
@@ -132,13 +136,64 @@ fn lay_out_tracks(node: &Node, setting: &mut Setting<'_>) -> Result<Diagram, All
     Ok(tracks(all))
 }
 
+/// Returns the span of the next node in postorder.
+fn next_span(setting: &Setting<'_>) -> Option<Span> {
+    setting.spans.as_slice().first().copied()
+}
+
+/// Returns whether a node is a reference by name to several groups: all of its nodes have the same span.
+fn is_reference_by_name(node: &Node, setting: &Setting<'_>) -> bool {
+    match (node, setting.spans.as_slice()) {
+        (Node::Alt(left, _), [first, second, ..]) => {
+            matches!(**left, Node::BackRef { .. }) && first == second
+        }
+        _ => false,
+    }
+}
+
+/// Returns a box for a reference by name to several groups, and skips the spans of the nodes inside it.
+fn references(node: &Node, setting: &mut Setting<'_>) -> Result<Diagram, AllocError> {
+    let mut text = String::new(setting.alloc);
+    let mut rest = node;
+    while let Node::Alt(left, right) = rest {
+        push_group(left, setting, &mut text)?;
+        text.push_str(" or ")?;
+        setting.spans.next();
+        setting.spans.next();
+        rest = right;
+    }
+    push_group(rest, setting, &mut text)?;
+    Ok(reference_box(text, is_caseless(rest)))
+}
+
+/// Appends the number and the name of the group of a back reference.
+fn push_group(node: &Node, setting: &Setting<'_>, text: &mut String) -> Result<(), AllocError> {
+    let Node::BackRef { group, .. } = node else {
+        return Ok(());
+    };
+    let name = name_of(*group, setting.names);
+    text.push_str(&group_text(setting.alloc, "", *group, name)?)
+}
+
+fn is_caseless(node: &Node) -> bool {
+    matches!(node, Node::BackRef { icase: true, .. })
+}
+
+/// Returns the body of a loop that is drawn: a bare line if no iteration is possible.
+fn taken(quant: &Quantifier, body: Diagram) -> Diagram {
+    match quant.max {
+        Some(0) => Diagram::line(),
+        _ => body,
+    }
+}
+
 /// Returns the lines of a loop.
 fn iterations(alloc: Global, quant: &Quantifier) -> Result<Iterations, AllocError> {
     let again = match quant.max {
         Some(max) => max > 1,
         None => true,
     };
-    let none = quant.min == 0;
+    let none = quant.min == 0 && quant.max != Some(0);
     let label = iterations_text(alloc, quant)?;
     Ok(Iterations { again, none, label })
 }
@@ -166,10 +221,13 @@ fn leaf(node: &Node, setting: &Setting<'_>) -> Result<Option<Piece>, AllocError>
         Node::ByteSequence(bytes) => Piece::Text(String::from_utf8_lossy(alloc, bytes)?),
         Node::ByteSet(bytes) => set(alloc, false, set_of_bytes(alloc, bytes)?)?,
         Node::CharSet(all) => set(alloc, false, set_of_characters(alloc, all)?)?,
-        Node::Bracket(contents) => {
-            let (negated, all) = written(alloc, contents)?;
-            set(alloc, negated, all)?
-        }
+        Node::Bracket(contents) => match property(setting)? {
+            Some(text) => Piece::Part(property_box(text)),
+            None => {
+                let (negated, all) = written(alloc, contents)?;
+                set(alloc, negated, all)?
+            }
+        },
         Node::StringSet {
             alternatives,
             icase,
@@ -202,16 +260,40 @@ fn words(alloc: Global, kind: BoxKind, words: &'static str) -> Piece {
 }
 
 fn reference(group: u32, icase: bool, setting: &Setting<'_>) -> Result<Diagram, AllocError> {
+    let text = group_text(setting.alloc, "", group, name_of(group, setting.names))?;
+    Ok(reference_box(text, icase))
+}
+
+/// Returns a box for a reference to the groups with these numbers and names.
+fn reference_box(text: String, icase: bool) -> Diagram {
     let label = Label {
         front: "what group",
-        text: group_text(setting.alloc, "", group, name_of(group, setting.names))?,
+        text,
         after: if icase {
             "captured, in either case"
         } else {
             "captured"
         },
     };
-    Ok(boxed(BoxKind::Reference, label))
+    boxed(BoxKind::Reference, label)
+}
+
+/// Returns the source text of the next node if it is a property, such as `\p{Script=Greek}`.
+fn property(setting: &Setting<'_>) -> Result<Option<String>, AllocError> {
+    let Some(text) = excerpt(setting.alloc, setting.pattern, next_span(setting))? else {
+        return Ok(None);
+    };
+    let is_property = text.starts_with("\\p") || text.starts_with("\\P");
+    Ok(if is_property { Some(text) } else { None })
+}
+
+fn property_box(text: String) -> Diagram {
+    let label = Label {
+        front: "",
+        text,
+        after: "",
+    };
+    boxed(BoxKind::Set, label)
 }
 
 /// Returns the piece of a set or, if `negated`, of its complement. A set of one character is that character.

@@ -8,7 +8,8 @@ use crate::symbols::columns;
 use crate::ways::{Drawn, draw_line, draw_way_over, draw_way_under};
 use regress_svg::{Element, Sheet};
 
-fn draw_text(class: &str, text: &str, at: Point, sheet: &mut Sheet) -> Drawn
+/// Draws a text from a point on its baseline, unless it is empty.
+pub(crate) fn draw_text(class: &str, text: &str, at: Point, sheet: &mut Sheet) -> Drawn
     ensures { OnOk result (sheet.new.depth ≡ sheet.old.depth) }
 {
     if text.is_empty() {

@@ -4,14 +4,22 @@ ghost use Rattle.regress_svg.specs.Markup.{IsDocument};
 
 use crate::diagram::{Diagram, Point};
 use crate::draw::draw;
+use crate::labels::flags_text;
 use crate::layout::layout;
-use crate::parts::draw_circle;
-use crate::style::{MARGIN, STYLE};
+use crate::parts::{draw_circle, draw_text};
+use crate::style::{MARGIN, STYLE, text_width};
+use crate::symbols::columns;
 use crate::ways::{Drawn, draw_line};
 use regress_parse::Span;
 use regress_svg::{Element, Sheet};
 use regress_tree::ir::Regex;
 use std::alloc::{AllocError, Global};
+
+/// Where the flags are written: in the margin above the diagram.
+const FLAGS_AT: Point = Point {
+    x: MARGIN / 2,
+    y: 16,
+};
 
 /// Returns a railroad diagram of a pattern, as an SVG 1.1 document with its own style sheet and without references to
 /// other files.
@@ -19,7 +27,8 @@ use std::alloc::{AllocError, Global};
 /// The diagram reads from left to right: the parts of a sequence are matched in order, and of branches one above the
 /// other one is taken. Lines that lead back are further iterations of a loop, and lines above a box bypass it. Names of
 /// groups and characters of the pattern are text; invisible characters are shown by their numbers, as `U+000A`. A long
-/// set is cut off, with the number of omitted items. Parts of a lookbehind are in the order of the pattern.
+/// set is cut off, with the number of omitted items. Parts of a lookbehind are in the order of the pattern. The flags are
+/// in the upper left corner.
 ///
 /// # Errors
 /// Returns [`AllocError`] if an allocation fails. `regex` is only read.
@@ -34,7 +43,8 @@ pub fn svg(alloc: Global, regex: &Regex) -> Result<String, AllocError>
 }
 
 /// Returns the diagram of [`svg`] for a parsed tree, with titles: pointing at a box, a frame or a loop shows the part
-/// of the pattern that it came from, up to 60 code points.
+/// of the pattern that it came from, up to 60 code points. A property is shown as it is written, and a reference by name
+/// to several groups as one box.
 ///
 /// `pattern` is the parsed pattern as code points, and `spans` are the spans that `try_parse_with_spans` returns for
 /// it. A node without a span, or with one that is not inside the pattern, has no such title.
@@ -55,13 +65,18 @@ pub fn svg_with_titles(
     let diagram = layout(alloc, &regex.node, pattern, spans)?;
     let extent = diagram.extent;
     let margins = 2 * MARGIN;
-    let width = extent.width.saturating_add(margins);
+    let flags = flags_text(alloc, regex.flags)?;
+    let width = extent
+        .width
+        .max(text_width(columns(&flags)))
+        .saturating_add(margins);
     let height = extent
         .above
         .saturating_add(extent.below)
         .saturating_add(margins);
     let mut sheet = Sheet::new(alloc, width, height)?;
     draw_paper(width, height, &mut sheet)?;
+    draw_text("small", &flags, FLAGS_AT, &mut sheet)?;
     let start = Point {
         x: MARGIN,
         y: extent.above.saturating_add(MARGIN),

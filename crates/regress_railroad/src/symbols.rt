@@ -1,6 +1,7 @@
 //! Display of characters.
 
 use std::alloc::{AllocError, Global};
+use ucd_category::GeneralCategory;
 
 /// Invisible characters, as alternating starts and ends of ranges: controls, most spaces, combining marks, the Ohm,
 /// Kelvin and Ångström signs, which look like letters, surrogates and private-use characters.
@@ -26,9 +27,16 @@ fn is_within(ends: &[u32], c: u32) -> bool {
     }
 }
 
-/// Returns whether a character has a visible shape of its own.
+/// Returns whether a character has a visible shape of its own. Fonts have none for those that are not assigned.
 pub(crate) fn is_seen(c: u32) -> bool {
-    c < 0xE0000 && !is_within(&UNSEEN, c)
+    c < 0xE0000 && !is_within(&UNSEEN, c) && is_assigned(c)
+}
+
+fn is_assigned(c: u32) -> bool {
+    match char::from_u32(c) {
+        Some(c) => !matches!(GeneralCategory::for_char(c), GeneralCategory::Unassigned),
+        None => false,
+    }
 }
 
 /// Appends a character: itself, `␣` for a space, or its number, as `U+000A`, if it is invisible.
