@@ -24,7 +24,7 @@ pub(crate) fn print_tree<'a, W: Write, E: Write>(
     err: &mut E,
 ) -> Result<bool, Failure<'a>>
     ensures shown { IfOk result (λ accepted. Took (W.contents out.old) (W.contents out.new) (IsAnswer accepted (requested request.entry))) }
-    ensures quiet { IfOk result (λ accepted. IsQuietFor request.format accepted (err.new ≡ err.old)) }
+    ensures quiet { IfOk result (λ accepted. IsQuietFor request.entry.format accepted (err.new ≡ err.old)) }
     ensures first { IfErr result (OrOutput ((out.new ≡ out.old)
         ⊎ Took (W.contents out.old) (W.contents out.new) (IsFirstOutput (requested request.entry)))) }
     ensures late { IfErr result IsLate }
@@ -52,11 +52,11 @@ fn print_fault<'a, W: Write, E: Write>(
     out: &mut W,
     err: &mut E,
 ) -> Result<bool, Failure<'a>>
-    requires { IsFault (setting_of_request (requested request.entry)) (requested request.entry).pattern kind.now
+    requires { IsFault (setting_of_request (requested request)) (requested request).pattern kind.now
         (string_bytes error.now.text) position }
     ensures shown { IfOk result (λ accepted. (accepted ≡ false)
-        × Took (W.contents out.old) (W.contents out.new) (IsFaultWritten request.format (requested request.entry))) }
-    ensures quiet { IfOk result (λ accepted. IsQuietFor request.format accepted (err.new ≡ err.old)) }
+        × Took (W.contents out.old) (W.contents out.new) (IsFaultWritten request.entry.format (requested request.entry))) }
+    ensures quiet { IfOk result (λ accepted. IsQuietFor request.entry.format accepted (err.new ≡ err.old)) }
     ensures failed { IfErr result (λ failure. failure ≡ Output) }
 {
     match request.format {
