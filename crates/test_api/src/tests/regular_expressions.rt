@@ -1,6 +1,8 @@
 //! Tests of the calls of `regress`, each on a pattern whose matches ECMA-262 states.
 
-use regress::{Error, Flags, FlagsError, Options, Regex, SearchError, Tables, parse_flags};
+use regress::{
+    Error, Flags, FlagsError, Nonlinear, Options, Regex, SearchError, Tables, escape, parse_flags,
+};
 use std::sync::Arc;
 use std::test::Fail;
 
@@ -49,6 +51,8 @@ fn a_regular_expression_searches(rt: HostRuntime) -> Result<(), Fail> {
     }
     let all = regex.find_all(alloc, "bxc")?;
     assert_eq!(rt; all.len(), 2);
+    assert_eq!(rt; regex.find_iter_from(alloc, "bxc", 1).count(), 1);
+    assert_eq!(rt; escape(alloc, "(a")?.as_str(), "\\(a");
     Ok(())
 }
 
@@ -86,12 +90,14 @@ fn a_regular_expression_has_limits(rt: HostRuntime) -> Result<(), Fail> {
         Err(SearchError::OutOfSteps) => {}
         _ => assert!(rt; false, "it takes too many steps"),
     }
+    assert_eq!(rt; regex.nonlinear(), Some(Nonlinear::TooManyInstructions));
     let mut matches = regex.find_iter(alloc, "aaaaaaaaaaaaaaaaaaaaaa");
     match matches.next() {
         Some(Err(SearchError::OutOfSteps)) => {}
         _ => assert!(rt; false, "it takes too many steps"),
     }
     assert!(rt; matches.next().is_none());
+    assert_eq!(rt; matches.steps(), 10);
     Ok(())
 }
 
