@@ -42,6 +42,12 @@ def compiled(flags, pattern):
     return regress.compile(pattern, flags.replace('u', '') if 'v' in flags else flags)
 
 
+def spans(found):
+    """Shows the spans of a match and of its groups; an empty text if there is no match."""
+    numbers = range(found.re.groups + 1) if found else ()
+    return ' '.join('-' if found.span(number) == (-1, -1) else '%d-%d' % found.span(number) for number in numbers)
+
+
 class V8(unittest.TestCase):
     """Compares with V8."""
 
@@ -50,34 +56,24 @@ class V8(unittest.TestCase):
         self.assertFalse(failures, '%d of %d fail:\n%s' % (len(failures), count, '\n'.join(failures[:20])))
         print('%d results are those of V8' % count)
 
-    def test_first_matches(self):
+    def compare_searches(self, file, expected_call, shown):
+        """Compares what a search shows of each test case of a file with its result."""
         failures = []
         count = 0
-        for name, (_, call, flags, pattern, text, result) in cases('v8.tsv'):
+        for name, (_, call, flags, pattern, text, result) in cases(file):
             count += 1
-            self.assertEqual(call, 'find')
-            found = compiled(flags, pattern).search(text)
-            spans = [found.span(number) for number in range(found.re.groups + 1)] if found else []
-            shown = ' '.join('-' if span == (-1, -1) else '%d-%d' % span for span in spans) or 'none'
-            if shown != result:
-                failures.append('%s\n    found: %s' % (name, shown))
+            self.assertEqual(call, expected_call)
+            found = shown(compiled(flags, pattern), text) or 'none'
+            if found != result:
+                failures.append('%s\n    found: %s' % (name, found))
         self.conclude(failures, count)
 
+    def test_first_matches(self):
+        self.compare_searches('v8.tsv', 'find', lambda pattern, text: spans(pattern.search(text)))
+
     def test_all_matches(self):
-        failures = []
-        count = 0
-        for name, (_, call, flags, pattern, text, result) in cases('v8_all.tsv'):
-            count += 1
-            self.assertEqual(call, 'all')
-            matches = [
-                ' '.join('-' if span == (-1, -1) else '%d-%d' % span
-                         for span in (found.span(number) for number in range(found.re.groups + 1)))
-                for found in compiled(flags, pattern).finditer(text)
-            ]
-            shown = ' | '.join(matches) or 'none'
-            if shown != result:
-                failures.append('%s\n    found: %s' % (name, shown))
-        self.conclude(failures, count)
+        self.compare_searches('v8_all.tsv', 'all', lambda pattern, text: ' | '.join(
+            spans(found) for found in pattern.finditer(text)))
 
     def test_replaced_and_split_texts(self):
         failures = []

@@ -1,7 +1,7 @@
 //! Compares searches, replaced texts and split texts with those of V8, in the files of
 //! `crates/test_cases/data/generated`. `crates/test_cases/README.md` specifies their format.
 
-use regress_front::{Flags, Match, Options, Regex};
+use regress_front::{Flags, Match, Options, Regex, SearchError};
 use std::fs;
 
 const FOLDER: &str = "../../crates/test_cases/data/generated";
@@ -88,16 +88,15 @@ fn conclude(failures: &[String], count: usize) {
     println!("{count} results are those of V8");
 }
 
-#[test]
-fn first_matches_are_those_of_v8() {
-    let cases = cases("v8.tsv");
+/// Compares what a search shows of each test case of a file with its result.
+fn compare_searches(file: &str, shown: impl Fn(&Regex, &str) -> Result<String, SearchError>) {
+    let cases = cases(file);
     let mut failures = Vec::new();
     for case in &cases {
         let [_, _, flags, pattern, text] = &case.fields[..] else {
             panic!("{}", case.name)
         };
-        let found = compile(flags, pattern).find(text).expect(&case.name);
-        let found = found.map_or("none".into(), |found| spans(text, &found));
+        let found = shown(&compile(flags, pattern), text).expect(&case.name);
         if found != case.result {
             failures.push(format!("{}\n    found: {found}", case.name));
         }
@@ -106,24 +105,23 @@ fn first_matches_are_those_of_v8() {
 }
 
 #[test]
+fn first_matches_are_those_of_v8() {
+    compare_searches("v8.tsv", |regex, text| {
+        let found = regex.find(text)?;
+        Ok(found.map_or("none".into(), |found| spans(text, &found)))
+    });
+}
+
+#[test]
 fn all_matches_are_those_of_v8() {
-    let cases = cases("v8_all.tsv");
-    let mut failures = Vec::new();
-    for case in &cases {
-        let [_, _, flags, pattern, text] = &case.fields[..] else {
-            panic!("{}", case.name)
-        };
-        let all = compile(flags, pattern).find_all(text).expect(&case.name);
+    compare_searches("v8_all.tsv", |regex, text| {
+        let all = regex.find_all(text)?;
         let all: Vec<String> = all.iter().map(|found| spans(text, found)).collect();
-        let found = match all.is_empty() {
+        Ok(match all.is_empty() {
             true => "none".into(),
             false => all.join(" | "),
-        };
-        if found != case.result {
-            failures.push(format!("{}\n    found: {found}", case.name));
-        }
-    }
-    conclude(&failures, cases.len());
+        })
+    });
 }
 
 #[test]
