@@ -12,9 +12,6 @@ mod matchers;
 mod passes;
 mod pictures;
 mod programs;
-mod regular_expressions;
-mod schemas;
-mod theorems;
 mod walks;
 
 use regress_front::ir::Regex;

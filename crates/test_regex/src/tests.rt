@@ -1,0 +1,5 @@
+//! Tests of `regress`.
+
+mod examples;
+mod regular_expressions;
+mod theorems;

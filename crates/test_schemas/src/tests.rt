@@ -1,0 +1,3 @@
+//! Tests of the validator of `example_schema`.
+
+mod schemas;
