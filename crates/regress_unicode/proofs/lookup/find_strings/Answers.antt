@@ -1,5 +1,5 @@
 -- The copies are the strings that were found.
-use Rattle.std.proofs.Common.{◌≡◌, refl, map, ap, ◌∙◌, Some, option_map}
+use Rattle.std.proofs.Common.{refl, map, ap, ◌∙◌, Some, option_map}
 use Rattle.regress_properties.specs.Listed.{values_of}
 use Rattle.regress_unicode.specs.Parts.{entry_of}
 use Rattle.regress_properties.proofs.lemmas.Named.{named_mapped}

@@ -1,4 +1,3 @@
-use Rattle.std.proofs.Common.{◌∙◌}
 use Rattle.regress_classes.specs.ClassProductions.{complement_if}
 use Rattle.regress_classes.proofs.ClassSetLemmas.{members_complement, members_same}
 use Rattle.regress_classes.proofs.class_sets.operand.point_value.Goals as goal
