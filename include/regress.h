@@ -50,9 +50,8 @@ typedef struct regress_regex {
 #define REGRESS_DOT_ALL 4u       /* s */
 #define REGRESS_UNICODE 8u       /* u */
 #define REGRESS_UNICODE_SETS 16u /* v */
-/* Use the small table instead of the one of all of Unicode, which regress_compile takes some half a millisecond to
-   make: for patterns in ASCII, and for tests. It has few properties; letters in names are those of ASCII and from
-   U+00C0 to U+00F6. */
+/* Use the small table instead of the one of all of Unicode: for patterns in ASCII, and for tests. It has few
+   properties; letters in names are those of ASCII and from U+00C0 to U+00F6. */
 #define REGRESS_SMALL_TABLE 32u
 
 /* The limits of a compiled pattern; 0 is the default of each, so {0, 0, 0, 0} are the default limits.

@@ -40,9 +40,8 @@ extern "C" {
 #define REGRESS_FRONT_DOT_ALL 4u      /* s */
 #define REGRESS_FRONT_UNICODE 8u      /* u */
 #define REGRESS_FRONT_UNICODE_SETS 16u /* v */
-/* Use the small table instead of the one of all of Unicode, which each call takes some half a millisecond to make: for
-   patterns in ASCII, and for tests. It has few properties; letters in names are those of ASCII and from U+00C0 to
-   U+00F6. */
+/* Use the small table instead of the one of all of Unicode: for patterns in ASCII, and for tests. It has few
+   properties; letters in names are those of ASCII and from U+00C0 to U+00F6. */
 #define REGRESS_FRONT_SMALL_TABLE 32u
 
 /* The kinds of syntax errors. docs/errors.md has the text and the cause of each. Their numbers never change; a later

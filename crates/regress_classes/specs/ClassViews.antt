@@ -29,7 +29,7 @@ use Rattle.regress_lexer.specs.Source.{Source, Found, found_map, IsCodePoint, ch
 abbrev pub class_atom_of : CodeClassAtom → ClassAtom
 class_atom_of (class_atoms.Point c) = point c
 class_atom_of (class_atoms.Class kind negated) = set (class_members (kind, negated))
-class_atom_of (class_atoms.Property members negated) = set (complement_if negated members.now)
+class_atom_of (class_atoms.Property members negated) = set (complement_if negated members)
 
 -- A class atom that is a single number is a code point.
 abbrev pub IsClassAtomInRange : CodeClassAtom → Type 0
@@ -56,8 +56,8 @@ strings_of = map (λ string. string.items)
 
 -- the property of the definitions
 abbrev pub property_of : CodeProperty → Property
-property_of (properties.Points members) = of_points members.now
-property_of (properties.Strings written) = of_strings (strings_of written.now)
+property_of (properties.Points members) = of_points members
+property_of (properties.Strings written) = of_strings (strings_of written.items)
 
 -- the strings and the nesting depth of a value
 pub record HasOthers (value : Value) (held : Others) : Type 0 where

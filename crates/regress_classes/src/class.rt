@@ -183,7 +183,7 @@ fn read_range(
     set: &mut IntervalCollector,
 ) -> Result<(), Fault>
     requires { IsClassAtomInRange first }
-    ensures value { ParsesAs (λ _ members. Adds members set.old set.new) (source cursor.new) result (range_at (table_of tables.now) unicode (class_atom_of first.entry) (source cursor.old)) }
+    ensures value { ParsesAs (λ _ members. Adds members set.old set.new) (source cursor.new) result (range_at (table_of tables.now) unicode (class_atom_of first) (source cursor.old)) }
     ensures kind { FailsByNoLimit result }
 {
     let last = read_class_atom(cursor, tables, unicode, opened)?;
@@ -203,15 +203,15 @@ fn add_range(
     requires first_in_range { IsClassAtomInRange first }
     requires last_in_range { IsClassAtomInRange last }
     ensures ok { OnOk result ((members : List Bounds)
-        × (range_of unicode (class_atom_of first.entry) (class_atom_of last.entry) ≡ Some members) × Adds members set.old set.new) }
-    ensures err { FailsOnlyIf result (range_of unicode (class_atom_of first.entry) (class_atom_of last.entry) ≡ None) }
+        × (range_of unicode (class_atom_of first) (class_atom_of last) ≡ Some members) × Adds members set.old set.new) }
+    ensures err { FailsOnlyIf result (range_of unicode (class_atom_of first) (class_atom_of last) ≡ None) }
     ensures kind { FailsByNoLimit result }
 {
-    if let (ClassAtom::Point(a), ClassAtom::Point(b)) = (first, last) {
+    if let (ClassAtom::Point(a), ClassAtom::Point(b)) = (&first, &last) {
         if a > b {
             return Err(rejected(left, FaultKind::ReversedRange));
         }
-        set.add(Interval::new(a, b))?;
+        set.add(Interval::new(*a, *b))?;
         return Ok(());
     }
     if unicode {
@@ -226,7 +226,7 @@ fn add_range(
 /// Adds the members of an atom.
 fn add_atom(set: &mut IntervalCollector, alloc: Global, atom: ClassAtom) -> Result<(), AllocError>
     requires { IsClassAtomInRange atom }
-    ensures { OnOk result (Adds (atom_members (class_atom_of atom.entry)) set.old set.new) }
+    ensures { OnOk result (Adds (atom_members (class_atom_of atom)) set.old set.new) }
 {
     match atom {
         ClassAtom::Point(c) => set.add(Interval::new(c, c)),
@@ -237,7 +237,7 @@ fn add_atom(set: &mut IntervalCollector, alloc: Global, atom: ClassAtom) -> Resu
         ClassAtom::Property {
             set: members,
             negated,
-        } => add_members(set, members, negated),
+        } => add_members(set, &members, negated),
     }
 }
 

@@ -19,8 +19,8 @@ use regress_lexer::fault::{Fault, FaultKind, rejected};
 use regress_unicode::Tables;
 
 /// An atom of a class.
-#[derive(Clone, Copy)]
-pub enum ClassAtom<'a> {
+#[derive(Drop)]
+pub enum ClassAtom {
     /// A code point.
     Point(u32),
     /// A class escape, or its complement.
@@ -33,7 +33,7 @@ pub enum ClassAtom<'a> {
     /// A property of code points, or its complement.
     Property {
         /// The code points that have the property.
-        set: &'a CodePointSet,
+        set: CodePointSet,
         /// Whether the escape is that of the complement: `\P`.
         negated: bool,
     },
@@ -48,12 +48,12 @@ pub enum ClassAtom<'a> {
 /// - [`Fault::Memory`] if an allocation fails.
 ///
 /// After an error the position of `cursor` is unspecified.
-pub fn read_class_atom<'a>(
+pub fn read_class_atom(
     cursor: &mut Cursor,
-    tables: &'a Tables,
+    tables: &Tables,
     unicode: bool,
     opened: usize,
-) -> Result<ClassAtom<'a>, Fault>
+) -> Result<ClassAtom, Fault>
     ensures value { Reads class_atom_of (source cursor.new) result (class_atom_at (table_of tables.now) unicode (source cursor.old)) }
     ensures in_range { IfOk result IsClassAtomInRange }
     ensures kind { FailsByNoLimit result }
@@ -68,12 +68,12 @@ pub fn read_class_atom<'a>(
 
 /// Parses an escape after its backslash (ECMA-262, ClassEscape, with annex B). `begin` is the number of code points
 /// that remained before the backslash.
-fn read_escaped_atom<'a>(
+fn read_escaped_atom(
     cursor: &mut Cursor,
-    tables: &'a Tables,
+    tables: &Tables,
     unicode: bool,
     begin: usize,
-) -> Result<ClassAtom<'a>, Fault>
+) -> Result<ClassAtom, Fault>
     ensures value { Reads class_atom_of (source cursor.new) result (class_escape_at (table_of tables.now) unicode (source cursor.old)) }
     ensures in_range { IfOk result IsClassAtomInRange }
     ensures kind { FailsByNoLimit result }
@@ -108,11 +108,11 @@ fn read_escaped_atom<'a>(
 }
 
 /// Parses a property of code points after its `\p` or `\P`.
-fn read_class_property<'a>(
+fn read_class_property(
     cursor: &mut Cursor,
-    tables: &'a Tables,
+    tables: &Tables,
     negated: bool,
-) -> Result<ClassAtom<'a>, Fault>
+) -> Result<ClassAtom, Fault>
     ensures value { Reads class_atom_of (source cursor.new) result
         (class_property_at (table_of tables.now) negated (source cursor.old)) }
     ensures in_range { IfOk result IsClassAtomInRange }
@@ -126,7 +126,7 @@ fn read_class_property<'a>(
 
 /// Returns the atom that `\c` starts: with a letter, a digit or `_` the low five bits of its code, else a literal
 /// backslash.
-fn class_control<'a>(source: &'a [u32], rest: &'a [u32]) -> (ClassAtom<'static>, &'a [u32])
+fn class_control<'a>(source: &'a [u32], rest: &'a [u32]) -> (ClassAtom, &'a [u32])
     requires { source.now ≡ char "c" ∷ rest.now }
     ensures value { Some (class_atom_of result.0, result.1.now) ≡ class_control_at rest.now }
     ensures in_range { IsClassAtomInRange result.0 }

@@ -13,18 +13,18 @@ use regress_lexer::cursor::Cursor;
 use regress_lexer::digits::{Read, is_decimal, is_letter};
 use regress_lexer::fault::{Fault, FaultKind, rejected};
 use regress_unicode::Tables;
-use std::alloc::AllocError;
+use std::alloc::{AllocError, Global};
 
 /// The capacity for a word: nearly all names of Unicode fit, so a word seldom grows.
 const WORD_CAPACITY: usize = 32;
 
 /// The property that a name denotes.
-#[derive(Clone, Copy)]
-pub enum Property<'a> {
+#[derive(Drop)]
+pub enum Property {
     /// A property of code points.
-    Points(&'a CodePointSet),
+    Points(CodePointSet),
     /// A property of strings, which needs the flag v.
-    Strings(&'a [Vec<u32>]),
+    Strings(Vec<Vec<u32>>),
 }
 
 /// Returns whether `c` is `p` or `P`, with which a property starts after its backslash.
@@ -45,11 +45,7 @@ pub fn is_property_letter(c: u32) -> bool
 ///
 /// After an error the position of `cursor` is unspecified.
 #[tactic(auto, unfolding(crate::specs::Properties::property_at))]
-pub fn parse_property<'a>(
-    cursor: &mut Cursor,
-    sets: bool,
-    tables: &'a Tables,
-) -> Result<Property<'a>, Fault>
+pub fn parse_property(cursor: &mut Cursor, sets: bool, tables: &Tables) -> Result<Property, Fault>
     ensures value { Reads property_of (source cursor.new) result (property_at sets (table_of tables.now) (source cursor.old)) }
     ensures kind { FailsByNoLimit result }
 {
@@ -64,11 +60,11 @@ pub fn parse_property<'a>(
 }
 
 /// Parses the text between the braces, and looks it up.
-fn read_braced<'a>(
+fn read_braced(
     cursor: &mut Cursor,
     sets: bool,
-    tables: &'a Tables,
-) -> Result<Option<Property<'a>>, AllocError>
+    tables: &Tables,
+) -> Result<Option<Property>, AllocError>
     ensures { IfOk result (λ found. closed_property (option_map property_of found) (source cursor.new)
         ≡ braced_property_at sets (table_of tables.now) (source cursor.old)) }
 {
@@ -76,12 +72,12 @@ fn read_braced<'a>(
         return Ok(None);
     };
     if !cursor.try_consume('=') {
-        return Ok(lone_value(sets, tables, &word));
+        return Ok(lone_value(cursor.alloc, sets, tables, &word)?);
     }
     let Some(value) = read_word(cursor)? else {
         return Ok(None);
     };
-    Ok(listed_value(tables, &word, &value))
+    Ok(listed_value(cursor.alloc, tables, &word, &value)?)
 }
 
 /// Parses the letters, digits and low lines at the start, if there are any.
@@ -120,27 +116,37 @@ fn is_property_character(c: u32) -> bool
 }
 
 /// Looks up a binary property, with the flag v one of strings, or a general category.
-fn lone_value<'a>(sets: bool, tables: &'a Tables, name: &str) -> Option<Property<'a>>
-    ensures { option_map property_of result ≡ lone_value sets (table_of tables.now) name.now }
+fn lone_value(
+    alloc: Global,
+    sets: bool,
+    tables: &Tables,
+    name: &str,
+) -> Result<Option<Property>, AllocError>
+    ensures { IfOk result (λ found. option_map property_of found ≡ lone_value sets (table_of tables.now) name.now) }
 {
-    if let Some(set) = tables.binary(name) {
-        return Some(Property::Points(set));
+    if let Some(set) = tables.binary(alloc, name)? {
+        return Ok(Some(Property::Points(set)));
     }
-    if sets && let Some(strings) = tables.strings(name) {
-        return Some(Property::Strings(strings));
+    if sets && let Some(strings) = tables.strings(alloc, name)? {
+        return Ok(Some(Property::Strings(strings)));
     }
-    tables.general_category(name).map(Property::Points)
+    Ok(tables.general_category(alloc, name)?.map(Property::Points))
 }
 
 /// Looks up the value in the list with this name.
-fn listed_value<'a>(tables: &'a Tables, list: &str, value: &str) -> Option<Property<'a>>
-    ensures { option_map property_of result ≡ value_in value.now (list_named (table_of tables.now) list.now) }
+fn listed_value(
+    alloc: Global,
+    tables: &Tables,
+    list: &str,
+    value: &str,
+) -> Result<Option<Property>, AllocError>
+    ensures { IfOk result (λ found. option_map property_of found ≡ value_in value.now (list_named (table_of tables.now) list.now)) }
 {
     let set = match list {
-        "General_Category" | "gc" => tables.general_category(value),
-        "Script" | "sc" => tables.script(value),
-        "Script_Extensions" | "scx" => tables.script_extensions(value),
+        "General_Category" | "gc" => tables.general_category(alloc, value)?,
+        "Script" | "sc" => tables.script(alloc, value)?,
+        "Script_Extensions" | "scx" => tables.script_extensions(alloc, value)?,
         _ => None,
     };
-    set.map(Property::Points)
+    Ok(set.map(Property::Points))
 }

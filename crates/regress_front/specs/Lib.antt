@@ -16,6 +16,8 @@ pub use Rattle.regress_base.specs.Needle
 pub use Rattle.regress_base.specs.Ranges
 -- The table of case and properties.
 pub use Rattle.regress_base.specs.Table
+pub use Rattle.regress_properties.specs.Listed
+pub use Rattle.regress_properties.specs.Properties
 pub use Rattle.regress_unicode.specs.FoldEntries
 pub use Rattle.regress_unicode.specs.Parts
 pub use Rattle.regress_unicode.specs.TableOf

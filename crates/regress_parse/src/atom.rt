@@ -334,11 +334,10 @@ fn read_property_atom(
     ensures kind { FailsByNoLimit result }
 {
     match parse_property(cursor, scope.flags.unicode_sets, scope.tables)? {
-        Property::Points(set) => Ok(make_property(cursor.alloc, set, negated, scope)?),
+        Property::Points(set) => Ok(make_property(set, negated, scope)?),
         Property::Strings(_) if negated => Err(rejected(begin, FaultKind::InvalidEscape)),
         Property::Strings(strings) => {
-            let copies = Vec::from_clones(cursor.alloc, strings)?;
-            Ok(make_strings(cursor.alloc, copies, scope.flags.icase)?)
+            Ok(make_strings(cursor.alloc, strings, scope.flags.icase)?)
         }
     }
 }

@@ -164,19 +164,18 @@ pub(crate) fn make_class(
 
 /// Returns the node of a property of code points. With the flag i the complement is taken before the closure.
 pub(crate) fn make_property(
-    alloc: Global,
-    set: &CodePointSet,
+    set: CodePointSet,
     negated: bool,
     scope: &Scope,
 ) -> Result<Node, AllocError>
     ensures { IfOk result (λ node. tree node ≡ tree_of_atom (table_of scope.now.tables.now) (names_in scope.now.groups.now)
-        (point_property (context_of scope.now) negated set.now)) }
+        (point_property (context_of scope.now) negated set)) }
 {
     if negated && scope.flags.icase {
         return make_class(false, set.inverted()?, scope);
     }
-    set_is_canonical(set);
-    make_class(negated, set.try_clone(alloc)?, scope)
+    set_is_canonical(&set);
+    make_class(negated, set, scope)
 }
 
 /// Returns the node of a class with the flag v: its strings of two or more characters, longest first, then its code

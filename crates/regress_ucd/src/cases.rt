@@ -1,6 +1,9 @@
-//! The case mappings, as entries of start, length, delta and modulo.
+//! The version of Unicode, and the case mappings, as entries of start, length, delta and modulo.
 //!
 //! Made by tools/make_unicode_tables from the data of Unicode 15.0.0.
+
+/// The version of Unicode of the table.
+pub const UNICODE_VERSION: &str = "15.0.0";
 
 /// Simple case folding: CaseFolding.txt, status C and S.
 pub(super) static FOLDS: &[(u32, u32, i32, u8)] = &[

@@ -2,12 +2,8 @@
 #![tactic(auto)]
 
 mod cases;
-mod intervals;
-mod lists;
-mod names;
-mod strings;
 mod tables;
 mod whole;
 
-pub use names::UNICODE_VERSION;
+pub use cases::UNICODE_VERSION;
 pub use whole::unicode_tables;

@@ -4,13 +4,7 @@ ghost use Rattle.regress_unicode.specs.TableOf.{table_of};
 ghost use Rattle.regress_ucd.specs.UnicodeTable.{unicode_table};
 
 use super::cases::{FOLDS, UPPERS};
-use super::lists::{intervals, points, strings};
-use super::names::{
-    BINARY, GENERAL_CATEGORY, ID_CONTINUE, ID_START, SCRIPT, SCRIPT_EXTENSIONS,
-    SCRIPT_EXTENSIONS_REST, SCRIPT_REST,
-};
-use super::strings::STRING_NAMES;
-use super::tables::{all_named_sets, mappings, named_sets, named_strings, set_at};
+use super::tables::mappings;
 use regress_unicode::Tables;
 use std::alloc::{AllocError, Global};
 
@@ -25,14 +19,15 @@ use std::alloc::{AllocError, Global};
 /// Returns [`AllocError`] if an allocation fails.
 ///
 /// # Complexity
-/// Linear in the size of the data, all of which is copied to memory from `alloc`.
+/// The case mappings and the characters of identifiers are copied to memory from `alloc`. A property is copied when it
+/// is looked up.
 ///
 /// # Examples
 /// ```
 /// let tables = unicode_tables(alloc)?;
 /// // the simple case folding of LATIN CAPITAL LETTER SHARP S
 /// assert_eq!(rt; fold(0x1E9E, &tables), 0xDF);
-/// match tables.script("Greek") {
+/// match tables.script(alloc, "Greek")? {
 ///     Some(greek) => assert!(rt; greek.contains(0x3B1)),
 ///     None => assert!(rt; false, "Unicode has this script"),
 /// }
@@ -40,16 +35,7 @@ use std::alloc::{AllocError, Global};
 pub fn unicode_tables(alloc: Global) -> Result<Tables, AllocError>
     ensures { IfOk result (λ tables. table_of tables ≡ unicode_table) }
 {
-    let intervals = intervals();
-    Ok(Tables::from_sound_parts(
-        mappings(alloc, FOLDS)?,
-        mappings(alloc, UPPERS)?,
-        set_at(alloc, intervals, ID_START.0, ID_START.1)?,
-        set_at(alloc, intervals, ID_CONTINUE.0, ID_CONTINUE.1)?,
-        named_sets(alloc, intervals, GENERAL_CATEGORY)?,
-        all_named_sets(alloc, intervals, SCRIPT, SCRIPT_REST)?,
-        all_named_sets(alloc, intervals, SCRIPT_EXTENSIONS, SCRIPT_EXTENSIONS_REST)?,
-        named_sets(alloc, intervals, BINARY)?,
-        named_strings(alloc, points(), strings(), STRING_NAMES)?,
-    ))
+    let folds = mappings(alloc, FOLDS)?;
+    let uppers = mappings(alloc, UPPERS)?;
+    Tables::with_unicode_properties(alloc, folds, uppers)
 }

@@ -3,7 +3,7 @@ pub mod PackingLemmas
 pub mod ListLemmas
 pub mod CaseMapLemmas
 pub mod SmallTableLemmas
-pub mod NamedLemmas
+pub mod UnicodePartsLemmas
 pub mod TableLemmas
 pub mod SourceLemmas
 pub mod UnfoldLemmas

@@ -7,7 +7,8 @@ use Rattle.regress_unicode.specs.FoldEntries.{FoldEntry, image}
 use Rattle.regress_base.specs.Table.{Named, HasCanonicalSets}
 use Rattle.regress_unicode.specs.Parts.{AreValidEntries, IsSound, parts_from, sets_of, strings_of}
 use Rattle.regress_unicode.specs.SmallTable.{small_folds, small_uppers, small_parts}
-use Rattle.regress_unicode.proofs.lemmas.Soundness.{sound_mappings, word_ascii, sound_from}
+use Rattle.regress_unicode.proofs.lemmas.Soundness.{sound_mappings, sound_from}
+use Rattle.regress_properties.proofs.lemmas.Identifiers.{word_ascii}
 
 sound_folds : AreValidEntries small_folds
 unfolding image

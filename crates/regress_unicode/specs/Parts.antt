@@ -1,9 +1,11 @@
 -- The arguments of `Tables::new`, and the conditions on them.
-use Rattle.std.specs.Prelude.{ℕ, List, [], map, IsTrue, String, string_bytes, Vec}
+use Rattle.std.specs.Prelude.{ℕ, Bool, if◌then◌else◌, List, [], map, IsTrue, String, string_bytes, Vec}
 use Rattle.std.specs.declared.alloc.Global.{Global}
 use Rattle.regress_base.specs.Intervals.{Bounds}
 use Rattle.regress_unicode.specs.FoldEntries.{FoldEntry, image, is_in_order, are_targets_in_range}
 use Rattle.regress_base.specs.Table.{Table, Named, IsIdempotent, HasSmallClasses, IsValidTable}
+use Rattle.regress_properties.specs.Listed.{values_of}
+use Rattle.regress_properties.specs.Properties.{unicode_id_start, unicode_id_continue, unicode_general_category, unicode_script, unicode_script_extensions, unicode_binary, unicode_strings}
 
 -- the entries of both case mappings, the sets of identifier characters, and the named sets and strings
 pub record Parts : Type 0 where
@@ -41,8 +43,7 @@ sets_of entries = map entry_of entries
 
 -- the named strings of a list
 abbrev pub strings_of : List (String Global × Vec (Vec ℕ Global) Global) → List (Named (List (List ℕ)))
-strings_of entries =
-    map (λ entry. record { name = string_bytes entry.0; value = map (λ string. string.items) entry.1.items }) entries
+strings_of entries = map (λ entry. record { name = string_bytes entry.0; value = values_of entry.1 }) entries
 
 -- The entries of a case mapping are valid: a binary search finds the entry of a code point, and the result is a case
 -- mapping.
@@ -72,7 +73,7 @@ mappings_alone folds uppers = record {
   strings = [];
 }
 
--- the parts of a value of `Tables`, from its fields
+-- the arguments of `Tables::new`
 abbrev pub parts_from :
     (folds uppers : List FoldEntry) (id_start id_continue : List Bounds)
     (general_category script script_extensions binary : List (String Global × List Bounds))
@@ -88,4 +89,32 @@ parts_from folds uppers id_start id_continue general_category script script_exte
   script_extensions = sets_of script_extensions;
   binary = sets_of binary;
   strings = strings_of strings;
+}
+
+-- the parts, or if `whole` the properties of Unicode in place of theirs
+abbrev pub parts_with : (whole : Bool) → Parts → Parts
+parts_with whole parts = record {
+  folds = parts.folds;
+  uppers = parts.uppers;
+  id_start = parts.id_start;
+  id_continue = parts.id_continue;
+  general_category = if whole then unicode_general_category else parts.general_category;
+  script = if whole then unicode_script else parts.script;
+  script_extensions = if whole then unicode_script_extensions else parts.script_extensions;
+  binary = if whole then unicode_binary else parts.binary;
+  strings = if whole then unicode_strings else parts.strings;
+}
+
+-- case mappings, and the characters of identifiers and the properties of Unicode
+abbrev pub with_unicode_properties : (folds uppers : List FoldEntry) → Parts
+with_unicode_properties folds uppers = record {
+  folds = folds;
+  uppers = uppers;
+  id_start = unicode_id_start;
+  id_continue = unicode_id_continue;
+  general_category = unicode_general_category;
+  script = unicode_script;
+  script_extensions = unicode_script_extensions;
+  binary = unicode_binary;
+  strings = unicode_strings;
 }

@@ -3,13 +3,14 @@
 
 ghost use Rattle.std.proofs.Props.{props};
 ghost use Rattle.regress_unicode.specs.LaterTargets.{HasLaterTargets};
-ghost use Rattle.regress_unicode.specs.Parts.{parts_from, IsSound};
+ghost use Rattle.regress_unicode.specs.Parts.{parts_from, parts_with, IsSound};
 
 mod checks;
 mod closure;
 mod fold_range;
 mod images;
 mod later;
+mod lookup;
 mod new;
 mod range;
 mod readers;
@@ -42,11 +43,13 @@ pub struct Tables {
     later_uppers: AsciiBitmap,
     id_start: CodePointSet,
     id_continue: CodePointSet,
+    /// Whether the properties are those of Unicode, which are constants. The lists below are not read then.
+    whole: bool,
     general_category: Vec<(String, CodePointSet)>,
     script: Vec<(String, CodePointSet)>,
     script_extensions: Vec<(String, CodePointSet)>,
     binary: Vec<(String, CodePointSet)>,
     strings: Vec<(String, Vec<Vec<u32>>)>,
-    ghost sound: { IsSound (parts_from folds.items uppers.items id_start id_continue general_category.items script.items script_extensions.items binary.items strings.items) } by { Prim.hlevel props },
+    ghost sound: { IsSound (parts_with whole (parts_from folds.items uppers.items id_start id_continue general_category.items script.items script_extensions.items binary.items strings.items)) } by { Prim.hlevel props },
     ghost later: { HasLaterTargets later_folds folds.items × HasLaterTargets later_uppers uppers.items } by { Prim.hlevel props },
 }

@@ -12,7 +12,7 @@ use super::later::later_targets;
 use super::{FoldRange, Tables, TablesError, Which};
 use regress_base::codepointset::CodePointSet;
 use regress_base::sets::set_is_canonical;
-use std::alloc::Global;
+use std::alloc::{AllocError, Global};
 
 /// Rejects entries that are no case mapping. Tests each code point of the entries, and sorts those that are mapped to
 /// another one.
@@ -40,7 +40,7 @@ impl Tables {
     ghost use Rattle.std.specs.Prelude.{◌≡◌, ◌≢◌, alloc_error, IfOk, IfErr};
     ghost use Rattle.regress_unicode.specs.declared.tables_error.TablesError.{TablesError as Rejection};
     ghost use Rattle.regress_unicode.specs.declared.tables_error.TablesError.TheVariants.{Memory};
-    ghost use Rattle.regress_unicode.specs.Parts.{parts_from, table_from, IsSound};
+    ghost use Rattle.regress_unicode.specs.Parts.{parts_from, parts_with, with_unicode_properties, table_from, AreValidEntries, IsSound};
     ghost use Rattle.regress_unicode.specs.ConstructionErrors.{Meets, IsFirstError};
     ghost use Rattle.regress_unicode.specs.TableOf.{table_of};
 
@@ -142,6 +142,67 @@ impl Tables {
         requires { IsSound (parts_from folds.items uppers.items id_start id_continue general_category.items script.items script_extensions.items binary.items strings.items) }
         ensures { table_of result ≡ table_from (parts_from folds.items uppers.items id_start id_continue general_category.items script.items script_extensions.items binary.items strings.items) }
     {
+        Tables::from_parts(
+            folds,
+            uppers,
+            id_start,
+            id_continue,
+            false,
+            general_category,
+            script,
+            script_extensions,
+            binary,
+            strings,
+        )
+    }
+
+    /// Returns the table with these case mappings, and with the characters of identifiers and the properties of
+    /// Unicode. Properties are constants: one is copied when it is looked up.
+    ///
+    /// # Errors
+    /// Returns [`AllocError`] if an allocation fails.
+    ///
+    /// # Preconditions
+    /// No error of [`TablesError`] applies to the case mappings.
+    pub fn with_unicode_properties(
+        alloc: Global,
+        folds: Vec<FoldRange>,
+        uppers: Vec<FoldRange>,
+    ) -> Result<Tables, AllocError>
+        requires folds { AreValidEntries folds.items }
+        requires uppers { AreValidEntries uppers.items }
+        ensures { IfOk result (λ tables. table_of tables ≡ table_from (with_unicode_properties folds.items uppers.items)) }
+    {
+        Ok(Tables::from_parts(
+            folds,
+            uppers,
+            regress_properties::id_start(alloc)?,
+            regress_properties::id_continue(alloc)?,
+            true,
+            Vec::new(alloc),
+            Vec::new(alloc),
+            Vec::new(alloc),
+            Vec::new(alloc),
+            Vec::new(alloc),
+        ))
+    }
+
+    /// Returns the table with these parts, or if `whole` with the properties of Unicode in place of theirs.
+    fn from_parts(
+        folds: Vec<FoldRange>,
+        uppers: Vec<FoldRange>,
+        id_start: CodePointSet,
+        id_continue: CodePointSet,
+        whole: bool,
+        general_category: Vec<(String, CodePointSet)>,
+        script: Vec<(String, CodePointSet)>,
+        script_extensions: Vec<(String, CodePointSet)>,
+        binary: Vec<(String, CodePointSet)>,
+        strings: Vec<(String, Vec<Vec<u32>>)>,
+    ) -> Tables
+        requires { IsSound (parts_with whole (parts_from folds.items uppers.items id_start id_continue general_category.items script.items script_extensions.items binary.items strings.items)) }
+        ensures { table_of result ≡ table_from (parts_with whole (parts_from folds.items uppers.items id_start id_continue general_category.items script.items script_extensions.items binary.items strings.items)) }
+    {
         let later_folds = later_targets(&folds);
         let later_uppers = later_targets(&uppers);
         Tables {
@@ -151,6 +212,7 @@ impl Tables {
             later_uppers,
             id_start,
             id_continue,
+            whole,
             general_category,
             script,
             script_extensions,

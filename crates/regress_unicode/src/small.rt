@@ -23,8 +23,8 @@ impl Tables {
     /// ```
     /// let tables = Tables::small(alloc)?;
     /// assert_eq!(rt; fold(0x41, &tables), 0x61);
-    /// assert!(rt; tables.script("Ogham").is_some());
-    /// assert!(rt; tables.script("Greek").is_none());
+    /// assert!(rt; tables.script(alloc, "Ogham")?.is_some());
+    /// assert!(rt; tables.script(alloc, "Greek")?.is_none());
     /// ```
     pub fn small(alloc: Global) -> Result<Tables, AllocError>
         ensures { IfOk result (λ tables. table_of tables ≡ small_table) }

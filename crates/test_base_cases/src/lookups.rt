@@ -27,28 +27,36 @@ pub(crate) fn listed_set(call: &mut Call, list: &str, tables: &Tables) {
 }
 
 /// Returns the set with a name in a list. The two sets of characters of names have the name `all`.
-fn set_of<'a>(call: &mut Call, list: &str, tables: &'a Tables) -> Option<&'a CodePointSet> {
+fn set_of(call: &mut Call, list: &str, tables: &Tables) -> Option<CodePointSet> {
     let name = call.field();
-    match list {
-        "general_category" => tables.general_category(name),
-        "script" => tables.script(name),
-        "script_extensions" => tables.script_extensions(name),
-        "binary" => tables.binary(name),
-        "id_start" if name == "all" => Some(tables.id_start()),
-        "id_continue" if name == "all" => Some(tables.id_continue()),
+    let alloc = call.alloc();
+    let found = match list {
+        "general_category" => tables.general_category(alloc, name),
+        "script" => tables.script(alloc, name),
+        "script_extensions" => tables.script_extensions(alloc, name),
+        "binary" => tables.binary(alloc, name),
+        "id_start" if name == "all" => tables.id_start().try_clone(alloc).map(Some),
+        "id_continue" if name == "all" => tables.id_continue().try_clone(alloc).map(Some),
         _ => {
             call.fail(Fault::Line);
-            None
+            Ok(None)
         }
-    }
+    };
+    call.made(found, None)
+}
+
+/// Returns the strings with a name.
+fn strings_of(call: &mut Call, tables: &Tables) -> Option<Vec<Vec<u32>>> {
+    let name = call.field();
+    let found = tables.strings(call.alloc(), name);
+    call.made(found, None)
 }
 
 /// Reports the strings with a name, with ` | ` after each, or `none`.
 fn strings(call: &mut Call, tables: &Tables) {
-    let name = call.field();
-    match tables.strings(name) {
+    match strings_of(call, tables) {
         Some(strings) => {
-            for string in strings {
+            for string in &strings {
                 report_string(call, string);
                 call.say(" | ");
             }
@@ -76,7 +84,7 @@ fn extent(call: &mut Call, tables: &Tables) {
         return;
     }
     match set_of(call, list, tables) {
-        Some(set) => extent_of_set(call, set),
+        Some(set) => extent_of_set(call, &set),
         None => call.say("none"),
     }
 }
@@ -96,8 +104,7 @@ fn extent_of_set(call: &mut Call, set: &CodePointSet) {
 }
 
 fn extent_of_strings(call: &mut Call, tables: &Tables) {
-    let name = call.field();
-    let Some(strings) = tables.strings(name) else {
+    let Some(strings) = strings_of(call, tables) else {
         call.say("none");
         return;
     };

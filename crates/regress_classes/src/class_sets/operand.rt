@@ -102,21 +102,17 @@ fn read_property_operand(
             if around.negated || negated {
                 return Err(rejected(begin, FaultKind::InvalidEscape));
             }
-            let value = string_value(cursor.alloc, strings)?;
+            let value = string_value(cursor.alloc, &strings)?;
             Ok(Operand::Class(value))
         }
     }
 }
 
 /// Returns a property of code points, or its complement if `negated`.
-fn point_value(alloc: Global, set: &CodePointSet, negated: bool) -> Result<Value, AllocError>
-    ensures { IfOk result (λ held. IsValue held (only (complement_if negated set.now))) }
+fn point_value(alloc: Global, set: CodePointSet, negated: bool) -> Result<Value, AllocError>
+    ensures { IfOk result (λ held. IsValue held (only (complement_if negated set))) }
 {
-    let set = if negated {
-        set.inverted()?
-    } else {
-        set.try_clone(alloc)?
-    };
+    let set = if negated { set.inverted()? } else { set };
     set_is_canonical(&set);
     Ok(Value::of_set(alloc, set))
 }

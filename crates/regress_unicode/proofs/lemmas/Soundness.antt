@@ -1,19 +1,19 @@
 -- Parts of a table that are valid, by tests that can be computed.
-use Rattle.std.proofs.Common.{◌≡◌, ℕ, zero, suc, ◌+◌, ◌^◌, ◌<◌, ◌≤◌, Bool, true, false, ◌&&◌, ◌||◌, nat_lt, nat_le, ◌==◌, IsTrue, List, [], ◌∷◌, ◌++◌, length, map, cond, filter, All, inl, inr, refl, sym, ap, ap₂, subst, ◌∙◌, arith}
-use Rattle.std.specs.List.{list_all, list_any, flat_map}
+use Rattle.std.proofs.Common.{◌≡◌, ℕ, zero, suc, ◌+◌, ◌^◌, ◌≤◌, Bool, true, false, ◌&&◌, nat_lt, nat_le, ◌==◌, IsTrue, List, [], ◌∷◌, ◌++◌, length, map, cond, filter, All, inl, inr, refl, sym, ap, ap₂, subst, ◌∙◌, arith}
+use Rattle.std.specs.List.{list_all, flat_map}
 use Rattle.std.proofs.lemmas.Bool.{cases_lt, eqb-true, and_parts}
 use Rattle.std.proofs.lemmas.Bool.Decides.{nat_tests}
 use Rattle.std.proofs.lemmas.List.{map-append}
 use Rattle.std.proofs.lemmas.List.Elements.{All-head, All-tail, filter-append}
 use Rattle.std.proofs.lemmas.List.Sums.{AllPass-from_list_all, count_by-le-length, length-filter}
-use Rattle.regress_base.specs.Classes.{word_characters}
-use Rattle.regress_base.specs.Intervals.{Bounds, IsCanonical, is_member, is_within}
+use Rattle.regress_base.specs.Intervals.{IsCanonical}
 use Rattle.regress_base.specs.Listing.{lists}
 use Rattle.regress_base.specs.Table.{HasWordAscii, HasCanonicalSets, HasStrings}
 use Rattle.regress_base.proofs.lemmas.Listings.{All-from_lists, ascending_above, lists-filter, lists-run}
+use Rattle.regress_properties.proofs.lemmas.Properties.{id_start-canonical, id_continue-canonical, id_start-ascii, id_continue-ascii, general_category-canonical, script-canonical, script_extensions-canonical, binary-canonical, strings-valid}
 use Rattle.regress_unicode.specs.FoldEntries.{FoldEntry, is_in_mapping, image_in_mapping, image, is_in_order_from, is_in_order, are_targets_in_range}
 use Rattle.regress_unicode.specs.Moves.{run, codes, moves, mapped_code_points, images, count_of}
-use Rattle.regress_unicode.specs.Parts.{Parts, AreValidEntries, IsSound}
+use Rattle.regress_unicode.specs.Parts.{Parts, AreValidEntries, IsSound, with_unicode_properties}
 use Rattle.regress_unicode.proofs.ListLemmas.{order_parts}
 use Rattle.regress_unicode.proofs.CaseMapLemmas.{All-lists, ascending_codes, case_map, idempotent_from_movers, lists-map, small_from_images}
 
@@ -173,28 +173,6 @@ sound_mappings mappings order range h =
       small_classes = small_from_images mappings order images_settled.few;
     }
 
--- ---- sets of identifier characters
-
--- the interval is above ASCII, or it is in one of the ranges of letters, digits and the low line
-abbrev pub has_word_ends : Bounds → Bool
-has_word_ends iv = nat_le 0x80 iv.first || list_any (λ w. nat_le w.first iv.first && nat_le iv.last w.last) word_characters
-
-word_in : (iv : Bounds) (c : ℕ) → has_word_ends iv ≡ true → c < 0x80 → is_within iv c ≡ true → is_member word_characters c ≡ true
-unfolding is_member is_within
-word_in iv c ends lt within = grind (arith, nat_tests, ends, lt, within)
-
-pub word_ascii : (set : List Bounds) → IsTrue (list_all has_word_ends set) → HasWordAscii set
-unfolding is_member
-word_ascii [] h c lt member = let no : false ≡ true = member in cc
-word_ascii (iv ∷ set) h c lt member =
-    let parts = and_parts (has_word_ends iv) (list_all has_word_ends set) h in
-    by_test (is_within iv c) refl member parts.0 (λ t. word_ascii set parts.1 c lt t)
-  where
-    by_test : (b : Bool) → is_within iv c ≡ b → (b || is_member set c) ≡ true → has_word_ends iv ≡ true →
-        (is_member set c ≡ true → is_member word_characters c ≡ true) → is_member word_characters c ≡ true
-    by_test true e t ends rest = word_in iv c ends lt e
-    by_test false e t ends rest = rest t
-
 -- ---- all parts
 
 pub sound_from : (parts : Parts) → AreValidEntries parts.folds → AreValidEntries parts.uppers →
@@ -218,3 +196,9 @@ sound_from parts folds uppers id_start id_continue start_ascii continue_ascii ge
     strings = strings;
   };
 }
+
+-- the properties of Unicode are valid
+pub unicode_sound : (folds uppers : List FoldEntry) → AreValidEntries folds → AreValidEntries uppers → IsSound (with_unicode_properties folds uppers)
+unicode_sound folds uppers valid_folds valid_uppers =
+    sound_from (with_unicode_properties folds uppers) valid_folds valid_uppers id_start-canonical id_continue-canonical id_start-ascii id_continue-ascii
+    general_category-canonical script-canonical script_extensions-canonical binary-canonical strings-valid

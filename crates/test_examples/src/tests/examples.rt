@@ -14,6 +14,7 @@ use regress_front::unicode::{
     FoldRange, Tables, add_icase_code_points, expand_code_point, fold, unfold_char, uppercase,
 };
 use regress_front::util::code_points;
+use regress_properties::general_category;
 use regress_ucd::unicode_tables;
 use std::alloc::AllocError;
 use std::test::Fail;
@@ -121,8 +122,18 @@ fn the_examples_of_tables_hold(rt: HostRuntime) -> Result<(), Fail> {
     {
         let tables = Tables::small(alloc)?;
         assert_eq!(rt; fold(0x41, &tables), 0x61);
-        assert!(rt; tables.script("Ogham").is_some());
-        assert!(rt; tables.script("Greek").is_none());
+        assert!(rt; tables.script(alloc, "Ogham")?.is_some());
+        assert!(rt; tables.script(alloc, "Greek")?.is_none());
+    }
+    Ok(())
+}
+
+#[test]
+fn the_example_of_properties_holds(rt: HostRuntime) -> Result<(), Fail> {
+    let alloc = rt.alloc();
+    match general_category(alloc, "Lu")? {
+        Some(uppercase) => assert!(rt; uppercase.contains(0x41)),
+        None => assert!(rt; false, "Unicode has this category"),
     }
     Ok(())
 }
@@ -133,7 +144,7 @@ fn the_example_of_the_whole_table_holds(rt: HostRuntime) -> Result<(), Fail> {
     let tables = unicode_tables(alloc)?;
     // the simple case folding of LATIN CAPITAL LETTER SHARP S
     assert_eq!(rt; fold(0x1E9E, &tables), 0xDF);
-    match tables.script("Greek") {
+    match tables.script(alloc, "Greek")? {
         Some(greek) => assert!(rt; greek.contains(0x3B1)),
         None => assert!(rt; false, "Unicode has this script"),
     }

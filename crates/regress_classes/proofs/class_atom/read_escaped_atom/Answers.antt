@@ -18,7 +18,7 @@ use Rattle.regress_classes.proofs.class_atom.read_escaped_atom.Goals.{else-c-fro
 
 pub invariant_of-cursor-then-not-unicode : goal.invariant_of-cursor-then-not-unicode
 invariant_of-cursor-then-not-unicode c =
-    let control = c.class_control in
+    let control = c.class_control-atom in
     record {
       in_range = after_all _ _
           ((class_control_at-ends c.in-Some.rest.now).each (class_atom_of control.result.0, control.result.1.now) (sym control.ensures.value))
@@ -67,7 +67,7 @@ returns-then-not-unicode-clause-value c =
     let front = c.in-Some.ensures.cases.0 in
     control_read (table_of c.args.tables.now) c.args.unicode (source c.args.cursor.now) letter c.in-Some.rest.now front
     (c.if-c-from-3.true ∙ c.from-else-c-from-2.ensures) c.if-not-unicode.true
-    ∙ sym c.class_control.ensures.value
+    ∙ sym c.class_control-atom.ensures.value
 
 pub returns-then-unicode-2-clause-value : goal.returns-then-unicode-2-clause-value
 returns-then-unicode-2-clause-value c =

@@ -1,16 +1,13 @@
 -- The property that was found, and its node.
-use Rattle.std.proofs.Common.{◌≡◌, ℕ, List, Some, refl, ap, ◌∙◌, arith}
+use Rattle.std.proofs.Common.{Some, refl, ap, ◌∙◌, arith}
 use Rattle.std.proofs.lemmas.Bool.{cond-false}
-use Rattle.std.proofs.lemmas.List.Elements.{same_from_all_zip}
 use Rattle.regress_lexer.specs.Source.{Found, ◌>>=◌}
-use Rattle.regress_tree.specs.Tree.{leaf, string_set}
 use Rattle.regress_classes.specs.Properties.{Property}
 use Rattle.regress_syntax.specs.Productions.{point_property, property_atom}
 use Rattle.regress_syntax.specs.Syntax.{string_property}
 use Rattle.regress_syntax.specs.Views.{context_of}
 use Rattle.regress_classes.specs.ClassViews.{property_of, strings_of}
 use Rattle.regress_lexer.specs.Views.{source}
-use Rattle.regress_classes.proofs.lemmas.Values.{same_strings}
 use Rattle.regress_parse.proofs.AtomLemmas.{property-nesting, property-allows}
 use Rattle.regress_parse.proofs.atom.read_property_atom.Goals as goal
 
@@ -18,7 +15,7 @@ pub returns-in_ok-make_property-in-Points-clause-value : goal.returns-in_ok-make
 returns-in_ok-make_property-in-Points-clause-value c =
     let ctx = context_of c.args.scope.now in
     let rest = source c.parse_property.new.cursor in
-    let members = c.in-Points.set.now in (
+    let members = c.in-Points.set in (
       point_property ctx c.args.negated members,
       ap (λ (found : Found Property). found >>= property_atom ctx c.args.negated)
           (c.in_ok-set.ensures.value ∙ ap (λ property. Some (property_of property, rest)) c.in-Points.is),
@@ -33,16 +30,13 @@ pub returns-in_ok-make_strings-in-Strings-2-clause-value : goal.returns-in_ok-ma
 returns-in_ok-make_strings-in-Strings-2-clause-value c =
     let ctx = context_of c.args.scope.now in
     let rest = source c.parse_property.new.cursor in
-    let strings = c.in-Strings.field-0.now in
-    let copies = c.in_ok-copies-in-Strings-2.copies.items in
-    let same : strings_of copies ≡ strings_of strings =
-    same_strings _ strings copies c.in_ok-copies-in-Strings-2.ensures.items (λ x y clones. same_from_all_zip _ _ _ clones.0 (λ c d same. same)) in (
+    let strings = c.in-Strings.field-0.items in (
       string_property ctx.setting.flags (strings_of strings),
       ap (λ (found : Found Property). found >>= property_atom ctx c.args.negated)
           (c.in_ok-set.ensures.value ∙ ap (λ property. Some (property_of property, rest)) c.in-Strings.is)
           ∙ cond-false _ _ _ c.if-negated.false,
       record {
-        node = c.in_ok-make_strings-in-Strings-2.ensures ∙ ap (λ (ss : List (List ℕ)). leaf (string_set ss ctx.setting.flags.icase)) same;
+        node = c.in_ok-make_strings-in-Strings-2.ensures;
         nesting = omega arith;
         allows = refl;
       },

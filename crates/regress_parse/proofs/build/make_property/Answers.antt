@@ -14,7 +14,7 @@ use Rattle.regress_parse.proofs.build.make_property.Goals as goal
 
 pub returns-then-scope : goal.returns-then-scope
 returns-then-scope c =
-    let members = c.args.set.now in
+    let members = c.args.set in
     let scope = c.args.scope.now in
     let others = c.in_ok-inverted in
     subst

@@ -1,0 +1,15 @@
+use Rattle.std.proofs.Common.{◌∙◌, ap, sym, subst, IsTrue, List, ℕ}
+use Rattle.std.proofs.lemmas.Result.{IfOk-weaker}
+use Rattle.regress_properties.specs.declared.names.TheConstants.{ID_CONTINUE}
+use Rattle.regress_properties.specs.Listed.{set_at, is_set_at}
+use Rattle.regress_properties.specs.Properties.{unicode_id_continue}
+use Rattle.regress_properties.proofs.ConstantsLemmas.{id_continue}
+use Rattle.regress_properties.proofs.properties.id_continue.Goals as goal
+
+pub set_at-requires : goal.set_at-requires
+set_at-requires c = subst (λ (xs : List ℕ). IsTrue (is_set_at xs ID_CONTINUE.0 ID_CONTINUE.1)) (sym c.intervals.ensures) id_continue
+
+pub returns : goal.returns
+unfolding unicode_id_continue
+returns c =
+    IfOk-weaker c.set_at.result _ _ (λ set is. is ∙ ap (λ xs. set_at xs ID_CONTINUE.0 ID_CONTINUE.1) c.intervals.ensures) c.set_at.ensures
