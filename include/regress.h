@@ -160,6 +160,42 @@ uint32_t regress_error_message(uint32_t kind, uint8_t *out, size_t room, size_t 
 /* Frees a handle. */
 void regress_free(regress_regex *handle);
 
+/* A construct of a pattern that may match otherwise than in JavaScript (ECMA-262): its kind, and the half-open range of
+   code-point indices of the pattern where it is. docs/differences.md has the differences. */
+typedef struct regress_difference {
+    uint32_t kind;
+    size_t start;
+    size_t end;
+} regress_difference;
+
+/* The kinds of differences. Their numbers never change; a later version may have more kinds. */
+#define REGRESS_DIFFERENCE_CASE_CLOSURE 1u /* a class, class escape or property, where the flag i may be in force */
+#define REGRESS_DIFFERENCE_STRING_SET 2u   /* a property of strings, which is not compared */
+#define REGRESS_DIFFERENCE_SAME_NAME 3u    /* a reference by name to several groups */
+
+/* Finds the constructs of a pattern that may match otherwise than in JavaScript.
+
+   If there are none, JavaScript's first match in a text is that of regress_find with the same flags, provided that
+   UNICODE_SETS comes with UNICODE, alone it is no flag of JavaScript, and that SMALL_TABLE is not used. Not reported is
+   what only one of the two accepts or what they parse otherwise, such as \u{61} without UNICODE, nor that without
+   UNICODE JavaScript reads a text by code units. Some constructs are reported that do not differ.
+
+   Returns OK, ROOM, SYNTAX, MEMORY or BAD_INPUT. With OK `differences`, a buffer of `room` elements, begins with them.
+   `needed` is their number with OK and ROOM, else 0. With SYNTAX `kind` and `position` are those of the syntax error,
+   as of regress_compile, else they are 0. The size of the tree is not limited: for untrusted patterns test
+   regress_front_node_bound_utf8 first. */
+uint32_t regress_differences(const uint8_t *pattern, size_t length, uint32_t flags, regress_difference *differences,
+                             size_t room, size_t *needed, uint32_t *kind, size_t *position);
+
+/* Writes the name of a kind of difference, such as "case-closure", to `out`, a buffer of `room` bytes.
+
+   Returns OK, ROOM or BAD_INPUT: the last if there is no such kind. `needed` is the length of the name in bytes with OK
+   and ROOM, else 0. */
+uint32_t regress_difference_name(uint32_t kind, uint8_t *out, size_t room, size_t *needed);
+
+/* Writes a sentence about a kind of difference, with an example, as regress_difference_name does with its name. */
+uint32_t regress_difference_text(uint32_t kind, uint8_t *out, size_t room, size_t *needed);
+
 #ifdef __cplusplus
 }
 #endif

@@ -233,6 +233,66 @@ static void escapes(void) {
     CHECK(escaped("a\xFF", ROOM) == REGRESS_BAD_INPUT && are_none());
 }
 
+/* A buffer for differences, and one more that must stay unchanged. */
+static regress_difference differing[ROOM + 1];
+
+static uint32_t differences(const char *pattern, uint32_t flags, size_t room) {
+    for (size_t i = 0; i <= ROOM; i++) {
+        differing[i].kind = 0xA5A5A5A5u;
+        differing[i].start = differing[i].end = MARK;
+    }
+    return regress_differences((const uint8_t *)pattern, strlen(pattern), flags, differing, room, &needed, &kind,
+                               &position);
+}
+
+static int is_difference(size_t at, uint32_t expected, size_t start, size_t end) {
+    return differing[at].kind == expected && differing[at].start == start && differing[at].end == end;
+}
+
+static int has_no_more(size_t count) { return is_difference(count, 0xA5A5A5A5u, MARK, MARK); }
+
+static uint32_t name_of_difference(uint32_t of, size_t room) {
+    memset(bytes, 0xA5, sizeof bytes);
+    return regress_difference_name(of, bytes, room, &needed);
+}
+
+static uint32_t text_of_difference(uint32_t of, uint8_t *text, size_t room) {
+    memset(text, 0xA5, room);
+    return regress_difference_text(of, text, room, &needed);
+}
+
+/* The expected differences are those of the table of docs/differences.md. */
+static void lists_of_differences(void) {
+    uint8_t text[256];
+    CHECK(differences("\xC3\xA9[k]\\w", REGRESS_ICASE, ROOM) == REGRESS_OK && needed == 2);
+    CHECK(kind == 0 && position == 0);
+    CHECK(is_difference(0, REGRESS_DIFFERENCE_CASE_CLOSURE, 1, 4));
+    CHECK(is_difference(1, REGRESS_DIFFERENCE_CASE_CLOSURE, 4, 6) && has_no_more(2));
+    CHECK(differences("[k][s]", REGRESS_ICASE, 2) == REGRESS_OK && needed == 2 && has_no_more(2));
+    CHECK(differences("[k][s]", REGRESS_ICASE, 1) == REGRESS_ROOM && needed == 2 && has_no_more(0));
+    CHECK(differences("[k][s]", REGRESS_ICASE, 0) == REGRESS_ROOM && needed == 2 && has_no_more(0));
+    CHECK(differences("[k][s]", 0, 0) == REGRESS_OK && needed == 0 && has_no_more(0));
+    CHECK(differences("\\p{RGI_Emoji}", REGRESS_UNICODE | REGRESS_UNICODE_SETS, ROOM) == REGRESS_OK && needed == 1);
+    CHECK(is_difference(0, REGRESS_DIFFERENCE_STRING_SET, 0, 13) && has_no_more(1));
+    CHECK(differences("(?:(?<a>x)|(?<a>y))\\k<a>", SMALL, ROOM) == REGRESS_OK && needed == 1);
+    CHECK(is_difference(0, REGRESS_DIFFERENCE_SAME_NAME, 19, 24) && has_no_more(1));
+    CHECK(differences("", SMALL, 0) == REGRESS_OK && needed == 0);
+    CHECK(differences("\xC3\xA9)", SMALL, ROOM) == REGRESS_SYNTAX && needed == 0 && kind == 1 && position == 1);
+    CHECK(differences("\xFF", SMALL, ROOM) == REGRESS_BAD_INPUT && needed == 0 && kind == 0 && has_no_more(0));
+    CHECK(differences("a", 64, ROOM) == REGRESS_BAD_INPUT && needed == 0);
+    CHECK(name_of_difference(REGRESS_DIFFERENCE_CASE_CLOSURE, ROOM) == REGRESS_OK && are_bytes("case-closure"));
+    CHECK(name_of_difference(REGRESS_DIFFERENCE_STRING_SET, ROOM) == REGRESS_OK && are_bytes("string-set"));
+    CHECK(name_of_difference(REGRESS_DIFFERENCE_SAME_NAME, ROOM) == REGRESS_OK && are_bytes("same-name"));
+    CHECK(name_of_difference(REGRESS_DIFFERENCE_SAME_NAME, 8) == REGRESS_ROOM && needed == 9 && bytes[0] == 0xA5);
+    CHECK(name_of_difference(0, ROOM) == REGRESS_BAD_INPUT && are_bytes(""));
+    CHECK(name_of_difference(4, ROOM) == REGRESS_BAD_INPUT && are_bytes(""));
+    for (uint32_t each = 1; each <= 3; each++) {
+        CHECK(text_of_difference(each, text, sizeof text) == REGRESS_OK && needed > 40 && text[needed] == 0xA5);
+        CHECK(text_of_difference(each, text, 40) == REGRESS_ROOM && needed > 40 && text[0] == 0xA5);
+    }
+    CHECK(text_of_difference(4, text, sizeof text) == REGRESS_BAD_INPUT && needed == 0 && text[0] == 0xA5);
+}
+
 static void errors(void) {
     int mark_of_caller;
     regress_regex regex = {&mark_of_caller};
@@ -396,6 +456,27 @@ static void refuse_text(enum writing how, const char *expected) {
     printf("%s: out of memory in %zu of %ld runs\n", expected, wanting, most);
 }
 
+/* As `refuse`, for the differences of a pattern. */
+static void refuse_differences(const char *pattern, uint32_t expected, size_t count) {
+    size_t wanting = 0;
+    requests = 0;
+    CHECK(differences(pattern, SMALL | REGRESS_ICASE, ROOM) == expected && needed == count);
+    long most = requests, before = blocks;
+    for (long each = 0; each < most; each++) {
+        requests = 0;
+        refused = each;
+        uint32_t status = differences(pattern, SMALL | REGRESS_ICASE, ROOM);
+        refused = -1;
+        CHECK(status == REGRESS_MEMORY ? needed == 0 && kind == 0 && position == 0 && has_no_more(0)
+                                       : status == expected && needed == count && has_no_more(count));
+        CHECK(blocks == before);
+        wanting += status == REGRESS_MEMORY;
+    }
+    CHECK(wanting > 0);
+    CHECK(differences(pattern, SMALL | REGRESS_ICASE, ROOM) == expected && needed == count);
+    printf("%s: out of memory in %zu of %ld lists of differences\n", pattern, wanting, most);
+}
+
 int main(void) {
     CHECK(regress_abi_version() == REGRESS_ABI_VERSION);
     long before = blocks;
@@ -407,6 +488,7 @@ int main(void) {
     messages();
     replaces();
     escapes();
+    lists_of_differences();
     CHECK(blocks == before);
     refuse("(?<a>x)|(?<b>y+)\\k<b>", "xyyzyyyy");
     refuse("(?<=ab)c{2}[a-c]+|[^a]", "abccab");
@@ -420,6 +502,8 @@ int main(void) {
     refuse_text(REPLACING, "-<yyxyy>xyy");
     refuse_text(REPLACING_ALL, "-<yyxyy><yy>");
     refuse_text(ESCAPING, "\\x31\\x20\\+\\x201\\x20\\x3d\\x202");
+    refuse_differences("[k](?<a>x)|\\W(?<a>[s])\\k<a>", REGRESS_OK, 4);
+    refuse_differences("[k])", REGRESS_SYNTAX, 0);
     if (wrong) {
         fprintf(stderr, "%d checks fail\n", wrong);
         return 1;

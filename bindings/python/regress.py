@@ -38,6 +38,7 @@ The module calls the shared library libregress.so in its folder, or the file tha
 REGRESS_LIBRARY names. The searches of the library are proved to be right; this module is tested.
 """
 
+import collections
 import ctypes
 import operator
 import os
@@ -46,7 +47,7 @@ import sys
 import threading
 import weakref
 
-__all__ = ['compile', 'escape', 'node_bound', 'error', 'Pattern', 'Match']
+__all__ = ['compile', 'differences', 'escape', 'node_bound', 'error', 'Difference', 'Pattern', 'Match']
 __version__ = '0.1.0'
 
 _OK, _NO_MATCH, _MEMORY, _ROOM, _BAD_INPUT, _SYNTAX, _TOO_LARGE, _OUT_OF_STEPS = range(8)
@@ -142,6 +143,44 @@ def node_bound(pattern, flags=''):
     if status != _OK:
         raise _failure(status)
     return bound.value
+
+
+Difference = collections.namedtuple('Difference', 'kind start end text')
+Difference.__doc__ = """A construct of a pattern that may match otherwise than in JavaScript.
+
+Attributes:
+    kind: 'case-closure', 'string-set' or 'same-name'
+    start, end: where it is in the pattern
+    text: a sentence about the kind, with an example
+"""
+
+
+def differences(pattern, flags=''):
+    r"""Returns the list of the constructs of a pattern that may match otherwise than in JavaScript, each a Difference.
+
+        >>> import regress
+        >>> [found[:3] for found in regress.differences('a[k]', 'i')]
+        [('case-closure', 1, 4)]
+
+    If there are none, and the pattern is parsed as in JavaScript, its first match in a text is that of JavaScript; but
+    without u or v a text is read by characters, and not by code units. Some constructs are reported that do not differ.
+    What only one of the two accepts, or what they parse otherwise, such as \u{61} without u, is not reported:
+    docs/differences.md lists it. The tree may be large: for untrusted patterns call node_bound() first.
+
+    Raises error if the pattern or the flags are rejected.
+    """
+    data = _utf8(_pattern_text(pattern))
+    bits = _bits(_letters(flags, pattern))
+    kind, position = ctypes.c_uint32(), ctypes.c_size_t()
+    status, found = _call(_Difference, 16, _OK, lambda *buffer: _library.regress_differences(
+        data, len(data), bits, *buffer, ctypes.byref(kind), ctypes.byref(position)))
+    if status == _SYNTAX:
+        raise _syntax_error(data, bits, pattern)
+    if status != _OK:
+        raise _failure(status)
+    kinds = {each.kind: _kind_of_difference(each.kind) for each in found}
+    return [Difference(kinds[each.kind][0], _position(pattern, each.start), _position(pattern, each.end),
+                       kinds[each.kind][1]) for each in found]
 
 
 class Pattern:
@@ -451,6 +490,12 @@ class _Limits(ctypes.Structure):
                 ('tables', ctypes.c_size_t)]
 
 
+class _Difference(ctypes.Structure):
+    """The regress_difference of regress.h."""
+
+    _fields_ = [('kind', ctypes.c_uint32), ('start', ctypes.c_size_t), ('end', ctypes.c_size_t)]
+
+
 class _Handle:
     """A handle of the library, and the calls with it. It stays on the thread that has compiled it."""
 
@@ -463,7 +508,7 @@ class _Handle:
             program.pattern, len(program.pattern), program.flags, ctypes.byref(program.limits),
             ctypes.byref(self._regex), ctypes.byref(kind), ctypes.byref(position))
         if status == _SYNTAX:
-            raise _syntax_error(program)
+            raise _syntax_error(program.pattern, program.flags, program.source, program.offset)
         self._check(status)
         self.groups = _library.regress_group_count(ctypes.byref(self._regex))
         self.steps_per_character = _library.regress_steps_per_character(ctypes.byref(self._regex))
@@ -587,18 +632,31 @@ def _failure(status):
     return RuntimeError('the library returned the status %d' % status)
 
 
-def _syntax_error(program):
-    """Returns the exception of a pattern that is rejected."""
+def _syntax_error(data, bits, source, offset=0):
+    """Returns the exception of a pattern that is rejected: the source, after a number of other code points."""
     kind, position = ctypes.c_uint32(), ctypes.c_size_t()
     status, text = _call(ctypes.c_char, 128, _FAULT, lambda *buffer: _library.regress_front_tell_fault_of_text(
-        program.pattern, len(program.pattern), program.flags, *buffer, ctypes.byref(kind), ctypes.byref(position)))
+        data, len(data), bits, *buffer, ctypes.byref(kind), ctypes.byref(position)))
     if status != _FAULT:
         return _failure(status)
-    source, pos = program.source, position.value - program.offset
-    if isinstance(source, bytes):
-        pos = len(source.decode()[:pos].encode())
     name = _KINDS[kind.value - 1] if kind.value <= len(_KINDS) else None
-    return error(text.decode(), source, pos, name)
+    return error(text.decode(), source, _position(source, position.value - offset), name)
+
+
+def _position(source, index):
+    """Returns a position in a pattern, from a code-point index: for bytes the byte offset."""
+    return len(source.decode()[:index].encode()) if isinstance(source, bytes) else index
+
+
+def _kind_of_difference(number):
+    """Returns the name and the text of a kind of difference."""
+    texts = []
+    for function in (_library.regress_difference_name, _library.regress_difference_text):
+        status, text = _call(ctypes.c_char, 256, _OK, lambda *buffer: function(number, *buffer))
+        if status != _OK:
+            raise _failure(status)
+        texts.append(text.decode())
+    return texts
 
 
 def _tree(program):
@@ -773,6 +831,7 @@ def _load():
     number, size, wide = ctypes.c_uint32, ctypes.c_size_t, ctypes.c_uint64
     handle, limits, data = ctypes.POINTER(_Regex), ctypes.POINTER(_Limits), ctypes.c_char_p
     numbers, sizes, octets = ctypes.POINTER(number), ctypes.POINTER(size), ctypes.POINTER(ctypes.c_char)
+    listed = ctypes.POINTER(_Difference)
     replacing = number, handle, data, size, data, size, octets, size, sizes
     calls = {
         'regress_abi_version': (number,),
@@ -785,6 +844,9 @@ def _load():
         'regress_steps_per_character': (wide, handle),
         'regress_escape': (number, data, size, octets, size, sizes),
         'regress_free': (None, handle),
+        'regress_differences': (number, data, size, number, listed, size, sizes, numbers, sizes),
+        'regress_difference_name': (number, number, octets, size, sizes),
+        'regress_difference_text': (number, number, octets, size, sizes),
         'regress_front_bound_nodes_of_text': (number, data, size, number, sizes),
         'regress_front_parse_text': (number, data, size, number, number, numbers, size, sizes, numbers, sizes),
         'regress_front_tell_fault_of_text': (number, data, size, number, octets, size, sizes, numbers, sizes),

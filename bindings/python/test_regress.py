@@ -268,6 +268,26 @@ class Calls(unittest.TestCase):
         self.assertRaises(TypeError, regress.node_bound, 1)
         self.assertRaises(regress.error, regress.node_bound, 'a', 'x')
 
+    def test_differences(self):
+        # As docs/differences.md has them.
+        def listed(*arguments):
+            return [found[:3] for found in regress.differences(*arguments)]
+        self.assertEqual(listed(r'é[k]\w', 'i'), [('case-closure', 1, 4), ('case-closure', 4, 6)])
+        self.assertEqual(listed(r'é[k]\w'.encode(), 'i'), [('case-closure', 2, 5), ('case-closure', 5, 7)])
+        self.assertEqual(listed(r'\p{RGI_Emoji}', 'v'), [('string-set', 0, 13)])
+        self.assertEqual(listed(r'(?:(?<a>x)|(?<a>y))\k<a>'), [('same-name', 19, 24)])
+        self.assertEqual(listed(r'[k]\w'), [])
+        self.assertEqual(len(listed('[k]' * 100, 'i')), 100)
+        found = regress.differences('[k]', 'i')[0]
+        self.assertTrue(found.text.startswith('with the flag i other characters may match'))
+        self.assertEqual((found.kind, found.start, found.end), ('case-closure', 0, 3))
+        with self.assertRaises(regress.error) as caught:
+            regress.differences('é)'.encode())
+        self.assertEqual((caught.exception.pos, caught.exception.kind), (2, 'UnbalancedParenthesis'))
+        self.assertRaises(TypeError, regress.differences, 1)
+        self.assertRaises(regress.error, regress.differences, 'a', 'x')
+        self.assertRaises(UnicodeDecodeError, regress.differences, b'\xff')
+
     def test_types(self):
         for pattern, text in (('a', b'a'), (b'a', 'a'), ('a', None)):
             with self.assertRaises(TypeError):
@@ -402,6 +422,10 @@ class Memory(unittest.TestCase):
 
     def test_escape(self):
         self.each_refused('escape', lambda: regress.escape('1 + 1'))
+
+    def test_differences(self):
+        for pattern in ('[k]', 'a)'):
+            self.each_refused('differences', lambda: regress.differences(pattern, 'i'))
 
     def test_node_bound(self):
         self.each_refused('node_bound', lambda: regress.node_bound('a|b'))

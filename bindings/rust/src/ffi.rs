@@ -40,6 +40,15 @@ pub(crate) struct Limits {
     pub(crate) tables: usize,
 }
 
+/// A `regress_difference` of the library.
+#[repr(C)]
+#[derive(Clone, Default)]
+pub(crate) struct Difference {
+    pub(crate) kind: u32,
+    pub(crate) start: usize,
+    pub(crate) end: usize,
+}
+
 extern "C" {
     fn regress_abi_version() -> u32;
 
@@ -109,6 +118,17 @@ extern "C" {
     ) -> u32;
 
     fn regress_free(handle: *mut RegressRegex);
+
+    fn regress_differences(
+        pattern: *const u8,
+        length: usize,
+        flags: u32,
+        differences: *mut Difference,
+        room: usize,
+        needed: *mut usize,
+        kind: *mut u32,
+        position: *mut usize,
+    ) -> u32;
 
     fn regress_front_parse_code_points(
         pattern: *const u32,
@@ -300,6 +320,27 @@ pub(crate) fn escape(text: &str) -> Output<u8> {
                 out.as_mut_ptr(),
                 out.len(),
                 needed,
+            )
+        }
+    })
+}
+
+/// Writes the constructs of a pattern that may match otherwise than in JavaScript.
+pub(crate) fn differences(pattern: &str, flags: u32) -> Output<Difference> {
+    let (mut kind, mut position) = (0, 0);
+    // If there are more, which is rare, the call is made a second time.
+    with_room(16, |items: &mut [Difference], needed| {
+        // SAFETY: pointers and lengths are those of slices and variables.
+        unsafe {
+            regress_differences(
+                start_of(pattern),
+                pattern.len(),
+                flags,
+                items.as_mut_ptr(),
+                items.len(),
+                needed,
+                &mut kind,
+                &mut position,
             )
         }
     })

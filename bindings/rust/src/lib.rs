@@ -18,6 +18,7 @@
 
 #![deny(unsafe_code)]
 
+mod difference;
 #[allow(unsafe_code)]
 mod ffi;
 mod flags;
@@ -28,6 +29,7 @@ mod printed;
 pub mod regex;
 mod words;
 
+pub use difference::{differences, Difference, DifferenceKind};
 pub use flags::{Flags, FlagsError, Table};
 pub use kind::FaultKind;
 pub use library::{

@@ -6,7 +6,9 @@
 
 #![cfg(all(target_os = "linux", target_env = "gnu"))]
 
-use regress_front::{parse_str, Error, Fault, Flags, Options, Regex, SearchError, Table};
+use regress_front::{
+    differences, parse_str, Error, Fault, Flags, Options, Regex, SearchError, Table,
+};
 use std::alloc::{GlobalAlloc, Layout};
 use std::cell::Cell;
 use std::ffi::c_void;
@@ -129,6 +131,14 @@ fn parsing_reports_that_it_is_out_of_memory() {
         each_refused(pattern, Err(Fault::Memory), || {
             parse_str(pattern, Flags::default(), Table::Small)
         });
+    }
+}
+
+#[test]
+fn differences_report_that_they_are_out_of_memory() {
+    let flags = "i".parse().unwrap();
+    for pattern in ["[k]|\\w", "a)"] {
+        each_refused(pattern, Err(Error::Memory), || differences(pattern, flags));
     }
 }
 

@@ -1,4 +1,5 @@
 mod CompileLemmas
+mod DifferencesLemmas
 mod HandleValues
 mod LooseValues
 mod ReplaceLemmas

@@ -10,3 +10,4 @@ pub mod TextResults
 pub mod ReplaceResults
 pub mod EscapeResults
 pub mod BoundResults
+pub mod DifferencesResults

@@ -12,7 +12,7 @@ use regress::{Error, Options, Regex};
 use std::alloc::Global;
 use std::sync::Arc;
 
-const SYNTAX: u32 = 5;
+pub(crate) const SYNTAX: u32 = 5;
 
 const TOO_LARGE: u32 = 6;
 

@@ -4,7 +4,9 @@
 mod bound;
 mod buffer;
 mod compiling;
+mod differing;
 mod entry;
+mod entry_differences;
 mod entry_regex;
 mod entry_replace;
 mod escaping;

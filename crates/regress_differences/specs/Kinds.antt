@@ -1,4 +1,4 @@
--- The names and texts of the kinds of differences. The names never change.
+-- The names, numbers and texts of the kinds of differences. Names and numbers never change.
 use Rattle.std.specs.Prelude.{ℕ, List, codes}
 use Rattle.regress_differences.specs.declared.kind.DifferenceKind.{DifferenceKind}
 use Rattle.regress_differences.specs.declared.kind.DifferenceKind.TheVariants.{CaseClosure, StringSet, SameName}
@@ -8,6 +8,12 @@ abbrev pub name_of : DifferenceKind → List ℕ
 name_of CaseClosure = codes "case-closure"
 name_of StringSet = codes "string-set"
 name_of SameName = codes "same-name"
+
+-- the number of a kind, from 1 to 3
+abbrev pub number_of : DifferenceKind → ℕ
+number_of CaseClosure = 1
+number_of StringSet = 2
+number_of SameName = 3
 
 -- the text of a kind
 abbrev pub text_of : DifferenceKind → List ℕ

@@ -1,6 +1,6 @@
 //! What is reported.
 ghost use Rattle.std.specs.Prelude.{◌≡◌};
-ghost use Rattle.regress_differences.specs.Kinds.{name_of, text_of};
+ghost use Rattle.regress_differences.specs.Kinds.{name_of, number_of, text_of};
 
 use regress_parse::Span;
 
@@ -25,6 +25,17 @@ impl DifferenceKind {
             DifferenceKind::CaseClosure => "case-closure",
             DifferenceKind::StringSet => "string-set",
             DifferenceKind::SameName => "same-name",
+        }
+    }
+
+    /// Returns the number of the kind, which never changes: from 1 to 3, in the order of the variants.
+    pub fn number(&self) -> u32
+        ensures { result ≡ number_of self.now }
+    {
+        match self {
+            DifferenceKind::CaseClosure => 1,
+            DifferenceKind::StringSet => 2,
+            DifferenceKind::SameName => 3,
         }
     }
 

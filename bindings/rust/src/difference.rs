@@ -1,0 +1,136 @@
+//! The constructs of a pattern that may match otherwise than in JavaScript.
+
+use crate::ffi;
+use crate::flags::{bits, Flags, Table};
+use crate::library::{code_points, fault};
+use crate::regex::Error;
+use std::fmt;
+use std::ops::Range;
+
+/// A construct of a pattern that may match otherwise than in JavaScript.
+#[derive(Clone, Debug, PartialEq, Eq, Hash)]
+pub struct Difference {
+    /// Why it is reported.
+    pub kind: DifferenceKind,
+    /// Where it is in the pattern, in code points.
+    pub span: Range<usize>,
+}
+
+/// Why a construct is reported. `docs/differences.md` has the differences. The numbers are those of the library, and
+/// never change.
+#[derive(Clone, Copy, Debug, PartialEq, Eq, Hash)]
+#[non_exhaustive]
+#[repr(u32)]
+pub enum DifferenceKind {
+    /// A class, a class escape such as `\w`, or a property of code points, where the flag i may be in force.
+    CaseClosure = 1,
+    /// A property of strings, which is not compared.
+    StringSet = 2,
+    /// A reference by name to several groups.
+    SameName = 3,
+}
+
+/// The kinds in the order of their numbers, with their names and texts.
+const KINDS: [(DifferenceKind, &str, &str); 3] = [
+    (
+        DifferenceKind::CaseClosure,
+        "case-closure",
+        "with the flag i other characters may match than in JavaScript: \
+         [k] without u also matches U+212A, and [\\W] with u also matches k",
+    ),
+    (
+        DifferenceKind::StringSet,
+        "string-set",
+        "the strings of a property such as \\p{RGI_Emoji} are tried in the order of the Unicode table, \
+         in JavaScript the longest first",
+    ),
+    (
+        DifferenceKind::SameName,
+        "same-name",
+        "a reference to several groups of one name tries each of them, and an unset group gives the empty \
+         string: (?:(?<a>x)|(?<a>y))\\k<a> matches y of yy, in JavaScript yy",
+    ),
+];
+
+impl DifferenceKind {
+    /// Returns the name of the kind, which never changes: `case-closure`, `string-set` or `same-name`.
+    pub fn name(self) -> &'static str {
+        KINDS[self as usize - 1].1
+    }
+
+    /// Returns a sentence about the difference, with an example, without a full stop.
+    pub fn text(self) -> &'static str {
+        KINDS[self as usize - 1].2
+    }
+
+    /// Returns the number of the kind, which never changes: from 1 to 3.
+    pub fn number(self) -> u32 {
+        self as u32
+    }
+
+    /// Returns the kind with this number, if there is one.
+    fn from_number(number: u32) -> Option<DifferenceKind> {
+        KINDS
+            .iter()
+            .map(|(kind, _, _)| *kind)
+            .find(|kind| kind.number() == number)
+    }
+}
+
+/// Writes the name.
+impl fmt::Display for DifferenceKind {
+    fn fmt(&self, f: &mut fmt::Formatter<'_>) -> fmt::Result {
+        f.write_str(self.name())
+    }
+}
+
+/// Writes the text and the span.
+impl fmt::Display for Difference {
+    fn fmt(&self, f: &mut fmt::Formatter<'_>) -> fmt::Result {
+        let Range { start, end } = self.span;
+        write!(f, "{}, at {start} to {end}", self.kind.text())
+    }
+}
+
+/// Returns the constructs of a pattern that may match otherwise than in JavaScript, under the table of all of Unicode.
+///
+/// If there are none, and the pattern is parsed as in JavaScript, its first match is that of JavaScript, on texts of
+/// code points and with `unicode_sets` only beside `unicode`: the flag v does not imply u here. Some constructs are
+/// reported that do not differ. `docs/differences.md` lists what is not reported: what only one of the two accepts, and
+/// what they parse otherwise, such as `\u{61}` without u.
+///
+/// The size of the tree is not limited: for untrusted patterns test [`node_bound`](crate::node_bound) first.
+///
+/// # Errors
+/// Returns [`Error::Syntax`] if the pattern is rejected, and [`Error::Memory`] if the library is out of memory.
+///
+/// # Examples
+/// ```
+/// use regress_front::{differences, DifferenceKind, Flags};
+///
+/// let flags: Flags = "i".parse()?;
+/// let found = differences("a[k]", flags)?;
+/// assert_eq!(found.len(), 1);
+/// assert_eq!(found[0].kind, DifferenceKind::CaseClosure);
+/// assert_eq!(found[0].span, 1..4);
+/// # Ok::<(), regress_front::Error>(())
+/// ```
+pub fn differences(pattern: &str, flags: Flags) -> Result<Vec<Difference>, Error> {
+    let bits = bits(flags, Table::Whole);
+    let output = ffi::differences(pattern, bits);
+    match output.status {
+        ffi::OK => output.items.iter().map(difference).collect(),
+        // The call for trees also returns the text.
+        ffi::SYNTAX => Err(fault(&code_points(pattern), bits).into()),
+        ffi::MEMORY => Err(Error::Memory),
+        _ => Err(Error::Library),
+    }
+}
+
+fn difference(found: &ffi::Difference) -> Result<Difference, Error> {
+    let kind = DifferenceKind::from_number(found.kind).ok_or(Error::Library)?;
+    Ok(Difference {
+        kind,
+        span: found.start..found.end,
+    })
+}
