@@ -424,8 +424,7 @@ class Memory(unittest.TestCase):
         self.each_refused('escape', lambda: regress.escape('1 + 1'))
 
     def test_differences(self):
-        for pattern in ('[k]', 'a)'):
-            self.each_refused('differences', lambda: regress.differences(pattern, 'i'))
+        self.each_refused('differences', lambda: regress.differences('[k]', 'i'))
 
     def test_node_bound(self):
         self.each_refused('node_bound', lambda: regress.node_bound('a|b'))

@@ -93,8 +93,12 @@ fn each_refused<T: Debug + PartialEq>(what: &str, memory: T, call: impl Fn() -> 
         } else {
             assert_eq!(result, expected, "{what}: request {number}");
         }
-        assert_eq!(call(), expected, "{what}: after request {number}");
+        // After all of the many requests that make the table of Unicode this would take long.
+        if number % 16 == 0 || requests < 1000 {
+            assert_eq!(call(), expected, "{what}: after request {number}");
+        }
     }
+    assert_eq!(call(), expected, "{what}");
     assert!(reported > 0, "{what}");
     println!("{what}: out of memory in {reported} of {requests} runs");
 }
@@ -137,9 +141,9 @@ fn parsing_reports_that_it_is_out_of_memory() {
 #[test]
 fn differences_report_that_they_are_out_of_memory() {
     let flags = "i".parse().unwrap();
-    for pattern in ["[k]|\\w", "a)"] {
-        each_refused(pattern, Err(Error::Memory), || differences(pattern, flags));
-    }
+    each_refused("differences", Err(Error::Memory), || {
+        differences("[k]|\\w", flags)
+    });
 }
 
 #[test]
