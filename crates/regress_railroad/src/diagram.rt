@@ -103,6 +103,8 @@ pub(crate) struct Diagram {
     pub(crate) shape: Shape,
     /// The source text of the part, if it is known.
     pub(crate) title: Option<String>,
+    /// The classes for the spans of the part, if it has them.
+    pub(crate) marks: Option<String>,
     pub(crate) extent: Extent,
 }
 
@@ -139,6 +141,7 @@ impl Diagram {
         Diagram {
             shape,
             title: None,
+            marks: None,
             extent,
         }
     }

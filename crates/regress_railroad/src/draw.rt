@@ -9,9 +9,23 @@ use crate::style::{GAP, RADIUS};
 use crate::ways::{Drawn, draw_branch, draw_fork, draw_line, draw_way_back, draw_way_up};
 use regress_svg::{Element, Sheet};
 
-/// Draws a part whose connecting line enters at a point.
+/// Draws a part whose connecting line enters at a point, in a group of its own if it has classes for its spans.
 #[cycle(draw)]
 pub(crate) fn draw(diagram: &Diagram, at: Point, sheet: &mut Sheet) -> Drawn
+    ensures { OnOk result (sheet.new.depth ≡ sheet.old.depth) }
+{
+    match &diagram.marks {
+        Some(marks) => {
+            sheet.open_group(marks)?;
+            draw_shape(diagram, at, sheet)?;
+            sheet.close_group()
+        }
+        None => draw_shape(diagram, at, sheet),
+    }
+}
+
+#[cycle(draw)]
+fn draw_shape(diagram: &Diagram, at: Point, sheet: &mut Sheet) -> Drawn
     ensures { OnOk result (sheet.new.depth ≡ sheet.old.depth) }
 {
     let extent = diagram.extent;

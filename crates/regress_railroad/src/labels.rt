@@ -100,7 +100,10 @@ fn times(alloc: Global, min: usize, max: Option<usize>) -> Result<String, AllocE
 }
 
 /// Returns the letters of flags as JavaScript writes them, where `v` includes `u`; an empty text if there are none.
-pub(crate) fn flags_text(alloc: Global, flags: Flags) -> Result<String, AllocError> {
+///
+/// # Errors
+/// Returns [`AllocError`] if an allocation fails.
+pub fn flags_text(alloc: Global, flags: Flags) -> Result<String, AllocError> {
     let mut text = String::new(alloc);
     for (is_set, letter) in [
         (flags.icase, " i"),

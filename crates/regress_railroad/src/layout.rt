@@ -3,13 +3,11 @@
 use crate::boxes::{boxed, framed, loop_around, set_box, tracks};
 use crate::diagram::{BoxKind, Diagram, FrameKind, Iterations};
 use crate::labels::{Label, anchor_words, group_text, iterations_text, lookaround_words};
-use crate::names::{gather, name_of};
+use crate::names::{group_names, name_of};
 use crate::row::{Piece, Row};
-use crate::sets::{
-    Character, only_character, set_label, set_of_bytes, set_of_characters, strings_label, written,
-};
-use crate::source::excerpt;
-use regress_base::codepointset::CodePointSet;
+use crate::sets::{Character, only_character, set_label, strings_label};
+use crate::source::{Source, excerpt};
+use crate::words::set_of;
 use regress_base::types::Quantifier;
 use regress_parse::Span;
 use regress_tree::ir::Node;
@@ -21,7 +19,7 @@ use std::{mem, slice};
 struct Setting<'a> {
     alloc: Global,
     names: &'a [Option<String>],
-    pattern: &'a [u32],
+    source: Source<'a>,
     /// The spans of the remaining nodes, in postorder.
     spans: slice::Iter<'a, Span>,
     /// Whether the node is inside a lookbehind, where the parts of a `Cat` are reversed.
@@ -32,15 +30,14 @@ struct Setting<'a> {
 pub(crate) fn layout(
     alloc: Global,
     node: &Node,
-    pattern: &[u32],
+    source: Source<'_>,
     spans: &[Span],
 ) -> Result<Diagram, AllocError> {
-    let mut names = Vec::new(alloc);
-    gather(alloc, node, &mut names)?;
+    let names = group_names(alloc, node)?;
     let mut setting = Setting {
         alloc,
         names: &names,
-        pattern,
+        source,
         spans: spans.iter(),
         turned: false,
     };
@@ -55,7 +52,7 @@ fn lay_out(node: &Node, setting: &mut Setting<'_>) -> Result<Diagram, AllocError
     if setting.turned {
         pieces.reverse();
     }
-    let mut row = Row::new(setting.alloc, setting.pattern);
+    let mut row = Row::new(setting.alloc, setting.source);
     for (piece, span) in pieces {
         row.push(piece, span)?;
     }
@@ -219,15 +216,7 @@ fn leaf(node: &Node, setting: &Setting<'_>) -> Result<Option<Piece>, AllocError>
     Ok(Some(match node {
         Node::Char { c } => Piece::Character(Character::plain(*c)),
         Node::ByteSequence(bytes) => Piece::Text(String::from_utf8_lossy(alloc, bytes)?),
-        Node::ByteSet(bytes) => set(alloc, false, set_of_bytes(alloc, bytes)?)?,
-        Node::CharSet(all) => set(alloc, false, set_of_characters(alloc, all)?)?,
-        Node::Bracket(contents) => match property(setting)? {
-            Some(text) => Piece::Part(property_box(text)),
-            None => {
-                let (negated, all) = written(alloc, contents)?;
-                set(alloc, negated, all)?
-            }
-        },
+        Node::ByteSet(_) | Node::CharSet(_) | Node::Bracket(_) => return set(node, setting),
         Node::StringSet {
             alternatives,
             icase,
@@ -280,7 +269,7 @@ fn reference_box(text: String, icase: bool) -> Diagram {
 
 /// Returns the source text of the next node if it is a property, such as `\p{Script=Greek}`.
 fn property(setting: &Setting<'_>) -> Result<Option<String>, AllocError> {
-    let Some(text) = excerpt(setting.alloc, setting.pattern, next_span(setting))? else {
+    let Some(text) = excerpt(setting.alloc, setting.source.pattern, next_span(setting))? else {
         return Ok(None);
     };
     let is_property = text.starts_with("\\p") || text.starts_with("\\P");
@@ -296,10 +285,20 @@ fn property_box(text: String) -> Diagram {
     boxed(BoxKind::Set, label)
 }
 
-/// Returns the piece of a set or, if `negated`, of its complement. A set of one character is that character.
-fn set(alloc: Global, negated: bool, set: CodePointSet) -> Result<Piece, AllocError> {
-    if !negated && let Some(character) = only_character(set.intervals()) {
-        return Ok(Piece::Character(character));
+/// Returns the piece of a set. A set of one character is that character.
+fn set(node: &Node, setting: &Setting<'_>) -> Result<Option<Piece>, AllocError> {
+    let alloc = setting.alloc;
+    if let Node::Bracket(_) = node
+        && let Some(text) = property(setting)?
+    {
+        return Ok(Some(Piece::Part(property_box(text))));
     }
-    Ok(Piece::Part(set_box(alloc, set_label(alloc, negated, set)?)))
+    let Some((negated, set)) = set_of(alloc, node)? else {
+        return Ok(None);
+    };
+    if !negated && let Some(character) = only_character(set.intervals()) {
+        return Ok(Some(Piece::Character(character)));
+    }
+    let label = set_label(alloc, negated, set)?;
+    Ok(Some(Piece::Part(set_box(alloc, label))))
 }

@@ -16,5 +16,12 @@ mod source;
 mod style;
 mod symbols;
 mod ways;
+mod words;
 
-pub use picture::{svg, svg_with_titles};
+pub use labels::flags_text;
+pub use names::{Names, group_names, name_of};
+pub use picture::{svg, svg_with_marks, svg_with_titles};
+pub use sets::Character;
+pub use source::excerpt;
+pub use symbols::{is_seen, push_symbol, quoted};
+pub use words::{set_words, single_character};

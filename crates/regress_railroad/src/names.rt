@@ -8,13 +8,23 @@ use regress_tree::ir::held::body;
 use std::alloc::{AllocError, Global};
 
 /// The name of each named group at its id, quoted, and cut off if it is long.
-pub(crate) type Names = Vec<Option<String>>;
+pub type Names = Vec<Option<String>>;
+
+/// Returns the names of the groups in a tree.
+///
+/// # Errors
+/// Returns [`AllocError`] if an allocation fails.
+pub fn group_names(alloc: Global, node: &Node) -> Result<Names, AllocError> {
+    let mut names = Vec::new(alloc);
+    gather(alloc, node, &mut names)?;
+    Ok(names)
+}
 
 /// Collects the names of the groups in a tree.
 ///
 /// It iterates over the right sides of alternatives: there may be as many nested ones as alternatives.
 #[cycle(gather)]
-pub(crate) fn gather(alloc: Global, node: &Node, names: &mut Names) -> Result<(), AllocError> {
+fn gather(alloc: Global, node: &Node, names: &mut Names) -> Result<(), AllocError> {
     let mut node = node;
     loop {
         match node {
@@ -67,7 +77,7 @@ fn put(id: CaptureGroupID, name: String, names: &mut Names) -> Result<(), AllocE
 }
 
 /// Returns the name of a group numbered from 1.
-pub(crate) fn name_of(group: u32, names: &[Option<String>]) -> Option<&String> {
+pub fn name_of(group: u32, names: &[Option<String>]) -> Option<&String> {
     if group == 0 {
         return None;
     }

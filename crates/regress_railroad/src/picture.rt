@@ -7,6 +7,7 @@ use crate::draw::draw;
 use crate::labels::flags_text;
 use crate::layout::layout;
 use crate::parts::{draw_circle, draw_text};
+use crate::source::Source;
 use crate::style::{MARGIN, STYLE, text_width};
 use crate::symbols::columns;
 use crate::ways::{Drawn, draw_line};
@@ -62,7 +63,40 @@ pub fn svg_with_titles(
 ) -> Result<String, AllocError>
     ensures { IfOk result (λ text. IsDocument (string_bytes text)) }
 {
-    let diagram = layout(alloc, &regex.node, pattern, spans)?;
+    let marked = false;
+    picture(alloc, regex, Source { pattern, marked }, spans)
+}
+
+/// Returns the diagram of [`svg_with_titles`] with a class for each span, so that a page's style sheet can mark what
+/// has it: a box, a frame, a loop or alternatives are in a group of the class `m`, and `s0-4` for a node with the span
+/// 0..4. A box of several characters has the class of each.
+///
+/// # Errors
+/// Returns [`AllocError`] if an allocation fails. The arguments are only read.
+///
+/// # Complexity
+/// As [`svg`].
+pub fn svg_with_marks(
+    alloc: Global,
+    regex: &Regex,
+    pattern: &[u32],
+    spans: &[Span],
+) -> Result<String, AllocError>
+    ensures { IfOk result (λ text. IsDocument (string_bytes text)) }
+{
+    let marked = true;
+    picture(alloc, regex, Source { pattern, marked }, spans)
+}
+
+fn picture(
+    alloc: Global,
+    regex: &Regex,
+    source: Source<'_>,
+    spans: &[Span],
+) -> Result<String, AllocError>
+    ensures { IfOk result (λ text. IsDocument (string_bytes text)) }
+{
+    let diagram = layout(alloc, &regex.node, source, spans)?;
     let extent = diagram.extent;
     let margins = 2 * MARGIN;
     let flags = flags_text(alloc, regex.flags)?;

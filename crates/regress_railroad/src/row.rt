@@ -3,11 +3,12 @@
 use crate::boxes::literal;
 use crate::diagram::{Diagram, Extent, NO_EXTENT, Shape, clear};
 use crate::sets::Character;
-use crate::source::{excerpt, joined};
+use crate::source::{Source, excerpt, joined};
 use crate::style::{GAP, LIST_WIDTH, RADIUS};
 use crate::symbols::{columns_of, is_seen, push_symbol};
 use regress_parse::Span;
 use std::alloc::{AllocError, Global};
+use std::fmt::Write;
 use std::mem;
 
 /// The maximum width of a box of characters, in columns. Longer text continues in the next box.
@@ -25,7 +26,7 @@ pub(crate) enum Piece {
 #[derive(Drop)]
 pub(crate) struct Row<'a> {
     alloc: Global,
-    pattern: &'a [u32],
+    source: Source<'a>,
     parts: Vec<Diagram>,
     /// The characters that are not boxed yet.
     text: String,
@@ -33,18 +34,21 @@ pub(crate) struct Row<'a> {
     span: Option<Span>,
     columns: u32,
     either_case: bool,
+    /// The classes for the spans of the next part.
+    marks: Option<String>,
 }
 
 impl<'a> Row<'a> {
-    pub(crate) fn new(alloc: Global, pattern: &'a [u32]) -> Row<'a> {
+    pub(crate) fn new(alloc: Global, source: Source<'a>) -> Row<'a> {
         Row {
             alloc,
-            pattern,
+            source,
             parts: Vec::new(alloc),
             text: String::new(alloc),
             span: None,
             columns: 0,
             either_case: false,
+            marks: None,
         }
     }
 
@@ -59,6 +63,7 @@ impl<'a> Row<'a> {
             }
             Piece::Part(part) => {
                 self.box_text()?;
+                self.mark(span)?;
                 self.push_part(part, span)?;
             }
         }
@@ -66,8 +71,26 @@ impl<'a> Row<'a> {
     }
 
     fn push_part(&mut self, mut part: Diagram, span: Option<Span>) -> Result<(), AllocError> {
-        part.title = excerpt(self.alloc, self.pattern, span)?;
+        part.title = excerpt(self.alloc, self.source.pattern, span)?;
+        part.marks = self.marks.take();
         Ok(self.parts.push(part)?)
+    }
+
+    /// Adds the class of a span to those of the next part.
+    fn mark(&mut self, span: Option<Span>) -> Result<(), AllocError> {
+        let Some(Span { start, end }) = span else {
+            return Ok(());
+        };
+        if !self.source.marked || start == end {
+            return Ok(());
+        }
+        let mut marks = match self.marks.take() {
+            Some(marks) => marks,
+            None => String::from_str(self.alloc, "m")?,
+        };
+        write!(marks, " s{start}-{end}")?;
+        self.marks = Some(marks);
+        Ok(())
     }
 
     /// Adds a character. An invisible one has a box of its own.
@@ -80,6 +103,7 @@ impl<'a> Row<'a> {
         self.either_case = either_case;
         self.columns = self.columns.saturating_add(columns_of(c));
         self.span = joined(self.span, span);
+        self.mark(span)?;
         push_symbol(c, self.alloc, &mut self.text)?;
         if alone { self.box_text() } else { Ok(()) }
     }

@@ -45,9 +45,11 @@ pub(crate) fn written(
 
 /// A character, matched exactly or in either case.
 #[derive(Clone, Copy)]
-pub(crate) struct Character {
-    pub(crate) c: u32,
-    pub(crate) either_case: bool,
+pub struct Character {
+    /// The code point.
+    pub c: u32,
+    /// Whether it is matched in either case.
+    pub either_case: bool,
 }
 
 impl Character {

@@ -6,8 +6,19 @@ use std::alloc::{AllocError, Global};
 /// The maximum length of a title in code points. Parts are nested, so that whole texts could take quadratic space.
 const TITLE_LENGTH: usize = 60;
 
+/// The pattern that a diagram shows.
+#[derive(Clone, Copy)]
+pub(crate) struct Source<'a> {
+    pub(crate) pattern: &'a [u32],
+    /// Whether the parts of the diagram have classes for their spans.
+    pub(crate) marked: bool,
+}
+
 /// Returns the part of a pattern at a span, cut off if it is long; `None` if it is empty or not inside the pattern.
-pub(crate) fn excerpt(
+///
+/// # Errors
+/// Returns [`AllocError`] if an allocation fails.
+pub fn excerpt(
     alloc: Global,
     pattern: &[u32],
     span: Option<Span>,

@@ -28,7 +28,7 @@ fn is_within(ends: &[u32], c: u32) -> bool {
 }
 
 /// Returns whether a character has a visible shape of its own. Fonts have none for those that are not assigned.
-pub(crate) fn is_seen(c: u32) -> bool {
+pub fn is_seen(c: u32) -> bool {
     c < 0xE0000 && !is_within(&UNSEEN, c) && is_assigned(c)
 }
 
@@ -40,7 +40,10 @@ fn is_assigned(c: u32) -> bool {
 }
 
 /// Appends a character: itself, `␣` for a space, or its number, as `U+000A`, if it is invisible.
-pub(crate) fn push_symbol(c: u32, alloc: Global, text: &mut String) -> Result<(), AllocError> {
+///
+/// # Errors
+/// Returns [`AllocError`] if an allocation fails.
+pub fn push_symbol(c: u32, alloc: Global, text: &mut String) -> Result<(), AllocError> {
     match char::from_u32(c) {
         Some(' ') => text.push('␣'),
         Some(shown) if is_seen(c) => text.push(shown),
@@ -66,7 +69,10 @@ pub(crate) fn columns(text: &str) -> u32 {
 const QUOTED_LENGTH: usize = 20;
 
 /// Returns characters in quotation marks, cut off if there are many.
-pub(crate) fn quoted(alloc: Global, characters: &[u32]) -> Result<String, AllocError> {
+///
+/// # Errors
+/// Returns [`AllocError`] if an allocation fails.
+pub fn quoted(alloc: Global, characters: &[u32]) -> Result<String, AllocError> {
     let mut text = String::from_str(alloc, "\"")?;
     for c in characters.iter().take(QUOTED_LENGTH) {
         push_symbol(*c, alloc, &mut text)?;

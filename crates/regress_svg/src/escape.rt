@@ -8,7 +8,7 @@ use std::fmt::{Formatter, Write};
 
 /// A text that is written escaped, for content between tags or for an attribute value in double quotes.
 #[derive(Clone, Copy)]
-pub(crate) struct Escaped<'a>(pub(crate) &'a str);
+pub struct Escaped<'a>(pub &'a str);
 
 impl fmt::Display for Escaped<'_> {
     ghost use Rattle.std.specs.Prelude.{Some};

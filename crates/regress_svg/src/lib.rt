@@ -7,5 +7,6 @@ mod law;
 mod sheet;
 
 pub use element::{Element, Step};
+pub use escape::Escaped;
 pub use law::texts_hold_no_markup;
 pub use sheet::Sheet;
