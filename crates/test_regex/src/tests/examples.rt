@@ -1,6 +1,6 @@
 //! The examples of the doc comments of `Regex`: each line of an example is here. Expected values are from ECMA-262.
 
-use regress::{Regex, Tables, parse_flags};
+use regress::{Nonlinear, Regex, Tables, parse_flags};
 use std::sync::Arc;
 use std::test::Fail;
 
@@ -34,7 +34,12 @@ fn the_examples_of_regular_expressions_hold(rt: HostRuntime) -> Result<(), Fail>
     {
         let tables = Arc::new(alloc, Tables::small(alloc)?)?;
         assert!(rt; Regex::new(alloc, "(?:a|a)*b", &tables)?.is_linear());
-        assert!(rt; !Regex::new(alloc, "(a)\\1", &tables)?.is_linear());
+    }
+    // a pattern with a back reference is not
+    {
+        let tables = Arc::new(alloc, Tables::small(alloc)?)?;
+        let regex = Regex::new(alloc, "(a)\\1", &tables)?;
+        assert_eq!(rt; regex.nonlinear(), Some(Nonlinear::BackReference));
     }
     // flags are parsed
     {
