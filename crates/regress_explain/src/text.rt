@@ -1,0 +1,108 @@
+//! An explanation as lines of text.
+
+use crate::outline::{Part, outline};
+use crate::shown::written;
+use regress_parse::SpannedRegex;
+use std::alloc::{AllocError, Global};
+use std::fmt::Write;
+
+/// The form of the lines.
+#[derive(Clone, Copy)]
+struct Lines<'a> {
+    alloc: Global,
+    pattern: &'a [u32],
+    /// The width of the column of spans.
+    width: usize,
+}
+
+/// Returns an explanation of a parsed pattern for people, with a line for each part: its span, the part as it is
+/// written, and what it matches.
+///
+/// A part is a node of the tree; the root and the end of the pattern have no line, and alternatives are in one list.
+/// The parts inside follow, indented, in the order of the pattern, also in a lookbehind. Spans are half-open ranges of
+/// code-point indices. Invisible characters are shown by their numbers, as `U+000A`, and what is longer than 60
+/// characters is cut off.
+///
+/// The lines for `\d{4}-`:
+///
+/// ```text
+/// 0..6  \d{4}-  one after the other:
+/// 0..5    \d{4}  exactly 4 times:
+/// 0..2      \d  a digit, 0 to 9
+/// 5..6    -  the character "-"
+/// ```
+///
+/// `pattern` is the parsed pattern as code points, and `parsed` what `try_parse_with_spans` returns for it. A node for
+/// which a span is missing has the span 0..0.
+///
+/// # Errors
+/// Returns [`AllocError`] if an allocation fails. The arguments are only read.
+///
+/// # Complexity
+/// Time and memory are linear in the size of the tree. The depth of recursion is the nesting depth; right sides of
+/// alternatives take no stack.
+pub fn explain(
+    alloc: Global,
+    pattern: &[u32],
+    parsed: &SpannedRegex,
+) -> Result<String, AllocError> {
+    let parts = outline(alloc, pattern, parsed)?;
+    let last = pattern.len();
+    let lines = Lines {
+        alloc,
+        pattern,
+        width: format!(in alloc; "{last}..{last}")?.len(),
+    };
+    let mut text = String::new(alloc);
+    write_parts(&parts, 0, lines, &mut text)?;
+    Ok(text)
+}
+
+#[cycle(write_parts)]
+fn write_parts(
+    parts: &[Part],
+    depth: usize,
+    lines: Lines<'_>,
+    text: &mut String,
+) -> Result<(), AllocError> {
+    for part in parts {
+        write_part(part, depth, lines, text)?;
+    }
+    Ok(())
+}
+
+/// Writes the line of a part, and those of the parts inside.
+#[cycle(write_parts)]
+fn write_part(
+    part: &Part,
+    depth: usize,
+    lines: Lines<'_>,
+    text: &mut String,
+) -> Result<(), AllocError> {
+    write_line(part, depth, lines, text)?;
+    write_parts(&part.parts, depth.saturating_add(1), lines, text)
+}
+
+fn write_line(
+    part: &Part,
+    depth: usize,
+    lines: Lines<'_>,
+    text: &mut String,
+) -> Result<(), AllocError> {
+    let alloc = lines.alloc;
+    let (start, end) = (part.span.start, part.span.end);
+    let span = format!(in alloc; "{start}..{end}")?;
+    text.push_str(&span)?;
+    for _column in span.len()..lines.width {
+        text.push(' ')?;
+    }
+    for _outer in 0..depth {
+        text.push_str("  ")?;
+    }
+    let written = written(alloc, lines.pattern, part.span)?;
+    if !written.is_empty() {
+        write!(text, "  {written}")?;
+    }
+    let words = &part.words;
+    writeln!(text, "  {words}")
+}
