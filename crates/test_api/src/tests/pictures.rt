@@ -1,7 +1,12 @@
-//! A test of pictures: what the doc comment of `svg` promises beyond its clause.
+//! Tests of pictures and explanations: what the doc comments promise beyond the clauses.
 
 use super::parsed;
-use regress_railroad::svg;
+use regress_explain::explain;
+use regress_front::parse::try_parse_with_spans;
+use regress_front::types::Flags;
+use regress_front::unicode::Tables;
+use regress_front::util::code_points;
+use regress_railroad::{svg, svg_with_marks};
 use std::test::Fail;
 
 #[test]
@@ -16,6 +21,23 @@ fn a_picture_has_the_characters_and_the_names_of_its_pattern(rt: HostRuntime) ->
     }
     for reference in ["href", "url("] {
         assert!(rt; !picture.contains(reference));
+    }
+    Ok(())
+}
+
+#[test]
+fn a_pattern_is_explained_and_drawn_part_by_part(rt: HostRuntime) -> Result<(), Fail> {
+    let alloc = rt.alloc();
+    let tables = Tables::small(alloc)?;
+    let points = code_points(alloc, "\\d{4}-")?;
+    let parsed = try_parse_with_spans(alloc, &points, Flags::default(), &tables)?;
+    let text = explain(alloc, &points, &parsed)?;
+    let lines =
+        "0..6  \\d{4}-  one after the other:\n0..5    \\d{4}  exactly 4 times:\n0..2      \\d  a digit, 0 to 9\n5..6    -  the character \"-\"\n";
+    assert_eq!(rt; text.as_str(), lines);
+    let picture = svg_with_marks(alloc, &parsed.regex, &points, &parsed.spans)?;
+    for class in ["s0-2", "s0-5", "s5-6"] {
+        assert!(rt; picture.contains(class));
     }
     Ok(())
 }
