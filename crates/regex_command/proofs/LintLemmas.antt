@@ -1,5 +1,5 @@
 -- What a report is.
-use Rattle.std.proofs.Common.{◌≡◌, ◌∙◌, ◌+◌, ◌<◌, ◌≤◌, ℕ, Bool, false, List, [], ◌∷◌, ◌++◌, Option, Some, None, length, take, get_or, inl, inr, refl, ap, subst, sym, append-nil}
+use Rattle.std.proofs.Common.{◌≡◌, ◌∙◌, ◌+◌, ◌<◌, ◌≤◌, ℕ, Bool, false, List, [], ◌++◌, Option, Some, None, length, take, get_or, inl, inr, refl, ap, subst, sym, append-nil, append_assoc}
 use Rattle.std.specs.Prelude.{Result, Ok, Err, IfOk}
 use Rattle.std.specs.Io.KnownBytes.{Appends}
 use Rattle.std.specs.List.{FoldsTo}
@@ -13,20 +13,25 @@ use Rattle.regress_parse.specs.Accepted.{NoneIsAccepted}
 use Rattle.regress_tree.specs.Setting.{Setting}
 use Rattle.regress_ucd.specs.UnicodeTable.{unicode_table}
 use Rattle.regex_command.specs.Asked.{LintRequest}
-use Rattle.regex_command.specs.Linted.{HasDifferences, IsListed, IsListedNext, IsReport, is_nothing, setting_of_lint}
+use Rattle.regex_command.specs.Linted.{HasDifferences, IsListed, IsListedNext, IsReport, difference_line, is_nothing, setting_of_lint}
 use Rattle.regex_command.specs.declared.failure.Failure.{Failure}
 
 pub appends_nothing : (known : Option (List ℕ)) → Appends known known []
 appends_nothing None = tt
 appends_nothing (Some bytes) = sym (append-nil bytes)
 
+-- the line of a difference, and what is shown below it
+pub line_and_shown : (before line shown mid after : List ℕ) (d : Difference) → mid ≡ before ++ line → after ≡ mid ++ shown → line ≡ difference_line d →
+    IsListedNext before d after
+line_and_shown before line shown mid after d first second is_line =
+    (shown, second ∙ ap (λ x. x ++ shown) (first ∙ ap (λ x. before ++ x) is_line) ∙ append_assoc before (difference_line d) shown)
+
 -- one difference further
-pub one_more : (found : List Difference) (i : ℕ) (d : Difference) (before after : List ℕ) → i < length found → d ≡ get_or found i d →
-    FoldsTo IsListedNext [] (take i found) before → IsListedNext before d after → FoldsTo IsListedNext [] (take (i + 1) found) after
-one_more found i d before after within here steps next =
-    subst (λ (some : List Difference). FoldsTo IsListedNext [] some after)
-    (sym (take_more found i d within ∙ ap (λ x. take i found ++ x ∷ []) (sym here)))
-    (FoldsTo-push IsListedNext [] (take i found) before d after steps next)
+pub one_more : (found : List Difference) (i : ℕ) (e : Difference) (before after : List ℕ) → i < length found →
+    FoldsTo IsListedNext [] (take i found) before → IsListedNext before (get_or found i e) after → FoldsTo IsListedNext [] (take (i + 1) found) after
+one_more found i e before after within steps next =
+    subst (λ (some : List Difference). FoldsTo IsListedNext [] some after) (sym (take_more found i e within))
+    (FoldsTo-push IsListedNext [] (take i found) before (get_or found i e) after steps next)
 
 pub all_listed : (found : List Difference) (i : ℕ) (bytes : List ℕ) → length found ≤ i → FoldsTo IsListedNext [] (take i found) bytes → IsListed found bytes
 all_listed found i bytes all steps = subst (λ (some : List Difference). FoldsTo IsListedNext [] some bytes) (take_all i found all) steps

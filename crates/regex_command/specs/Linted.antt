@@ -23,12 +23,12 @@ HasDifferences setting source found = (p : Pattern) × (accepted : IsAccepted se
     × (found ≡ reported (flags_somewhere setting.flags source) source (spanned_of setting source p accepted.derived))
 
 -- `1-4: case-closure: ` and the text of the kind, for the code points from 1 on before 4
-abbrev pub line_of : Difference → List ℕ
-line_of d = decimal d.span.start ++ codes "-" ++ decimal d.span.end ++ codes ": " ++ name_of d.kind ++ codes ": " ++ text_of d.kind ++ codes "\n"
+abbrev pub difference_line : Difference → List ℕ
+difference_line d = decimal d.span.start ++ codes "-" ++ decimal d.span.end ++ codes ": " ++ name_of d.kind ++ codes ": " ++ text_of d.kind ++ codes "\n"
 
 -- one difference further: its line, and what shows it in the pattern
 abbrev pub IsListedNext : (before : List ℕ) → Difference → (after : List ℕ) → Type 0
-IsListedNext before d after = (shown : List ℕ) × (after ≡ before ++ (line_of d ++ shown))
+IsListedNext before d after = (shown : List ℕ) × (after ≡ before ++ (difference_line d ++ shown))
 
 -- all differences in order
 abbrev pub IsListed : List Difference → List ℕ → Type 0

@@ -1,9 +1,9 @@
 //! `lint`.
-ghost use Rattle.std.specs.Prelude.{◌≡◌, true, Ok, IfOk, IfErr, OnOk};
+ghost use Rattle.std.specs.Prelude.{◌≡◌, true, Ok, IfOk, IfErr, OnOk, string_bytes};
 ghost use Rattle.regress_arguments.specs.Output.{Took};
 ghost use Rattle.regex_command.specs.Asked.{lint_requested};
 ghost use Rattle.regex_command.specs.Ending.{IsLate, OrOutput};
-ghost use Rattle.regex_command.specs.Linted.{IsListed, IsListedNext, IsReport, is_nothing};
+ghost use Rattle.regex_command.specs.Linted.{IsListed, IsListedNext, IsReport, difference_line, is_nothing};
 
 use crate::failure::{Failure, write_syntax_error};
 use crate::printing::print;
@@ -75,8 +75,7 @@ fn listed(alloc: Global, pattern: &str, found: &[Difference]) -> Result<Vec<u8>,
     Ok(text)
 }
 
-/// Adds a line with the span of a difference in code points, its kind and what differs, and below it the pattern with a
-/// caret at the start of the span.
+/// Adds the line of a difference, and below it the pattern with a caret at the start of its span.
 fn add_difference(
     alloc: Global,
     pattern: &str,
@@ -85,13 +84,19 @@ fn add_difference(
 ) -> Result<(), AllocError>
     ensures { OnOk result (IsListedNext to.old.items difference.now to.new.items) }
 {
+    let line = line_of(alloc, difference)?;
+    to.extend_from_slice(line.as_bytes())?;
+    let mut shown = Vec::new(alloc);
+    write_with_caret(pattern, difference.span.start, &mut shown).map_err(|_| AllocError)?;
+    to.extend_from_slice(&shown)
+}
+
+/// Returns a line with the span of a difference in code points, its kind and what differs.
+fn line_of(alloc: Global, difference: &Difference) -> Result<String, AllocError>
+    ensures { IfOk result (λ line. string_bytes line ≡ difference_line difference.now) }
+{
     let Span { start, end } = difference.span;
     let name = difference.kind.name();
     let text = difference.kind.text();
-    let line = format!(in alloc; "{start}-{end}: {name}: {text}\n")?;
-    to.extend_from_slice(line.as_bytes())?;
-    let mut shown = Vec::new(alloc);
-    write_with_caret(pattern, start, &mut shown).map_err(|_| AllocError)?;
-    to.extend_from_slice(&shown)?;
-    Ok(())
+    format!(in alloc; "{start}-{end}: {name}: {text}\n")
 }

@@ -1,9 +1,10 @@
-use Rattle.regex_command.proofs.LintLemmas.{all_listed}
+use Rattle.regex_command.proofs.LintLemmas.{all_listed, one_more}
 use Rattle.regex_command.proofs.linting.listed.Goals as goal
 
 pub loop-difference-preserved : goal.loop-difference-preserved
 loop-difference-preserved c =
-    ?
+    one_more c.args.found.now c.loop-difference.difference-index _ c.loop-difference.text.items c.add_difference.new.to.items c.loop-difference-test.true
+    c.loop-difference.invariant c.in_ok-add_difference.ensures
 
 pub returns : goal.returns
 returns c =
