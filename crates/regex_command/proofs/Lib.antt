@@ -3,5 +3,7 @@ pub mod CountLemmas
 pub mod FoldLemmas
 pub mod InputLemmas
 pub mod LineLemmas
+pub mod LintLemmas
 pub mod ReplyLemmas
 pub mod SearchLemmas
+pub mod TreeLemmas

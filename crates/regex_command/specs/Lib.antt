@@ -3,8 +3,11 @@ pub mod Ending
 pub mod Inputs
 pub mod Job
 pub mod Lines
+pub mod Linted
 pub mod Options
 pub mod Printed
 pub mod Reading
 pub mod Reply
 pub mod Searched
+pub mod TreeOptions
+pub mod Trees

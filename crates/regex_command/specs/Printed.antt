@@ -8,10 +8,13 @@ use Rattle.regress_front.specs.Setting.{Setting}
 use Rattle.regress_ucd.specs.UnicodeTable.{unicode_table}
 use Rattle.regress.specs.Compiled.{IsCompiled}
 use Rattle.regress.specs.declared.pattern.Regex.{Regex}
-use Rattle.regex_command.specs.Asked.{Ask, Request, escape, help, search}
+use Rattle.regress_display.specs.Shown.{IsFirstOutput}
+use Rattle.regex_command.specs.Asked.{Ask, Request, escape, help, lint, search, show}
 use Rattle.regex_command.specs.Ending.{IsLate}
 use Rattle.regex_command.specs.Inputs.{WritesInputs, WritesSomeOf, inputs_of}
 use Rattle.regex_command.specs.Job.{Job, matching, replacing, splitting}
+use Rattle.regex_command.specs.Linted.{IsReport}
+use Rattle.regex_command.specs.Trees.{IsAnswer, IsQuietFor, IsShowFailure}
 use Rattle.regex_command.specs.declared.failure.Failure.{Failure}
 use Rattle.regex_command.specs.declared.failure.Failure.TheVariants.{Usage, Argument, Memory, Output, Syntax, TooLarge, OutOfSteps, Unreadable, NotUtf8, TooLong}
 
@@ -60,20 +63,35 @@ PrintsFirst input old new request =
 abbrev pub PrintsEscaped : (old new : Option (List ℕ)) → (text : List ℕ) → Type 0
 PrintsEscaped old new text = Took old new (λ bytes. (pattern : List ℕ) × (chars pattern ≡ escaped (chars text)) × (bytes ≡ pattern ++ codes "\n"))
 
--- What is written: the help, an escaped text, or the output of a search. `found` states whether something is found.
+-- What is written: the help, an escaped text, the output of a search, a tree, or a report. `found` states whether something
+-- is found, or a pattern is accepted and, for a report, without differences.
 abbrev pub Prints : (help : List ℕ) → (input old new : Option (List ℕ)) → (found : Bool) → Ask → Type 0
 Prints text input old new found help = (found ≡ true) × Appends old new text
 Prints text input old new found (escape string) = (found ≡ true) × PrintsEscaped old new string
 Prints text input old new found (search request) = PrintsAll input old new found request
+Prints text input old new found (show request) = Took old new (IsAnswer found request)
+Prints text input old new found (lint request) = Took old new (IsReport found request)
 
--- What is written before a failure: nothing, or what a search writes for its first lines.
+-- Nothing is written to standard error, unless a pattern is shown or reported on: if it is rejected, its syntax error is.
+abbrev pub IsQuiet : (quiet : Type 0) → Ask → Type 0
+IsQuiet quiet help = quiet
+IsQuiet quiet (escape string) = quiet
+IsQuiet quiet (search request) = quiet
+IsQuiet quiet (show request) = IsQuietFor request.format quiet
+IsQuiet quiet (lint request) = ⊤
+
+-- What is written before a failure: nothing, what a search writes for its first lines, or the first of two trees.
 abbrev pub PrintsSome : (input old new : Option (List ℕ)) → (nothing : Type 0) → Ask → Type 0
 PrintsSome input old new nothing help = nothing
 PrintsSome input old new nothing (escape string) = nothing
 PrintsSome input old new nothing (search request) = nothing ⊎ PrintsFirst input old new request
+PrintsSome input old new nothing (show request) = nothing ⊎ Took old new (IsFirstOutput request)
+PrintsSome input old new nothing (lint request) = nothing
 
 -- A failure is due: a syntax error only for a search whose pattern is rejected, wrong usage never.
 abbrev pub MayFail : Ask → Failure → Type 0
 MayFail help failure = IsLate failure
 MayFail (escape string) failure = IsLate failure
 MayFail (search request) failure = IsDue request failure
+MayFail (show request) failure = IsShowFailure request failure
+MayFail (lint request) failure = IsLate failure

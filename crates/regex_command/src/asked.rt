@@ -5,7 +5,9 @@ ghost use Rattle.regex_command.specs.Job.{job};
 
 use crate::options::{Options, read_options};
 use crate::task::{Selection, Shown, Task};
+use crate::tree_request::{LintRequest, View, read_lint, read_show};
 use regress_base::types::Flags;
+use regress_display::Request as TreeRequest;
 
 /// What the arguments ask for.
 #[derive(Clone, Copy)]
@@ -14,6 +16,10 @@ pub(crate) enum Asked<'a> {
     /// Write this text, escaped.
     Escape(&'a str),
     Search(Request<'a>),
+    /// Show the tree of a pattern.
+    Show(TreeRequest<'a>),
+    /// Report where a pattern may match otherwise than in ECMA-262.
+    Lint(LintRequest<'a>),
 }
 
 /// A task for the lines of files, or of standard input if there are none.
@@ -45,6 +51,9 @@ pub(crate) fn read_asked(args: &[String]) -> Option<Asked<'_>>
         "replace" => read_command(Command::Replace, rest),
         "split" => read_command(Command::Split, rest),
         "escape" => read_escape(rest),
+        "parse" => read_show(View::Parse, rest),
+        "draw" => read_show(View::Draw, rest),
+        "lint" => read_lint(rest),
         "--help" | "-h" => read_help(rest),
         _ => None,
     }

@@ -97,10 +97,7 @@ fn write_message<E: Write>(failure: Failure<'_>, args: &[String], err: &mut E) -
             pattern,
             text,
             position,
-        } => {
-            writeln!(err, "regex: {text}, at position {position}")?;
-            write_with_caret(pattern, position, err)
-        }
+        } => write_syntax_error(&text, pattern, position, err),
         Failure::TooLarge => writeln!(err, "regex: the pattern is too large"),
         Failure::OutOfSteps => writeln!(err, "regex: the search takes too many steps"),
         Failure::Unreadable(name) => {
@@ -123,4 +120,15 @@ fn write_name<E: Write>(name: &str, err: &mut E) -> io::Result<()> {
     err.write_all(b"regex: ")?;
     write_visible(name, err)?;
     err.write_all(b": ")
+}
+
+/// Writes a syntax error with its position, and the pattern with a caret.
+pub(crate) fn write_syntax_error<E: Write>(
+    text: &str,
+    pattern: &str,
+    position: usize,
+    err: &mut E,
+) -> io::Result<()> {
+    writeln!(err, "regex: {text}, at position {position}")?;
+    write_with_caret(pattern, position, err)
 }

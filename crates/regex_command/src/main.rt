@@ -1,34 +1,43 @@
-//! `regex` searches in lines of text: `regex match`, `regex replace`, `regex split` and `regex escape`. It exits with
-//! the status that `run_regex` returns, and with 2 if an argument is not UTF-8 or an allocation for the arguments or the
+//! `regex` searches in lines of text, by `regex match`, `regex replace` and `regex split`, escapes texts, by
+//! `regex escape`, and shows and checks patterns, by `regex parse`, `regex draw` and `regex lint`. It exits with the
+//! status that `run_regex` returns, and with 2 if an argument is not UTF-8 or an allocation for the arguments or the
 //! output buffer fails.
 #![tactic(auto)]
 
-ghost use Rattle.std.specs.Prelude.{◌≡◌, ◌≤◌, ◌⊎◌, true, false, None, IfSome, IfOk, IfErr, OnOk, Err};
+ghost use Rattle.std.specs.Prelude.{◌≡◌, ◌≤◌, ◌⊎◌, true, false, None, IfSome, IfOk, IfErr, Ok, Err};
 ghost use Rattle.std.specs.Io.KnownBytes.{Appends};
 ghost use Rattle.regex_command.specs.Asked.{asked_of, requested};
 ghost use Rattle.regex_command.specs.Ending.{IsLate, OrOutput};
 ghost use Rattle.regex_command.specs.Job.{job};
-ghost use Rattle.regex_command.specs.Printed.{IsDue, MayFail, Prints, PrintsAll, PrintsEscaped, PrintsFirst, PrintsSome, changes};
+ghost use Rattle.regex_command.specs.Printed.{IsDue, IsQuiet, MayFail, Prints, PrintsAll, PrintsEscaped, PrintsFirst, PrintsSome, changes};
 ghost use Rattle.regex_command.specs.declared.failure.Failure.TheVariants.{Output, Usage};
 
 mod asked;
 mod compiling;
 mod failure;
 mod inputs;
+mod linting;
 mod options;
 mod place;
+mod printing;
 mod reading;
 mod reply;
 mod searching;
+mod showing;
 mod task;
+mod tree_options;
+mod tree_request;
 mod usage;
 
 use asked::{Asked, Request, read_asked};
 use compiling::compiled;
 use failure::{Failure, report};
 use inputs::search_all;
+use linting::print_lint;
+use printing::print;
 use regress_arguments::{ArgumentsError, arguments};
 use regress_escape::escape;
+use showing::print_tree;
 use std::alloc::Global;
 use std::env::Env;
 use std::fs::Files;
@@ -75,7 +84,8 @@ fn run_buffered<R: Files, I: Read + Drop, W: Write + Drop, E: Write>(
     ensures none { result.0 ≡ 1 → IfSome (asked_of args.now) (λ ask. IfSome result.1 (λ new.
         Prints HELP.now (I.remaining input) (W.contents out) (W.contents new) false ask)) }
     ensures usage { asked_of args.now ≡ None → result.0 ≡ 2 }
-    ensures quiet { (result.0 ≡ 0) ⊎ (result.0 ≡ 1) → err.new ≡ err.old }
+    ensures quiet { result.0 ≡ 0 → err.new ≡ err.old }
+    ensures quiet_none { result.0 ≡ 1 → IfSome (asked_of args.now) (IsQuiet (err.new ≡ err.old)) }
 {
     match BufWriter::new(alloc, out) {
         Ok(mut buffered) => {
@@ -87,11 +97,14 @@ fn run_buffered<R: Files, I: Read + Drop, W: Write + Drop, E: Write>(
 }
 
 /// Runs the program on its arguments, without its own name, and returns its exit status:
-/// - 0: a line is selected, or the output of `replace`, `split`, `escape` or the help is written to `out`;
-/// - 1: no line is selected;
+/// - 0: a line is selected; the output of `replace`, `split`, `escape`, `parse`, `draw` or the help is written to
+///   `out`; or `lint` reports nothing;
+/// - 1: no line is selected; `lint` reports a difference; or `parse`, `draw` or `lint` rejects the pattern, and writes
+///   why to `err`, or with `--json` to `out`;
 /// - 2: a failure, whose message is written to `err`.
 ///
-/// With 2, the output for the first lines may have been written to `out`. An error of a write to `err` is ignored.
+/// With 2, the output for the first lines, or the first of two trees, may have been written to `out`. An error of a
+/// write to `err` is ignored.
 pub fn run_regex<R: Files, I: Read + Drop, W: Write, E: Write>(
     rt: &R,
     alloc: Global,
@@ -107,21 +120,24 @@ pub fn run_regex<R: Files, I: Read + Drop, W: Write, E: Write>(
         (Prints HELP.now (I.remaining input) (W.contents out.old) (W.contents out.new) false) }
     ensures usage { asked_of args.now ≡ None → result ≡ 2 }
     ensures untouched { asked_of args.now ≡ None → out.new ≡ out.old }
-    ensures quiet { (result ≡ 0) ⊎ (result ≡ 1) → err.new ≡ err.old }
+    ensures quiet { result ≡ 0 → err.new ≡ err.old }
+    ensures quiet_none { result ≡ 1 → IfSome (asked_of args.now) (IsQuiet (err.new ≡ err.old)) }
 {
-    match response(rt, alloc, args, input, out) {
+    match response(rt, alloc, args, input, out, err) {
         Ok(found) => { if found { 0 } else { 1 } }
         Err(failure) => report(failure, args, err),
     }
 }
 
-/// Writes what the arguments ask for, and returns whether it is found.
-fn response<'a, R: Files, I: Read + Drop, W: Write>(
+/// Writes what the arguments ask for, and returns whether it is found. Why a pattern is rejected that is to be shown or
+/// reported on is written to `err`.
+fn response<'a, R: Files, I: Read + Drop, W: Write, E: Write>(
     rt: &R,
     alloc: Global,
     args: &'a [String],
     input: I,
     out: &mut W,
+    err: &mut E,
 ) -> Result<bool, Failure<'a>>
     ensures usage { asked_of args.now ≡ None → result ≡ Err Usage }
     ensures untouched { asked_of args.now ≡ None → out.new ≡ out.old }
@@ -130,12 +146,16 @@ fn response<'a, R: Files, I: Read + Drop, W: Write>(
     ensures first { IfErr result (OrOutput (IfSome (asked_of args.now)
         (PrintsSome (I.remaining input) (W.contents out.old) (W.contents out.new) (out.new ≡ out.old)))) }
     ensures due { IfErr result (λ failure. IfSome (asked_of args.now) (λ ask. MayFail ask failure)) }
+    ensures quiet { result ≡ Ok true → err.new ≡ err.old }
+    ensures quiet_none { IfSome (asked_of args.now) (IsQuiet (err.new ≡ err.old)) }
 {
     match read_asked(args) {
         None => Err(Failure::Usage),
         Some(Asked::Help) => print_help(out),
         Some(Asked::Escape(text)) => print_escaped(alloc, text, out),
         Some(Asked::Search(request)) => print_search(rt, alloc, request, input, out),
+        Some(Asked::Show(request)) => print_tree(alloc, request, out, err),
+        Some(Asked::Lint(request)) => print_lint(alloc, request, out, err),
     }
 }
 
@@ -180,7 +200,7 @@ fn print_escaped<'a, W: Write>(
 {
     let mut pattern = escape(alloc, text)?;
     pattern.push_str("\n")?;
-    print(&pattern, out)?;
+    print(pattern.as_bytes(), out)?;
     Ok(true)
 }
 
@@ -191,18 +211,8 @@ fn print_help<'a, W: Write>(out: &mut W) -> Result<bool, Failure<'a>>
     ensures first { IfErr result (OrOutput (out.new ≡ out.old)) }
     ensures late { IfErr result IsLate }
 {
-    print(HELP, out)?;
+    print(HELP.as_bytes(), out)?;
     Ok(true)
-}
-
-/// Writes a text.
-fn print<'a, W: Write>(text: &str, out: &mut W) -> Result<(), Failure<'a>>
-    ensures text { OnOk result (Appends (W.contents out.old) (W.contents out.new) text.now) }
-    ensures output { IfErr result (λ failure. failure ≡ Output) }
-{
-    out.write_all(text.as_bytes()).map_err(|_| Failure::Output)?;
-    out.flush().map_err(|_| Failure::Output)?;
-    Ok(())
 }
 
 /// The help: usage, options and exit statuses.
@@ -211,6 +221,9 @@ usage: regex match [OPTION..] [--] PATTERN [FILE..]
        regex replace [OPTION..] [--] PATTERN TEMPLATE [FILE..]
        regex split [OPTION..] [--] PATTERN [FILE..]
        regex escape TEXT
+       regex parse [OPTION..] [--] PATTERN
+       regex draw [OPTION..] [--] PATTERN
+       regex lint [OPTION..] [--] PATTERN
 
 Searches in the lines of files, or of standard input, for PATTERN, a regular expression in ECMAScript
 syntax, over all of Unicode.
@@ -219,6 +232,9 @@ syntax, over all of Unicode.
            $<name> a group with a name, and $$ a dollar sign
   split    writes each piece of a line between matches on a line
   escape   writes a pattern that matches TEXT
+  parse    writes the parsed tree of PATTERN, a line --, and the optimized tree
+  draw     writes a railroad diagram of PATTERN as an SVG picture
+  lint     writes where PATTERN may match otherwise than in ECMA-262, and why
 
   -i               ignore case
   --flags=LETTERS  flags of JavaScript, of imsuv; none without this option
@@ -232,9 +248,22 @@ Of match only, and -no is -n -o:
   -c      write only how many lines are selected
   -l      write only the names of the files in which a line is selected
   -q      write nothing, and end at the first selected line; also --quiet
+Of parse and draw only:
+  --json       one JSON object, of the parsed tree unless --optimized is given; of parse only
+  --parsed     the parsed tree only
+  --optimized  the optimized tree only
+  --small      with the small table: ASCII and a few more characters
 
 exit status:
-  0  a line is selected, or the output of replace, split or escape is written
-  1  no line is selected
-  2  a failure: its message is written to standard error, and no more lines are searched
+  0  a line is selected, or the output of replace, split, escape, parse or draw is written, or lint
+     reports nothing
+  1  no line is selected, or parse, draw or lint rejects PATTERN, or lint reports something
+  2  an error of any kind: its message is on standard error, and no more lines are searched
+
+examples:
+  regex match -n '\\d+' notes.txt
+  regex replace '(\\w+) (\\w+)' '$2, $1' names.txt
+  regex parse --json '[a-f]+'
+  regex draw '\\d{4}-\\d\\d' >date.svg
+  regex lint -i '[k]'
 ";

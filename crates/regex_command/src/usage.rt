@@ -2,6 +2,7 @@
 
 use crate::asked::is_plain;
 use crate::options::{NO_OPTIONS, is_option, read_options, takes_count, with_count, with_option};
+use crate::tree_options::{NO_TREE_OPTIONS, read_tree_options, with_tree_option};
 use regress_arguments::write_visible;
 use std::io::{self, Write};
 
@@ -11,6 +12,9 @@ usage: regex match [OPTION..] PATTERN [FILE..]
        regex replace [OPTION..] PATTERN TEMPLATE [FILE..]
        regex split [OPTION..] PATTERN [FILE..]
        regex escape TEXT
+       regex parse [OPTION..] PATTERN
+       regex draw [OPTION..] PATTERN
+       regex lint [OPTION..] PATTERN
 ";
 
 /// Why arguments are invalid.
@@ -53,6 +57,7 @@ fn usage_error(args: &[String]) -> UsageError<'_> {
     };
     match (first.as_str(), rest) {
         ("match" | "replace" | "split", _) => search_error(first.as_str(), rest),
+        ("parse" | "draw" | "lint", _) => pattern_error(first.as_str(), rest),
         ("escape", []) => UsageError::Missing("TEXT"),
         ("escape", [_, more, ..]) | ("--help" | "-h", [more, ..]) => {
             UsageError::Unexpected(more.as_str())
@@ -110,6 +115,29 @@ fn search_error<'a>(command: &str, args: &'a [String]) -> UsageError<'a> {
     }
     match read_options(args) {
         Some((_, [_, ..])) => UsageError::Missing("TEMPLATE"),
+        _ => UsageError::Missing("PATTERN"),
+    }
+}
+
+/// Returns why the arguments of a command that shows or checks a pattern are invalid.
+fn pattern_error<'a>(command: &str, args: &'a [String]) -> UsageError<'a> {
+    for arg in args {
+        let word = arg.as_str();
+        if word == "--" || !is_option(word) {
+            break;
+        }
+        match with_tree_option(NO_TREE_OPTIONS, word) {
+            None if word.starts_with("--flags=") => return UsageError::InvalidFlags(word),
+            Some(options) if !is_plain(options.common.selection) => {
+                return UsageError::OnlyOfMatch(word);
+            }
+            Some(_) if command == "parse" || word == "-i" || word.starts_with("--flags=") => {}
+            Some(_) if command == "draw" && word != "--json" => {}
+            _ => return UsageError::UnknownOption(word),
+        }
+    }
+    match read_tree_options(args) {
+        Some((_, [_, more, ..])) => UsageError::Unexpected(more.as_str()),
         _ => UsageError::Missing("PATTERN"),
     }
 }

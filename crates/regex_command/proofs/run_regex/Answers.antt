@@ -1,5 +1,5 @@
-use Rattle.std.proofs.Common.{subst}
-use Rattle.std.specs.Prelude.{IfSome}
+use Rattle.std.proofs.Common.{◌∙◌, ap, subst}
+use Rattle.std.specs.Prelude.{IfSome, Ok}
 use Rattle.regex_command.specs.Asked.{asked_of}
 use Rattle.regex_command.specs.Printed.{Prints}
 use Rattle.regex_command.specs.declared.TheConstants.{HELP}
@@ -16,3 +16,6 @@ returns-else-found-clause-none g c _ =
     subst (λ found. IfSome (asked_of c.args.args.now)
     (Prints HELP.now (g.I.Read.remaining c.args.input) (g.W.Write.contents c.args.out.now) (g.W.Write.contents c.response.new.out) found))
     c.if-found.false c.in-Ok.ensures.found
+
+pub returns-then-found-clause-quiet : goal.returns-then-found-clause-quiet
+returns-then-found-clause-quiet g c _ = c.response.ensures.quiet (c.in-Ok.is ∙ ap Ok c.if-found.true)

@@ -1,0 +1,70 @@
+-- What a report is.
+use Rattle.std.proofs.Common.{◌≡◌, ◌∙◌, ◌+◌, ◌<◌, ◌≤◌, ℕ, Bool, false, List, [], ◌++◌, Option, Some, None, length, take, get_or, inl, inr, refl, ap, subst, sym, append-nil, append_assoc}
+use Rattle.std.specs.Prelude.{Result, Ok, Err, IfOk}
+use Rattle.std.specs.Io.KnownBytes.{Appends}
+use Rattle.std.specs.List.{FoldsTo}
+use Rattle.std.proofs.lemmas.Fn.{FoldsTo-push}
+use Rattle.std.proofs.lemmas.List.{take_all, take_more}
+use Rattle.regress_arguments.specs.Output.{Took}
+use Rattle.regress_base.specs.declared.types.Flags.{Flags}
+use Rattle.regress_base.specs.Table.{Table}
+use Rattle.regress_differences.specs.declared.kind.Difference.{Difference}
+use Rattle.regress_parse.specs.Accepted.{NoneIsAccepted}
+use Rattle.regress_tree.specs.Setting.{Setting}
+use Rattle.regress_ucd.specs.UnicodeTable.{unicode_table}
+use Rattle.regex_command.specs.Asked.{LintRequest}
+use Rattle.regex_command.specs.Linted.{HasDifferences, IsListed, IsListedNext, IsReport, difference_line, is_nothing, setting_of_lint}
+use Rattle.regex_command.specs.declared.failure.Failure.{Failure}
+
+pub appends_nothing : (known : Option (List ℕ)) → Appends known known []
+appends_nothing None = tt
+appends_nothing (Some bytes) = sym (append-nil bytes)
+
+-- the line of a difference, and what is shown below it
+pub line_and_shown : (before line shown mid after : List ℕ) (d : Difference) → mid ≡ before ++ line → after ≡ mid ++ shown → line ≡ difference_line d →
+    IsListedNext before d after
+line_and_shown before line shown mid after d first second is_line =
+    (shown, second ∙ ap (λ x. x ++ shown) (first ∙ ap (λ x. before ++ x) is_line) ∙ append_assoc before (difference_line d) shown)
+
+-- one difference further
+pub one_more : (found : List Difference) (i : ℕ) (e : Difference) (before after : List ℕ) → i < length found →
+    FoldsTo IsListedNext [] (take i found) before → IsListedNext before (get_or found i e) after → FoldsTo IsListedNext [] (take (i + 1) found) after
+one_more found i e before after within steps next =
+    subst (λ (some : List Difference). FoldsTo IsListedNext [] some after) (sym (take_more found i e within))
+    (FoldsTo-push IsListedNext [] (take i found) before (get_or found i e) after steps next)
+
+pub all_listed : (found : List Difference) (i : ℕ) (bytes : List ℕ) → length found ≤ i → FoldsTo IsListedNext [] (take i found) bytes → IsListed found bytes
+all_listed found i bytes all steps = subst (λ (some : List Difference). FoldsTo IsListedNext [] some bytes) (take_all i found all) steps
+
+abbrev setting : Flags → Table → Setting
+setting flags table = record { flags = flags; table = table }
+
+module _ (request : LintRequest) (source : List ℕ) (table : Table) (characters : source ≡ request.pattern) (same : table ≡ unicode_table) where
+  -- the differences of the pattern
+  pub reports : (found : List Difference) (r : Result Bool Failure) (old new : Option (List ℕ)) → HasDifferences (setting request.flags table) source found →
+      IfOk r (λ _. Took old new (IsListed found)) → IfOk r (λ clean. clean ≡ is_nothing found) → IfOk r (λ clean. Took old new (IsReport clean request))
+  reports found (Ok clean) old new differ (bytes, listed, appends) is_clean = (
+    bytes,
+    inl (record {
+      found = found;
+      differ = subst (λ (x : List ℕ). HasDifferences (setting_of_lint request) x found) characters
+          (subst (λ (x : Table). HasDifferences (setting request.flags x) source found) same differ);
+      listed = listed;
+      is_clean = is_clean;
+    }),
+    appends,
+  )
+  reports found (Err failure) old new differ took is_clean = tt
+
+  -- a rejected pattern
+  pub rejects : (known : Option (List ℕ)) → NoneIsAccepted (setting request.flags table) source → Took known known (IsReport false request)
+  rejects known none = (
+    [],
+    inr (record {
+      none = subst (λ (x : List ℕ). NoneIsAccepted (setting_of_lint request) x) characters
+          (subst (λ (x : Table). NoneIsAccepted (setting request.flags x) source) same none);
+      nothing = refl;
+      unclean = refl;
+    }),
+    appends_nothing known,
+  )

@@ -1,0 +1,99 @@
+//! `parse` and `draw`.
+ghost use Rattle.std.specs.Prelude.{◌≡◌, ◌≢◌, true, false, ◌⊎◌, Ok, IfOk, IfErr, string_bytes};
+ghost use Rattle.regress_arguments.specs.Output.{Took};
+ghost use Rattle.regress_display.specs.Accepted.{IsFault, NoneIsAccepted, setting_of_request};
+ghost use Rattle.regress_display.specs.Fault.{IsFaultOutput};
+ghost use Rattle.regress_display.specs.Request.{requested};
+ghost use Rattle.regress_display.specs.Shown.{IsFirstOutput};
+ghost use Rattle.regex_command.specs.Ending.{OrOutput};
+ghost use Rattle.regex_command.specs.Trees.{HasFaultOutput, IsAnswer, IsFaultWritten, IsQuietFor, IsShowFailure};
+ghost use Rattle.regex_command.specs.declared.failure.Failure.TheVariants.{Output};
+
+use crate::failure::{Failure, write_syntax_error};
+use regress_display::{Format, Request, ShowError, show, write_json_fault};
+use regress_parse::{Error, FaultKind};
+use std::alloc::Global;
+use std::io::Write;
+
+/// Writes the tree of a pattern, or why it is rejected, and returns whether it is accepted.
+///
+/// A syntax error is written to `out` if the format is JSON, and else to `err`.
+pub(crate) fn print_tree<'a, W: Write, E: Write>(
+    alloc: Global,
+    request: Request<'a>,
+    out: &mut W,
+    err: &mut E,
+) -> Result<bool, Failure<'a>>
+    ensures shown { IfOk result (λ accepted.
+        Took (W.contents out.old) (W.contents out.new) (IsAnswer accepted (requested request.entry))) }
+    ensures quiet { result ≡ Ok true → err.new ≡ err.old }
+    ensures quiet_fault { IsQuietFor request.entry.format (err.new ≡ err.old) }
+    ensures first { IfErr result (OrOutput ((out.new ≡ out.old)
+        ⊎ Took (W.contents out.old) (W.contents out.new) (IsFirstOutput (requested request.entry)))) }
+    ensures due { IfErr result (IsShowFailure (requested request.entry)) }
+{
+    match show(alloc, &request, out) {
+        Ok(()) => Ok(true),
+        Err(
+            ShowError::Syntax {
+                kind,
+                error,
+                position,
+            },
+        ) => print_fault(&kind, &error, position, request, out, err),
+        Err(ShowError::Memory) => Err(Failure::Memory),
+        Err(ShowError::Output) => Err(Failure::Output),
+    }
+}
+
+/// Writes why a pattern is rejected, and returns that it is not accepted.
+fn print_fault<'a, W: Write, E: Write>(
+    kind: &FaultKind,
+    error: &Error,
+    position: usize,
+    request: Request<'a>,
+    out: &mut W,
+    err: &mut E,
+) -> Result<bool, Failure<'a>>
+    requires { IsFault (setting_of_request (requested request)) (requested request).pattern kind.now
+        (string_bytes error.now.text) position }
+    ensures shown { IfOk result (λ accepted. (accepted ≡ false) × Took (W.contents out.old) (W.contents out.new)
+        (IsFaultWritten request.entry.format (requested request.entry))) }
+    ensures quiet { result ≡ Ok true → err.new ≡ err.old }
+    ensures quiet_fault { IsQuietFor request.entry.format (err.new ≡ err.old) }
+    ensures failed { IfErr result (λ failure. (failure ≡ Output)
+        × HasFaultOutput request.entry.format (requested request.entry)) }
+{
+    match request.format {
+        Format::Text => {
+            let _ = write_syntax_error(&error.text, request.pattern, position, err);
+            Ok(false)
+        }
+        Format::Json => print_json_fault(kind, error, position, request, out),
+        Format::Svg => {
+            let _ = write_syntax_error(&error.text, request.pattern, position, err);
+            Ok(false)
+        }
+    }
+}
+
+/// Writes why a pattern is rejected as JSON, and returns that it is not accepted.
+fn print_json_fault<'a, W: Write>(
+    kind: &FaultKind,
+    error: &Error,
+    position: usize,
+    request: Request<'a>,
+    out: &mut W,
+) -> Result<bool, Failure<'a>>
+    requires { IsFault (setting_of_request (requested request)) (requested request).pattern kind.now
+        (string_bytes error.now.text) position }
+    ensures shown { IfOk result (λ accepted. (accepted ≡ false)
+        × Took (W.contents out.old) (W.contents out.new) (IsFaultOutput (requested request.entry))) }
+    ensures quiet { result ≢ Ok true }
+    ensures failed { IfErr result (λ failure. (failure ≡ Output) × NoneIsAccepted (requested request.entry)) }
+{
+    match write_json_fault(kind, error, position, out) {
+        Ok(()) => Ok(false),
+        Err(_) => Err(Failure::Output),
+    }
+}

@@ -1,2 +1,0 @@
-mod BufferedLemmas
-mod ShownLemmas

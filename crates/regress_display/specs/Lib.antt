@@ -1,0 +1,7 @@
+pub mod Request
+pub mod Accepted
+pub mod Fault
+pub mod Shown
+pub mod Ending
+-- re-exports what the public contract cites from another crate
+pub use Rattle.regress_arguments.specs.Output

@@ -1,0 +1,31 @@
+-- What to show of a pattern.
+use Rattle.std.specs.Prelude.{ℕ, Bool, List, if◌then◌else◌, chars}
+use Rattle.regress_base.specs.Table.{Table}
+use Rattle.regress_base.specs.declared.types.Flags.{Flags}
+use Rattle.regress_ucd.specs.UnicodeTable.{unicode_table}
+use Rattle.regress_unicode.specs.SmallTable.{small_table}
+use Rattle.regress_display.specs.declared.request.Format.{Format}
+use Rattle.regress_display.specs.declared.request.Stage.{Stage}
+use Rattle.regress_display.specs.declared.request.Request as code
+
+-- which tree of a pattern to show in which format; the pattern as a list of code points
+pub record Request : Type 0 where
+  pub format : Format
+  pub stage : Stage
+  pub table : Table
+  pub pattern : List ℕ
+  pub flags : Flags
+
+-- the small table, or that of all of Unicode
+abbrev pub table_asked : Bool → Table
+table_asked small = if small then small_table else unicode_table
+
+-- a request as the code represents it
+abbrev pub requested : code.Request → Request
+requested r = record {
+  format = r.format;
+  stage = r.stage;
+  table = table_asked r.small;
+  pattern = chars r.pattern.now;
+  flags = r.flags;
+}
