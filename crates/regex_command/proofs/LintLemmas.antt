@@ -1,6 +1,7 @@
 -- What a report is.
 use Rattle.std.proofs.Common.{◌≡◌, ◌∙◌, ◌+◌, ◌<◌, ◌≤◌, ℕ, Bool, false, List, [], ◌++◌, Option, Some, None, length, take, get_or, inl, inr, refl, ap, subst, sym, append-nil, append_assoc}
-use Rattle.std.specs.Prelude.{Result, Ok, Err, IfOk}
+use Rattle.std.specs.Prelude.{Result, Ok, Err, IfOk, codes}
+use Rattle.std.specs.Fmt.{decimal}
 use Rattle.std.specs.Io.KnownBytes.{Appends}
 use Rattle.std.specs.List.{FoldsTo}
 use Rattle.std.proofs.lemmas.Fn.{FoldsTo-push}
@@ -8,6 +9,7 @@ use Rattle.std.proofs.lemmas.List.{take_all, take_more}
 use Rattle.regress_arguments.specs.Output.{Took}
 use Rattle.regress_base.specs.declared.types.Flags.{Flags}
 use Rattle.regress_base.specs.Table.{Table}
+use Rattle.regress_differences.specs.Kinds.{name_of, text_of}
 use Rattle.regress_differences.specs.declared.kind.Difference.{Difference}
 use Rattle.regress_parse.specs.Accepted.{NoneIsAccepted}
 use Rattle.regress_tree.specs.Setting.{Setting}
@@ -19,6 +21,24 @@ use Rattle.regex_command.specs.declared.failure.Failure.{Failure}
 pub appends_nothing : (known : Option (List ℕ)) → Appends known known []
 appends_nothing None = tt
 appends_nothing (Some bytes) = sym (append-nil bytes)
+
+-- eight lists, joined from the right and from the left
+joined : (a b c d e f g h : List ℕ) → a ++ (b ++ (c ++ (d ++ (e ++ (f ++ (g ++ h)))))) ≡ a ++ b ++ c ++ d ++ e ++ f ++ g ++ h
+joined a b c d e f g h =
+    sym (append_assoc a b (c ++ (d ++ (e ++ (f ++ (g ++ h))))))
+    ∙ sym (append_assoc (a ++ b) c (d ++ (e ++ (f ++ (g ++ h)))))
+    ∙ sym (append_assoc (a ++ b ++ c) d (e ++ (f ++ (g ++ h))))
+    ∙ sym (append_assoc (a ++ b ++ c ++ d) e (f ++ (g ++ h)))
+    ∙ sym (append_assoc (a ++ b ++ c ++ d ++ e) f (g ++ h))
+    ∙ sym (append_assoc (a ++ b ++ c ++ d ++ e ++ f) g h)
+
+-- the line of a difference, from the texts of its kind
+pub line_of_texts : (d : Difference) (name text : List ℕ) → name ≡ name_of d.kind → text ≡ text_of d.kind →
+    decimal d.span.start ++ (codes "-" ++ (decimal d.span.end ++ (codes ": " ++ (name ++ (codes ": " ++ (text ++ codes "\n")))))) ≡ difference_line d
+line_of_texts d name text is_name is_text =
+    joined (decimal d.span.start) (codes "-") (decimal d.span.end) (codes ": ") name (codes ": ") text (codes "\n")
+    ∙ ap (λ x. decimal d.span.start ++ codes "-" ++ decimal d.span.end ++ codes ": " ++ x ++ codes ": " ++ text ++ codes "\n") is_name
+    ∙ ap (λ x. decimal d.span.start ++ codes "-" ++ decimal d.span.end ++ codes ": " ++ name_of d.kind ++ codes ": " ++ x ++ codes "\n") is_text
 
 -- the line of a difference, and what is shown below it
 pub line_and_shown : (before line shown mid after : List ℕ) (d : Difference) → mid ≡ before ++ line → after ≡ mid ++ shown → line ≡ difference_line d →

@@ -88,7 +88,8 @@ fn add_difference(
     to.extend_from_slice(line.as_bytes())?;
     let mut shown = Vec::new(alloc);
     write_with_caret(pattern, difference.span.start, &mut shown).map_err(|_| AllocError)?;
-    to.extend_from_slice(&shown)
+    to.extend_from_slice(&shown)?;
+    Ok(())
 }
 
 /// Returns a line with the span of a difference in code points, its kind and what differs.
@@ -98,5 +99,5 @@ fn line_of(alloc: Global, difference: &Difference) -> Result<String, AllocError>
     let Span { start, end } = difference.span;
     let name = difference.kind.name();
     let text = difference.kind.text();
-    format!(in alloc; "{start}-{end}: {name}: {text}\n")
+    Ok(format!(in alloc; "{start}-{end}: {name}: {text}\n")?)
 }
