@@ -38,6 +38,11 @@ pub record Progress (old new : MatcherMatches) (groups : List Capture) (before a
   pub chain : AreMatches (iterated_text old) (iterated_outcomes old) (iterated_from old) (iterated_from new) found
   pub written : Appends before after (flat_map (line groups) found)
 
+-- Nothing is specified of what was written before an output error.
+pub output_leaves : (nothing first : Type 0) (r : Result Bool Failure) → IfErr r (λ failure. failure ≡ Output) → IfErr r (Leaves nothing first)
+output_leaves nothing first (Ok any) h = tt
+output_leaves nothing first (Err failure) h = subst (Leaves nothing first) (sym h) tt
+
 appends_nothing : (known : Option (List ℕ)) → Appends known known []
 appends_nothing None = tt
 appends_nothing (Some bytes) = sym (append-nil bytes)

@@ -1,5 +1,5 @@
 -- The lines of the search are the lines of the tree.
-use Rattle.std.proofs.Common.{◌≡◌, ◌∙◌, sym, subst, map}
+use Rattle.std.proofs.Common.{◌≡◌, ◌∙◌, rules, sym, subst, map}
 use Rattle.std.specs.Arc.{arc_value}
 use Rattle.std.specs.Prelude.{IfOk, IfErr, IfSome}
 use Rattle.regress_front.specs.SettingOf.{setting_of}
@@ -7,7 +7,7 @@ use Rattle.regress_front.specs.Tree.{tree}
 use Rattle.regress_match.specs.Names.{capture_of}
 use Rattle.regex_match.specs.Ending.{Leaves}
 use Rattle.regex_match.specs.Printed.{WritesRest, WritesSome}
-use Rattle.regex_match.proofs.SearchingLemmas.{all_of, first_of, same_outcomes_of}
+use Rattle.regex_match.proofs.SearchingLemmas.{all_of, first_of, output_leaves, same_outcomes_of}
 use Rattle.regex_match.proofs.searching.print_found.Goals as goal
 
 pub returns-clause-all : goal.returns-clause-all
@@ -43,3 +43,6 @@ returns-clause-leaves g c =
     (subst (λ bytes. IfSome input (λ known. bytes ≡ known)) (sym (c.find_iter-matches.ensures.text ∙ c.deref.ensures)) c.in_ok-text.ensures.text)
     c.in_ok-groups.ensures.all c.in_ok-groups.ensures.sorted c.flush.ensures.bytes _ r
     (subst (λ gs. IfErr r (Leaves _ (WritesSome m (map capture_of gs) old between))) c.deref-2.ensures.value c.write_all-ended.ensures.leaves)
+
+pub returns-in_err-map_err-clause-leaves : goal.returns-in_err-map_err-clause-leaves
+returns-in_err-map_err-clause-leaves g c = output_leaves _ _ c.from_residual-in_err-map_err.result (search rules)
