@@ -1,6 +1,6 @@
 -- The matches that an iteration has found.
 use Rattle.std.proofs.Common.{◌≡◌, ◌∙◌, ℕ, ◌<◌, false, List, [], ◌∷◌, ◌++◌, Option, Some, None, All, length, map, refl, subst, sym, option_map, arith}
-use Rattle.std.specs.Prelude.{◌↔◌, IfSome, IsSome, IsTrue, Ok, is_some}
+use Rattle.std.specs.Prelude.{◌↔◌, IfNone, IfSome, IsSome, IsTrue, Ok, is_some}
 use Rattle.std.proofs.lemmas.List.{map-append}
 use Rattle.std.proofs.lemmas.List.Elements.{All-cons, All-head, All-nil, All-push, All-tail}
 use Rattle.regress_front.specs.Steps.{MatchState}
@@ -21,6 +21,11 @@ use Rattle.regress.specs.Replaced.{AreFirstMatches}
 use Rattle.regress.specs.Searched.{Advances, has_failed, next_from, searched_factor, searched_groups, searched_outcomes, searched_text}
 use Rattle.regress.specs.declared.found.Match.{Match}
 use Rattle.regress.specs.declared.search.Matches.{Matches}
+
+-- What follows from a fact without a bound.
+pub map_none : (o : Option ℕ) (P Q : Type 0) → (P → Q) → IfNone o P → IfNone o Q
+map_none None P Q f p = f p
+map_none (Some n) P Q f p = tt
 
 -- A search finds a match exactly if there is one.
 pub somewhere : (text : List ℕ) (at : ℕ → List MatchState) (found : Option Match) → one.Finds text at 0 (option_map match_of found) →

@@ -9,6 +9,7 @@ use Rattle.regress_match.specs.Matched.{outcomes_at}
 use Rattle.regress_match.specs.Matcher as matcher
 use Rattle.regress_match.specs.Matcher.{matcher_setting, matcher_tree}
 use Rattle.regress_match.specs.Names.{capture_of}
+use Rattle.regress_match.specs.declared.nonlinear.Nonlinear.{Nonlinear}
 use Rattle.regress.specs.Accepted.{IsTreeOf}
 use Rattle.regress.specs.declared.pattern.Regex.{Regex}
 
@@ -36,6 +37,14 @@ outcomes_of r text = outcomes_at (setting_of r) text (tree_of r)
 -- linear time
 abbrev pub factor_of : Regex → Option ℕ
 factor_of r = matcher.factor_of r.matcher
+
+-- the step limit of a search if they are not known to
+abbrev pub limit_of : Regex → ℕ
+limit_of r = r.steps
+
+-- why searches are not known to take linear time; none if they do
+abbrev pub nonlinear_of : Regex → Option Nonlinear
+nonlinear_of r = matcher.nonlinear_of r.matcher
 
 -- The regular expression is compiled from this text under this setting.
 pub record IsCompiled (s : Setting) (text : List ℕ) (r : Regex) : Type 0 where

@@ -5,7 +5,7 @@ use Rattle.regress_front.specs.WellFormed.{Capture}
 use Rattle.regress_match.specs.Matched.{IsInside}
 use Rattle.regress_program.specs.Found as one
 use Rattle.regress_match.specs.Names.{capture_of}
-use Rattle.regress_match.specs.Iterated.{iterated_from, iterated_matcher, iterated_outcomes, iterated_text}
+use Rattle.regress_match.specs.Iterated.{iterated_from, iterated_matcher, iterated_outcomes, iterated_text, step_limit}
 use Rattle.regress_match.specs.Matcher.{factor_of}
 use Rattle.regress_match.specs.Searched.{next_offset}
 use Rattle.regress.specs.Found.{groups_in, match_of}
@@ -34,16 +34,21 @@ searched_groups m = map capture_of m.groups.now
 abbrev pub searched_factor : Matches → Option ℕ
 searched_factor m = factor_of (iterated_matcher m.matches)
 
+-- the step limit if they are not
+abbrev pub search_limit : Matches → ℕ
+search_limit m = step_limit m.matches
+
 -- an error was returned
 abbrev pub has_failed : Matches → Bool
 has_failed m = m.failed
 
--- the text, the pattern, its groups and the bound are unchanged
+-- the text, the pattern, its groups, the bound and the step limit are unchanged
 pub record IsSameSearch (old new : Matches) : Type 0 where
   pub text : searched_text new ≡ searched_text old
   pub outcomes : searched_outcomes new ≡ searched_outcomes old
   pub groups : searched_groups new ≡ searched_groups old
   pub linear : searched_factor new ≡ searched_factor old
+  pub limit : search_limit new ≡ search_limit old
 
 -- The next match: the leftmost one from the offset at which the search was, which goes on at its end.
 pub record IsNext (old : Matches) (m : Match) (new : Matches) : Type 0 where

@@ -12,7 +12,7 @@ use regress_front::parse::node_bound;
 use regress_front::types::Flags;
 use regress_front::unicode::Tables;
 use regress_front::util::code_points;
-use regress_match::{Group, Limits, Match as Found, Matcher, groups};
+use regress_match::{Group, Limits, Match as Found, Matcher, Nonlinear, groups};
 use std::alloc::Global;
 use std::fmt::{self, Display, Formatter, Write};
 use std::sync::Arc;
@@ -49,23 +49,23 @@ pub struct Regex {
 }
 
 impl Regex {
-    ghost use Rattle.std.specs.Prelude.{◌≡◌, ◌<◌, ◌≤◌, ◌↔◌, false, All, IsTrue, IfOk, IfErr, IfSome, None, chars, is_some, length, map, min, option_map};
+    ghost use Rattle.std.specs.Prelude.{◌≡◌, ◌<◌, ◌≤◌, ◌↔◌, false, All, IsTrue, IfOk, IfErr, IfNone, IfSome, None, chars, is_none, is_some, length, map, min, option_map};
     ghost use Rattle.std.specs.Arc.{arc_value};
     ghost use Rattle.regress_front.specs.Bound.{HasAtMost};
     ghost use Rattle.regress_front.specs.SettingOf.{setting_of as setting_under};
     ghost use Rattle.regress_match.specs.Matched.{IsInside};
-    ghost use Rattle.regress_match.specs.Matcher.{IsFactorOf};
+    ghost use Rattle.regress_match.specs.Matcher.{IsFactorOf, IsNonlinearOf};
     ghost use Rattle.regress_match.specs.Searched.{AreAllMatches};
     ghost use Rattle.regress_program.specs.Found.{Finds};
     ghost use Rattle.regress_program.specs.Size.{program_size};
     ghost use Rattle.regress_replace.specs.Order.{AreInOrder};
-    ghost use Rattle.regress.specs.Compiled.{IsCompiled, factor_of, groups_of, outcomes_of, setting_of, source_of, tree_of};
+    ghost use Rattle.regress.specs.Compiled.{IsCompiled, factor_of, groups_of, limit_of, nonlinear_of, outcomes_of, setting_of, source_of, tree_of};
     ghost use Rattle.regress.specs.Failures.{IsDue};
     ghost use Rattle.regress.specs.Found.{MatchesSomewhere, groups_in, match_of};
     ghost use Rattle.regress.specs.Groups.{names_left};
     ghost use Rattle.regress.specs.Letters.{no_flags};
     ghost use Rattle.regress.specs.Limits.{default_options};
-    ghost use Rattle.regress.specs.Searched.{has_failed, next_from, searched_factor, searched_groups, searched_outcomes, searched_text};
+    ghost use Rattle.regress.specs.Searched.{has_failed, next_from, search_limit, searched_factor, searched_groups, searched_outcomes, searched_text};
     ghost use Rattle.regress.specs.declared.failure.SearchError.TheVariants.{OutOfSteps};
 
     /// Compiles a pattern without flags, within the default [`Options`].
@@ -120,7 +120,9 @@ impl Regex {
         ensures failed { IfErr result (IsDue (setting_under flags (arc_value tables.now)) (chars pattern.now) options) }
         ensures small { IfOk result (λ _. options.nodes < usize.MAX → HasAtMost flags (chars pattern.now) options.nodes) }
         ensures within { IfOk result (λ regex. program_size (tree_of regex) ≤ options.instructions) }
+        ensures limit { IfOk result (λ regex. limit_of regex ≡ options.steps) }
         ensures linear { IfOk result (λ regex. IsFactorOf options.tables (tree_of regex) (factor_of regex)) }
+        ensures nonlinear { IfOk result (λ regex. IsNonlinearOf options.tables (tree_of regex) (nonlinear_of regex)) }
     {
         let points = code_points(alloc, pattern)?;
         let bound = node_bound(&points, flags);
@@ -225,9 +227,24 @@ impl Regex {
         ensures outcomes { searched_outcomes result ≡ outcomes_of self.now text.now }
         ensures groups { searched_groups result ≡ groups_of self.now }
         ensures linear { searched_factor result ≡ factor_of self.now }
+        ensures limit { IfNone (factor_of self.now) (search_limit result ≡ limit_of self.now) }
         ensures failed { has_failed result ≡ false }
     {
-        Matches::new(alloc, &self.matcher, &self.groups, text, self.steps)
+        self.find_iter_from(alloc, text, 0)
+    }
+
+    /// Returns an iterator over the non-overlapping matches in `text` that start at the byte offset `start` or later, as
+    /// [`Regex::find_iter`] does and with a `start` as for [`Regex::find_from`].
+    pub fn find_iter_from<'r>(&'r self, alloc: Global, text: &'r str, start: usize) -> Matches<'r>
+        ensures from { next_from result ≡ start }
+        ensures text { searched_text result ≡ text.now }
+        ensures outcomes { searched_outcomes result ≡ outcomes_of self.now text.now }
+        ensures groups { searched_groups result ≡ groups_of self.now }
+        ensures linear { searched_factor result ≡ factor_of self.now }
+        ensures limit { IfNone (factor_of self.now) (search_limit result ≡ limit_of self.now) }
+        ensures failed { has_failed result ≡ false }
+    {
+        Matches::new(alloc, &self.matcher, &self.groups, text, start, self.steps)
     }
 
     /// Returns all non-overlapping matches in `text`, from left to right, as [`Regex::find_iter`] finds them.
@@ -287,12 +304,27 @@ impl Regex {
     /// ```
     /// let tables = Arc::new(alloc, Tables::small(alloc)?)?;
     /// assert!(rt; Regex::new(alloc, "(?:a|a)*b", &tables)?.is_linear());
-    /// assert!(rt; !Regex::new(alloc, "(a)\\1", &tables)?.is_linear());
     /// ```
     pub fn is_linear(&self) -> bool
         ensures { result ≡ is_some (factor_of self.now) }
     {
         self.matcher.is_linear()
+    }
+
+    /// Returns why searches are not known to take linear time, and `None` if they do. If several reasons hold, it is the
+    /// first in the order of [`Nonlinear`].
+    ///
+    /// # Examples
+    /// ```
+    /// let tables = Arc::new(alloc, Tables::small(alloc)?)?;
+    /// let regex = Regex::new(alloc, "(a)\\1", &tables)?;
+    /// assert_eq!(rt; regex.nonlinear(), Some(Nonlinear::BackReference));
+    /// ```
+    pub fn nonlinear(&self) -> Option<Nonlinear>
+        ensures reason { result ≡ nonlinear_of self.now }
+        ensures linear { is_none result ≡ is_some (factor_of self.now) }
+    {
+        self.matcher.nonlinear()
     }
 
     /// Returns an upper bound for the steps of a search for each byte of a text, counting its end as one more; at most

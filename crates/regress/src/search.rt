@@ -67,31 +67,42 @@ pub struct Matches<'r> {
 }
 
 impl<'r> Matches<'r> {
-    ghost use Rattle.std.specs.Prelude.{◌≡◌, false, map};
+    ghost use Rattle.std.specs.Prelude.{◌≡◌, ◌≤◌, ◌+◌, ◌*◌, IfNone, false, length, map};
     ghost use Rattle.regress_match.specs.Names.{capture_of};
-    ghost use Rattle.regress.specs.Searched.{Proceeds, has_failed, next_from, searched_factor, searched_groups, searched_outcomes, searched_text};
+    ghost use Rattle.regress.specs.Searched.{Proceeds, has_failed, next_from, search_limit, searched_factor, searched_groups, searched_outcomes, searched_text};
 
     pub(crate) fn new(
         alloc: Global,
         matcher: &'r Matcher,
         groups: &'r [Group],
         text: &'r str,
+        from: usize,
         steps: u64,
     ) -> Matches<'r>
         requires { ∥ IsWellFormed (matcher_tree matcher.now) ∥₁ }
-        ensures from { next_from result ≡ 0 }
+        ensures from { next_from result ≡ from }
         ensures text { searched_text result ≡ text.now }
         ensures outcomes { searched_outcomes result ≡ matcher_outcomes matcher.now text.now }
         ensures groups { searched_groups result ≡ map capture_of groups.now }
         ensures linear { searched_factor result ≡ factor_of matcher.now }
+        ensures limit { IfNone (factor_of matcher.now) (search_limit result ≡ steps) }
         ensures failed { has_failed result ≡ false }
     {
         Matches {
-            matches: matcher.find_iter(text, 0, steps),
+            matches: matcher.find_iter(text, from, steps),
             groups,
             alloc,
             failed: false,
         }
+    }
+
+    /// Returns the number of steps that the search took so far. Of a call of `next` that returned
+    /// [`SearchError::Memory`] some are not counted.
+    pub fn steps(&self) -> u64
+        ensures linear { IfSome (searched_factor self.now) (λ n. result ≤ n * (length (searched_text self.now) + 1)) }
+        ensures limited { IfNone (searched_factor self.now) (result ≤ search_limit self.now) }
+    {
+        self.matches.steps()
     }
 
     /// Returns the next match.

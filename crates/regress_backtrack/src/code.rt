@@ -1,7 +1,7 @@
 //! Programs that own what they run.
 ghost use Rattle.std.specs.Prelude.{◌≡◌, ◌<◌, length, min};
 ghost use Rattle.regress_program.specs.Compiled.{total};
-ghost use Rattle.regress_program.specs.Linear.{is_linear};
+ghost use Rattle.regress_program.specs.Linear.{reason};
 ghost use Rattle.regress_program.specs.Shape.{IsForwards, IsProgram};
 ghost use Rattle.regress_program.specs.Unique.{forwards-prop, program-prop};
 ghost use Rattle.regress_backtrack.specs.Candidates.{BeginsAt, BeginsAt-prop};
@@ -13,6 +13,7 @@ use crate::instruction::Routine;
 use crate::test::Test;
 use regress_base::types::Flags;
 use regress_prefilter::candidates::Candidates;
+use regress_program::Nonlinear;
 
 /// A program that owns what it runs. It is a copy of a [`Program`](regress_program::Program), and refers neither to the
 /// tree nor to the case mappings.
@@ -28,8 +29,8 @@ pub struct Code {
     pub(crate) groups: usize,
     /// The number of instructions, at most `usize::MAX`.
     pub(crate) instructions: usize,
-    /// Whether it can be searched in linear time, by tables.
-    pub(crate) linear: bool,
+    /// Why it cannot be searched in linear time, by tables.
+    pub(crate) nonlinear: Option<Nonlinear>,
     /// Where matches can begin.
     pub(crate) candidates: Candidates,
     ghost some: { 0 < length routines.items },
@@ -39,7 +40,7 @@ pub struct Code {
     ghost begins: { BeginsAt candidates (program_in tests.items routines.items) } by { BeginsAt-prop candidates (program_in tests.items routines.items) },
     ghost fronted: { HaveFronts tests.items routines.items } by { HaveFronts-prop tests.items routines.items },
     ghost passing: { HavePasses routines.items } by { HavePasses-prop routines.items },
-    ghost linear_if: { linear ≡ is_linear (program_in tests.items routines.items) },
+    ghost linear_unless: { nonlinear ≡ reason (program_in tests.items routines.items) },
 }
 
 impl Code {
@@ -59,11 +60,11 @@ impl Code {
         self.groups
     }
 
-    /// Returns whether the program can be searched in linear time, by tables: whether it has neither a back reference
-    /// nor a lookaround that sets captures.
-    pub fn is_linear(&self) -> bool
-        ensures { result ≡ is_linear (code_routines self.now) }
+    /// Returns why the program cannot be searched in linear time, by tables: a back reference, or if it has none, a
+    /// lookaround that sets captures. The result is `None` if it can be.
+    pub fn nonlinear(&self) -> Option<Nonlinear>
+        ensures { result ≡ reason (code_routines self.now) }
     {
-        self.linear
+        self.nonlinear
     }
 }

@@ -82,7 +82,7 @@ fn own(alloc: Global, program: &Program<'_, '_>, candidates: Candidates) -> Resu
         flags: program.rules(false).flags,
         groups: program.groups(),
         instructions: program.instructions(),
-        linear: program.is_linear(),
+        nonlinear: program.nonlinear(),
         candidates,
     })
 }

@@ -1,6 +1,6 @@
 -- Searches with the program of a pattern.
 use Rattle.std.proofs.Common.{◌≡◌, ℕ, ◌+◌, ◌-◌, ◌*◌, ◌≤◌, Bool, true, false, not, ◌&&◌, List, [], ◌∷◌, filter, length, min, max, Option, Some, None, IfSome, IsNone, refl, sym, ap, ap₂, subst, ◌∙◌, arith}
-use Rattle.std.specs.Prelude.{if◌then◌else◌, is_some, Result, Ok, Err, IfOk}
+use Rattle.std.specs.Prelude.{if◌then◌else◌, is_none, is_some, Result, Ok, Err, IfOk}
 use Rattle.std.specs.declared.alloc.AllocError.{AllocError}
 use Rattle.std.specs.Arc.{arc_value}
 use Rattle.std.proofs.Math.Nat.{mul-le-mul_left}
@@ -17,7 +17,7 @@ use Rattle.regress_unicode.specs.declared.Tables.{Tables}
 use Rattle.regress_program.specs.Compiled.{IsPattern, total}
 use Rattle.regress_program.specs.Found as searches
 use Rattle.regress_program.specs.Found.{no_groups, start_of, state_of}
-use Rattle.regress_program.specs.Linear.{is_linear}
+use Rattle.regress_program.specs.Linear.{is_linear, reason}
 use Rattle.regress_program.specs.Program.{IsSolution, Out, Routine, matcher_of}
 use Rattle.regress_program.specs.declared.fault.CompileFault.{CompileFault}
 use Rattle.regress_program.specs.Search as program
@@ -27,6 +27,9 @@ use Rattle.regress_program.specs.declared.found.Match.{Match}
 use Rattle.regress_program.specs.declared.found.Search.{Search}
 use Rattle.regress_program.specs.declared.program.Program.{Program}
 use Rattle.regress_program.specs.declared.text.TextSearch.{TextSearch}
+use Rattle.regress_program.specs.declared.nonlinear.Nonlinear.{Nonlinear as Reason}
+use Rattle.regress_program.specs.declared.nonlinear.Nonlinear.TheVariants as reasons
+use Rattle.regress_program.proofs.lemmas.Reasons.{linear-reason}
 use Rattle.regress_program.proofs.lemmas.Solutions.{finds_by, solution}
 use Rattle.regress_backtrack.specs.Backtracker.{AreOutcomes, SameRuns, run_code, run_tables, run_text}
 use Rattle.regress_backtrack.specs.Backtracker as runs
@@ -39,7 +42,7 @@ use Rattle.regress_backtrack.specs.declared.outcome.Outcome.TheVariants as outco
 use Rattle.regress_match.specs.Compiled.{IsCodeOf, IsProgramOf, all_outcomes}
 use Rattle.regress_match.specs.Kept.{IfKept, IsKept, IsRunOf}
 use Rattle.regress_match.specs.Matched.{Finds, IfMatched, IsFirst, IsInside, outcomes_at}
-use Rattle.regress_match.specs.Matcher.{factor, factor_of, factor_with, matcher_outcomes, matcher_setting, matcher_tree, outcome_if}
+use Rattle.regress_match.specs.Matcher.{factor, factor_of, factor_with, matcher_outcomes, matcher_setting, matcher_tree, nonlinear_by, nonlinear_with, outcome_if}
 use Rattle.regress_match.specs.Searched.{offset_after}
 use Rattle.regress_match.specs.declared.matcher.Matcher.{Matcher}
 use Rattle.regress_match.proofs.lemmas.Inside.{first_inside}
@@ -226,6 +229,19 @@ bound_linear routines true some = by (is_linear routines) some
     by true is = (refl, refl)
     by false is = absurd (cc)
 bound_linear routines false some = absurd (cc)
+
+-- There is a bound exactly if there is no reason against it.
+pub linear-unless : (routines : List Routine) (within : Bool) → is_none (nonlinear_with routines within) ≡ is_some (factor_with routines within)
+linear-unless routines within =
+    by (reason routines) within ∙ ap (λ b. is_some (if within && b then Some (factor (total routines)) else None)) (sym (linear-reason routines))
+  where
+    by : (r : Option Reason) (w : Bool) → is_none (nonlinear_by r w) ≡ is_some (if w && is_none r then Some (factor (total routines)) else None)
+    by None true = refl
+    by None false = refl
+    by (Some reasons.BackReference) true = refl
+    by (Some reasons.BackReference) false = refl
+    by (Some reasons.CapturingLookaround) true = refl
+    by (Some reasons.CapturingLookaround) false = refl
 
 -- the steps of a matcher
 module _ (m : Matcher) (text : List ℕ) (limit left from taken : ℕ) (search : Option TextSearch) (kept : IfKept m text from taken search) where

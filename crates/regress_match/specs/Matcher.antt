@@ -6,15 +6,19 @@ use Rattle.regress_tree.specs.Steps.{MatchState}
 use Rattle.regress_tree.specs.Tree.{Tree, tree}
 use Rattle.regress_unicode.specs.TableOf.{table_of}
 use Rattle.regress_program.specs.Compiled.{IsPattern, total}
-use Rattle.regress_program.specs.Linear.{is_linear}
+use Rattle.regress_program.specs.Linear.{is_linear, reason}
 use Rattle.regress_program.specs.Program.{Routine}
 use Rattle.regress_program.specs.Size.{program_size}
 use Rattle.regress_program.specs.declared.found.Match.{Match}
+use Rattle.regress_program.specs.declared.nonlinear.Nonlinear.{Nonlinear as Reason}
+use Rattle.regress_program.specs.declared.nonlinear.Nonlinear.TheVariants as reasons
 use Rattle.regress_backtrack.specs.Code.{code_routines}
 use Rattle.regress_backtrack.specs.declared.outcome.Outcome.{Outcome}
 use Rattle.regress_backtrack.specs.declared.outcome.Outcome.TheVariants as outcomes
 use Rattle.regress_match.specs.Matched.{IfOutOfSteps, outcomes_at}
 use Rattle.regress_match.specs.declared.matcher.Matcher.{Matcher}
+use Rattle.regress_match.specs.declared.nonlinear.Nonlinear.{Nonlinear}
+use Rattle.regress_match.specs.declared.nonlinear.Nonlinear.TheVariants.{BackReference, CapturingLookaround, TooManyInstructions}
 
 -- the flags and the case mappings of a matcher
 abbrev pub matcher_setting : Matcher → Setting
@@ -45,9 +49,31 @@ pub record IsFactorOf (limit : ℕ) (t : Tree) (bound : Option ℕ) : Type 0 whe
   pub size : total routines ≡ program_size t
   pub is : bound ≡ factor_with routines (nat_le (total routines) limit)
 
+-- why a program is not searched in linear time: by its instructions, or else because it is not within the limit on tables;
+-- none if it is searched in linear time
+abbrev pub nonlinear_by : Option Reason → (within : Bool) → Option Nonlinear
+nonlinear_by (Some reasons.BackReference) within = Some BackReference
+nonlinear_by (Some reasons.CapturingLookaround) within = Some CapturingLookaround
+nonlinear_by None within = if within then None else Some TooManyInstructions
+
+abbrev pub nonlinear_with : List Routine → (within : Bool) → Option Nonlinear
+nonlinear_with routines within = nonlinear_by (reason routines) within
+
+-- This is why a program that matches the tree, with as many instructions as the size of the tree, is not searched in
+-- linear time.
+pub record IsNonlinearOf (limit : ℕ) (t : Tree) (why : Option Nonlinear) : Type 0 where
+  pub routines : List Routine
+  pub pattern : IsPattern routines t
+  pub size : total routines ≡ program_size t
+  pub is : why ≡ nonlinear_with routines (nat_le (total routines) limit)
+
 -- that of a matcher; none if its searches are not known to take linear time
 abbrev pub factor_of : Matcher → Option ℕ
 factor_of m = factor_with (code_routines m.code) m.within
+
+-- why its searches are not known to take linear time
+abbrev pub nonlinear_of : Matcher → Option Nonlinear
+nonlinear_of m = nonlinear_with (code_routines m.code) m.within
 
 -- A search in linear time is never out of steps, and takes at most this number of steps for each character.
 abbrev pub IsLinear : (factor : ℕ) (text : List ℕ) → Outcome → (steps : ℕ) → Type 0

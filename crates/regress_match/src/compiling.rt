@@ -9,7 +9,7 @@ ghost use Rattle.regress_program.specs.Size.{program_size};
 ghost use Rattle.regress_program.specs.declared.fault.CompileFault.TheVariants.{TooLong};
 ghost use Rattle.regress_backtrack.specs.Code.{code_routines};
 ghost use Rattle.regress_match.specs.Compiled.{IsCodeOf};
-ghost use Rattle.regress_match.specs.Matcher.{IsFactorOf, factor, factor_of, matcher_setting, matcher_tree};
+ghost use Rattle.regress_match.specs.Matcher.{IsFactorOf, IsNonlinearOf, factor, factor_of, matcher_setting, matcher_tree, nonlinear_of};
 
 use crate::limits::Limits;
 use crate::matcher::Matcher;
@@ -41,6 +41,7 @@ impl Matcher {
         ensures setting { IfOk result (λ m. matcher_setting m ≡ record { flags = regex.flags; table = table_of (arc_value tables.now) }) }
         ensures tree { IfOk result (λ m. matcher_tree m ≡ tree regex.node) }
         ensures linear { IfOk result (λ m. IsFactorOf limits.tables (tree regex.node) (factor_of m)) }
+        ensures nonlinear { IfOk result (λ m. IsNonlinearOf limits.tables (tree regex.node) (nonlinear_of m)) }
         ensures within { IfOk result (λ _. program_size (tree regex.node) ≤ limits.instructions) }
         ensures too_long { result ≡ Err TooLong → length (captures (tree regex.node)) < usize.MAX → limits.instructions < program_size (tree regex.node) }
     {
@@ -67,7 +68,7 @@ impl Matcher {
     pub fn is_linear(&self) -> bool
         ensures { result ≡ is_some (factor_of self.now) }
     {
-        self.within && self.code.is_linear()
+        self.nonlinear().is_none()
     }
 
     /// Returns an upper bound for the steps of a search for each byte of a text, counting its end as one more; at most

@@ -8,12 +8,14 @@ mod limits;
 mod matcher;
 mod matcher_matches;
 pub mod names;
+mod nonlinear;
 mod searches;
 
 pub use limits::Limits;
 pub use matcher::Matcher;
 pub use matcher_matches::MatcherMatches;
 pub use names::{Group, groups, named};
+pub use nonlinear::Nonlinear;
 pub use regress_backtrack::{Found, Outcome};
 pub use regress_prefilter::{first_bytes, next_candidate};
 pub use regress_program::{CompileFault, Match};

@@ -2,9 +2,7 @@
 use Rattle.std.proofs.Common.{◌≡◌, ℕ, zero, suc, Bool, true, false, not, ◌&&◌, ◌||◌, List, [], ◌∷◌, ◌+◌, take, slice_get, Some, refl, sym, ap, subst, ◌∙◌, arith}
 use Rattle.std.specs.List.{list_all, list_any}
 use Rattle.regress_tree.specs.Tree.{Tree}
-use Rattle.regress_program.specs.declared.nonlinear.Nonlinear.{Nonlinear}
-use Rattle.regress_program.specs.declared.nonlinear.Nonlinear.TheVariants.{BackReference, CapturingLookaround}
-use Rattle.regress_program.specs.Linear.{is_back_ref, is_back_reference, is_capturing, is_capturing_lookaround, is_linear_op, is_linear, is_reason, has_reason}
+use Rattle.regress_program.specs.Linear.{is_back_ref, is_capturing, is_linear_op, is_linear}
 use Rattle.regress_program.specs.Program.{Op, part, look, Routine}
 
 and_true : (a b : Bool) → (a && b) ≡ true → (a ≡ true) × (b ≡ true)
@@ -60,14 +58,6 @@ any-suc p (y ∷ ys) (suc i) x is none here =
     let both = or_false (p y) (list_any p (take i ys)) none in
     ap (λ b. b || list_any p (take (suc i) ys)) both.0 ∙ any-suc p ys i x is both.1 here
 
-all-suc : {X : Type 0} (p : X → Bool) (xs : List X) (i : ℕ) (x : X) → slice_get xs i ≡ Some x → list_all p (take i xs) ≡ true → p x ≡ true →
-    list_all p (take (suc i) xs) ≡ true
-all-suc p [] i x is all here = refl
-all-suc p (y ∷ ys) zero x is all here = let same : y ≡ x = cc in ap (λ b. b && true) (ap p same ∙ here)
-all-suc p (y ∷ ys) (suc i) x is all here =
-    let both = and_true (p y) (list_all p (take i ys)) all in
-    ap (λ b. b && list_all p (take (suc i) ys)) both.0 ∙ all-suc p ys i x is both.1 here
-
 pub any-more : {X : Type 0} (p : X → Bool) (xs : List X) (i : ℕ) (x : X) → slice_get xs i ≡ Some x → list_any p (take i xs) ≡ false → p x ≡ false →
     list_any p (take (i + 1) xs) ≡ false
 any-more p xs i x is none here = let e : i + 1 ≡ suc i = omega arith in subst (λ k. list_any p (take k xs) ≡ false) (sym e) (any-suc p xs i x is none here)
@@ -76,30 +66,3 @@ pub any-at : {X : Type 0} (p : X → Bool) (xs : List X) (i : ℕ) (x : X) → s
 any-at p [] i x is here = cc
 any-at p (y ∷ ys) zero x is here = let same : y ≡ x = cc in ap (λ b. b || list_any p ys) (ap p same ∙ here)
 any-at p (y ∷ ys) (suc i) x is here = true_or (p y) (list_any p ys) (any-at p ys i x is here)
-
-pub all-more : {X : Type 0} (p : X → Bool) (xs : List X) (i : ℕ) (x : X) → slice_get xs i ≡ Some x → list_all p (take i xs) ≡ true → p x ≡ true →
-    list_all p (take (i + 1) xs) ≡ true
-all-more p xs i x is all here = let e : i + 1 ≡ suc i = omega arith in subst (λ k. list_all p (take k xs) ≡ true) (sym e) (all-suc p xs i x is all here)
-
--- ---- reasons
-
-and_false : (b : Bool) → (b && false) ≡ false
-and_false true = refl
-and_false false = refl
-
-not-both : (b c bs cs : Bool) → (c ≡ true → b ≡ false) → (cs ≡ true → bs ≡ false) → (c || cs) ≡ true → (b && bs) ≡ false
-not-both b true bs cs first rest some = ap (λ a. a && bs) (first refl)
-not-both b false bs cs first rest some = ap (λ a. b && a) (rest some) ∙ and_false b
-
-not-all : {X : Type 0} (p q : X → Bool) (xs : List X) → ((x : X) → q x ≡ true → p x ≡ false) → list_any q xs ≡ true → list_all p xs ≡ false
-not-all p q [] opposite some = cc
-not-all p q (x ∷ xs) opposite some = not-both (p x) (q x) (list_all p xs) (list_any q xs) (opposite x) (not-all p q xs opposite) some
-
-reason-not : (program : List Routine) (reason : Nonlinear) (op : Op) → is_reason program reason op ≡ true → is_linear_op program op ≡ false
-reason-not program BackReference op is = ap (λ b. not b && not (is_capturing_lookaround program op)) is
-reason-not program CapturingLookaround op is = ap (λ b. not (is_back_reference op) && not b) is ∙ and_false (not (is_back_reference op))
-
-pub reason-nonlinear : (program : List Routine) (reason : Nonlinear) → has_reason program reason ≡ true → is_linear program ≡ false
-reason-nonlinear program reason some =
-    not-all (λ (r : Routine). list_all (is_linear_op program) r.ops) (λ (r : Routine). list_any (is_reason program reason) r.ops) program
-    (λ r some'. not-all (is_linear_op program) (is_reason program reason) r.ops (reason-not program reason) some') some

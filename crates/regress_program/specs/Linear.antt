@@ -1,5 +1,5 @@
 -- Linear programs: those without back references, and in which no lookaround that succeeds changes captures.
-use Rattle.std.specs.Prelude.{Bool, true, false, not, ◌&&◌, List, nat_lt, slice_get, Option, Some, None}
+use Rattle.std.specs.Prelude.{if◌then◌else◌, Bool, true, false, not, ◌&&◌, List, nat_lt, slice_get, Option, Some, None}
 use Rattle.std.specs.List.{list_all, list_any}
 use Rattle.regress_tree.specs.Tree.{Tree, leaf, back_ref}
 use Rattle.regress_program.specs.declared.nonlinear.Nonlinear.{Nonlinear}
@@ -48,3 +48,10 @@ is_reason program CapturingLookaround op = is_capturing_lookaround program op
 -- An instruction of the program is of this kind.
 abbrev pub has_reason : List Routine → Nonlinear → Bool
 has_reason program why = list_any (λ r. list_any (is_reason program why) r.ops) program
+
+-- Why the program is not linear: it has a back reference, or if not, a lookaround that captures; none if it is linear.
+abbrev pub reason : List Routine → Option Nonlinear
+reason program =
+    if has_reason program BackReference then Some BackReference
+    else if has_reason program CapturingLookaround then Some CapturingLookaround
+    else None

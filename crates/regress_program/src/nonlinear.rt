@@ -1,8 +1,8 @@
 //! Which programs are linear.
-ghost use Rattle.std.specs.Prelude.{◌≡◌, IfErr, IfOk, MatchOption, true, false};
-ghost use Rattle.std.specs.List.{list_all, list_any};
+ghost use Rattle.std.specs.Prelude.{◌≡◌, IfErr, IfOk, Some, true, false};
+ghost use Rattle.std.specs.List.{list_any};
 ghost use Rattle.regress_tree.specs.Tree.{tree};
-ghost use Rattle.regress_program.specs.Linear.{has_reason, is_back_ref, is_linear, is_linear_op, is_reason};
+ghost use Rattle.regress_program.specs.Linear.{has_reason, is_back_ref, is_back_reference, is_capturing_lookaround, is_linear, is_reason, reason};
 ghost use Rattle.regress_program.specs.Search.{routines_of};
 ghost use Rattle.regress_program.specs.Views.{op_of, ops_of, program_of};
 
@@ -16,7 +16,7 @@ use regress_tree::ir::Node;
 ///
 /// A search in linear time is by tables, which have a bit for each instruction and position: whether there is an outcome
 /// from there. They know nothing of captures.
-#[derive(Debug, Clone, Copy, thiserror::Error)]
+#[derive(Clone, Copy, Debug, PartialEq, Eq, thiserror::Error)]
 pub enum Nonlinear {
     /// The pattern has a back reference, and what it matches depends on the captures.
     #[error("the pattern has a back reference")]
@@ -34,8 +34,7 @@ impl<'n, 't> Program<'n, 't> {
     /// Linear in the number of instructions, since a routine belongs to one lookaround.
     ///
     /// # Errors
-    /// Returns a [`Nonlinear`] if the pattern has a back reference, or a lookaround that is not negated and sets or
-    /// resets captures. It is that of the first such instruction, in the order of the routines.
+    /// Returns what [`Program::nonlinear`] returns, if it is a reason.
     ///
     /// # Examples
     /// ```
@@ -49,79 +48,87 @@ impl<'n, 't> Program<'n, 't> {
         ensures same { IfOk result (λ linear. linear.program ≡ self.entry) }
         ensures linear { IfOk result (λ _. is_linear (routines_of self.entry) ≡ true) }
         ensures not { IfErr result (λ _. is_linear (routines_of self.entry) ≡ false) }
-        ensures reason { IfErr result (λ reason. has_reason (routines_of self.entry) reason ≡ true) }
+        ensures reason { IfErr result (λ why. reason (routines_of self.entry) ≡ Some why) }
     {
-        match first_reason(&self.routines) {
+        match self.nonlinear() {
             Some(reason) => Err(reason),
             None => Ok(Linear { program: self }),
         }
     }
 
-    /// Returns whether the program is searched in linear time.
+    /// Returns why a search may take more than linear time: a back reference, or if the pattern has none, a lookaround
+    /// that is not negated and sets or resets captures. The result is `None` if the program is linear.
     ///
     /// # Complexity
     /// As that of [`Program::linear`].
-    pub fn is_linear(&self) -> bool
-        ensures { result ≡ is_linear (routines_of self.now) }
+    pub fn nonlinear(&self) -> Option<Nonlinear>
+        ensures { result ≡ reason (routines_of self.now) }
     {
-        match first_reason(&self.routines) {
-            Some(_) => false,
-            None => true,
+        if has_reason(&self.routines, Nonlinear::BackReference) {
+            Some(Nonlinear::BackReference)
+        } else if has_reason(&self.routines, Nonlinear::CapturingLookaround) {
+            Some(Nonlinear::CapturingLookaround)
+        } else {
+            None
         }
     }
 }
 
-/// Returns the first reason why a search with these routines may take more than linear time, or `None` if there is none.
-fn first_reason(routines: &[Routine<'_>]) -> Option<Nonlinear>
-    ensures { MatchOption result (is_linear (program_of routines.now) ≡ true)
-        (λ reason. has_reason (program_of routines.now) reason ≡ true) }
+/// Returns whether an instruction of these routines is of a kind that is not linear.
+fn has_reason(routines: &[Routine<'_>], why: Nonlinear) -> bool
+    ensures { result ≡ has_reason (program_of routines.now) why }
 {
     for routine in routines {
-        if let Some(reason) = first_in(routines, &routine.instructions) {
-            return Some(reason);
+        if any_is_reason(routines, why, &routine.instructions) {
+            return true;
         }
     }
-    None
+    false
 }
 
-/// Returns the first reason among the instructions of a routine.
-fn first_in(routines: &[Routine<'_>], instructions: &[Instruction<'_>]) -> Option<Nonlinear>
-    ensures { MatchOption result (list_all (is_linear_op (program_of routines.now)) (ops_of instructions.now) ≡ true)
-        (λ reason. list_any (is_reason (program_of routines.now) reason) (ops_of instructions.now) ≡ true) }
+/// Returns whether one of the instructions of a routine is of that kind.
+fn any_is_reason(routines: &[Routine<'_>], why: Nonlinear, instructions: &[Instruction<'_>]) -> bool
+    ensures { result ≡ list_any (is_reason (program_of routines.now) why) (ops_of instructions.now) }
 {
     for instruction in instructions {
-        if let Some(reason) = reason_of(routines, instruction) {
-            return Some(reason);
+        if is_reason(routines, why, instruction) {
+            return true;
         }
     }
-    None
+    false
 }
 
-/// Returns why a search with this instruction may take more than linear time, or `None` if it is no reason.
-fn reason_of(routines: &[Routine<'_>], instruction: &Instruction<'_>) -> Option<Nonlinear>
-    ensures { MatchOption result (is_linear_op (program_of routines.now) (op_of instruction.now) ≡ true)
-        (λ reason. is_reason (program_of routines.now) reason (op_of instruction.now) ≡ true) }
+/// Returns whether the instruction is of that kind.
+fn is_reason(routines: &[Routine<'_>], why: Nonlinear, instruction: &Instruction<'_>) -> bool
+    ensures { result ≡ is_reason (program_of routines.now) why (op_of instruction.now) }
+{
+    match why {
+        Nonlinear::BackReference => is_back_reference(instruction),
+        Nonlinear::CapturingLookaround => is_capturing_lookaround(routines, instruction),
+    }
+}
+
+/// Returns whether the instruction is a back reference.
+fn is_back_reference(instruction: &Instruction<'_>) -> bool
+    ensures { result ≡ is_back_reference (op_of instruction.now) }
 {
     match instruction {
-        Instruction::Leaf { node, .. } => {
-            if is_back_ref(node) {
-                Some(Nonlinear::BackReference)
-            } else {
-                None
-            }
-        }
+        Instruction::Leaf { node, .. } => is_back_ref(node),
+        _ => false,
+    }
+}
+
+/// Returns whether the instruction is a lookaround that is not negated, and whose routine sets or resets a capture.
+fn is_capturing_lookaround(routines: &[Routine<'_>], instruction: &Instruction<'_>) -> bool
+    ensures { result ≡ is_capturing_lookaround (program_of routines.now) (op_of instruction.now) }
+{
+    match instruction {
         Instruction::Look {
             negate,
             routine,
             ..
-        } => {
-            if !*negate && is_capturing(routines, *routine) {
-                Some(Nonlinear::CapturingLookaround)
-            } else {
-                None
-            }
-        }
-        _ => None,
+        } => !*negate && is_capturing(routines, *routine),
+        _ => false,
     }
 }
 

@@ -6,8 +6,13 @@ use regress_tree::ir::Regex;
 use regress_unicode::Tables;
 use test_notation::{Call, Fault};
 
-/// The largest product of the number of instructions and of positions in the text. Larger ones are not tested.
+/// The largest product of the number of instructions and of positions in the text for which tables are made.
 const MOST: usize = 1_000_000;
+
+/// Returns the largest number of instructions of a program that is searched by tables in this text.
+pub(crate) fn instruction_limit(text: &str) -> usize {
+    MOST / text.len().saturating_add(1)
+}
 
 /// Appends the outcome of a search by a program, as `response_question` does. Returns false if the pattern has no
 /// program that is short and linear, or if the question asks for no search.
@@ -24,7 +29,7 @@ pub(crate) fn response_linear(
         Question::At(_) => return false,
     };
     let alloc = call.alloc();
-    let limit = MOST / text.len().saturating_add(1);
+    let limit = instruction_limit(text);
     let program = match Program::compile(alloc, regex, tables, limit) {
         Ok(program) => program,
         Err(CompileFault::Memory(_)) => {

@@ -1,6 +1,6 @@
 //! The result of a test case for the matcher.
 
-use crate::linear::response_linear;
+use crate::linear::{instruction_limit, response_linear};
 use crate::outcome::{matcher_of, parse_question, response_question};
 use crate::parsing::parse_tree;
 use crate::trees::optimize_watched;
@@ -19,9 +19,6 @@ enum Way {
     /// By the tables of the program of the parsed tree, if it is linear.
     Tables,
 }
-
-/// The largest product of the number of instructions and of positions in the text for which a matcher makes tables.
-const MOST: usize = 1_000_000;
 
 /// Returns the first result that is not the expected one: by backtracking, unless the question is `linear`; by a matcher
 /// of the optimized tree; or by tables if the program is linear.
@@ -73,7 +70,7 @@ fn difference_by(
             }
             Way::Matcher => {
                 optimize_watched(&mut call, &mut regex);
-                let limit = MOST / text.len().saturating_add(1);
+                let limit = instruction_limit(&text);
                 if let Some(matcher) = matcher_of(&mut call, regex, tables, limit) {
                     response_question(&mut call, question, &matcher, &text);
                 }

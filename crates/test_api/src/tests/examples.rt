@@ -126,7 +126,7 @@ fn the_examples_of_matchers_hold(rt: HostRuntime) -> Result<(), Fail> {
 
 #[test]
 fn the_examples_of_regular_expressions_hold(rt: HostRuntime) -> Result<(), Fail> {
-    use regress::{Regex, parse_flags};
+    use regress::{Nonlinear, Regex, parse_flags};
     use std::sync::Arc;
     let alloc = rt.alloc();
     // the leftmost match is found, with its groups
@@ -156,7 +156,12 @@ fn the_examples_of_regular_expressions_hold(rt: HostRuntime) -> Result<(), Fail>
     {
         let tables = Arc::new(alloc, Tables::small(alloc)?)?;
         assert!(rt; Regex::new(alloc, "(?:a|a)*b", &tables)?.is_linear());
-        assert!(rt; !Regex::new(alloc, "(a)\\1", &tables)?.is_linear());
+    }
+    // a pattern with a back reference is not
+    {
+        let tables = Arc::new(alloc, Tables::small(alloc)?)?;
+        let regex = Regex::new(alloc, "(a)\\1", &tables)?;
+        assert_eq!(rt; regex.nonlinear(), Some(Nonlinear::BackReference));
     }
     // flags are parsed
     {

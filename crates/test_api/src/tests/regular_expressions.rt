@@ -1,6 +1,8 @@
 //! Tests of the calls of `regress`, each on a pattern whose matches ECMA-262 states.
 
-use regress::{Error, Flags, FlagsError, Options, Regex, SearchError, Tables, parse_flags};
+use regress::{
+    Error, Flags, FlagsError, Nonlinear, Options, Regex, SearchError, Tables, escape, parse_flags,
+};
 use std::sync::Arc;
 use std::test::Fail;
 
@@ -49,6 +51,8 @@ fn a_regular_expression_searches(rt: HostRuntime) -> Result<(), Fail> {
     }
     let all = regex.find_all(alloc, "bxc")?;
     assert_eq!(rt; all.len(), 2);
+    assert_eq!(rt; regex.find_iter_from(alloc, "bxc", 1).count(), 1);
+    assert_eq!(rt; escape(alloc, "(a")?.as_str(), "\\(a");
     Ok(())
 }
 
@@ -86,12 +90,14 @@ fn a_regular_expression_has_limits(rt: HostRuntime) -> Result<(), Fail> {
         Err(SearchError::OutOfSteps) => {}
         _ => assert!(rt; false, "it takes too many steps"),
     }
+    assert_eq!(rt; regex.nonlinear(), Some(Nonlinear::TooManyInstructions));
     let mut matches = regex.find_iter(alloc, "aaaaaaaaaaaaaaaaaaaaaa");
     match matches.next() {
         Some(Err(SearchError::OutOfSteps)) => {}
         _ => assert!(rt; false, "it takes too many steps"),
     }
     assert!(rt; matches.next().is_none());
+    assert_eq!(rt; matches.steps(), 10);
     Ok(())
 }
 
@@ -105,11 +111,14 @@ fn a_linear_search_has_no_step_limit(rt: HostRuntime) -> Result<(), Fail> {
     };
     let linear = Regex::with_options(alloc, "(a*)*b", Flags::default(), few, &tables)?;
     assert!(rt; linear.is_linear());
+    assert_eq!(rt; linear.nonlinear(), None);
     assert!(rt; linear.steps_per_character().is_some());
     assert!(rt; !linear.is_match(alloc, "aaaaaaaaaaaaaaaaaaaaaaaaaaaaaaaaaaaaaaaaaaaa")?);
     let with_reference = Regex::with_options(alloc, "(a*)*\\1b", Flags::default(), few, &tables)?;
     assert!(rt; !with_reference.is_linear());
     assert!(rt; with_reference.steps_per_character().is_none());
+    let looking = Regex::new(alloc, "(?=(a))", &tables)?;
+    assert_eq!(rt; looking.nonlinear(), Some(Nonlinear::CapturingLookaround));
     match with_reference.find(alloc, "aaaaaaaaaaaaaaaaaaaaaa") {
         Err(SearchError::OutOfSteps) => {}
         _ => assert!(rt; false, "it takes too many steps"),

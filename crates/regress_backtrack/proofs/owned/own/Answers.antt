@@ -1,6 +1,6 @@
 use Rattle.std.proofs.Common.{[], min, sym, ap, ◌∙◌, subst}
 use Rattle.regress_program.specs.Compiled.{total}
-use Rattle.regress_program.specs.Linear.{is_linear}
+use Rattle.regress_program.specs.Linear.{reason}
 use Rattle.regress_program.specs.Shape.{IsForwards, IsProgram}
 use Rattle.regress_backtrack.specs.Candidates.{BeginsAt}
 use Rattle.regress_backtrack.proofs.owned.own.Goals as goal
@@ -17,8 +17,8 @@ invariant_of-result-clause-forwards c = subst IsForwards (sym (c.in_ok-routines.
 pub invariant_of-result-clause-counted : goal.invariant_of-result-clause-counted
 invariant_of-result-clause-counted c = c.instructions.ensures ∙ ap (λ program. min (total program) 18446744073709551615) (sym (c.in_ok-routines.ensures.program ∙ c.routines.ensures.routines))
 
-pub invariant_of-result-clause-linear_if : goal.invariant_of-result-clause-linear_if
-invariant_of-result-clause-linear_if c = c.is_linear.ensures ∙ ap is_linear (sym (c.in_ok-routines.ensures.program ∙ c.routines.ensures.routines))
+pub invariant_of-result-clause-linear_unless : goal.invariant_of-result-clause-linear_unless
+invariant_of-result-clause-linear_unless c = c.nonlinear.ensures ∙ ap reason (sym (c.in_ok-routines.ensures.program ∙ c.routines.ensures.routines))
 
 pub returns-clause-flags : goal.returns-clause-flags
 returns-clause-flags c = ap (λ u. u.setting.flags) (c.rules.ensures [])

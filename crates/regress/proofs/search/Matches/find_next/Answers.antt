@@ -14,6 +14,7 @@ returns-in-Matched c = record {
     outcomes = same_outcomes c.args.self.now.matches c.next.new.self c.in_ok-found.ensures.same;
     groups = refl;
     linear = ap factor_of c.in_ok-found.ensures.same.matcher;
+    limit = c.in_ok-found.ensures.same.limit;
   };
   failed = refl;
   returns = record {
@@ -31,6 +32,7 @@ returns-in-NoMatch c = record {
     outcomes = same_outcomes c.args.self.now.matches c.next.new.self c.in_ok-found.ensures.same;
     groups = refl;
     linear = ap factor_of c.in_ok-found.ensures.same.matcher;
+    limit = c.in_ok-found.ensures.same.limit;
   };
   failed = refl;
   returns = rw c.in-NoMatch.is at c.in_ok-found.ensures.finds;
@@ -43,6 +45,7 @@ returns-in-OutOfSteps c = record {
     outcomes = same_outcomes c.args.self.now.matches c.next.new.self c.in_ok-found.ensures.same;
     groups = refl;
     linear = ap factor_of c.in_ok-found.ensures.same.matcher;
+    limit = c.in_ok-found.ensures.same.limit;
   };
   failed = refl;
   returns = (
