@@ -57,6 +57,13 @@ tree_finds b origin outcome all t pattern =
     same_finds (run_text b) (outcomes_at b some.0) (tree_outcomes_at b t) origin outcome
     (λ k le. pattern.means setting (run_text b) some.0 some.1 (no_groups (code_groups (run_code b)) k) le) (all some.0 some.1)
 
+-- A match of a run starts where the run did.
+pub starts_at : (b : Backtracker) (position : ℕ) (m : Match) →
+    ((outs : ℕ → Out) → AreOutcomes b outs → IsFirst position (outcomes_at b outs position) (outcomes.Matched m)) → start_of m ≡ position
+starts_at b position m all =
+    let some = solution (setting_with (run_code b) (run_tables b)) (run_text b) (code_routines (run_code b)) b.code.now.is_program in
+    (all some.0 some.1).0
+
 -- the result of a run, for another run of the same program in the same text
 pub same_solved : (a b : Backtracker) (P : List MatchState → Type 0) (k : ℕ) → SameRuns a b →
     ((outs : ℕ → Out) → AreOutcomes b outs → P (outcomes_at b outs k)) → (outs : ℕ → Out) → AreOutcomes a outs → P (outcomes_at a outs k)

@@ -1,5 +1,5 @@
 -- What the result of a search is.
-use Rattle.std.specs.Prelude.{◌≡◌, ℕ, ◌-◌, List, [], ◌∷◌, Some, None, length}
+use Rattle.std.specs.Prelude.{◌≡◌, ℕ, ◌+◌, ◌-◌, ◌≤◌, List, [], ◌∷◌, Some, None, length}
 use Rattle.regress_leaves.specs.Subject.{subject}
 use Rattle.regress_tree.specs.Steps.{MatchState}
 use Rattle.regress_unicode.specs.declared.Tables.{Tables}
@@ -25,6 +25,12 @@ abbrev pub IsFirst : (position : ℕ) → List MatchState → Outcome → Type 0
 IsFirst position states (outcomes.Matched m) = (start_of m ≡ position) × ((rest : List MatchState) × (states ≡ state_of m ∷ rest))
 IsFirst position states outcomes.NoMatch = states ≡ []
 IsFirst position states outcomes.OutOfSteps = Unit {0}
+
+-- If there is a match, at least one step was taken for each position from `origin` up to its start.
+abbrev pub IsCounted : (origin : ℕ) → Outcome → (steps : ℕ) → Type 0
+IsCounted origin (outcomes.Matched m) steps = start_of m + 1 - origin ≤ steps
+IsCounted origin outcomes.NoMatch steps = Unit {0}
+IsCounted origin outcomes.OutOfSteps steps = Unit {0}
 
 -- The input is for the pattern of a program.
 pub record IsFor (c : Code) (tables : Tables) (text : List ℕ) (input : Input) : Type 0 where

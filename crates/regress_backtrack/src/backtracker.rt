@@ -1,5 +1,5 @@
 //! Runs from many positions of a text.
-ghost use Rattle.std.specs.Prelude.{◌≡◌, ◌≤◌, ℕ, IfOk, List, None, length, replicate, true};
+ghost use Rattle.std.specs.Prelude.{◌≡◌, ◌≤◌, ◌<◌, ℕ, IfOk, List, None, length, replicate, true};
 ghost use Rattle.std.proofs.Props.{props};
 ghost use Rattle.regress_tree.specs.Steps.{MatchState};
 ghost use Rattle.regress_tree.specs.Tree.{Tree};
@@ -92,6 +92,7 @@ impl<'c, 'x> Backtracker<'c, 'x> {
             IsFirst position (tree_outcomes_at self.old t position) outcome) }
         ensures left { IfOk result (λ _. left.new ≤ left.old) }
         ensures spent { IfOk result (λ outcome. outcome ≡ OutOfSteps → left.new ≡ 0) }
+        ensures counted { IfOk result (λ outcome. (outcome ≡ OutOfSteps → ⊥) → left.new < left.old) }
         ensures same { SameRuns self.old self.new }
     {
         let response = self.run_at(alloc, position, left)?;
@@ -102,6 +103,7 @@ impl<'c, 'x> Backtracker<'c, 'x> {
     fn outcome_of(&mut self, alloc: Global, response: Response, position: usize) -> Outcome
         ensures first { (states : List MatchState) → Answers states self.old.machine response → IsFirst position states result }
         ensures spent { result ≡ OutOfSteps → response ≡ responses.OutOfSteps }
+        ensures known { (result ≡ OutOfSteps → ⊥) → response ≡ responses.OutOfSteps → ⊥ }
         ensures same { SameRuns self.old self.new }
     {
         match response {
@@ -133,6 +135,7 @@ impl<'c, 'x> Backtracker<'c, 'x> {
             Answers (tree_outcomes_at self.old t position) self.new.machine response) }
         ensures left { IfOk result (λ _. left.new ≤ left.old) }
         ensures spent { IfOk result (λ response. response ≡ responses.OutOfSteps → left.new ≡ 0) }
+        ensures counted { IfOk result (λ response. (response ≡ responses.OutOfSteps → ⊥) → left.new < left.old) }
         ensures same { SameRuns self.old self.new }
     {
         self.unset_all(alloc)?;

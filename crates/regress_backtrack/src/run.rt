@@ -72,6 +72,7 @@ pub fn run(
     ensures none { IfOk result (λ response. response ≡ NoMatch → machine.new.captures.items ≡ machine.old.captures.items) }
     ensures left { IfOk result (λ _. left.new ≤ left.old) }
     ensures spent { IfOk result (λ response. response ≡ OutOfSteps → left.new ≡ 0) }
+    ensures counted { IfOk result (λ response. (response ≡ OutOfSteps → ⊥) → left.new < left.old) }
 {
     machine.stack.clear();
     let mut here = Place {

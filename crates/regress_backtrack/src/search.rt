@@ -1,11 +1,11 @@
 //! Searching a text from left to right.
-ghost use Rattle.std.specs.Prelude.{◌≡◌, ◌≤◌, ◌<◌, [], ℕ, IfOk, IfSome, MatchOption, length};
+ghost use Rattle.std.specs.Prelude.{◌≡◌, ◌≤◌, ◌<◌, ◌-◌, [], ℕ, IfOk, IfSome, MatchOption, length};
 ghost use Rattle.regress_tree.specs.Tree.{Tree};
 ghost use Rattle.regress_program.specs.Compiled.{IsPattern};
 ghost use Rattle.regress_program.specs.Program.{IsSolution, Out};
 ghost use Rattle.regress_backtrack.specs.Backtracker.{AreOutcomes, SameRuns, outcomes_at, run_code, run_text, tree_outcomes_at};
 ghost use Rattle.regress_backtrack.specs.Code.{code_routines, outcomes_from, setting_with, tree_outcomes_from};
-ghost use Rattle.regress_backtrack.specs.Searched.{Finds, IsFirst};
+ghost use Rattle.regress_backtrack.specs.Searched.{Finds, IsCounted, IsFirst};
 ghost use Rattle.regress_backtrack.specs.declared.outcome.Outcome.TheVariants.{OutOfSteps};
 
 use crate::backtracker::{Backtracker, input_of};
@@ -48,6 +48,7 @@ impl Code {
             Finds text.now (tree_outcomes_from self.now tables.now text.now t) from found.outcome) }
         ensures steps { IfOk result (λ found. found.steps ≤ steps) }
         ensures out_of_steps { IfOk result (λ found. found.outcome ≡ OutOfSteps → found.steps ≡ steps) }
+        ensures counted { IfOk result (λ found. IsCounted from found.outcome found.steps) }
     {
         let mut left = steps;
         let mut backtracker = Backtracker::new(alloc, self, tables, text)?;
@@ -84,6 +85,7 @@ impl Code {
             IsFirst position (tree_outcomes_from self.now tables.now text.now t position) found.outcome) }
         ensures steps { IfOk result (λ found. found.steps ≤ steps) }
         ensures out_of_steps { IfOk result (λ found. found.outcome ≡ OutOfSteps → found.steps ≡ steps) }
+        ensures counted { IfOk result (λ found. (found.outcome ≡ OutOfSteps → ⊥) → 0 < found.steps) }
     {
         let mut left = steps;
         let mut backtracker = Backtracker::new(alloc, self, tables, text)?;
@@ -116,6 +118,7 @@ impl Backtracker<'_, '_> {
             Finds (run_text self.old) (tree_outcomes_at self.old t) from outcome) }
         ensures left { IfOk result (λ _. left.new ≤ left.old) }
         ensures spent { IfOk result (λ outcome. outcome ≡ OutOfSteps → left.new ≡ 0) }
+        ensures counted { IfOk result (λ outcome. IsCounted from outcome (left.old - left.new)) }
         ensures same { SameRuns self.old self.new }
     {
         let code = self.code;

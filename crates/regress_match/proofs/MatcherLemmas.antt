@@ -1,5 +1,5 @@
 -- Searches with the program of a pattern.
-use Rattle.std.proofs.Common.{◌≡◌, ℕ, ◌+◌, ◌-◌, ◌*◌, ◌≤◌, Bool, true, false, not, ◌&&◌, List, [], ◌∷◌, filter, length, min, max, Option, Some, None, IfSome, IsNone, refl, sym, ap, ap₂, subst, ◌∙◌, arith}
+use Rattle.std.proofs.Common.{◌≡◌, ℕ, ◌+◌, ◌-◌, ◌*◌, ◌≤◌, ◌<◌, Bool, true, false, not, ◌&&◌, List, [], ◌∷◌, filter, length, min, max, Option, Some, None, IfSome, IsNone, refl, sym, ap, ap₂, subst, ◌∙◌, arith}
 use Rattle.std.specs.Prelude.{if◌then◌else◌, is_none, is_some, Result, Ok, Err, IfOk}
 use Rattle.std.specs.declared.alloc.AllocError.{AllocError}
 use Rattle.std.specs.Arc.{arc_value}
@@ -21,7 +21,7 @@ use Rattle.regress_program.specs.Linear.{is_linear, reason}
 use Rattle.regress_program.specs.Program.{IsSolution, Out, Routine, matcher_of}
 use Rattle.regress_program.specs.declared.fault.CompileFault.{CompileFault}
 use Rattle.regress_program.specs.Search as program
-use Rattle.regress_program.specs.Search.{groups_of, instructions_of, routines_of, setting_of, steps_up_to}
+use Rattle.regress_program.specs.Search.{groups_of, instructions_of, routines_of, setting_of, steps_up_to, tried}
 use Rattle.regress_program.specs.TextSearch.{searched_program, searched_text}
 use Rattle.regress_program.specs.declared.found.Match.{Match}
 use Rattle.regress_program.specs.declared.found.Search.{Search}
@@ -41,7 +41,7 @@ use Rattle.regress_backtrack.specs.declared.outcome.Outcome.{Outcome}
 use Rattle.regress_backtrack.specs.declared.outcome.Outcome.TheVariants as outcomes
 use Rattle.regress_match.specs.Compiled.{IsCodeOf, IsProgramOf, all_outcomes}
 use Rattle.regress_match.specs.Kept.{IfKept, IsKept, IsRunOf}
-use Rattle.regress_match.specs.Matched.{Finds, IfMatched, IsFirst, IsInside, outcomes_at}
+use Rattle.regress_match.specs.Matched.{Finds, IfMatched, IsCounted, IsFirst, IsInside, outcomes_at}
 use Rattle.regress_match.specs.Matcher.{factor, factor_of, factor_with, matcher_outcomes, matcher_setting, matcher_tree, nonlinear_by, nonlinear_with, outcome_if}
 use Rattle.regress_match.specs.Searched.{offset_after}
 use Rattle.regress_match.specs.declared.matcher.Matcher.{Matcher}
@@ -324,13 +324,53 @@ module _ (m : Matcher) (text : List ℕ) (b : Backtracker) (is : IsRunOf m text 
   pub run_inside : IsUtf8 text → IsWellFormed (matcher_tree m) → IfMatched outcome (IsInside text)
   run_inside utf8 = found_inside (matcher_setting m) text utf8 (matcher_tree m) from outcome run_matches
 
+  -- the steps of a search that found a match
+  pub run_counted : (limit left left' searched : ℕ) → left' ≤ left → left ≤ limit → IsCounted from outcome (left - left') →
+      IfMatched outcome (λ x. min (limit - left + searched + (start_of x + 1 - from)) 18446744073709551615 ≤ limit - left' + searched)
+  run_counted limit left left' searched fewer within counted = by outcome counted
+    where
+      by : (o : Outcome) → IsCounted from o (left - left') →
+          IfMatched o (λ x. min (limit - left + searched + (start_of x + 1 - from)) 18446744073709551615 ≤ limit - left' + searched)
+      by (outcomes.Matched x) few = omega (arith, few, fewer, within)
+      by outcomes.NoMatch few = tt
+      by outcomes.OutOfSteps few = tt
+
+-- the steps of a search in tables
+pub tables_counted : (text : List ℕ) (from spent taken taken' steps : ℕ) (found : Option Match) → tried text from found ≤ steps →
+    taken' ≡ min (taken + steps) 18446744073709551615 →
+    IfMatched (outcome_if found) (λ x. min (spent + taken + (start_of x + 1 - from)) 18446744073709551615 ≤ spent + taken')
+tables_counted text from spent taken taken' steps None few is = tt
+tables_counted text from spent taken taken' steps (Some x) few is = omega (arith, few, is)
+
+-- the steps of an iteration that found a match, after others
+pub counted_after : (before between after from : ℕ) (outcome : Outcome) → before ≤ between →
+    IfMatched outcome (λ x. min (between + (start_of x + 1 - from)) 18446744073709551615 ≤ after) →
+    IfMatched outcome (λ x. min (before + (start_of x + 1 - from)) 18446744073709551615 ≤ after)
+counted_after before between after from (outcomes.Matched x) less counted = omega (arith, less, counted)
+counted_after before between after from outcomes.NoMatch less counted = tt
+counted_after before between after from outcomes.OutOfSteps less counted = tt
+
+-- the steps of one search
+pub counted_once : (text : List ℕ) (at : ℕ → List MatchState) (from origin before after steps : ℕ) (outcome : Outcome) → length text < 18446744073709551615 →
+    Finds text at origin outcome → IfMatched outcome (λ x. min (before + (start_of x + 1 - origin)) 18446744073709551615 ≤ after) →
+    before ≡ 0 → origin ≡ from → steps ≡ min after 18446744073709551615 → IsCounted from outcome steps
+counted_once text at from origin before after steps (outcomes.Matched x) short finds counted none same is =
+    omega (arith, short, finds.boundary.0, counted, none, same, is)
+counted_once text at from origin before after steps outcomes.NoMatch short finds counted none same is = tt
+counted_once text at from origin before after steps outcomes.OutOfSteps short finds counted none same is = tt
+
+-- without tables no step in them was taken
+pub none_taken : (m : Matcher) (text : List ℕ) (from taken : ℕ) (search : Option TextSearch) → IsNone search → IfKept m text from taken search → taken ≡ 0
+none_taken m text from taken None none kept = kept
+none_taken m text from taken (Some s) none kept = cc
+
 -- ---- the tables of a text, before the first search
 
 pub tables_kept : (m : Matcher) (text : List ℕ) (from steps : ℕ) (tables : Tables) (p : Program) (s : TextSearch) → is_some (factor_of m) ≡ true →
     tables ≡ arc_value m.tables → IsCodeOf (matcher_setting m) (matcher_tree m) (arc_value m.tables) m.code →
     routines_of p ≡ code_routines m.code → groups_of p ≡ code_groups m.code → setting_of p ≡ setting_with m.code tables →
     searched_program s ≡ p → searched_text s ≡ text →
-    steps ≤ 2 * instructions_of (searched_program s) * (length (searched_text s) + 1) → IsKept m text from steps s
+    steps ≡ min (2 * instructions_of (searched_program s) * (length (searched_text s) + 1)) 18446744073709551615 → IsKept m text from steps s
 tables_kept m text from steps tables p s is_fast is_tables compiled routines groups setting program same_text counted =
     let bound = bound_linear (code_routines m.code) m.within is_fast in
     let means : IsProgramOf (matcher_setting m) (matcher_tree m) p =
@@ -341,6 +381,6 @@ tables_kept m text from steps tables p s is_fast is_tables compiled routines gro
       same_text = same_text;
       steps = let same = ap length same_text in
           let all : steps ≤ 2 * instructions_of (searched_program s) * (length text + 1) =
-          subst (λ n. steps ≤ 2 * instructions_of (searched_program s) * (n + 1)) same counted in
+          subst (λ n. steps ≤ 2 * instructions_of (searched_program s) * (n + 1)) same (omega (arith, counted)) in
           omega (arith, all);
     }

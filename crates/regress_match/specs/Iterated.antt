@@ -1,5 +1,5 @@
 -- Repeated searches with a matcher.
-use Rattle.std.specs.Prelude.{◌≡◌, ℕ, List}
+use Rattle.std.specs.Prelude.{◌≡◌, ℕ, ◌+◌, ◌-◌, List}
 use Rattle.regress_tree.specs.Steps.{MatchState}
 use Rattle.regress_match.specs.Matcher.{matcher_outcomes}
 use Rattle.regress_match.specs.declared.matcher.Matcher.{Matcher}
@@ -27,6 +27,10 @@ step_limit m = m.limit
 
 abbrev pub steps_left : MatcherMatches → ℕ
 steps_left m = m.left
+
+-- the number of steps so far: of backtracking, of making tables, and of searches in them
+abbrev pub steps_taken : MatcherMatches → ℕ
+steps_taken m = m.limit - m.left + m.searched
 
 -- the matcher, the text and the step limit of a repeated search are unchanged
 pub record IsSameIteration (old new : MatcherMatches) : Type 0 where

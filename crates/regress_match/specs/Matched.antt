@@ -7,7 +7,7 @@ use Rattle.regress_tree.specs.Setting.{Setting}
 use Rattle.regress_tree.specs.Steps.{MatchState}
 use Rattle.regress_tree.specs.Tree.{Tree}
 use Rattle.regress_tree.specs.WellFormed.{captures}
-pub use Rattle.regress_backtrack.specs.Searched.{Finds, IsFirst}
+pub use Rattle.regress_backtrack.specs.Searched.{Finds, IsCounted, IsFirst}
 pub use Rattle.regress_program.specs.Found.{IsLeftmost, NoneBefore, no_groups, start_of, state_of}
 pub use Rattle.regress_program.specs.declared.found.Match.{Match}
 pub use Rattle.regress_backtrack.specs.declared.outcome.Outcome.{Outcome}

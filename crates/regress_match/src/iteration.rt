@@ -1,7 +1,7 @@
 //! The next match of a matcher: by backtracking, and then by tables.
-ghost use Rattle.std.specs.Prelude.{◌≡◌, ◌≤◌, ◌+◌, ◌*◌, IfNone, IfOk, IfSome, IsNone, IsSome, OnErr, length};
+ghost use Rattle.std.specs.Prelude.{◌≡◌, ◌≤◌, ◌+◌, ◌-◌, ◌*◌, IfNone, IfOk, IfSome, IsNone, IsSome, OnErr, length, min};
 ghost use Rattle.regress_tree.specs.WellFormed.{IsWellFormed};
-ghost use Rattle.regress_match.specs.Iterated.{IsSameIteration, iterated_from, iterated_matcher, iterated_text, step_limit, steps_left};
+ghost use Rattle.regress_match.specs.Iterated.{IsSameIteration, iterated_from, iterated_matcher, iterated_text, step_limit, steps_left, steps_taken};
 ghost use Rattle.regress_match.specs.Kept.{IsRunOf};
 ghost use Rattle.regress_match.specs.Matched.{Finds, IfMatched, IfOutOfSteps, IsInside, start_of};
 ghost use Rattle.regress_match.specs.Matcher.{factor_of, matcher_outcomes, matcher_tree, outcome_if};
@@ -51,6 +51,8 @@ impl<'m> MatcherMatches<'m> {
         ensures same { IsSameIteration self.old self.new }
         ensures linear { IfOk result (λ outcome. IfSome (factor_of (iterated_matcher self.old)) (λ _. IfOutOfSteps outcome ⊥)) }
         ensures limited { IfOk result (λ outcome. IfNone (factor_of (iterated_matcher self.old)) (IfOutOfSteps outcome (steps_left self.new ≡ 0))) }
+        ensures counted { IfOk result (λ outcome. IfMatched outcome (λ m.
+            min (steps_taken self.old + (start_of m + 1 - iterated_from self.old)) u64.MAX ≤ steps_taken self.new)) }
     {
         if self.search.is_some() {
             return self.find_in_tables(alloc);
@@ -71,9 +73,10 @@ impl<'m> MatcherMatches<'m> {
         self.text
     }
 
-    /// Returns the number of steps that all calls of [`MatcherMatches::next`] together took. Of a call that returned an
-    /// error some are not counted.
+    /// Returns the number of steps that all calls of [`MatcherMatches::next`] together took, at most `u64::MAX`. Of a call
+    /// that returned an error some are not counted.
     pub fn steps(&self) -> u64
+        ensures taken { result ≡ min (steps_taken self.now) u64.MAX }
         ensures linear { IfSome (factor_of (iterated_matcher self.now)) (λ n. result ≤ n * (length (iterated_text self.now) + 1)) }
         ensures limited { IfNone (factor_of (iterated_matcher self.now)) (result + steps_left self.now ≡ step_limit self.now) }
     {
@@ -90,6 +93,9 @@ impl<'m> MatcherMatches<'m> {
         ensures same { IsSameIteration self.old self.new }
         ensures spent { IfOk result (λ outcome. IfOutOfSteps outcome (steps_left self.new ≡ 0)) }
         ensures search { IsNone self.new.search }
+        ensures more { IfOk result (λ _. steps_taken self.old ≤ steps_taken self.new) }
+        ensures counted { IfOk result (λ outcome. IfMatched outcome (λ m.
+            min (steps_taken self.old + (start_of m + 1 - iterated_from self.old)) u64.MAX ≤ steps_taken self.new)) }
     {
         let text = self.text();
         let kept = self.backtracker.take();
@@ -109,6 +115,7 @@ impl<'m> MatcherMatches<'m> {
         ensures from { iterated_from self.new ≡ iterated_from self.old }
         ensures same { IsSameIteration self.old self.new }
         ensures left { steps_left self.new ≡ steps_left self.old }
+        ensures more { IfOk result (λ _. steps_taken self.old ≤ steps_taken self.new) }
         ensures made { IfOk result (λ _. IfSome (factor_of (iterated_matcher self.old)) (λ _. IsSome self.new.search)) }
     {
         let matcher = self.matcher;
@@ -132,6 +139,8 @@ impl<'m> MatcherMatches<'m> {
         ensures same { IsSameIteration self.old self.new }
         ensures left { steps_left self.new ≡ steps_left self.old }
         ensures made { IfOk result (λ outcome. IsSome self.old.search → IfOutOfSteps outcome ⊥) }
+        ensures counted { IfOk result (λ outcome. IfMatched outcome (λ m.
+            min (steps_taken self.old + (start_of m + 1 - iterated_from self.old)) u64.MAX ≤ steps_taken self.new)) }
     {
         let text = self.text();
         let Some(search) = &self.search else {

@@ -1,10 +1,11 @@
 //! Searches with a matcher, in linear time or within a step limit.
-ghost use Rattle.std.specs.Prelude.{◌≡◌, ◌+◌, ◌*◌, ◌≤◌, Ok, IfNone, IfOk, IfSome, IsSome, length, true};
+ghost use Rattle.std.specs.Prelude.{◌≡◌, ◌+◌, ◌*◌, ◌≤◌, ◌<◌, Ok, IfNone, IfOk, IfSome, IsSome, length, true};
 ghost use Rattle.regress_tree.specs.WellFormed.{IsWellFormed};
-ghost use Rattle.regress_match.specs.Iterated.{iterated_from, iterated_matcher, iterated_text, step_limit};
-ghost use Rattle.regress_match.specs.Matched.{Finds, IfMatched, IsFirst, IsInside};
+ghost use Rattle.regress_match.specs.Iterated.{iterated_from, iterated_matcher, iterated_text, step_limit, steps_taken};
+ghost use Rattle.regress_match.specs.Matched.{Finds, IfMatched, IsCounted, IsFirst, IsInside};
 ghost use Rattle.regress_match.specs.Matcher.{IsLimited, IsLinear, factor_of, matcher_outcomes, matcher_tree};
 ghost use Rattle.regress_match.specs.Searched.{AreAllMatches, CalledOnMatches};
+ghost use Rattle.regress_backtrack.specs.declared.outcome.Outcome.TheVariants.{OutOfSteps};
 
 use crate::matcher::Matcher;
 use crate::matcher_matches::MatcherMatches;
@@ -61,6 +62,7 @@ impl Matcher {
         ensures inside { IfOk result (λ found. IsWellFormed (matcher_tree self.now) → IfMatched found.outcome (IsInside text.now)) }
         ensures linear { IfOk result (λ found. IfSome (factor_of self.now) (λ n. IsLinear n text.now found.outcome found.steps)) }
         ensures limited { IfOk result (λ found. IfNone (factor_of self.now) (IsLimited steps found.outcome found.steps)) }
+        ensures counted { IfOk result (λ found. IsCounted from found.outcome found.steps) }
     {
         let mut matches = self.find_iter(text, from, steps);
         let outcome = matches.next(alloc)?;
@@ -105,6 +107,7 @@ impl Matcher {
         requires { position ≤ length text.now }
         ensures first { IfOk result (λ found. IsFirst position (matcher_outcomes self.now text.now position) found.outcome) }
         ensures limited { IfOk result (λ found. IsLimited steps found.outcome found.steps) }
+        ensures counted { IfOk result (λ found. (found.outcome ≡ OutOfSteps → ⊥) → 0 < found.steps) }
     {
         self.code
             .match_at(alloc, &self.tables, text, position, steps)
@@ -119,6 +122,7 @@ impl Matcher {
         ensures text { iterated_text result ≡ text.now }
         ensures from { iterated_from result ≡ from }
         ensures limit { IfNone (factor_of self.now) (step_limit result ≡ steps) }
+        ensures taken { steps_taken result ≡ 0 }
     {
         let limit = self.backtracking_steps(text, steps);
         MatcherMatches {

@@ -1,5 +1,5 @@
 -- A table stays right where bits are added in order.
-use Rattle.std.proofs.Common.{zero, suc, ◌≡◌, ℕ, ◌+◌, ◌*◌, ◌≤◌, ◌<◌, ◌⊎◌, Bool, true, false, List, [], ◌∷◌, ◌++◌, length, get_or, slice_get, take, Option, Some, refl, sym, ap, ap₂, ◌∙◌, subst, inl, inr, arith, length-append}
+use Rattle.std.proofs.Common.{zero, suc, ◌≡◌, ℕ, ◌+◌, ◌*◌, ◌≤◌, ◌<◌, ◌⊎◌, Bool, true, false, List, [], ◌∷◌, ◌++◌, length, get_or, min, slice_get, take, Option, Some, refl, sym, ap, ap₂, ◌∙◌, subst, inl, inr, arith, length-append}
 use Rattle.std.proofs.lemmas.Bool.{cases_eq}
 use Rattle.std.proofs.Math.ListN.{get_or-append}
 use Rattle.std.proofs.lemmas.List.{get_or_push}
@@ -177,6 +177,12 @@ pub more_bits : (n w a a' l s s' s0 : ℕ) → a' ≡ a + w → l ≡ (n + 1) * 
 more_bits n w a a' l s s' s0 ea el le le' =
     let both : s' ≤ s0 + (n + 1) * (2 * (a + w)) = omega (arith, el, le, le') in
     subst (λ x. s' ≤ s0 + (n + 1) * (2 * x)) (sym ea) both
+
+pub least_bits : (n w a a' l s s' s0 : ℕ) → a' ≡ a + w → l ≡ (n + 1) * (2 * w) → min (s0 + (n + 1) * (2 * a)) 18446744073709551615 ≤ s →
+    s' ≡ min (s + l) 18446744073709551615 → min (s0 + (n + 1) * (2 * a')) 18446744073709551615 ≤ s'
+least_bits n w a a' l s s' s0 ea el le is =
+    let both : min (s0 + (n + 1) * (2 * (a + w))) 18446744073709551615 ≤ s' = omega (arith, el, le, is) in
+    subst (λ x. min (s0 + (n + 1) * (2 * x)) 18446744073709551615 ≤ s') (sym ea) both
 
 total-suc : (program : List Routine) (i : ℕ) (r : Routine) → slice_get program i ≡ Some r → total (take (suc i) program) ≡ total (take i program) + length r.ops
 total-suc [] i r is = cc

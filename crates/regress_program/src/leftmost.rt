@@ -5,7 +5,7 @@ ghost use Rattle.regress_program.specs.Evaluated.{CanFill};
 ghost use Rattle.regress_program.specs.Found.{Finds, no_groups, state_of};
 ghost use Rattle.regress_program.specs.Linear.{is_linear};
 ghost use Rattle.regress_program.specs.Program.{IsSolution, Out, matcher_of};
-ghost use Rattle.regress_program.specs.Search.{steps_up_to};
+ghost use Rattle.regress_program.specs.Search.{steps_up_to, tried};
 ghost use Rattle.regress_program.specs.Shape.{IsProgram};
 ghost use Rattle.regress_program.specs.Table.{IsFull, IsRight};
 ghost use Rattle.regress_program.specs.Views.{program_of, routine_of};
@@ -44,6 +44,7 @@ pub(crate) fn find_leftmost(
         (λ p. matcher_of u.setting u.bytes program outs (length input.entry.tables.now) (no_groups groups p)) from search.found)) }
     ensures inside { IfOk result (λ search. IfSome search.found (λ m. (state_of m).position ≤ length input.entry.text.now)) }
     ensures steps { IfOk result (λ search. search.steps ≤ steps_up_to table.now.width input.entry.text.now from search.found) }
+    ensures counted { IfOk result (λ search. tried input.entry.text.now from search.found ≤ search.steps) }
 {
     let mut steps = 0;
     for start in from..input.text.len() + 1 {

@@ -7,7 +7,7 @@ ghost use Rattle.regress_program.specs.Filled.{AreFilled};
 ghost use Rattle.regress_program.specs.Found.{Finds};
 ghost use Rattle.regress_program.specs.Linear.{is_linear};
 ghost use Rattle.regress_program.specs.Program.{IsSolution, Out};
-ghost use Rattle.regress_program.specs.Search.{groups_of, instructions_of, outcomes_from, per_character, routines_of, setting_of, tree_outcomes_from};
+ghost use Rattle.regress_program.specs.Search.{groups_of, instructions_of, outcomes_from, per_character, routines_of, setting_of, tree_outcomes_from, tried};
 ghost use Rattle.regress_program.specs.Shape.{IsForwards, IsProgram};
 ghost use Rattle.regress_program.specs.TextSearch.{searched_program, searched_text};
 ghost use Rattle.regress_program.specs.Views.{program_of};
@@ -112,6 +112,8 @@ impl Linear<'_, '_> {
         ensures finds { IfOk result (λ search. (t : Tree) → IsPattern (routines_of self.now.program) t →
             Finds text.now (tree_outcomes_from self.now.program text.now t) from search.found) }
         ensures steps { IfOk result (λ search. search.steps ≤ per_character self.now.program * (length text.now + 1)) }
+        ensures counted { IfOk result (λ search.
+            min (2 * instructions_of self.now.program * (length text.now + 1) + tried text.now from search.found) u64.MAX ≤ search.steps) }
     {
         let program = &self.program;
         let mut steps = 0;
@@ -164,6 +166,7 @@ fn fill_tables(
     requires { is_linear (routines_of program.now) ≡ true }
     ensures filled { IfOk result (λ tables. AreFilled (setting_of program.now) text.now (routines_of program.now) tables.items) }
     ensures steps { IfOk result (λ _. steps.new ≤ steps.old + 2 * instructions_of program.now * (length text.now + 1)) }
+    ensures counted { IfOk result (λ _. min (steps.old + 2 * instructions_of program.now * (length text.now + 1)) u64.MAX ≤ steps.new) }
 {
     let rules = MatchContext {
         flags: program.flags,

@@ -1,5 +1,5 @@
 //! Filling the tables of the routines of a program in order.
-ghost use Rattle.std.specs.Prelude.{◌≡◌, ◌≤◌, ◌+◌, ◌*◌, IfOk, length, true};
+ghost use Rattle.std.specs.Prelude.{◌≡◌, ◌≤◌, ◌+◌, ◌*◌, IfOk, length, min, true};
 ghost use Rattle.regress_leaves.specs.Subject.{subject};
 ghost use Rattle.regress_program.specs.Compiled.{total};
 ghost use Rattle.regress_program.specs.Filled.{AreFilled};
@@ -29,6 +29,7 @@ pub(crate) fn fill_all(
     requires linear { is_linear (program_of routines.now) ≡ true }
     ensures filled { IfOk result (λ tables. AreFilled (subject rules.entry text.now).setting text.now (program_of routines.now) tables.items) }
     ensures steps { IfOk result (λ _. steps.new ≤ steps.old + 2 * total (program_of routines.now) * (length text.now + 1)) }
+    ensures counted { IfOk result (λ _. min (steps.old + 2 * total (program_of routines.now) * (length text.now + 1)) u64.MAX ≤ steps.new) }
 {
     let mut tables = Vec::new(alloc);
     for routine in routines {

@@ -1,5 +1,5 @@
 //! A text, prepared for searches with a program.
-ghost use Rattle.std.specs.Prelude.{◌≡◌, ◌≤◌, ◌+◌, ◌*◌, length, true};
+ghost use Rattle.std.specs.Prelude.{◌≡◌, ◌+◌, ◌*◌, length, min, true};
 ghost use Rattle.regress_program.specs.Filled.{AreFilled, AreFilled-prop};
 ghost use Rattle.regress_program.specs.Linear.{is_linear};
 ghost use Rattle.regress_program.specs.Search.{instructions_of, routines_of, setting_of};
@@ -20,5 +20,5 @@ pub struct TextSearch<'p> {
     pub(crate) steps: u64,
     ghost linear: { is_linear (routines_of program) ≡ true },
     ghost filled: { AreFilled (setting_of program) text.now (routines_of program) tables.items } by { AreFilled-prop (setting_of program) text.now (routines_of program) tables.items },
-    ghost counted: { steps ≤ 2 * instructions_of program * (length text.now + 1) },
+    ghost counted: { steps ≡ min (2 * instructions_of program * (length text.now + 1)) 18446744073709551615 },
 }

@@ -1,5 +1,5 @@
 //! Searching a text whose tables are filled.
-ghost use Rattle.std.specs.Prelude.{◌≡◌, ◌≤◌, ◌<◌, ◌+◌, ◌-◌, ◌*◌, ℕ, IfOk, IfSome, length, true};
+ghost use Rattle.std.specs.Prelude.{◌≡◌, ◌≤◌, ◌<◌, ◌+◌, ◌-◌, ◌*◌, ℕ, IfOk, IfSome, length, min, true};
 ghost use Rattle.regress_leaves.specs.Subject.{subject};
 ghost use Rattle.regress_tree.specs.Tree.{Tree};
 ghost use Rattle.regress_program.specs.Compiled.{IsPattern, total};
@@ -7,7 +7,7 @@ ghost use Rattle.regress_program.specs.Filled.{AreFilled};
 ghost use Rattle.regress_program.specs.Found.{Finds, no_groups, state_of};
 ghost use Rattle.regress_program.specs.Linear.{is_linear};
 ghost use Rattle.regress_program.specs.Program.{IsSolution, Out, matcher_of};
-ghost use Rattle.regress_program.specs.Search.{instructions_of, outcomes_from, routines_of, setting_of, steps_up_to, tree_outcomes_from};
+ghost use Rattle.regress_program.specs.Search.{instructions_of, outcomes_from, routines_of, setting_of, steps_up_to, tree_outcomes_from, tried};
 ghost use Rattle.regress_program.specs.Shape.{IsForwards, IsProgram};
 ghost use Rattle.regress_program.specs.TextSearch.{searched_program, searched_text};
 ghost use Rattle.regress_program.specs.Views.{program_of};
@@ -38,13 +38,15 @@ impl<'p> TextSearch<'p> {
             (t : Tree) → IsPattern (routines_of p) t → Finds text (tree_outcomes_from p text t) from search.found)) }
         ensures inside { IfOk result (λ search. IfSome search.found (λ m. (state_of m).position ≤ length (searched_text self.now))) }
         ensures steps { IfOk result (λ search. search.steps ≤ steps_up_to (instructions_of (searched_program self.now)) (searched_text self.now) from search.found) }
+        ensures counted { IfOk result (λ search. tried (searched_text self.now) from search.found ≤ search.steps) }
     {
         find_filled(alloc, &self.program, self.text, &self.tables, from)
     }
 
-    /// Returns the number of steps that it took to prepare the search: of states that were evaluated.
+    /// Returns the number of steps that it took to prepare the search, at most `u64::MAX`: of states that were evaluated,
+    /// which are two for each instruction and position.
     pub fn steps(&self) -> u64
-        ensures { result ≤ 2 * instructions_of (searched_program self.now) * (length (searched_text self.now) + 1) }
+        ensures { result ≡ min (2 * instructions_of (searched_program self.now) * (length (searched_text self.now) + 1)) u64.MAX }
     {
         self.steps
     }
@@ -72,6 +74,7 @@ pub(crate) fn find_filled(
         Finds text.now (tree_outcomes_from program.now text.now t) from search.found) }
     ensures inside { IfOk result (λ search. IfSome search.found (λ m. (state_of m).position ≤ length text.now)) }
     ensures steps { IfOk result (λ search. search.steps ≤ steps_up_to (instructions_of program.now) text.now from search.found) }
+    ensures counted { IfOk result (λ search. tried text.now from search.found ≤ search.steps) }
 {
     let input = Input {
         text,
@@ -108,6 +111,7 @@ fn find_in(
         (λ p. matcher_of u.setting u.bytes program outs (length program - 1) (no_groups groups p)) from search.found)) }
     ensures inside { IfOk result (λ search. IfSome search.found (λ m. (state_of m).position ≤ length input.entry.text.now)) }
     ensures steps { IfOk result (λ search. search.steps ≤ steps_up_to (total (program_of input.entry.routines.now)) input.entry.text.now from search.found) }
+    ensures counted { IfOk result (λ search. tried input.entry.text.now from search.found ≤ search.steps) }
 {
     let last = input.routines.len() - 1;
     let routine = &input.routines[last];

@@ -1,5 +1,5 @@
 //! The walk through the instructions of the first outcome.
-ghost use Rattle.std.specs.Prelude.{◌≡◌, ◌+◌, ◌≤◌, ◌<◌, ◌∷◌, ℕ, IfOk, List, length, true};
+ghost use Rattle.std.specs.Prelude.{◌≡◌, ◌+◌, ◌≤◌, ◌<◌, ◌∷◌, ℕ, IfOk, List, length, min, true};
 ghost use Rattle.regress_leaves.specs.Subject.{subject};
 ghost use Rattle.regress_tree.specs.Steps.{MatchState};
 ghost use Rattle.regress_program.specs.Evaluated.{CanFill};
@@ -43,6 +43,7 @@ pub(crate) fn walk(
         ≤ index table.now walker.old.pc walker.old.moved walker.old.position) }
     ensures steps { IfOk result (λ ended. ended ≡ true → steps.new + index table.now walker.new.pc walker.new.moved walker.new.position
         ≤ steps.old + index table.now walker.old.pc walker.old.moved walker.old.position + 1) }
+    ensures counted { IfOk result (λ _. min steps.old u64.MAX ≤ steps.new) }
 {
     'walk: loop {
         *steps = steps.saturating_add(1);

@@ -270,6 +270,12 @@ run-returns-in-None-clause-none t c = λ is.
 pub run-returns-in-None-clause-left : goal.run-returns-in-None-clause-left
 run-returns-in-None-clause-left t c = omega (arith, c.in_ok-to.ensures.left, c.loop-left.invariant.left)
 
+pub run-returns-in-None-clause-counted : goal.run-returns-in-None-clause-counted
+run-returns-in-None-clause-counted t c = λ known. omega (arith, c.in_ok-to.ensures.left, c.loop-left.invariant.left, c.loop-left-test.true)
+
+pub run-returns-in-Accept-clause-counted : goal.run-returns-in-Accept-clause-counted
+run-returns-in-Accept-clause-counted t c = λ known. omega (arith, c.in_ok-to.ensures.left, c.loop-left.invariant.left, c.loop-left-test.true)
+
 pub run-returns-in-Accept-clause-answers : goal.run-returns-in-Accept-clause-answers
 run-returns-in-Accept-clause-answers t c = λ outs solution.
     let input = c.args.input.now in

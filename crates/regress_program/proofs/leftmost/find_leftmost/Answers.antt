@@ -89,6 +89,10 @@ returns-then-cell-clause-steps c =
     (c.in_ok-walk.ensures.falls ends.0) (c.in_ok-walk.ensures.steps ends.0) in
     omega (arith, all, ap (λ k. (2 * t.width + 1) * (k + 1 - c.args.from)) (ap (λ s. s.position) c.new-found.ensures.state))
 
+pub returns-then-cell-clause-counted : goal.returns-then-cell-clause-counted
+returns-then-cell-clause-counted c =
+    omega (arith, c.loop-start.invariant.steps, c.loop-start.auto.start, c.in_ok-walk.ensures.counted, c.new-found.ensures.start)
+
 pub loop-start-preserved : goal.loop-start-preserved
 loop-start-preserved c =
     let text = c.args.input.text.now in

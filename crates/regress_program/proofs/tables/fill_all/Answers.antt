@@ -7,7 +7,7 @@ use Rattle.regress_program.specs.declared.table.Table.{Table}
 use Rattle.regress_program.specs.Compiled.{total}
 use Rattle.regress_program.specs.Table.{IsTableOf, AreTables, AreRight, IsRight}
 use Rattle.regress_program.specs.Views.{program_of, routine_of}
-use Rattle.regress_program.proofs.FillLemmas.{push_tables, push_are_right, more_bits, total-more}
+use Rattle.regress_program.proofs.FillLemmas.{push_tables, push_are_right, least_bits, more_bits, total-more}
 use Rattle.regress_program.proofs.tables.fill_all.Goals as goal
 
 pub loop-routine-preserved : goal.loop-routine-preserved
@@ -39,6 +39,11 @@ loop-routine-preserved c =
           (total-more program i r is)
           (c.in_ok-table.ensures.full ∙ ap (λ k. (k + 1) * (2 * t.width)) of.text ∙ ap (λ w. (n + 1) * (2 * w)) of.width)
           so_far.steps (omega arith);
+      counted = least_bits n (length r.ops) (total (take i program)) (total (take (i + 1) program)) (length (bits_of t.bits)) c.loop-routine.steps
+          c.saturating_add.result c.args.steps.now
+          (total-more program i r is)
+          (c.in_ok-table.ensures.full ∙ ap (λ k. (k + 1) * (2 * t.width)) of.text ∙ ap (λ w. (n + 1) * (2 * w)) of.width)
+          so_far.counted (omega arith);
     }
 
 pub returns : goal.returns
@@ -51,4 +56,5 @@ returns c =
     record {
       filled = record { are = so_far.tables; all = so_far.count ∙ all; right = so_far.right };
       steps = omega (arith, so_far.steps, ap (λ k. (length c.args.text.now + 1) * (2 * k)) sum);
+      counted = omega (arith, so_far.counted, ap (λ k. (length c.args.text.now + 1) * (2 * k)) sum);
     }

@@ -76,6 +76,7 @@ returns-then-not-branch c = record {
   inside = λ ends. let bad : true ≡ false = sym ends ∙ refl in cc;
   falls = λ ends. let bad : true ≡ false = sym ends ∙ refl in cc;
   steps = λ ends. let bad : true ≡ false = sym ends ∙ refl in cc;
+  counted = omega (arith, c.walk.invariant.counted);
 }
 
 pub walk-preserved : goal.walk-preserved
@@ -83,6 +84,7 @@ walk-preserved c = record {
   pc = (c.in_ok-step.ensures.below c.if-not-branch.false).pc;
   position = (c.in_ok-step.ensures.below c.if-not-branch.false).position;
   steps = let below = c.in_ok-step.ensures.below c.if-not-branch.false in omega (arith, below.lower);
+  counted = omega (arith, c.walk.invariant.counted);
   falls = let below = c.in_ok-step.ensures.below c.if-not-branch.false in omega (arith, below.lower, c.walk.invariant.falls);
   leads = λ outs solution full right some.
       let u = subject c.args.input.rules c.args.input.text.now in

@@ -1,12 +1,12 @@
-use Rattle.std.proofs.Common.{rules, arith, ◌≤◌, ◌<◌, ℕ, length, sym, ap, subst, IfSome, MatchOption}
+use Rattle.std.proofs.Common.{rules, arith, ◌≡◌, ◌≤◌, ◌<◌, ◌∙◌, ℕ, length, sym, ap, subst, IfSome, MatchOption}
 use Rattle.std.specs.Str.{IsCharBoundary}
-use Rattle.regress_program.specs.Found.{NoneBefore}
+use Rattle.regress_program.specs.Found.{NoneBefore, start_of}
 use Rattle.regress_program.specs.Program.{Out}
 use Rattle.regress_backtrack.specs.Backtracker.{AreOutcomes, outcomes_at, run_text}
 use Rattle.regress_backtrack.specs.Searched.{IsFirst}
 use Rattle.regress_backtrack.specs.declared.outcome.Outcome.TheVariants as outcomes
 use Rattle.regress_backtrack.proofs.CandidateLemmas.{none_after, none_before}
-use Rattle.regress_backtrack.proofs.SearchLemmas.{SameRuns-trans, found_leftmost, none_more, not_true, same_solved, tree_finds}
+use Rattle.regress_backtrack.proofs.SearchLemmas.{SameRuns-trans, found_leftmost, none_more, not_true, same_solved, starts_at, tree_finds}
 use Rattle.regress_backtrack.proofs.backtracker.Backtracker.find.Goals as goal
 use Rattle.regress_backtrack.proofs.backtracker.Backtracker.find.Goals.{then-is_char_boundary+in_ok-found+in-NoMatch, else-is_char_boundary}
 
@@ -47,6 +47,17 @@ pub returns-in-Matched-clause-finds : goal.returns-in-Matched-clause-finds
 returns-in-Matched-clause-finds c =
     tree_finds c.args.self.now c.args.from (outcomes.Matched c.in-Matched.found) (returns-in-Matched-clause-solved c)
 
+pub returns-in-Matched-clause-counted : goal.returns-in-Matched-clause-counted
+returns-in-Matched-clause-counted c =
+    let b = c.loop-from.self in
+    let k = c.in-Some.position in
+    let m = c.in-Matched.found in
+    let within = subst (λ r. IfSome r (λ (p : ℕ). (c.loop-from.from ≤ p) × (p ≤ length (run_text c.args.self.now)))) c.in-Some.is c.next_start.ensures.within in
+    let starts : start_of m ≡ k =
+    starts_at b k m (λ outs are. subst (IsFirst k (outcomes_at b outs k)) c.in-Matched.is (c.in_ok-found.ensures.solved outs are)) in
+    let fewer = c.in_ok-found.ensures.counted (λ out. let bad : outcomes.Matched m ≡ outcomes.OutOfSteps = sym c.in-Matched.is ∙ out in cc) in
+    omega (arith, starts, fewer, c.saturating_sub.ensures, c.loop-from.invariant.counted, within.0)
+
 pub loop-from-preserved : goal.loop-from-preserved
 loop-from-preserved c =
     let a = c.args.self.now in
@@ -63,6 +74,7 @@ loop-from-preserved c =
         same = rw w.self-is (SameRuns-trans a b w.match_at.new.self so_far.same w.match_at.ensures.same);
         from = omega (arith, so_far.from, within.0);
         left = omega (arith, w.left-is, w.in_ok-found.ensures.left, c.saturating_sub.ensures, so_far.left);
+        counted = λ more. omega (arith, more, w.left-is, w.in_ok-found.ensures.left, c.saturating_sub.ensures, so_far.counted, within.0);
         solved = λ outs are.
             none_more text (outcomes_at a outs) c.args.from k (none outs are)
             (λ on. subst (IsFirst k (outcomes_at a outs k)) w.in-NoMatch.is
@@ -72,6 +84,7 @@ loop-from-preserved c =
         same = rw w.self-is so_far.same;
         from = omega (arith, so_far.from, within.0);
         left = omega (arith, w.left-is, c.saturating_sub.ensures, so_far.left);
+        counted = λ more. omega (arith, more, w.left-is, c.saturating_sub.ensures, so_far.counted, within.0);
         solved = λ outs are.
             none_more text (outcomes_at a outs) c.args.from k (none outs are)
             (λ on. absurd (not_true c.is_char_boundary.result w.if-is_char_boundary.false (c.is_char_boundary.ensures.test.1 on)));

@@ -2,7 +2,7 @@ use Rattle.std.proofs.Common.{◌≤◌, IfSome, length, subst, sym, arith}
 use Rattle.std.specs.Str.{IsUtf8}
 use Rattle.regress_match.specs.Kept.{IsRunOf}
 use Rattle.regress_match.specs.Matched.{IfMatched, start_of}
-use Rattle.regress_match.proofs.MatcherLemmas.{kept_none, run_inside, run_matches, run_starts, runs_on}
+use Rattle.regress_match.proofs.MatcherLemmas.{kept_none, run_counted, run_inside, run_matches, run_starts, runs_on}
 use Rattle.regress_match.proofs.matcher_matches.MatcherMatches.backtrack.Goals as goal
 
 pub offset_after-from-requires : goal.offset_after-from-requires
@@ -43,3 +43,9 @@ returns-clause-inside c =
     let s = c.args.self.now in
     run_inside s.matcher.now s.text.now c.in_ok-backtracker.backtracker c.in_ok-backtracker.ensures s.from c.in_ok-outcome.outcome
     c.in_ok-outcome.ensures.solved (subst IsUtf8 c.text-text.ensures c.text-text.utf8)
+
+pub returns-clause-counted : goal.returns-clause-counted
+returns-clause-counted c =
+    let s = c.args.self.now in
+    run_counted s.matcher.now s.text.now c.in_ok-backtracker.backtracker c.in_ok-backtracker.ensures s.from c.in_ok-outcome.outcome
+    c.in_ok-outcome.ensures.solved s.limit s.left c.find.new.left s.searched c.in_ok-outcome.ensures.left s.within c.in_ok-outcome.ensures.counted

@@ -1,11 +1,12 @@
-use Rattle.std.proofs.Common.{◌≡◌, ◌≤◌, length, sym, ◌∙◌, ap, subst, arith}
+use Rattle.std.proofs.Common.{◌≡◌, ◌≤◌, ◌+◌, ◌-◌, length, min, sym, ◌∙◌, ap, subst, arith}
 use Rattle.std.specs.Str.{IsUtf8}
 use Rattle.regress_tree.specs.WellFormed.{IsWellFormed}
+use Rattle.regress_program.specs.TextSearch.{searched_text}
 use Rattle.regress_match.specs.Kept.{IfKept, IsKept}
 use Rattle.regress_match.specs.Matched.{Finds, IfMatched, IsInside, start_of}
 use Rattle.regress_match.specs.Matcher.{matcher_outcomes, matcher_tree, outcome_if}
 use Rattle.regress_match.specs.Searched.{offset_after}
-use Rattle.regress_match.proofs.MatcherLemmas.{kept_finds, kept_inside, kept_more, kept_starts}
+use Rattle.regress_match.proofs.MatcherLemmas.{kept_finds, kept_inside, kept_more, kept_starts, tables_counted}
 use Rattle.regress_match.proofs.matcher_matches.MatcherMatches.find_in_tables.Goals as goal
 
 pub offset_after-from-requires : goal.offset_after-from-requires
@@ -50,3 +51,12 @@ returns-clause-inside c =
     subst (λ o. IsWellFormed (matcher_tree s.matcher.now) → IfMatched o (IsInside s.text.now)) (sym c.outcome_of-outcome.ensures)
     (kept_inside s.matcher.now s.text.now s.from s.searched c.in-Some.search kept c.in_ok-found.found found.solved found.inside found.steps
     (subst IsUtf8 c.text-text.ensures c.text-text.utf8))
+
+pub returns-clause-counted : goal.returns-clause-counted
+returns-clause-counted c =
+    let s = c.args.self.now in
+    let found = c.in_ok-found.ensures in
+    subst (λ o. IfMatched o (λ m. min (s.limit - s.left + s.searched + (start_of m + 1 - s.from)) 18446744073709551615
+    ≤ s.limit - s.left + c.saturating_add-searched.result)) (sym c.outcome_of-outcome.ensures)
+    (tables_counted (searched_text c.in-Some.search) s.from (s.limit - s.left) s.searched c.saturating_add-searched.result c.in_ok-found.found.steps
+    c.in_ok-found.found.found found.counted (omega (arith, c.saturating_add-searched.ensures)))

@@ -1,5 +1,5 @@
-use Rattle.std.proofs.Common.{◌∙◌, sym}
-use Rattle.regress_match.proofs.MatcherLemmas.{tables_kept}
+use Rattle.std.proofs.Common.{◌∙◌, arith, sym}
+use Rattle.regress_match.proofs.MatcherLemmas.{none_taken, tables_kept}
 use Rattle.regress_match.proofs.matcher_matches.MatcherMatches.make_tables.Goals as goal
 
 pub invariant_of-self : goal.invariant_of-self
@@ -14,3 +14,8 @@ invariant_of-self c =
           (sym c.is_linear.ensures ∙ c.if-is_linear.true) c.deref.ensures s.matcher.now.compiled made.routines made.groups made.setting
           (c.in_ok-search.ensures.program ∙ c.in-Ok.ensures.same) c.in_ok-search.ensures.text c.steps-self.ensures;
     }
+
+pub returns-clause-more : goal.returns-clause-more
+returns-clause-more c =
+    let s = c.args.self.now in
+    omega (arith, none_taken s.matcher.now s.text.now s.from s.searched s.search c.requires s.kept)
