@@ -1,0 +1,2 @@
+-- Lemmas on the definitions of this crate that the crates above may cite.
+pub mod Required
