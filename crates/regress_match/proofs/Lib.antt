@@ -2,3 +2,4 @@ pub mod lemmas
 pub mod IterationLemmas
 pub mod NamesLemmas
 pub mod MatcherLemmas
+pub mod RequiredLemmas

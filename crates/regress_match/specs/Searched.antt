@@ -21,6 +21,11 @@ offset_after text from (outcomes.Matched m) = next_offset m
 offset_after text from outcomes.NoMatch = length text + 1
 offset_after text from outcomes.OutOfSteps = from
 
+-- No match is left, and the search is past the text.
+pub record EndsHere (text : List ℕ) (at : ℕ → List MatchState) (from to : ℕ) : Type 0 where
+  pub none : Finds text at from outcomes.NoMatch
+  pub past : to ≡ length text + 1
+
 -- The list has the matches that a repeated search finds in order, each the leftmost one, from the offset `from` until
 -- the search is at `to`.
 abbrev pub AreMatches : (text : List ℕ) → (at : ℕ → List MatchState) → (from to : ℕ) → List Match → Type 0

@@ -1,14 +1,16 @@
 //! The next match of a matcher: by backtracking, and then by tables.
-ghost use Rattle.std.specs.Prelude.{◌≡◌, ◌≤◌, ◌+◌, ◌*◌, IfNone, IfOk, IfSome, IsNone, IsSome, OnErr, length};
+ghost use Rattle.std.specs.Prelude.{◌≡◌, ◌<◌, ◌≤◌, ◌+◌, ◌*◌, IfNone, IfOk, IfSome, IsNone, IsSome, MatchOption, OnErr, false, length, true};
 ghost use Rattle.regress_tree.specs.WellFormed.{IsWellFormed};
 ghost use Rattle.regress_match.specs.Iterated.{IsSameIteration, iterated_from, iterated_matcher, iterated_text, step_limit, steps_left};
 ghost use Rattle.regress_match.specs.Kept.{IsRunOf};
 ghost use Rattle.regress_match.specs.Matched.{Finds, IfMatched, IfOutOfSteps, IsInside, start_of};
 ghost use Rattle.regress_match.specs.Matcher.{factor_of, matcher_outcomes, matcher_tree, outcome_if};
-ghost use Rattle.regress_match.specs.Searched.{offset_after};
+ghost use Rattle.regress_match.specs.Searched.{EndsHere, offset_after};
+ghost use Rattle.regress_required.specs.Required.{NoneFrom};
 
 use crate::matcher::Matcher;
 use crate::matcher_matches::MatcherMatches;
+use memchr::memchr;
 use regress_backtrack::{Backtracker, Outcome};
 use regress_program::Match;
 use std::alloc::{AllocError, Global};
@@ -55,6 +57,9 @@ impl<'m> MatcherMatches<'m> {
         if self.search.is_some() {
             return self.find_in_tables(alloc);
         }
+        if self.skip_to_end() {
+            return Ok(Outcome::NoMatch);
+        }
         match self.backtrack(alloc)? {
             Outcome::OutOfSteps => {
                 self.make_tables(alloc)?;
@@ -78,6 +83,36 @@ impl<'m> MatcherMatches<'m> {
         ensures limited { IfNone (factor_of (iterated_matcher self.now)) (result + steps_left self.now ≡ step_limit self.now) }
     {
         (self.limit - self.left).saturating_add(self.searched)
+    }
+
+    /// Moves the search past the text if a byte that each match contains does not follow, and returns whether it did.
+    ///
+    /// It looks for the byte before the first match only, so that all searches together look at each byte of the text
+    /// once. Each byte looked at is a step; if there may be too few it does nothing.
+    fn skip_to_end(&mut self) -> bool
+        requires { IsNone self.old.search }
+        ensures ends { result ≡ true → EndsHere (iterated_text self.old) (matcher_outcomes (iterated_matcher self.old) (iterated_text self.old)) (iterated_from self.old) (iterated_from self.new) }
+        ensures stays { result ≡ false → iterated_from self.new ≡ iterated_from self.old }
+        ensures same { IsSameIteration self.old self.new }
+        ensures search { IsNone self.new.search }
+    {
+        let Some(byte) = self.matcher.required else {
+            return false;
+        };
+        if self.backtracker.is_some() || (self.text.len() as u64) > self.left {
+            return false;
+        }
+        match offset_of(byte, self.text, self.from) {
+            Some(ahead) => {
+                self.left -= ahead as u64 + 1;
+                false
+            }
+            None => {
+                self.left -= self.text.len().saturating_sub(self.from) as u64;
+                self.from = self.text.len() + 1;
+                true
+            }
+        }
     }
 
     /// Returns the next match by backtracking, or [`Outcome::OutOfSteps`] if its steps are used up.
@@ -145,6 +180,17 @@ impl<'m> MatcherMatches<'m> {
         self.from = from;
         Ok(outcome)
     }
+}
+
+/// Returns how far behind the byte offset `from` a byte occurs next.
+fn offset_of(byte: u8, text: &str, from: usize) -> Option<usize>
+    ensures { MatchOption result (NoneFrom byte text.now from) (λ ahead. from + ahead < length text.now) }
+{
+    let bytes = text.as_bytes();
+    if from >= bytes.len() {
+        return None;
+    }
+    memchr(byte, &bytes[from..])
 }
 
 /// Returns the runs that are kept, or new ones.
