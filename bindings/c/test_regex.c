@@ -332,7 +332,9 @@ static void limits(void) {
     /* a program that is too long for tables is searched within the step limit */
     CHECK(compiled_within(&tables, "(a*)*b", &regex) == REGRESS_OK);
     CHECK(regress_is_linear(&regex) == 0 && regress_steps_per_character(&regex) == 0);
-    CHECK(found(&regex, "aaaaaaaaaaaaaaaaaaaaaaaaaaaaaaaa", 0, ROOM) == REGRESS_OUT_OF_STEPS);
+    CHECK(found(&regex, "aaaaaaaaaaaaaaaaaaaaaaaaaaaaaaaacb", 0, ROOM) == REGRESS_OUT_OF_STEPS);
+    /* without a b, which each match contains, there is none */
+    CHECK(found(&regex, "aaaaaaaaaaaaaaaaaaaaaaaaaaaaaaaa", 0, ROOM) == REGRESS_NO_MATCH);
     regress_free(&regex);
     CHECK(compiled("(a*)*b", SMALL, &regex) == REGRESS_OK);
     CHECK(regress_is_linear(&regex) == 1 && regress_steps_per_character(&regex) > 0);
