@@ -8,7 +8,7 @@ ghost use Rattle.regress_front.specs.SettingOf.{setting_of};
 ghost use Rattle.regress.specs.Compiled.{IsCompiled};
 ghost use Rattle.example_schema.specs.Violated.{IsViolation, Keeps, unicode_flags};
 
-use regress::{Error, Flags, Regex, SearchError, Tables};
+use regress::{Error, Flags, Options, Regex, SearchError, Tables};
 use serde_json::{Map, Value};
 use std::alloc::{AllocError, Global};
 use std::sync::Arc;
@@ -170,7 +170,7 @@ impl Validator<'_> {
             unicode: true,
             ..Flags::default()
         };
-        Regex::with_flags(self.alloc, pattern, flags, self.tables)
+        Regex::with_options(self.alloc, pattern, flags, Options::default(), self.tables)
     }
 }
 

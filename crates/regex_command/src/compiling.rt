@@ -5,7 +5,7 @@ ghost use Rattle.regex_command.specs.Printed.{IsRegexOf, IsRejected};
 
 use crate::asked::Request;
 use crate::failure::Failure;
-use regress::{Error, Regex};
+use regress::{Error, Options, Regex};
 use regress_ucd::unicode_tables;
 use std::alloc::Global;
 use std::sync::Arc;
@@ -16,7 +16,8 @@ pub(crate) fn compiled<'a>(alloc: Global, request: Request<'a>) -> Result<Regex,
     ensures failed { IfErr result (IsRejected (requested request.entry)) }
 {
     let tables = Arc::new(alloc, unicode_tables(alloc)?)?;
-    match Regex::with_flags(alloc, request.pattern, request.flags, &tables) {
+    let options = Options::default();
+    match Regex::with_options(alloc, request.pattern, request.flags, options, &tables) {
         Ok(regex) => Ok(regex),
         Err(Error::Syntax { text, position, .. }) => Err(Failure::Syntax {
             pattern: request.pattern,
@@ -24,6 +25,7 @@ pub(crate) fn compiled<'a>(alloc: Global, request: Request<'a>) -> Result<Regex,
             position,
         }),
         Err(Error::TooLarge) => Err(Failure::TooLarge),
+        Err(Error::Flags(_)) => unreachable!(),
         Err(Error::Memory) => Err(Failure::Memory),
     }
 }

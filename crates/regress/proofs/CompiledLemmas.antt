@@ -1,16 +1,15 @@
 -- The tree of an accepted pattern, and the errors of a rejected one.
 use Rattle.std.proofs.Common.{◌≡◌, ◌∙◌, ℕ, ◌<◌, inr, List, [], ◌∷◌, length, map, sym, ap, subst, not-suc-le-zero, arith}
 use Rattle.std.proofs.lemmas.List.{get_or-map, length-map}
-use Rattle.std.specs.Arc.{arc_value}
 use Rattle.std.specs.List.Sorted.{IsNonDecreasingBy, IsPermutation}
-use Rattle.std.specs.Prelude.{Result, Ok, Err, IfErr, IsErr, IsErrAnd, chars}
+use Rattle.std.specs.Prelude.{Result, Ok, Err, IfErr, IfOk, IsErr, IsErrAnd, chars}
+use Rattle.std.specs.Str.{IsUtf8}
 use Rattle.regress_front.specs.Accepted.{IsTrueOf, MayExceed, Means, NoneIsAccepted}
 use Rattle.regress_front.specs.Fault.{HasPositionWithin, HasTextOfKind, RejectedOnlyIf, ReportsKindAt, unplaced}
 use Rattle.regress_front.specs.Reading.{forwards}
 use Rattle.regress_front.specs.Law.{MeansTheSame}
 use Rattle.regress_front.specs.Setting.{Setting}
 use Rattle.regress_front.specs.Settled.{IsAtFirstDuplicate, IsFinal}
-use Rattle.regress_front.specs.SettingOf.{setting_of}
 use Rattle.regress_front.specs.Source.{Source}
 use Rattle.regress_front.specs.Steps.{byte_state}
 use Rattle.regress_front.specs.Syntax.{Pattern}
@@ -18,17 +17,20 @@ use Rattle.regress_front.specs.Tree.{Tree}
 use Rattle.regress_front.specs.WellFormed.{captures}
 use Rattle.regress_front.specs.declared.parse.PlacedFault.{PlacedFault}
 use Rattle.regress_front.specs.declared.parse.PlacedFault.TheVariants as fault
-use Rattle.regress_front.specs.declared.types.Flags.{Flags}
 use Rattle.regress_front.specs.declared.unicode.Tables.{Tables}
 use Rattle.regress_match.specs.Names.{capture_of}
 use Rattle.regress_match.specs.declared.names.Group.{Group}
 use Rattle.regress.specs.Accepted.{IsTreeOf}
 use Rattle.regress.specs.Compiled as regex
-use Rattle.regress.specs.Compiled.{IsCompiled, groups_of, source_of, tree_of}
-use Rattle.regress.specs.Failures.{IsDue, IsTooLong, compile_error_of, error_of}
+use Rattle.regress.specs.Compiled.{IsCompiled, IsCompiledFrom, groups_of, source_of, text_of, tree_of, unicode_setting}
+use Rattle.regress.specs.Failures.{IsDue, IsDueWithLetters, compile_error_of, error_of}
+use Rattle.regress.specs.Letters.{AreFlags, flags_of}
+use Rattle.regress.specs.Limits.{default_options}
 use Rattle.regress.specs.declared.failure.Error.{Error}
+use Rattle.regress.specs.declared.failure.Error.TheVariants.{Flags as BadFlags, Memory, Syntax, TooLarge}
 use Rattle.regress.specs.declared.limits.Options.{Options}
 use Rattle.regress.specs.declared.pattern.Regex.{Regex}
+use Rattle.regress.proofs.SourceLemmas.{text_of-chars}
 use Rattle.regress_parse.proofs.lemmas.{length-captures-tree_of}
 use Rattle.regress_program.specs.Size.{program_size}
 use Rattle.regress_program.specs.declared.fault.CompileFault.{CompileFault}
@@ -91,17 +93,25 @@ sorted-map (first ∷ groups) sorted = λ i j d up within.
     let two = ap (λ c. c.id) (get_or-map capture_of all j first d in_all) in
     omega (arith, one, two, sorted i j first up in_all)
 
--- A regular expression with the tree and the groups of an accepted pattern is compiled from its text.
-pub compiled : (flags : Flags) (tables : Tables) (text points : List ℕ) (t : Tree) (r : Regex) → points ≡ chars text →
-    IsTreeOf (setting_of flags tables) points t → tree_of r ≡ t → regex.setting_of r ≡ setting_of flags tables →
-    IsPermutation (captures t) (groups_of r) → IsNonDecreasingBy (λ group. group.id) r.groups.items → source_of r ≡ text →
-    IsCompiled (setting_of flags tables) text r
-compiled flags tables text points t r is tree same_tree same_setting groups sorted source = record {
-  tree = subst (IsTreeOf (setting_of flags tables) (chars text)) (sym same_tree) (subst (λ p. IsTreeOf (setting_of flags tables) p t) is tree);
+-- A regular expression with the tree and the groups of an accepted pattern is compiled from it.
+pub compiled : (setting : Setting) (points : Source) (t : Tree) (r : Regex) → IsTreeOf setting points t → tree_of r ≡ t →
+    regex.setting_of r ≡ setting → IsPermutation (captures t) (groups_of r) → IsNonDecreasingBy (λ group. group.id) r.groups.items →
+    IsCompiledFrom setting points r
+compiled setting points t r is same_tree same_setting groups sorted = record {
+  tree = subst (IsTreeOf setting points) (sym same_tree) is;
   groups = subst (λ u. IsPermutation (captures u) (groups_of r)) (sym same_tree) groups;
   sorted = sorted-map r.groups.items sorted;
-  source = source;
   setting = same_setting;
+}
+
+-- What is compiled from the characters of a text is compiled from the text.
+pub from_characters : (setting : Setting) (text : List ℕ) (points : Source) → points ≡ chars text → IsUtf8 text →
+    {E : Type 0} (r : Result Regex E) → IfOk r (IsCompiledFrom setting points) → IfOk r (λ regex. source_of regex ≡ text_of points) →
+    IfOk r (IsCompiled setting text)
+from_characters setting text points same utf8 (Err e) compiled source = tt
+from_characters setting text points same utf8 (Ok regex) compiled source = record {
+  from = subst (λ ps. IsCompiledFrom setting ps regex) same compiled;
+  source = source ∙ ap text_of same ∙ text_of-chars text utf8;
 }
 
 -- The tree of an accepted pattern has few groups.
@@ -122,3 +132,11 @@ too_long_is_due setting source options t is r (compile_fault.Memory e) (Err erro
 too_long_is_due setting source options t is r compile_fault.TooLong (Err error) given same too_long =
     subst (IsDue setting source options) (sym given.1)
     (inr (record { tree = t; is_tree = is; long = too_long same (few_groups setting source t is) }))
+
+-- An error under the flags of letters is due with the letters.
+pub due_with_letters : (letters : List ℕ) (source : Source) → AreFlags letters → (error : Error) →
+    IsDue (unicode_setting (flags_of letters)) source default_options error → IsDueWithLetters letters source error
+due_with_letters letters source are (BadFlags e) due = absurd due
+due_with_letters letters source are (Syntax kind text position) due = (are, due)
+due_with_letters letters source are TooLarge due = (are, due)
+due_with_letters letters source are Memory due = (are, due)

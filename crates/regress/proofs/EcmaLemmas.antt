@@ -5,6 +5,7 @@ use Rattle.std.specs.Str.{IsUtf8}
 use Rattle.std.proofs.lemmas.Str.{encodes-chars}
 use Rattle.regress_front.specs.Reading.{IsText, byte_position}
 use Rattle.regress_front.specs.Setting.{Setting}
+use Rattle.regress_front.specs.Source.{Source}
 use Rattle.regress_front.specs.Syntax.{Pattern}
 use Rattle.regress_front.specs.Tree.{Tree}
 use Rattle.regress_ecma.specs.Compared.{IsComparable}
@@ -16,7 +17,7 @@ use Rattle.regress_program.specs.Found.{Finds, start_of, state_of}
 use Rattle.regress_program.specs.declared.found.Match.{Match}
 use Rattle.regress_tree.proofs.lemmas.Characters.{byte_position-zero}
 use Rattle.regress.specs.Accepted.{IsTreeOf}
-use Rattle.regress.specs.Compiled.{IsCompiled, outcomes_of, tree_of}
+use Rattle.regress.specs.Compiled.{IsCompiledFrom, outcomes_of, tree_of}
 use Rattle.regress.specs.declared.pattern.Regex.{Regex}
 
 -- what a search finds is what RegExpBuiltinExec finds, in byte offsets
@@ -40,19 +41,19 @@ over_characters setting p comparable t means text is_text index within (Some m) 
     sym (leftmost setting p comparable t means text is_text index (start_of m) within finds.from finds.boundary (state_of m) finds.first.0
     finds.first.1 finds.least)
 
-pub finds_match_from : (setting : Setting) (pattern : List ℕ) (r : Regex) (compiled : IsCompiled setting pattern r) →
+pub finds_match_from : (setting : Setting) (pattern : Source) (r : Regex) (compiled : IsCompiledFrom setting pattern r) →
     IsComparable setting compiled.tree.pattern → (text : List ℕ) → IsUtf8 text → (index : ℕ) → index ≤ length (chars text) →
     (found : Option Match) → Finds text (outcomes_of r text) (byte_position (chars text) index) found →
     IsMatchOf setting compiled.tree.pattern (chars text) index found
 finds_match_from setting pattern r compiled comparable text utf8 index within found finds =
-    let means = has_meaning setting (chars pattern) (tree_of r) compiled.tree in
+    let means = has_meaning setting pattern (tree_of r) compiled.tree in
     let start = byte_position (chars text) index in
     let under_setting : Finds text (outcomes_from setting text (tree_of r)) start found =
     subst (λ (s : Setting). Finds text (outcomes_at s text (tree_of r)) start found) compiled.setting finds in
     over_characters setting compiled.tree.pattern comparable (tree_of r) means (chars text) (decoded text utf8) index within found
     (subst (λ (bytes : List ℕ). Finds bytes (outcomes_from setting bytes (tree_of r)) start found) (sym (encodes-chars text utf8)) under_setting)
 
-pub finds_match : (setting : Setting) (pattern : List ℕ) (r : Regex) (compiled : IsCompiled setting pattern r) →
+pub finds_match : (setting : Setting) (pattern : Source) (r : Regex) (compiled : IsCompiledFrom setting pattern r) →
     IsComparable setting compiled.tree.pattern → (text : List ℕ) → IsUtf8 text → (found : Option Match) →
     Finds text (outcomes_of r text) 0 found → IsMatchOf setting compiled.tree.pattern (chars text) 0 found
 finds_match setting pattern r compiled comparable text utf8 found finds =

@@ -3,3 +3,4 @@ mod EcmaLemmas
 mod FoundLemmas
 mod LettersLemmas
 mod ReplacedLemmas
+mod SourceLemmas

@@ -14,8 +14,11 @@ use Rattle.regress_program.specs.Size.{program_size}
 use Rattle.regress_program.specs.declared.fault.CompileFault.{CompileFault}
 use Rattle.regress_program.specs.declared.fault.CompileFault.TheVariants as compile_fault
 use Rattle.regress.specs.Accepted.{IsTreeOf}
+use Rattle.regress.specs.Compiled.{unicode_setting}
+use Rattle.regress.specs.Letters.{AreFlags, flags_of}
+use Rattle.regress.specs.Limits.{default_options}
 use Rattle.regress.specs.declared.failure.Error.{Error}
-use Rattle.regress.specs.declared.failure.Error.TheVariants.{Syntax, TooLarge, Memory}
+use Rattle.regress.specs.declared.failure.Error.TheVariants.{Flags, Syntax, TooLarge, Memory}
 use Rattle.regress.specs.declared.limits.Options.{Options}
 
 -- an error of the parser as an error of `Regex`
@@ -45,8 +48,14 @@ abbrev pub IsTooLarge : Setting → Source → Options → Type 0
 IsTooLarge setting source options =
     (options.nodes < node_bound setting.flags.unicode_sets source) ⊎ IsTooLong setting source options.instructions
 
--- An error is due: a syntax error, or the pattern is too large. Out of memory it states nothing.
+-- An error is due: a syntax error, or the pattern is too large. It is not about flags. Out of memory it states nothing.
 abbrev pub IsDue : Setting → Source → Options → Error → Type 0
 IsDue setting source options (Syntax kind text position) = IsSyntaxError setting source kind (string_bytes text) position
+IsDue setting source options (Flags e) = ⊥
 IsDue setting source options TooLarge = IsTooLarge setting source options
 IsDue setting source options Memory = Unit {0}
+
+-- With letters for flags, under the table of all of Unicode: they are no flags, or they are and the error is due.
+abbrev pub IsDueWithLetters : (letters : List ℕ) → Source → Error → Type 0
+IsDueWithLetters letters source (Flags e) = AreFlags letters → ⊥
+IsDueWithLetters letters source error = AreFlags letters × IsDue (unicode_setting (flags_of letters)) source default_options error

@@ -3,11 +3,12 @@ ghost use Rattle.std.specs.Prelude.{◌≡◌, ◌≤◌, ℕ, List, Option, cha
 ghost use Rattle.std.specs.Str.{IsUtf8};
 ghost use Rattle.regress_front.specs.Reading.{byte_position};
 ghost use Rattle.regress_front.specs.Setting.{Setting};
+ghost use Rattle.regress_front.specs.Source.{Source};
 ghost use Rattle.regress_ecma.specs.Compared.{IsComparable};
 ghost use Rattle.regress_ecma.specs.Exec.{builtin_exec, found_in_bytes};
 ghost use Rattle.regress_program.specs.Found.{Finds, start_of, state_of};
 ghost use Rattle.regress_program.specs.declared.found.Match.{Match};
-ghost use Rattle.regress.specs.Compiled.{IsCompiled, outcomes_of};
+ghost use Rattle.regress.specs.Compiled.{IsCompiledFrom, outcomes_of};
 ghost use Rattle.regress.specs.declared.pattern.Regex.{Regex};
 
 /// States the theorem that what a search finds is what RegExpBuiltinExec of ECMA-262 (section 22.2.7.2) finds, with byte
@@ -15,18 +16,18 @@ ghost use Rattle.regress.specs.declared.pattern.Regex.{Regex};
 ///
 /// It is about patterns without a differing construct, under tables with the case data of Unicode, and of texts as code
 /// points (`IsComparable` of `regress_ecma`). The clause `finds` of [`Regex::find`](crate::Regex::find) and
-/// [`Regex::find_from`](crate::Regex::find_from) gives the premise about the search.
+/// [`Regex::find_at`](crate::Regex::find_at) gives the premise about the search.
 ///
 /// The function does nothing at run time; call it where a proof needs the theorem.
 pub fn find_returns_the_match_of_ecma()
-    ensures find { (setting : Setting) (pattern : List ℕ) (r : Regex) (compiled : IsCompiled setting pattern r) →
+    ensures find { (setting : Setting) (pattern : Source) (r : Regex) (compiled : IsCompiledFrom setting pattern r) →
         IsComparable setting compiled.tree.pattern → (text : List ℕ) → IsUtf8 text → (found : Option Match) →
         Finds text (outcomes_of r text) 0 found →
         option_map (λ m. (start_of m, state_of m)) found
         ≡ option_map found_in_bytes (builtin_exec setting compiled.tree.pattern (chars text) 0) }
 
     // From an index of the text on.
-    ensures find_from { (setting : Setting) (pattern : List ℕ) (r : Regex) (compiled : IsCompiled setting pattern r) →
+    ensures find_at { (setting : Setting) (pattern : Source) (r : Regex) (compiled : IsCompiledFrom setting pattern r) →
         IsComparable setting compiled.tree.pattern → (text : List ℕ) → IsUtf8 text → (index : ℕ) → index ≤ length (chars text) →
         (found : Option Match) → Finds text (outcomes_of r text) (byte_position (chars text) index) found →
         option_map (λ m. (start_of m, state_of m)) found

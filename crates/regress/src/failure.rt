@@ -1,9 +1,10 @@
 //! Errors of compiling and of searching.
 ghost use Rattle.std.specs.Prelude.{◌≡◌};
 ghost use Rattle.regress.specs.Failures.{compile_error_of, error_of};
-ghost use Rattle.regress.specs.declared.failure.Error.TheVariants.{Memory};
+ghost use Rattle.regress.specs.declared.failure.Error.TheVariants.{Flags, Memory};
 ghost use Rattle.regress.specs.declared.failure.SearchError.TheVariants.{Memory as SearchMemory};
 
+use crate::letters::FlagsError;
 use regress_front::parse::{FaultKind, PlacedFault};
 use regress_match::CompileFault;
 use std::alloc::{AllocError, AllocFailed};
@@ -21,6 +22,9 @@ pub enum Error {
         /// The position of the error: a code-point index of the pattern, at most its length.
         position: usize,
     },
+    /// The letters specify no flags. Only [`Regex::with_flags`](crate::Regex::with_flags) returns it.
+    #[error("{0}")]
+    Flags(FlagsError),
     /// The tree of the pattern may have more nodes, or its program has more instructions, than
     /// [`Options`](crate::Options) allow.
     #[error("the pattern is too large")]
@@ -43,6 +47,14 @@ impl<T: Drop> From<AllocFailed<T>> for Error {
 
     fn from(_: AllocFailed<T>) -> Error {
         Error::Memory
+    }
+}
+
+impl From<FlagsError> for Error {
+    ghost from_gives = { λ fault error. error ≡ Flags fault };
+
+    fn from(fault: FlagsError) -> Error {
+        Error::Flags(fault)
     }
 }
 

@@ -1,8 +1,7 @@
 //! Regular expressions with the syntax of ECMAScript: a pattern is compiled once, and then searched for in texts.
 //!
 //! The names are those of the Rust crate `regress`. Every call that allocates is passed the allocator, and returns an
-//! error if an allocation fails. A caller makes the tables once, for all patterns, as by `unicode_tables` of
-//! `regress_ucd`.
+//! error if an allocation fails.
 #![tactic(auto)]
 
 mod compiling;
@@ -15,6 +14,7 @@ mod limits;
 mod pattern;
 mod replacing;
 mod search;
+mod source;
 mod splitting;
 
 pub use ecma::find_returns_the_match_of_ecma;

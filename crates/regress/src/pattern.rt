@@ -6,13 +6,16 @@ use crate::compiling::optimized;
 use crate::failure::{Error, SearchError};
 use crate::found::Match;
 use crate::groups::GroupNames;
+use crate::letters::parse_flags;
 use crate::limits::Options;
 use crate::search::{self, Matches};
+use crate::source::text_of;
 use regress_front::parse::node_bound;
 use regress_front::types::Flags;
 use regress_front::unicode::Tables;
 use regress_front::util::code_points;
 use regress_match::{Group, Limits, Match as Found, Matcher, Nonlinear, groups};
+use regress_ucd::unicode_tables;
 use std::alloc::Global;
 use std::fmt::{self, Display, Formatter, Write};
 use std::sync::Arc;
@@ -25,8 +28,7 @@ use std::sync::Arc;
 ///
 /// # Examples
 /// ```
-/// let tables = Arc::new(alloc, Tables::small(alloc)?)?;
-/// let regex = Regex::new(alloc, "(?<month>\\d\\d)-(\\d\\d)", &tables)?;
+/// let regex = Regex::new(alloc, "(?<month>\\d\\d)-(\\d\\d)")?;
 /// match regex.find(alloc, "on 12-31")? {
 ///     Some(found) => {
 ///         assert_eq!(rt; found.range(), 3..8);
@@ -53,52 +55,62 @@ impl Regex {
     ghost use Rattle.std.specs.Arc.{arc_value};
     ghost use Rattle.regress_front.specs.Bound.{HasAtMost};
     ghost use Rattle.regress_front.specs.SettingOf.{setting_of as setting_under};
+    ghost use Rattle.regress_front.specs.Source.{IsCodePoint};
     ghost use Rattle.regress_match.specs.Matched.{IsInside};
     ghost use Rattle.regress_match.specs.Matcher.{IsFactorOf, IsNonlinearOf};
     ghost use Rattle.regress_match.specs.Searched.{AreAllMatches};
     ghost use Rattle.regress_program.specs.Found.{Finds};
     ghost use Rattle.regress_program.specs.Size.{program_size};
     ghost use Rattle.regress_replace.specs.Order.{AreInOrder};
-    ghost use Rattle.regress.specs.Compiled.{IsCompiled, factor_of, groups_of, limit_of, nonlinear_of, outcomes_of, setting_of, source_of, tree_of};
-    ghost use Rattle.regress.specs.Failures.{IsDue};
+    ghost use Rattle.regress.specs.Compiled.{IsCompiled, IsCompiledFrom, factor_of, groups_of, limit_of, nonlinear_of, outcomes_of, setting_of, source_of, text_of, tree_of, unicode_setting};
+    ghost use Rattle.regress.specs.Failures.{IsDue, IsDueWithLetters};
     ghost use Rattle.regress.specs.Found.{MatchesSomewhere, groups_in, match_of};
     ghost use Rattle.regress.specs.Groups.{names_left};
-    ghost use Rattle.regress.specs.Letters.{no_flags};
+    ghost use Rattle.regress.specs.Letters.{AreFlags, flags_of, no_flags};
     ghost use Rattle.regress.specs.Limits.{default_options};
     ghost use Rattle.regress.specs.Searched.{has_failed, next_from, search_limit, searched_factor, searched_groups, searched_outcomes, searched_text};
     ghost use Rattle.regress.specs.declared.failure.SearchError.TheVariants.{OutOfSteps};
 
-    /// Compiles a pattern without flags, within the default [`Options`].
+    /// Compiles a pattern without flags, under the table of all of Unicode, within the default [`Options`].
+    ///
+    /// The table is made for this pattern. A caller with many patterns makes it once, by `unicode_tables` of
+    /// `regress_ucd`, and lends it to [`Regex::with_options`].
     ///
     /// # Errors
     /// As for [`Regex::with_options`].
-    pub fn new(alloc: Global, pattern: &str, tables: &Arc<Tables>) -> Result<Regex, Error>
-        ensures compiled { IfOk result (IsCompiled (setting_under no_flags (arc_value tables.now)) pattern.now) }
-        ensures failed { IfErr result (IsDue (setting_under no_flags (arc_value tables.now)) (chars pattern.now) default_options) }
+    pub fn new(alloc: Global, pattern: &str) -> Result<Regex, Error>
+        ensures compiled { IfOk result (IsCompiled (unicode_setting no_flags) pattern.now) }
+        ensures failed { IfErr result (IsDue (unicode_setting no_flags) (chars pattern.now) default_options) }
     {
-        Regex::with_flags(alloc, pattern, Flags::default(), tables)
+        Regex::under_unicode(alloc, pattern, Flags::default())
     }
 
-    /// Compiles a pattern with flags, within the default [`Options`]. [`parse_flags`](crate::parse_flags) returns the
-    /// flags of JavaScript's letters.
+    /// Compiles a pattern as [`Regex::new`] does, with flags by JavaScript's letters, as for
+    /// [`parse_flags`](crate::parse_flags).
     ///
     /// # Errors
-    /// As for [`Regex::with_options`].
-    pub fn with_flags(
-        alloc: Global,
-        pattern: &str,
-        flags: Flags,
-        tables: &Arc<Tables>,
-    ) -> Result<Regex, Error>
-        ensures compiled { IfOk result (IsCompiled (setting_under flags (arc_value tables.now)) pattern.now) }
-        ensures failed { IfErr result (IsDue (setting_under flags (arc_value tables.now)) (chars pattern.now) default_options) }
+    /// [`Error::Flags`] if the letters specify no flags, whether or not the pattern is valid; else as for
+    /// [`Regex::with_options`].
+    ///
+    /// # Examples
+    /// ```
+    /// let regex = Regex::with_flags(alloc, "\\p{Script=Greek}+", "u")?;
+    /// match regex.find(alloc, "a βγ")? {
+    ///     Some(found) => assert_eq!(rt; found.range(), 2..6),
+    ///     None => assert!(rt; false, "it matches"),
+    /// }
+    /// assert!(rt; Regex::with_flags(alloc, "a", "gg").is_err());
+    /// ```
+    pub fn with_flags(alloc: Global, pattern: &str, letters: &str) -> Result<Regex, Error>
+        ensures accepted { IfOk result (λ _. AreFlags (chars letters.now)) }
+        ensures compiled { IfOk result (IsCompiled (unicode_setting (flags_of (chars letters.now))) pattern.now) }
+        ensures failed { IfErr result (IsDueWithLetters (chars letters.now) (chars pattern.now)) }
     {
-        Regex::with_options(alloc, pattern, flags, Options::default(), tables)
+        let flags = parse_flags(letters)?;
+        Regex::under_unicode(alloc, pattern, flags)
     }
 
-    /// Compiles a pattern with flags, within limits.
-    ///
-    /// The tables are made once, for all patterns, as by `unicode_tables` of `regress_ucd`.
+    /// Compiles a pattern with flags, within limits, under tables that the caller makes once for all patterns.
     ///
     /// # Errors
     /// - [`Error::TooLarge`] if `node_bound` of the pattern exceeds `options.nodes`, whether or not the pattern is
@@ -125,13 +137,43 @@ impl Regex {
         ensures nonlinear { IfOk result (λ regex. IsNonlinearOf options.tables (tree_of regex) (nonlinear_of regex)) }
     {
         let points = code_points(alloc, pattern)?;
-        let bound = node_bound(&points, flags);
+        Regex::from_unicode(alloc, &points, flags, options, tables)
+    }
+
+    /// Compiles a pattern of code points, which may be surrogates, as [`Regex::with_options`] does.
+    ///
+    /// # Preconditions
+    /// Each element of `pattern` is a code point, at most U+10FFFF.
+    ///
+    /// # Errors
+    /// As for [`Regex::with_options`].
+    ///
+    /// # Complexity
+    /// As for [`Regex::with_options`].
+    pub fn from_unicode(
+        alloc: Global,
+        pattern: &[u32],
+        flags: Flags,
+        options: Options,
+        tables: &Arc<Tables>,
+    ) -> Result<Regex, Error>
+        requires { All IsCodePoint pattern.now }
+        ensures compiled { IfOk result (IsCompiledFrom (setting_under flags (arc_value tables.now)) pattern.now) }
+        ensures source { IfOk result (λ regex. source_of regex ≡ text_of pattern.now) }
+        ensures failed { IfErr result (IsDue (setting_under flags (arc_value tables.now)) pattern.now options) }
+        ensures small { IfOk result (λ _. options.nodes < usize.MAX → HasAtMost flags pattern.now options.nodes) }
+        ensures within { IfOk result (λ regex. program_size (tree_of regex) ≤ options.instructions) }
+        ensures limit { IfOk result (λ regex. limit_of regex ≡ options.steps) }
+        ensures linear { IfOk result (λ regex. IsFactorOf options.tables (tree_of regex) (factor_of regex)) }
+        ensures nonlinear { IfOk result (λ regex. IsNonlinearOf options.tables (tree_of regex) (nonlinear_of regex)) }
+    {
+        let bound = node_bound(pattern, flags);
         if bound > options.nodes {
             return Err(Error::TooLarge);
         }
-        let compiled = optimized(alloc, &points, flags, tables)?;
+        let compiled = optimized(alloc, pattern, flags, tables)?;
         let groups = groups(alloc, &compiled)?;
-        let source = String::from_str(alloc, pattern)?;
+        let source = text_of(alloc, pattern)?;
         let limits = Limits {
             instructions: options.instructions,
             tables: options.tables,
@@ -145,10 +187,19 @@ impl Regex {
         })
     }
 
+    /// Compiles a pattern under the table of all of Unicode, within the default options.
+    fn under_unicode(alloc: Global, pattern: &str, flags: Flags) -> Result<Regex, Error>
+        ensures compiled { IfOk result (IsCompiled (unicode_setting flags) pattern.now) }
+        ensures failed { IfErr result (IsDue (unicode_setting flags) (chars pattern.now) default_options) }
+    {
+        let tables = Arc::new(alloc, unicode_tables(alloc)?)?;
+        Regex::with_options(alloc, pattern, flags, Options::default(), &tables)
+    }
+
     /// Returns whether the pattern matches somewhere in `text`.
     ///
     /// # Errors
-    /// As for [`Regex::find_from`].
+    /// As for [`Regex::find_at`].
     pub fn is_match(&self, alloc: Global, text: &str) -> Result<bool, SearchError>
         ensures is { IfOk result (λ is. IsTrue is ↔ MatchesSomewhere text.now (outcomes_of self.now text.now)) }
         ensures linear { IfErr result (λ error. error ≡ OutOfSteps → factor_of self.now ≡ None) }
@@ -160,14 +211,14 @@ impl Regex {
     /// Returns the leftmost match in `text`, and of those at its position the preferred one; `None` if there is none.
     ///
     /// # Errors
-    /// As for [`Regex::find_from`].
+    /// As for [`Regex::find_at`].
     pub fn find(&self, alloc: Global, text: &str) -> Result<Option<Match<'_>>, SearchError>
         ensures finds { IfOk result (λ found. Finds text.now (outcomes_of self.now text.now) 0 (option_map match_of found)) }
         ensures inside { IfOk result (λ found. IfSome found (λ m. IsInside text.now (match_of m))) }
         ensures groups { IfOk result (λ found. IfSome found (λ m. groups_in m ≡ groups_of self.now)) }
         ensures linear { IfErr result (λ error. error ≡ OutOfSteps → factor_of self.now ≡ None) }
     {
-        self.find_from(alloc, text, 0)
+        self.find_at(alloc, text, 0)
     }
 
     /// Returns the leftmost match in `text` that starts at the byte offset `start` or later, on a character boundary,
@@ -187,7 +238,7 @@ impl Regex {
     /// more; a step takes constant time, but for literals, sets, the groups that an iteration unsets, and the alternatives
     /// that it passes over because the next byte excludes them. Else the time is at most the step limit and the length of
     /// `text` together, times a factor that depends only on the pattern and the tables.
-    pub fn find_from(
+    pub fn find_at(
         &self,
         alloc: Global,
         text: &str,
@@ -213,8 +264,7 @@ impl Regex {
     ///
     /// # Examples
     /// ```
-    /// let tables = Arc::new(alloc, Tables::small(alloc)?)?;
-    /// let regex = Regex::new(alloc, "a+", &tables)?;
+    /// let regex = Regex::new(alloc, "a+")?;
     /// let mut ends = Vec::new(alloc);
     /// for found in regex.find_iter(alloc, "aabxa") {
     ///     ends.push(found?.end())?;
@@ -230,12 +280,12 @@ impl Regex {
         ensures limit { IfNone (factor_of self.now) (search_limit result ≡ limit_of self.now) }
         ensures failed { has_failed result ≡ false }
     {
-        self.find_iter_from(alloc, text, 0)
+        self.find_from(alloc, text, 0)
     }
 
     /// Returns an iterator over the non-overlapping matches in `text` that start at the byte offset `start` or later, as
-    /// [`Regex::find_iter`] does and with a `start` as for [`Regex::find_from`].
-    pub fn find_iter_from<'r>(&'r self, alloc: Global, text: &'r str, start: usize) -> Matches<'r>
+    /// [`Regex::find_iter`] does and with a `start` as for [`Regex::find_at`].
+    pub fn find_from<'r>(&'r self, alloc: Global, text: &'r str, start: usize) -> Matches<'r>
         ensures from { next_from result ≡ start }
         ensures text { searched_text result ≡ text.now }
         ensures outcomes { searched_outcomes result ≡ outcomes_of self.now text.now }
@@ -281,7 +331,7 @@ impl Regex {
         search::find_all(alloc, &self.matcher, text, self.steps)
     }
 
-    /// Returns the text of the pattern.
+    /// Returns the text of the pattern. Of a pattern of [`Regex::from_unicode`] it has U+FFFD in place of each surrogate.
     pub fn source(&self) -> &str
         ensures { result.now ≡ source_of self.now }
     {
@@ -302,8 +352,7 @@ impl Regex {
     ///
     /// # Examples
     /// ```
-    /// let tables = Arc::new(alloc, Tables::small(alloc)?)?;
-    /// assert!(rt; Regex::new(alloc, "(?:a|a)*b", &tables)?.is_linear());
+    /// assert!(rt; Regex::new(alloc, "(?:a|a)*b")?.is_linear());
     /// ```
     pub fn is_linear(&self) -> bool
         ensures { result ≡ is_some (factor_of self.now) }
@@ -316,8 +365,7 @@ impl Regex {
     ///
     /// # Examples
     /// ```
-    /// let tables = Arc::new(alloc, Tables::small(alloc)?)?;
-    /// let regex = Regex::new(alloc, "(a)\\1", &tables)?;
+    /// let regex = Regex::new(alloc, "(a)\\1")?;
     /// assert_eq!(rt; regex.nonlinear(), Some(Nonlinear::BackReference));
     /// ```
     pub fn nonlinear(&self) -> Option<Nonlinear>

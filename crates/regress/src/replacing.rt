@@ -22,12 +22,11 @@ impl Regex {
     /// `expand` of `regress_replace` states. No template is rejected.
     ///
     /// # Errors
-    /// As for [`Regex::find_from`].
+    /// As for [`Regex::find_at`].
     ///
     /// # Examples
     /// ```
-    /// let tables = Arc::new(alloc, Tables::small(alloc)?)?;
-    /// let regex = Regex::new(alloc, "(\\w+) (\\w+)", &tables)?;
+    /// let regex = Regex::new(alloc, "(\\w+) (\\w+)")?;
     /// let swapped = regex.replace(alloc, "one two three four", "$2 $1")?;
     /// assert_eq!(rt; swapped.as_str(), "two one three four");
     /// let swapped = regex.replace_all(alloc, "one two three four", "$2 $1")?;
@@ -76,12 +75,11 @@ impl Regex {
     /// `replacer` has no precondition: it may be called with any match.
     ///
     /// # Errors
-    /// As for [`Regex::find_from`], and the error that `replacer` returns.
+    /// As for [`Regex::find_at`], and the error that `replacer` returns.
     ///
     /// # Examples
     /// ```
-    /// let tables = Arc::new(alloc, Tables::small(alloc)?)?;
-    /// let regex = Regex::new(alloc, "a+", &tables)?;
+    /// let regex = Regex::new(alloc, "a+")?;
     /// let first = regex.replace_with(alloc, "aab", |m| Ok(format!(in alloc; "{}", m.end())?))?;
     /// assert_eq!(rt; first.as_str(), "2b");
     /// ```
@@ -111,8 +109,7 @@ impl Regex {
     ///
     /// # Examples
     /// ```
-    /// let tables = Arc::new(alloc, Tables::small(alloc)?)?;
-    /// let regex = Regex::new(alloc, "[a-z]", &tables)?;
+    /// let regex = Regex::new(alloc, "[a-z]")?;
     /// let mut count = 0_u8;
     /// let numbered = regex.replace_all_with(alloc, "a-b", |_| {
     ///     count = count.wrapping_add(1);

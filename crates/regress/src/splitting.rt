@@ -26,8 +26,7 @@ impl Regex {
     ///
     /// # Examples
     /// ```
-    /// let tables = Arc::new(alloc, Tables::small(alloc)?)?;
-    /// let regex = Regex::new(alloc, ",\\s*", &tables)?;
+    /// let regex = Regex::new(alloc, ",\\s*")?;
     /// let pieces = regex.split(alloc, "a, b,c,")?;
     /// assert_eq!(rt; pieces.as_slice(), ["a", "b", "c", ""].as_slice());
     /// let pieces = regex.splitn(alloc, "a, b,c", 2)?;
@@ -73,8 +72,7 @@ impl Regex {
     ///
     /// # Examples
     /// ```
-    /// let tables = Arc::new(alloc, Tables::small(alloc)?)?;
-    /// let regex = Regex::new(alloc, "(-)|\\+", &tables)?;
+    /// let regex = Regex::new(alloc, "(-)|\\+")?;
     /// let parts = regex.split_with_captures(alloc, "1-2+3", None)?;
     /// let expected = [Some("1"), Some("-"), Some("2"), None, Some("3")];
     /// assert_eq!(rt; parts.as_slice(), expected.as_slice());

@@ -52,6 +52,7 @@ pub(crate) fn write_compiled(
                 SYNTAX
             }
             Err(Error::TooLarge) => TOO_LARGE,
+            Err(Error::Flags(_)) => unreachable!(),
             Err(Error::Memory) => MEMORY,
         },
         Err(_) => BAD_INPUT,

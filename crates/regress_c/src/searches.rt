@@ -113,7 +113,7 @@ fn first_ends(
     ensures { IfOk result (λ some. MatchOption some (Finds text.now (outcomes_of regex.now text.now) from None) (λ ends.
         AreEndsOfFirst text.now (outcomes_of regex.now text.now) from ends.items)) }
 {
-    match regex.find_from(alloc, text, from)? {
+    match regex.find_at(alloc, text, from)? {
         Some(found) => {
             let mut ends = Vec::new(alloc);
             push_ends(&found, &mut ends)?;

@@ -1,7 +1,6 @@
 //! The examples of the doc comments of `Regex`: each line of an example is here. Expected values are from ECMA-262.
 
-use regress::{Nonlinear, Regex, Tables, parse_flags};
-use std::sync::Arc;
+use regress::{Nonlinear, Regex, parse_flags};
 use std::test::Fail;
 
 #[test]
@@ -9,8 +8,7 @@ fn the_examples_of_regular_expressions_hold(rt: HostRuntime) -> Result<(), Fail>
     let alloc = rt.alloc();
     // the leftmost match is found, with its groups
     {
-        let tables = Arc::new(alloc, Tables::small(alloc)?)?;
-        let regex = Regex::new(alloc, "(?<month>\\d\\d)-(\\d\\d)", &tables)?;
+        let regex = Regex::new(alloc, "(?<month>\\d\\d)-(\\d\\d)")?;
         match regex.find(alloc, "on 12-31")? {
             Some(found) => {
                 assert_eq!(rt; found.range(), 3..8);
@@ -20,10 +18,18 @@ fn the_examples_of_regular_expressions_hold(rt: HostRuntime) -> Result<(), Fail>
             None => assert!(rt; false, "it matches"),
         }
     }
+    // letters are flags
+    {
+        let regex = Regex::with_flags(alloc, "\\p{Script=Greek}+", "u")?;
+        match regex.find(alloc, "a βγ")? {
+            Some(found) => assert_eq!(rt; found.range(), 2..6),
+            None => assert!(rt; false, "it matches"),
+        }
+        assert!(rt; Regex::with_flags(alloc, "a", "gg").is_err());
+    }
     // all matches are found
     {
-        let tables = Arc::new(alloc, Tables::small(alloc)?)?;
-        let regex = Regex::new(alloc, "a+", &tables)?;
+        let regex = Regex::new(alloc, "a+")?;
         let mut ends = Vec::new(alloc);
         for found in regex.find_iter(alloc, "aabxa") {
             ends.push(found?.end())?;
@@ -32,13 +38,11 @@ fn the_examples_of_regular_expressions_hold(rt: HostRuntime) -> Result<(), Fail>
     }
     // searches are linear
     {
-        let tables = Arc::new(alloc, Tables::small(alloc)?)?;
-        assert!(rt; Regex::new(alloc, "(?:a|a)*b", &tables)?.is_linear());
+        assert!(rt; Regex::new(alloc, "(?:a|a)*b")?.is_linear());
     }
     // a pattern with a back reference is not
     {
-        let tables = Arc::new(alloc, Tables::small(alloc)?)?;
-        let regex = Regex::new(alloc, "(a)\\1", &tables)?;
+        let regex = Regex::new(alloc, "(a)\\1")?;
         assert_eq!(rt; regex.nonlinear(), Some(Nonlinear::BackReference));
     }
     // flags are parsed
@@ -56,8 +60,7 @@ fn the_examples_of_replacing_hold(rt: HostRuntime) -> Result<(), Fail> {
     let alloc = rt.alloc();
     // a template swaps two words
     {
-        let tables = Arc::new(alloc, Tables::small(alloc)?)?;
-        let regex = Regex::new(alloc, "(\\w+) (\\w+)", &tables)?;
+        let regex = Regex::new(alloc, "(\\w+) (\\w+)")?;
         let swapped = regex.replace(alloc, "one two three four", "$2 $1")?;
         assert_eq!(rt; swapped.as_str(), "two one three four");
         let swapped = regex.replace_all(alloc, "one two three four", "$2 $1")?;
@@ -65,15 +68,13 @@ fn the_examples_of_replacing_hold(rt: HostRuntime) -> Result<(), Fail> {
     }
     // a closure returns what replaces the leftmost match
     {
-        let tables = Arc::new(alloc, Tables::small(alloc)?)?;
-        let regex = Regex::new(alloc, "a+", &tables)?;
+        let regex = Regex::new(alloc, "a+")?;
         let first = regex.replace_with(alloc, "aab", |m| Ok(format!(in alloc; "{}", m.end())?))?;
         assert_eq!(rt; first.as_str(), "2b");
     }
     // a closure counts
     {
-        let tables = Arc::new(alloc, Tables::small(alloc)?)?;
-        let regex = Regex::new(alloc, "[a-z]", &tables)?;
+        let regex = Regex::new(alloc, "[a-z]")?;
         let mut count = 0_u8;
         let numbered = regex.replace_all_with(alloc, "a-b", |_| {
             count = count.wrapping_add(1);
@@ -89,8 +90,7 @@ fn the_examples_of_splitting_hold(rt: HostRuntime) -> Result<(), Fail> {
     let alloc = rt.alloc();
     // a text is split at commas
     {
-        let tables = Arc::new(alloc, Tables::small(alloc)?)?;
-        let regex = Regex::new(alloc, ",\\s*", &tables)?;
+        let regex = Regex::new(alloc, ",\\s*")?;
         let pieces = regex.split(alloc, "a, b,c,")?;
         assert_eq!(rt; pieces.as_slice(), ["a", "b", "c", ""].as_slice());
         let pieces = regex.splitn(alloc, "a, b,c", 2)?;
@@ -98,8 +98,7 @@ fn the_examples_of_splitting_hold(rt: HostRuntime) -> Result<(), Fail> {
     }
     // captures are parts
     {
-        let tables = Arc::new(alloc, Tables::small(alloc)?)?;
-        let regex = Regex::new(alloc, "(-)|\\+", &tables)?;
+        let regex = Regex::new(alloc, "(-)|\\+")?;
         let parts = regex.split_with_captures(alloc, "1-2+3", None)?;
         let expected = [Some("1"), Some("-"), Some("2"), None, Some("3")];
         assert_eq!(rt; parts.as_slice(), expected.as_slice());

@@ -9,8 +9,7 @@ use std::test::Fail;
 #[test]
 fn a_regular_expression_describes_itself(rt: HostRuntime) -> Result<(), Fail> {
     let alloc = rt.alloc();
-    let tables = Arc::new(alloc, Tables::small(alloc)?)?;
-    let regex = Regex::with_flags(alloc, "(?<x>a)|(?<y>b)|(c)", parse_flags("ig")?, &tables)?;
+    let regex = Regex::with_flags(alloc, "(?<x>a)|(?<y>b)|(c)", "ig")?;
     assert_eq!(rt; regex.source(), "(?<x>a)|(?<y>b)|(c)");
     let text = format!(in alloc; "{regex}")?;
     assert_eq!(rt; text.as_str(), "(?<x>a)|(?<y>b)|(c)");
@@ -27,11 +26,10 @@ fn a_regular_expression_describes_itself(rt: HostRuntime) -> Result<(), Fail> {
 #[test]
 fn a_regular_expression_searches(rt: HostRuntime) -> Result<(), Fail> {
     let alloc = rt.alloc();
-    let tables = Arc::new(alloc, Tables::small(alloc)?)?;
-    let regex = Regex::with_flags(alloc, "(?<x>a)|(?<y>b)|(c)", parse_flags("i")?, &tables)?;
+    let regex = Regex::with_flags(alloc, "(?<x>a)|(?<y>b)|(c)", "i")?;
     assert!(rt; regex.is_match(alloc, "xB")?);
     assert!(rt; !regex.is_match(alloc, "x")?);
-    match regex.find_from(alloc, "ab", 1)? {
+    match regex.find_at(alloc, "ab", 1)? {
         Some(found) => {
             assert_eq!(rt; found.start(), 1);
             assert_eq!(rt; found.named_group("y"), Some(1..2));
@@ -51,8 +49,63 @@ fn a_regular_expression_searches(rt: HostRuntime) -> Result<(), Fail> {
     }
     let all = regex.find_all(alloc, "bxc")?;
     assert_eq!(rt; all.len(), 2);
-    assert_eq!(rt; regex.find_iter_from(alloc, "bxc", 1).count(), 1);
+    assert_eq!(rt; regex.find_from(alloc, "bxc", 1).count(), 1);
     assert_eq!(rt; escape(alloc, "(a")?.as_str(), "\\(a");
+    Ok(())
+}
+
+#[test]
+fn a_pattern_is_compiled_under_all_of_unicode(rt: HostRuntime) -> Result<(), Fail> {
+    let alloc = rt.alloc();
+    // names of groups are identifiers of Unicode
+    let regex = Regex::new(alloc, "(?<größe>\\d+)")?;
+    match regex.find(alloc, "x12")? {
+        Some(found) => assert_eq!(rt; found.named_group("größe"), Some(1..3)),
+        None => assert!(rt; false, "it matches"),
+    }
+    // the simple case folding of U+1E9E is U+00DF
+    let regex = Regex::with_flags(alloc, "^stra\u{DF}e$", "iu")?;
+    assert!(rt; regex.is_match(alloc, "STRA\u{1E9E}E")?);
+    Ok(())
+}
+
+#[test]
+fn letters_that_specify_no_flags_are_an_error(rt: HostRuntime) -> Result<(), Fail> {
+    let alloc = rt.alloc();
+    for (letters, wanted, text) in [
+        ("gg", FlagsError::Repeated('g'), "flag g occurs twice"),
+        ("iI", FlagsError::Unknown('I'), "unknown flag I"),
+        (
+            "uv",
+            FlagsError::UnicodeAndSets,
+            "flags u and v exclude each other",
+        ),
+    ] {
+        // the pattern is not parsed
+        match Regex::with_flags(alloc, "(", letters) {
+            Err(Error::Flags(error)) => {
+                assert_eq!(rt; error, wanted);
+                let message = format!(in alloc; "{}", Error::Flags(error))?;
+                assert_eq!(rt; message.as_str(), text);
+            }
+            _ => assert!(rt; false, "they are rejected"),
+        }
+    }
+    Ok(())
+}
+
+#[test]
+fn a_pattern_may_have_lone_surrogates(rt: HostRuntime) -> Result<(), Fail> {
+    let alloc = rt.alloc();
+    let tables = Arc::new(alloc, Tables::small(alloc)?)?;
+    let flags = Flags::default();
+    // `a`, the first half of U+1F600, or `b`, U+1F600
+    let points = [0x61, 0xD83D, 0x7C, 0x62, 0x1F600];
+    let regex = Regex::from_unicode(alloc, &points, flags, Options::default(), &tables)?;
+    assert_eq!(rt; regex.source(), "a\u{FFFD}|b\u{1F600}");
+    // UTF-8 has no surrogates
+    assert!(rt; !regex.is_match(alloc, "a\u{FFFD} a\u{1F600}")?);
+    assert!(rt; regex.is_match(alloc, "b\u{1F600}")?);
     Ok(())
 }
 
@@ -60,7 +113,7 @@ fn a_regular_expression_searches(rt: HostRuntime) -> Result<(), Fail> {
 fn a_regular_expression_has_limits(rt: HostRuntime) -> Result<(), Fail> {
     let alloc = rt.alloc();
     let tables = Arc::new(alloc, Tables::small(alloc)?)?;
-    match Regex::new(alloc, "a(", &tables) {
+    match Regex::new(alloc, "a(") {
         Err(Error::Syntax { position, .. }) => assert_eq!(rt; position, 1),
         _ => assert!(rt; false, "it is rejected"),
     }
@@ -117,7 +170,7 @@ fn a_linear_search_has_no_step_limit(rt: HostRuntime) -> Result<(), Fail> {
     let with_reference = Regex::with_options(alloc, "(a*)*\\1b", Flags::default(), few, &tables)?;
     assert!(rt; !with_reference.is_linear());
     assert!(rt; with_reference.steps_per_character().is_none());
-    let looking = Regex::new(alloc, "(?=(a))", &tables)?;
+    let looking = Regex::new(alloc, "(?=(a))")?;
     assert_eq!(rt; looking.nonlinear(), Some(Nonlinear::CapturingLookaround));
     match with_reference.find(alloc, "aaaaaaaaaaaaaaaaaaaaaa") {
         Err(SearchError::OutOfSteps) => {}

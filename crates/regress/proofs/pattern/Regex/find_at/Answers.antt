@@ -1,6 +1,6 @@
 use Rattle.std.proofs.Math.Logic.{∥∥₁_elim}
 use Rattle.regress.specs.Inside.{IsInside-prop}
-use Rattle.regress.proofs.pattern.Regex.find_from.Goals as goal
+use Rattle.regress.proofs.pattern.Regex.find_at.Goals as goal
 
 pub returns-in-Some-clause-inside : goal.returns-in-Some-clause-inside
 returns-in-Some-clause-inside c =
