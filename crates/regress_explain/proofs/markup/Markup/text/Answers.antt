@@ -1,0 +1,10 @@
+use Rattle.std.proofs.Common.{◌∙◌, ◌++◌, ap, string_bytes}
+use Rattle.regress_explain.specs.Page.{text}
+use Rattle.regress_explain.proofs.PageLemmas.{adds}
+use Rattle.regress_explain.proofs.markup.Markup.text.Goals as goal
+
+pub invariant_of-self-2 : goal.invariant_of-self-2
+invariant_of-self-2 c =
+    let old = string_bytes c.self.inside.text in
+    let added = c.in_ok-push_str.ensures.bytes ∙ ap (λ all. old ++ all) (c.deref.ensures ∙ c.in_ok-text.ensures.ok) in
+    adds old _ (text c.args.text.now) added c.self.invariant
