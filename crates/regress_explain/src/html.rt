@@ -17,8 +17,8 @@ use std::alloc::{AllocError, Global};
 ///
 /// Pointing at a part of the pattern or of the diagram, or at a line of the explanation, marks that part everywhere; so
 /// does focusing a line. Colours fit the light or dark scheme that the reader prefers. What the pattern and the text
-/// contain is escaped, and invisible characters are shown by their numbers, as `U+202E`; those of the text only if they
-/// are control characters, other than tabs and line feeds, or change the direction of the text.
+/// contain is escaped. Invisible characters of the pattern are shown by their numbers, as `U+000A`, and so are, of the
+/// text, controls other than tabs and line feeds, and format characters such as those that change its direction.
 ///
 /// The arguments are those of [`explain`]. A range that is not in the rest of the text after the range before it, or
 /// does not begin and end between two characters, is not marked.

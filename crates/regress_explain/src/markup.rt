@@ -91,16 +91,15 @@ fn tag_text(alloc: Global, tag: Tag) -> Result<String, AllocError>
             let name = element.name();
             format!(in alloc; "</{name}>")
         }
-        Tag::Part(Span { start, end }) => {
-            format!(in alloc; "<span class=\"m s{start}-{end}\">")
-        }
-        Tag::Line(Span { start, end }) => {
-            format!(in alloc; "<div class=\"m s{start}-{end}\" tabindex=\"0\">")
-        }
+        Tag::Part(span) => format!(in alloc; "<span class=\"m s{}-{}\">", span.start, span.end),
+        Tag::Line(span) => format!(in alloc;
+            "<div class=\"m s{}-{}\" tabindex=\"0\">",
+            span.start, span.end
+        ),
     }
 }
 
-/// A page that is being written. A call that returns an error changes nothing.
+/// A page that is being written.
 #[derive(Drop)]
 pub(crate) struct Markup {
     alloc: Global,

@@ -24,8 +24,8 @@ pub(crate) fn push_shown(c: u32, alloc: Global, text: &mut String) -> Result<(),
     }
 }
 
-/// Returns a text in which control characters, other than tabs and line feeds, and those that change the direction are
-/// shown by their numbers.
+/// Returns a text in which controls, other than tabs and line feeds, and invisible format characters are shown by their
+/// numbers.
 pub(crate) fn shown_text(alloc: Global, text: &str) -> Result<String, AllocError> {
     let mut shown = String::new(alloc);
     for c in text.chars() {

@@ -7,9 +7,9 @@ use regress_parse::Span;
 /// The style sheet without the rule that marks parts. It contains no character that is escaped in markup.
 const STYLE: &str = "\
 :root{color-scheme:light dark;--page:#fff;--ink:#1f2328;--dim:#57606a;--edge:#d0d7de;\
---panel:#f6f8fa;--on:#ffe58f;--glow:#d97706;--hit:#b6e3ff}\
+--panel:#f6f8fa;--on:#ffe58f;--glow:#d97706;--hit:#b6e3ff;--rim:#54aeff}\
 @media (prefers-color-scheme:dark){:root{--page:#0d1117;--ink:#e6edf3;--dim:#9198a1;--edge:#30363d;\
---panel:#161b22;--on:#5c4400;--glow:#f0b429;--hit:#0c4a7c}}\
+--panel:#161b22;--on:#5c4400;--glow:#f0b429;--hit:#0c4a7c;--rim:#388bfd}}\
 body{margin:0;background:var(--page);color:var(--ink);font:16px/1.5 system-ui,sans-serif}\
 main{max-width:68rem;margin:auto;padding:0 1rem 2rem}\
 h2{font-size:1rem;margin:1.5rem 0 .5rem}\
@@ -23,7 +23,7 @@ ul ul{margin-left:.5rem;padding-left:.8rem;border-left:1px solid var(--edge)}\
 div{padding:.05rem .4rem}\
 code{background:var(--panel);border:1px solid var(--edge);border-radius:4px;padding:0 .3rem}\
 small{color:var(--dim)}\
-mark{background:var(--hit);color:inherit;border-radius:3px}\
+mark{background:var(--hit);color:inherit;border-radius:3px;box-shadow:inset 0 0 0 1px var(--rim)}\
 mark:empty{border-left:2px solid var(--glow)}\
 .m{border-radius:4px}\
 .m:not(g){filter:none!important}";

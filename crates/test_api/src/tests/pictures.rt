@@ -70,18 +70,31 @@ fn a_page_shows_a_pattern_its_diagram_its_explanation_and_the_matches(
 }
 
 #[test]
+fn a_page_without_a_text_has_no_matches(rt: HostRuntime) -> Result<(), Fail> {
+    let alloc = rt.alloc();
+    let tables = Tables::small(alloc)?;
+    let points = code_points(alloc, "a")?;
+    let parsed = try_parse_with_spans(alloc, &points, Flags::default(), &tables)?;
+    let page = page(alloc, &points, &parsed, None)?;
+    assert!(rt; page.contains("the character &quot;a&quot;"));
+    assert!(rt; !page.contains("<h2>Text"));
+    Ok(())
+}
+
+#[test]
 fn no_part_of_a_pattern_or_text_is_markup_in_a_page(rt: HostRuntime) -> Result<(), Fail> {
     let alloc = rt.alloc();
     let tables = Tables::small(alloc)?;
     let points = code_points(alloc, "<script>|(?<name>\"&)")?;
     let parsed = try_parse_with_spans(alloc, &points, Flags::default(), &tables)?;
+    // The first range ends inside a character, and the last one is not after the second.
     let matched = Matched {
-        text: "</style>",
-        ranges: &[],
+        text: "</style>é",
+        ranges: &[0..9, 8..10, 8..10],
     };
     let page = page(alloc, &points, &parsed, Some(matched))?;
     assert!(rt; page.contains("&lt;script&gt;"));
-    assert!(rt; page.contains("&lt;/style&gt;"));
+    assert!(rt; page.contains("<p>&lt;/style&gt;<mark>é</mark></p>"));
     assert!(rt; !page.contains("<script"));
     assert_eq!(rt; page.matches("</style>").count(), 2);
     Ok(())
