@@ -3,7 +3,6 @@ use Rattle.std.specs.Prelude.{◌≡◌, ℕ, List, ◌++◌, codes, flat_map}
 use Rattle.std.specs.Fmt.{decimal}
 use Rattle.regress_svg.specs.Escape.{escaped_text}
 use Rattle.regress_svg.specs.Markup.{IsDocument}
-use Rattle.regress_parse.specs.declared.span.Span.{Span}
 use Rattle.regress_explain.specs.declared.markup.Element.{Element}
 use Rattle.regress_explain.specs.declared.markup.Element.TheVariants.{Section, Heading, Paragraph, Figure, Items, Item, Code, Small, Mark, Division, Inline}
 use Rattle.regress_explain.specs.declared.markup.Tag.{Tag}
