@@ -16,10 +16,34 @@ pub(crate) fn written(alloc: Global, pattern: &[u32], span: Span) -> Result<Stri
 }
 
 /// Appends a character of a pattern, or its number, as `U+000A`, if it is invisible and no space.
-fn push_shown(c: u32, alloc: Global, text: &mut String) -> Result<(), AllocError> {
+pub(crate) fn push_shown(c: u32, alloc: Global, text: &mut String) -> Result<(), AllocError> {
     if c == 0x20 {
         text.push(' ')
     } else {
         push_symbol(c, alloc, text)
+    }
+}
+
+/// Returns a text in which controls, other than tabs and line feeds, and invisible format characters are shown by their
+/// numbers.
+pub(crate) fn shown_text(alloc: Global, text: &str) -> Result<String, AllocError> {
+    let mut shown = String::new(alloc);
+    for c in text.chars() {
+        if is_hidden(c) {
+            push_symbol(u32::from(c), alloc, &mut shown)?;
+        } else {
+            shown.push(c)?;
+        }
+    }
+    Ok(shown)
+}
+
+fn is_hidden(c: char) -> bool {
+    match c {
+        '\t' | '\n' => false,
+        '\0'..='\u{1F}' | '\u{7F}'..='\u{9F}' => true,
+        '\u{61C}' | '\u{200B}'..='\u{200F}' | '\u{2028}'..='\u{202E}' => true,
+        '\u{2060}'..='\u{206F}' | '\u{FEFF}' | '\u{FFFE}'..='\u{FFFF}' => true,
+        _ => false,
     }
 }

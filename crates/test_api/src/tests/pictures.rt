@@ -1,7 +1,7 @@
 //! Tests of pictures and explanations: what the doc comments promise beyond the clauses.
 
 use super::parsed;
-use regress_explain::explain;
+use regress_explain::{Matched, explain, page};
 use regress_front::parse::try_parse_with_spans;
 use regress_front::types::Flags;
 use regress_front::unicode::Tables;
@@ -39,5 +39,63 @@ fn a_pattern_is_explained_and_drawn_part_by_part(rt: HostRuntime) -> Result<(), 
     for class in ["s0-2", "s0-5", "s5-6"] {
         assert!(rt; picture.contains(class));
     }
+    Ok(())
+}
+
+#[test]
+fn a_page_shows_a_pattern_its_diagram_its_explanation_and_the_matches(
+    rt: HostRuntime,
+) -> Result<(), Fail> {
+    let alloc = rt.alloc();
+    let tables = Tables::small(alloc)?;
+    let points = code_points(alloc, "(?<year>\\d{4})-(\\d\\d)")?;
+    let parsed = try_parse_with_spans(alloc, &points, Flags::default(), &tables)?;
+    let matched = Matched {
+        text: "from 2024-05 to 2025-01",
+        ranges: &[5..12, 16..23],
+    };
+    let page = page(alloc, &points, &parsed, Some(matched))?;
+    assert!(rt; page.starts_with("<!DOCTYPE html><html lang=\"en\">"));
+    assert!(rt; page.ends_with("</main></body></html>"));
+    for text in [
+        "<span class=\"m s8-10\">\\d</span>",
+        "<svg xmlns=\"http://www.w3.org/2000/svg\"",
+        "<g class=\"m s8-10\">",
+        "exactly 4 times:",
+        "from <mark>2024-05</mark> to <mark>2025-01</mark></p>",
+    ] {
+        assert!(rt; page.contains(text));
+    }
+    Ok(())
+}
+
+#[test]
+fn a_page_without_a_text_has_no_matches(rt: HostRuntime) -> Result<(), Fail> {
+    let alloc = rt.alloc();
+    let tables = Tables::small(alloc)?;
+    let points = code_points(alloc, "a")?;
+    let parsed = try_parse_with_spans(alloc, &points, Flags::default(), &tables)?;
+    let page = page(alloc, &points, &parsed, None)?;
+    assert!(rt; page.contains("the character &quot;a&quot;"));
+    assert!(rt; !page.contains("<h2>Text"));
+    Ok(())
+}
+
+#[test]
+fn no_part_of_a_pattern_or_text_is_markup_in_a_page(rt: HostRuntime) -> Result<(), Fail> {
+    let alloc = rt.alloc();
+    let tables = Tables::small(alloc)?;
+    let points = code_points(alloc, "<script>|(?<name>\"&)")?;
+    let parsed = try_parse_with_spans(alloc, &points, Flags::default(), &tables)?;
+    // The first range ends inside a character, and the last one is not after the second.
+    let matched = Matched {
+        text: "</style>é",
+        ranges: &[0..9, 8..10, 8..10],
+    };
+    let page = page(alloc, &points, &parsed, Some(matched))?;
+    assert!(rt; page.contains("&lt;script&gt;"));
+    assert!(rt; page.contains("<p>&lt;/style&gt;<mark>é</mark></p>"));
+    assert!(rt; !page.contains("<script"));
+    assert_eq!(rt; page.matches("</style>").count(), 2);
     Ok(())
 }

@@ -1,0 +1,71 @@
+//! An explanation as a page.
+ghost use Rattle.std.specs.Prelude.{IfOk, string_bytes};
+ghost use Rattle.regress_explain.specs.Page.{IsPage};
+
+use crate::listing::write_list;
+use crate::markup::{Element, Markup, Tag, Written};
+use crate::matched::{Matched, write_text};
+use crate::outline::{Part, outline};
+use crate::source::write_pattern;
+use crate::style::write_style;
+use regress_parse::SpannedRegex;
+use regress_railroad::svg_with_marks;
+use std::alloc::{AllocError, Global};
+
+/// Returns a page about a parsed pattern, as one HTML document that refers to no other file and needs no script: the
+/// pattern, its railroad diagram, its explanation as nested lists, and a text with its matches, if one is given.
+///
+/// Pointing at a part of the pattern or of the diagram, or at a line of the explanation, marks that part everywhere; so
+/// does focusing a line. Colours fit the light or dark scheme that the reader prefers. What the pattern and the text
+/// contain is escaped. Invisible characters of the pattern are shown by their numbers, as `U+000A`, and so are, of the
+/// text, controls other than tabs and line feeds, and format characters such as those that change its direction.
+///
+/// The arguments are those of [`explain`]. A range that is not in the rest of the text after the range before it, or
+/// does not begin and end between two characters, is not marked.
+///
+/// # Errors
+/// Returns [`AllocError`] if an allocation fails. The arguments are only read.
+///
+/// # Complexity
+/// As [`explain`], and linear in the length of the text and the number of ranges.
+pub fn page(
+    alloc: Global,
+    pattern: &[u32],
+    parsed: &SpannedRegex,
+    matched: Option<Matched<'_>>,
+) -> Result<String, AllocError>
+    // Nothing of the pattern or of the text is markup: each text is escaped, and the tags are fixed.
+    ensures { IfOk result (λ text. IsPage (string_bytes text)) }
+{
+    let parts = outline(alloc, pattern, parsed)?;
+    let mut page = Markup::new(alloc);
+    write_head(&parts, &mut page)?;
+    write_pattern(pattern, parsed.regex.flags, &parts, &mut page)?;
+    write_diagram(pattern, parsed, &mut page)?;
+    page.begin_section("Explanation")?;
+    write_list(&parts, pattern, &mut page)?;
+    page.tag(Tag::Close(Element::Section))?;
+    if let Some(matched) = matched {
+        write_text(matched, &mut page)?;
+    }
+    page.tag(Tag::End)?;
+    Ok(page.finish())
+}
+
+/// Writes what precedes the content.
+fn write_head(parts: &[Part], page: &mut Markup) -> Written {
+    page.tag(Tag::Head)?;
+    page.text("Regular expression")?;
+    page.tag(Tag::Style)?;
+    write_style(parts, page)?;
+    page.tag(Tag::Body)
+}
+
+fn write_diagram(pattern: &[u32], parsed: &SpannedRegex, page: &mut Markup) -> Written {
+    let picture = svg_with_marks(page.alloc(), &parsed.regex, pattern, &parsed.spans)?;
+    page.begin_section("Diagram")?;
+    page.tag(Tag::Open(Element::Figure))?;
+    page.picture(&picture)?;
+    page.tag(Tag::Close(Element::Figure))?;
+    page.tag(Tag::Close(Element::Section))
+}

@@ -1,0 +1,182 @@
+//! A page that is written piece by piece.
+ghost use Rattle.std.specs.Prelude.{◌≡◌, ◌++◌, OnOk, IfOk, string_bytes};
+ghost use Rattle.regress_svg.specs.Escape.{escaped_text};
+ghost use Rattle.regress_svg.specs.Markup.{IsDocument};
+ghost use Rattle.regress_explain.specs.Page.{IsPage, name_of, tag_bytes};
+
+use regress_parse::Span;
+use regress_svg::Escaped;
+use std::alloc::{AllocError, Global};
+use std::marker::Model;
+
+/// An element without attributes.
+#[derive(Clone, Copy)]
+pub(crate) enum Element {
+    /// A part of the page with a heading.
+    Section,
+    Heading,
+    /// A text in which white space is kept.
+    Paragraph,
+    Figure,
+    Items,
+    Item,
+    /// What is written in the pattern.
+    Code,
+    Small,
+    /// A match.
+    Mark,
+    /// A line of the explanation.
+    Division,
+    /// A part of the pattern.
+    Inline,
+}
+
+impl Element {
+    fn name(self) -> &'static str
+        ensures { result.now ≡ name_of self }
+    {
+        match self {
+            Element::Section => "section",
+            Element::Heading => "h2",
+            Element::Paragraph => "p",
+            Element::Figure => "figure",
+            Element::Items => "ul",
+            Element::Item => "li",
+            Element::Code => "code",
+            Element::Small => "small",
+            Element::Mark => "mark",
+            Element::Division => "div",
+            Element::Inline => "span",
+        }
+    }
+}
+
+/// A tag, or several, of a page.
+#[derive(Clone, Copy)]
+pub(crate) enum Tag {
+    /// The start of the page, up to its title.
+    Head,
+    /// What is between the title and the style sheet.
+    Style,
+    /// What follows the style sheet.
+    Body,
+    /// The end of the page.
+    End,
+    Open(Element),
+    Close(Element),
+    /// The start of a part of the pattern with this span.
+    Part(Span),
+    /// The start of a line of the explanation of a part with this span.
+    Line(Span),
+}
+
+/// Returns the markup of a tag.
+fn tag_text(alloc: Global, tag: Tag) -> Result<String, AllocError>
+    ensures { IfOk result (λ text. string_bytes text ≡ tag_bytes tag) }
+{
+    match tag {
+        Tag::Head => String::from_str(
+            alloc,
+            "<!DOCTYPE html><html lang=\"en\"><head><meta charset=\"utf-8\"/>\
+             <meta name=\"viewport\" content=\"width=device-width\"/><title>",
+        ),
+        Tag::Style => String::from_str(alloc, "</title><style>"),
+        Tag::Body => String::from_str(alloc, "</style></head><body><main>"),
+        Tag::End => String::from_str(alloc, "</main></body></html>"),
+        Tag::Open(element) => {
+            let name = element.name();
+            format!(in alloc; "<{name}>")
+        }
+        Tag::Close(element) => {
+            let name = element.name();
+            format!(in alloc; "</{name}>")
+        }
+        Tag::Part(span) => format!(in alloc; "<span class=\"m s{}-{}\">", span.start, span.end),
+        Tag::Line(span) => format!(in alloc;
+            "<div class=\"m s{}-{}\" tabindex=\"0\">",
+            span.start, span.end
+        ),
+    }
+}
+
+/// A page that is being written.
+#[derive(Drop)]
+pub(crate) struct Markup {
+    alloc: Global,
+    text: String,
+}
+
+impl Model for Markup {
+    ghost use Rattle.std.specs.Prelude.{ℕ, List, string_bytes};
+    ghost use Rattle.regress_explain.specs.Page.{IsPage};
+
+    ghost Value = { List ℕ };
+
+    ghost view = { λ markup. string_bytes markup.text };
+
+    ghost invariant = { λ markup. IsPage (string_bytes markup.text) };
+}
+
+/// The result of writing.
+pub(crate) type Written = Result<(), AllocError>;
+
+impl Markup {
+    /// Returns a page without content.
+    pub(crate) fn new(alloc: Global) -> Markup {
+        let text = String::new(alloc);
+        Markup { alloc, text }
+    }
+
+    /// Returns the allocator of the page.
+    pub(crate) fn alloc(&self) -> Global {
+        self.alloc
+    }
+
+    /// Writes a tag.
+    pub(crate) fn tag(&mut self, tag: Tag) -> Written
+        ensures { OnOk result (self.new ≡ self.old ++ tag_bytes tag) }
+    {
+        let tag = tag_text(self.alloc, tag)?;
+        self.text.push_str(&tag)
+    }
+
+    /// Writes a text, escaped.
+    pub(crate) fn text(&mut self, text: &str) -> Written
+        ensures { OnOk result (self.new ≡ self.old ++ escaped_text text.now) }
+    {
+        let text = Escaped(text);
+        let text = format!(in self.alloc; "{text}")?;
+        self.text.push_str(&text)
+    }
+
+    /// Writes an element that contains a text.
+    pub(crate) fn element(&mut self, element: Element, text: &str) -> Written {
+        self.tag(Tag::Open(element))?;
+        self.text(text)?;
+        self.tag(Tag::Close(element))
+    }
+
+    /// Writes the start of a section.
+    pub(crate) fn begin_section(&mut self, heading: &str) -> Written {
+        self.tag(Tag::Open(Element::Section))?;
+        self.element(Element::Heading, heading)
+    }
+
+    /// Writes a picture.
+    ///
+    /// # Preconditions
+    /// The picture is a document.
+    pub(crate) fn picture(&mut self, picture: &str) -> Written
+        requires { IsDocument picture.now }
+        ensures { OnOk result (self.new ≡ self.old ++ picture.now) }
+    {
+        self.text.push_str(picture)
+    }
+
+    /// Returns the page.
+    pub(crate) fn finish(self) -> String
+        ensures { IsPage (string_bytes result) }
+    {
+        self.text
+    }
+}
