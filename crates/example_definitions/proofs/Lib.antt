@@ -3,6 +3,7 @@ mod CharacterMeanings
 mod CharacterSets
 mod ClassSetExamples
 mod DuplicateExamples
+mod EcmaClasses
 mod EcmaMeanings
 mod GroupExamples
 mod LiteralExamples

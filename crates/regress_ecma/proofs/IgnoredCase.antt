@@ -32,11 +32,11 @@ within_code_points set canonical c member =
     (cases_lt code_point_max c)
 
 -- a member of the intervals of a test
-record Passes (p : ℕ → Bool) (c : ℕ) : Type 0 where
-  le : c ≤ code_point_max
-  passes : p c ≡ true
+pub record Passes (p : ℕ → Bool) (c : ℕ) : Type 0 where
+  pub le : c ≤ code_point_max
+  pub passes : p c ≡ true
 
-member_passes : (p : ℕ → Bool) (c : ℕ) → is_member (intervals_of p) c ≡ true → Passes p c
+pub member_passes : (p : ℕ → Bool) (c : ℕ) → is_member (intervals_of p) c ≡ true → Passes p c
 member_passes p c member =
     let le = within_code_points (intervals_of p) (intervals_of-canonical p) c member in
     record { le = le; passes = sym (intervals_of-member p c le) ∙ member }

@@ -11,3 +11,7 @@ mod BackReferences
 mod Strings
 mod Derived
 mod CaseData
+mod Follows
+mod ClassMembers
+mod ClassSetMembers
+mod FromSource

@@ -361,7 +361,7 @@ module _ (table : Table) (maps : HasCaseDataOfUnicode table) (rer : Flags) (with
   abbrev folded_if : Bool → CharSet → CharSet
   folded_if b set = if b then intervals_of (λ c. has_some (λ ch. table.fold ch == c) set) else set
 
-  escape_set-plain : rer.icase ≡ false → (kind : CharacterClassType) → class_escape_set table rer kind ≡ members_of kind
+  pub escape_set-plain : rer.icase ≡ false → (kind : CharacterClassType) → class_escape_set table rer kind ≡ members_of kind
   escape_set-plain e Digits = refl
   escape_set-plain e Spaces = refl
   escape_set-plain e Words = ap (λ (b : Bool). folded_if b (word_characters table rer)) (plain_sets e) ∙ words_plain e

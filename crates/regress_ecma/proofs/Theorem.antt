@@ -1,5 +1,5 @@
 -- What the dialect gives, and what ECMA-262's matchers return.
-use Rattle.std.proofs.Common.{arith, ◌-◌, ◌≡◌, ℕ, zero, suc, ◌+◌, ◌<◌, ◌≤◌, ◌==◌, Bool, true, false, not, ◌&&◌, ◌||◌, List, [], ◌∷◌, length, slice_get, Option, Some, None, option_map, All, if◌then◌else◌, refl, sym, ap, ap₂, subst, ◌∙◌}
+use Rattle.std.proofs.Common.{arith, ◌-◌, ◌≡◌, ℕ, zero, suc, ◌+◌, ◌<◌, ◌≤◌, ◌==◌, Bool, true, false, not, ◌&&◌, ◌||◌, List, [], ◌∷◌, ◌++◌, length, slice_get, Option, Some, None, option_map, All, if◌then◌else◌, refl, sym, ap, ap₂, subst, ◌∙◌}
 use Rattle.std.proofs.Math.ListN.{replicate}
 use Rattle.std.proofs.lemmas.Bool.{false≢true, ne_eqb}
 use Rattle.std.proofs.lemmas.List.Elements.{All-nil, All-cons}
@@ -22,10 +22,10 @@ use Rattle.regress_base.proofs.lemmas.Literals.{scalar_in_range}
 use Rattle.regress_classes.specs.ClassProductions.{members_of}
 use Rattle.regress_classes.specs.ClassSets.{Value, has_strings}
 use Rattle.regress_syntax.specs.Meaning.{is_in_class, along, any_reference, groups_named, is_literal, is_any, is_in_word, atom_steps, pattern_steps, terms_steps, item_steps, quantified_steps, meaning}
-use Rattle.regress_syntax.specs.Syntax.{Name, names, Atom, literal, dot, anchor, boundary, class_escape, class, class_set, string_property, back_reference, by_number, by_name, is_named, Group, grouping, modified, capture, look, Pattern, Terms, Item, one, either, no_terms, more_terms, atom, group, counts_of_item, counts_of_term, counts_of_terms}
+use Rattle.regress_syntax.specs.Syntax.{Name, names, Atom, literal, dot, anchor, boundary, class_escape, class, class_set, string_property, back_reference, by_number, by_name, is_named, Group, grouping, modified, capture, look, Pattern, Terms, Item, one, either, no_terms, more_terms, atom, group, Counts, counts, counts_of_group, counts_of_quantifier, counts_of_item, counts_of_term, counts_of_terms, added, names_of_group, names_of_terms, names_of_item}
 use Rattle.regress_ecma.specs.Notation.{CharSet, failure, Matcher}
 use Rattle.regress_ecma.specs.Characters.{character_class_escape, character_complement, word_characters}
-use Rattle.regress_ecma.specs.Repetition.{match_sequence}
+use Rattle.regress_ecma.specs.Repetition.{match_two_alternatives, match_sequence}
 use Rattle.regress_ecma.specs.CharacterMatchers.{is_same, backreference_matcher}
 use Rattle.regress_ecma.specs.Assertions.{is_in_at, index_before, is_word_char, accept, compile_anchor, compile_boundary}
 use Rattle.regress_ecma.specs.Atoms.{numbers_of, compile_atom}
@@ -84,11 +84,11 @@ module _ (text : List ℕ) (is_text : IsText text) (d : Direction) where
 module _ (setting : Setting) (maps : HasCaseDataOfUnicode setting.table) (with_u : setting.flags.unicode_sets ≡ true → setting.flags.unicode ≡ true)
     (all : List (Option Name)) (text : List ℕ) (is_text : IsText text) (fuel : ℕ) (enough : length text < fuel) where
   -- the flags that no group changes
-  record HasFlagsOf (rer : Flags) : Type 0 where
-    unicode : rer.unicode ≡ setting.flags.unicode
-    unicode_sets : rer.unicode_sets ≡ setting.flags.unicode_sets
+  pub record HasFlagsOf (rer : Flags) : Type 0 where
+    pub unicode : rer.unicode ≡ setting.flags.unicode
+    pub unicode_sets : rer.unicode_sets ≡ setting.flags.unicode_sets
 
-  with_u_in : (rer : Flags) → HasFlagsOf rer → rer.unicode_sets ≡ true → rer.unicode ≡ true
+  pub with_u_in : (rer : Flags) → HasFlagsOf rer → rer.unicode_sets ≡ true → rer.unicode ≡ true
   with_u_in rer flags v = flags.unicode ∙ with_u (sym flags.unicode_sets ∙ v)
 
   -- The comparison of the dialect is that of ECMA-262.
@@ -152,7 +152,7 @@ module _ (setting : Setting) (maps : HasCaseDataOfUnicode setting.table) (with_u
       by_test true e same = escape_in_case setting.table maps rer (with_u_in rer flags) e kind negated same
       by_test false e same = escape_is_set setting.table maps rer (with_u_in rer flags) e kind negated
 
-  members_set : (rer : Flags) → HasFlagsOf rer → (inverted : Bool) (members : CharSet) → (rer.icase && differs_in_case rer members) ≡ false →
+  pub members_set : (rer : Flags) → HasFlagsOf rer → (inverted : Bool) (members : CharSet) → (rer.icase && differs_in_case rer members) ≡ false →
       IsSetOf setting.table rer members inverted (is_in_class setting.table rer inverted members)
   members_set rer flags inverted members none = by_test rer.icase refl none
     where
@@ -161,12 +161,13 @@ module _ (setting : Setting) (maps : HasCaseDataOfUnicode setting.table) (with_u
       by_test true e same = class_in_case setting.table maps rer (with_u_in rer flags) e inverted members same
       by_test false e same = class_is_set setting.table maps rer (with_u_in rer flags) e inverted members
 
-  abbrev AtomAgrees : Direction → Atom → Flags → Type 0
-  AtomAgrees d a rer =
+  -- ECMA-262 matches the second atom as the dialect matches the first.
+  abbrev pub AtomAgrees : Direction → (a b : Atom) → Flags → Type 0
+  AtomAgrees d a b rer =
       HasFlagsOf rer → differs_at_atom all rer a ≡ false →
-      Agrees text d (atom_steps setting all text d a) (compile_atom setting.table all rer d a)
+      Agrees text d (atom_steps setting all text d a) (compile_atom setting.table all rer d b)
 
-  atom_agrees : (d : Direction) (a : Atom) → AtomAgrees d a (flags_of a)
+  pub atom_agrees : (d : Direction) (a : Atom) → AtomAgrees d a a (flags_of a)
   atom_agrees d (literal rer c) flags none =
       Agrees-character setting.table rer _ false (is_literal setting.table rer c) text is_text (literal_set setting.table maps rer (with_u_in rer flags) c) d
   atom_agrees d (dot rer) flags none =
@@ -202,49 +203,139 @@ module _ (setting : Setting) (maps : HasCaseDataOfUnicode setting.table) (with_u
   sequence_agrees forwards f g m k first second = Agrees-then text forwards f g m k first second
   sequence_agrees backwards f g m k first second = Agrees-then text backwards g f k m second first
 
+  -- ---- syntax trees with like atoms
+
+  abbrev pub IsLikeAtom : Atom → Atom → Type 0
+  IsLikeAtom a b = (d : Direction) → AtomAgrees d a b (flags_of a)
+
   mutual
-    pattern_agrees : (rer : Flags) → HasFlagsOf rer → (d : Direction) (n : ℕ) (p : Pattern) → IsProper rer p → differs all rer p ≡ false →
-        Agrees text d (pattern_steps setting all text d n p) (compile_disjunction setting.table all fuel rer d n p)
-    pattern_agrees rer flags d n (one ts) proper none = terms_agree rer flags d n ts proper none
-    pattern_agrees rer flags d n (either ts p) proper none =
+    pub data IsLike : Pattern → Pattern → Type 0 where
+      like_one : (ts us : Terms) → AreLike ts us → IsLike (one ts) (one us)
+      like_either : (ts us : Terms) (p q : Pattern) → AreLike ts us → IsLike p q → IsLike (either ts p) (either us q)
+
+    pub data AreLike : Terms → Terms → Type 0 where
+      like_none : AreLike no_terms no_terms
+      like_more : (x y : Item) (q : Option Quantifier) (ts us : Terms) → IsLikeItem x y → AreLike ts us →
+          AreLike (more_terms x q ts) (more_terms y q us)
+
+    pub data IsLikeItem : Item → Item → Type 0 where
+      like_atom : (a b : Atom) → IsLikeAtom a b → IsLikeItem (atom a) (atom b)
+      like_group : (kind : Group) (p q : Pattern) → IsLike p q → IsLikeItem (group kind p) (group kind q)
+
+  mutual
+    pub like-refl : (p : Pattern) → IsLike p p
+    like-refl (one ts) = like_one ts ts (terms-refl ts)
+    like-refl (either ts p) = like_either ts ts p p (terms-refl ts) (like-refl p)
+
+    terms-refl : (ts : Terms) → AreLike ts ts
+    terms-refl no_terms = like_none
+    terms-refl (more_terms x q ts) = like_more x x q ts ts (item-refl x) (terms-refl ts)
+
+    item-refl : (x : Item) → IsLikeItem x x
+    item-refl (atom a) = like_atom a a (λ d. atom_agrees d a)
+    item-refl (group kind p) = like_group kind p p (like-refl p)
+
+  mutual
+    counts_like : (p q : Pattern) → IsLike p q → counts q ≡ counts p
+    counts_like _ _ (like_one ts us terms) = counts_like_terms ts us terms
+    counts_like _ _ (like_either ts us p q terms others) =
+        ap₂ added (counts_like_terms ts us terms) (counts_like p q others)
+
+    counts_like_terms : (ts us : Terms) → AreLike ts us → counts_of_terms us ≡ counts_of_terms ts
+    counts_like_terms _ _ like_none = refl
+    counts_like_terms _ _ (like_more x y q ts us item others) =
+        ap₂ (λ (a b : Counts). added (added a (counts_of_quantifier q)) b) (counts_like_item x y item) (counts_like_terms ts us others)
+
+    counts_like_item : (x y : Item) → IsLikeItem x y → counts_of_item y ≡ counts_of_item x
+    counts_like_item _ _ (like_atom a b like) = refl
+    counts_like_item _ _ (like_group kind p q like) = ap (added (counts_of_group kind)) (counts_like p q like)
+
+  mutual
+    pub names_like : (p q : Pattern) → IsLike p q → names q ≡ names p
+    names_like _ _ (like_one ts us terms) = names_like_terms ts us terms
+    names_like _ _ (like_either ts us p q terms others) =
+        ap₂ (λ (a b : List (Option Name)). a ++ b) (names_like_terms ts us terms) (names_like p q others)
+
+    names_like_terms : (ts us : Terms) → AreLike ts us → names_of_terms us ≡ names_of_terms ts
+    names_like_terms _ _ like_none = refl
+    names_like_terms _ _ (like_more x y q ts us item others) =
+        ap₂ (λ (a b : List (Option Name)). a ++ b) (names_like_item x y item) (names_like_terms ts us others)
+
+    names_like_item : (x y : Item) → IsLikeItem x y → names_of_item y ≡ names_of_item x
+    names_like_item _ _ (like_atom a b like) = refl
+    names_like_item _ _ (like_group kind p q like) =
+        ap (λ (a : List (Option Name)). names_of_group kind ++ a) (names_like p q like)
+
+  -- ---- patterns
+
+  mutual
+    pub pattern_agrees : (rer : Flags) → HasFlagsOf rer → (d : Direction) (n : ℕ) (p p' : Pattern) → IsLike p p' → IsProper rer p →
+        differs all rer p ≡ false →
+        Agrees text d (pattern_steps setting all text d n p) (compile_disjunction setting.table all fuel rer d n p')
+    pattern_agrees rer flags d n _ _ (like_one ts us terms) proper none = terms_agree rer flags d n ts us terms proper none
+    pattern_agrees rer flags d n _ _ (like_either ts us p p' terms others) proper none =
         let both = or-none (differs_in_terms all rer ts) (differs all rer p) none in
-        Agrees-or text d _ _ _ _ (terms_agree rer flags d n ts proper.0 both.0)
-        (pattern_agrees rer flags d (n + (counts_of_terms ts).groups) p proper.1 both.1)
+        subst
+        (λ (k : Counts). Agrees text d (pattern_steps setting all text d n (either ts p))
+        (match_two_alternatives (compile_alternative setting.table all fuel rer d n us)
+        (compile_disjunction setting.table all fuel rer d (n + k.groups) p')))
+        (sym (counts_like_terms ts us terms))
+        (Agrees-or text d _ _ _ _ (terms_agree rer flags d n ts us terms proper.0 both.0)
+        (pattern_agrees rer flags d (n + (counts_of_terms ts).groups) p p' others proper.1 both.1))
 
-    terms_agree : (rer : Flags) → HasFlagsOf rer → (d : Direction) (n : ℕ) (ts : Terms) → AreProper rer ts → differs_in_terms all rer ts ≡ false →
-        Agrees text d (terms_steps setting all text d n ts) (compile_alternative setting.table all fuel rer d n ts)
-    terms_agree rer flags d n no_terms proper none = Agrees-empty text d
-    terms_agree rer flags d n (more_terms x q ts) proper none =
+    terms_agree : (rer : Flags) → HasFlagsOf rer → (d : Direction) (n : ℕ) (ts us : Terms) → AreLike ts us → AreProper rer ts →
+        differs_in_terms all rer ts ≡ false →
+        Agrees text d (terms_steps setting all text d n ts) (compile_alternative setting.table all fuel rer d n us)
+    terms_agree rer flags d n _ _ like_none proper none = Agrees-empty text d
+    terms_agree rer flags d n _ _ (like_more x y q ts us item others) proper none =
         let both = or-none (differs_in_item all rer x) (differs_in_terms all rer ts) none in
-        sequence_agrees d _ _ _ _
-        (quantified_agrees d q proper.1 n (counts_of_item x).groups _ _ (item_agrees rer flags d n x proper.0 both.0))
-        (terms_agree rer flags d (n + (counts_of_term x q).groups) ts proper.2 both.1)
+        subst
+        (λ (k : Counts). Agrees text d (terms_steps setting all text d n (more_terms x q ts))
+        (match_sequence (quantified fuel n k.groups q (compile_term setting.table all fuel rer d n y))
+        (compile_alternative setting.table all fuel rer d (n + (added k (counts_of_quantifier q)).groups) us) d))
+        (sym (counts_like_item x y item))
+        (sequence_agrees d _ _ _ _
+        (quantified_agrees d q proper.1 n (counts_of_item x).groups _ _ (item_agrees rer flags d n x y item proper.0 both.0))
+        (terms_agree rer flags d (n + (counts_of_term x q).groups) ts us others proper.2 both.1))
 
-    item_agrees : (rer : Flags) → HasFlagsOf rer → (d : Direction) (n : ℕ) (x : Item) → IsProperItem rer x → differs_in_item all rer x ≡ false →
-        Agrees text d (item_steps setting all text d n x) (compile_term setting.table all fuel rer d n x)
-    item_agrees rer flags d n (atom a) proper none = subst (AtomAgrees d a) proper (atom_agrees d a) flags none
-    item_agrees rer flags d n (group grouping p) proper none = pattern_agrees rer flags d (n + 0) p proper none
-    item_agrees rer flags d n (group (modified change) p) proper none =
-        pattern_agrees (flags_inside (modified change) rer) (flags_inside-same (modified change) rer flags) d (n + 0) p proper none
-    item_agrees rer flags d n (group (capture name) p) proper none =
-        Agrees-capture text d _ _ (pattern_agrees rer flags d (n + 1) p proper none) n
-    item_agrees rer flags d n (group (look negate direction) p) proper none =
-        Agrees-look text d direction _ _ (pattern_agrees rer flags direction (n + 0) p proper none) negate
+    item_agrees : (rer : Flags) → HasFlagsOf rer → (d : Direction) (n : ℕ) (x y : Item) → IsLikeItem x y → IsProperItem rer x →
+        differs_in_item all rer x ≡ false →
+        Agrees text d (item_steps setting all text d n x) (compile_term setting.table all fuel rer d n y)
+    item_agrees rer flags d n _ _ (like_atom a b like) proper none = subst (AtomAgrees d a b) proper (like d) flags none
+    item_agrees rer flags d n _ _ (like_group grouping p p' like) proper none =
+        pattern_agrees rer flags d (n + 0) p p' like proper none
+    item_agrees rer flags d n _ _ (like_group (modified change) p p' like) proper none =
+        pattern_agrees (flags_inside (modified change) rer) (flags_inside-same (modified change) rer flags) d (n + 0) p p' like proper none
+    item_agrees rer flags d n _ _ (like_group (capture name) p p' like) proper none =
+        Agrees-capture text d _ _ (pattern_agrees rer flags d (n + 1) p p' like proper none) n
+    item_agrees rer flags d n _ _ (like_group (look negate direction) p p' like)
+        proper none =
+        Agrees-look text d direction _ _ (pattern_agrees rer flags direction (n + 0) p p' like proper none) negate
 
 -- The first outcome of the pattern, if there is one.
 first_accepted : (text : List ℕ) (states : List Steps.MatchState) → first_result text accept states ≡ option_map (state_on text) (slice_get (dedup states) 0)
 first_accepted text [] = refl
 first_accepted text (s ∷ states) = refl
 
+-- The first outcome of the pattern is the match of one with like atoms.
+pub like_outcome : (setting : Setting) (p p' : Pattern) (comparable : IsComparable setting p) (text : List ℕ) (is_text : IsText text)
+    (fuel : ℕ) (enough : length text < fuel) →
+    IsLike setting comparable.maps comparable.with_u (names p) text is_text fuel enough p p' → (d : Direction) (s : Steps.MatchState) → IsStateOf text s →
+    compile_disjunction setting.table (names p) fuel setting.flags d 0 p' (state_on text s) accept
+    ≡ option_map (state_on text) (slice_get (meaning setting text d p s) 0)
+like_outcome setting p p' comparable text is_text fuel enough like d s in' =
+    let agrees =
+    pattern_agrees setting comparable.maps comparable.with_u (names p) text is_text fuel enough setting.flags
+    (record { unicode = refl; unicode_sets = refl }) d 0 p p' like comparable.proper comparable.same in
+    agrees.same s in' accept ∙ first_accepted text (pattern_steps setting (names p) text d 0 p s)
+
 pub first_outcome : (setting : Setting) (p : Pattern) → IsComparable setting p → (text : List ℕ) → IsText text →
     (fuel : ℕ) → length text < fuel → (d : Direction) (s : Steps.MatchState) → IsStateOf text s →
     compile_disjunction setting.table (names p) fuel setting.flags d 0 p (state_on text s) accept
     ≡ option_map (state_on text) (slice_get (meaning setting text d p s) 0)
 first_outcome setting p comparable text is_text fuel enough d s in' =
-    let agrees =
-    pattern_agrees setting comparable.maps comparable.with_u (names p) text is_text fuel enough setting.flags
-    (record { unicode = refl; unicode_sets = refl }) d 0 p comparable.proper comparable.same in
-    agrees.same s in' accept ∙ first_accepted text (pattern_steps setting (names p) text d 0 p s)
+    like_outcome setting p p comparable text is_text fuel enough
+    (like-refl setting comparable.maps comparable.with_u (names p) text is_text fuel enough p) d s in'
 
 head_of_none : (outcomes : List Steps.MatchState) (text : List ℕ) → option_map (state_on text) (slice_get outcomes 0) ≡ None → outcomes ≡ []
 head_of_none [] text e = refl
@@ -257,7 +348,7 @@ pub none_at_all : (setting : Setting) (p : Pattern) → IsComparable setting p �
 none_at_all setting p comparable text is_text fuel enough d s in' fails =
     head_of_none (meaning setting text d p s) text (sym (first_outcome setting p comparable text is_text fuel enough d s in') ∙ fails)
 
-unset_everywhere : (text : List ℕ) (n : ℕ) → All (IsCaptureOf text) (replicate n None)
+pub unset_everywhere : (text : List ℕ) (n : ℕ) → All (IsCaptureOf text) (replicate n None)
 unset_everywhere text zero = All-nil (IsCaptureOf text)
 unset_everywhere text (suc n) = All-cons (IsCaptureOf text) None (replicate n None) tt (unset_everywhere text n)
 

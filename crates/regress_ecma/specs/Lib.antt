@@ -4,6 +4,10 @@ pub mod Repetition
 pub mod CharacterMatchers
 pub mod Assertions
 pub mod Atoms
+pub mod ClassNodes
+pub mod ClassGrammar
+pub mod CharSets
+pub mod CompiledClasses
 pub mod Compile
 pub mod Exec
 pub mod Differences

@@ -1,18 +1,22 @@
 //! The theorem that the first outcome of a pattern is the match of ECMA-262.
-ghost use Rattle.std.specs.Prelude.{◌≡◌, ◌<◌, ◌≤◌, ℕ, List, None, length, option_map, replicate, slice_get, []};
+ghost use Rattle.std.specs.Prelude.{◌≡◌, ◌<◌, ◌≤◌, ℕ, true, List, Some, None, length, option_map, replicate, slice_get, [], ◌∷◌};
 ghost use Rattle.regress_tree.specs.Reading.{Direction, forwards, IsText};
 ghost use Rattle.regress_tree.specs.Setting.{Setting};
 ghost use Rattle.regress_tree.specs.Steps.{MatchState, IsStateOf};
-ghost use Rattle.regress_lexer.specs.Source.{Source};
+ghost use Rattle.regress_lexer.specs.Source.{Source, char};
 ghost use Rattle.regress_syntax.specs.Grammar.{IsPattern};
 ghost use Rattle.regress_syntax.specs.Meaning.{meaning};
-ghost use Rattle.regress_syntax.specs.Productions.{Context};
-ghost use Rattle.regress_syntax.specs.Syntax.{Pattern, names};
+ghost use Rattle.regress_syntax.specs.Productions.{Context, head_at, single};
+ghost use Rattle.regress_syntax.specs.Syntax.{Atom, Pattern, names};
 ghost use Rattle.regress_ucd.specs.UnicodeTable.{unicode_table};
 ghost use Rattle.regress_ecma.specs.Assertions.{accept};
+ghost use Rattle.regress_ecma.specs.ClassGrammar.{character_class_at};
+ghost use Rattle.regress_ecma.specs.ClassNodes.{CharacterClass};
+ghost use Rattle.regress_ecma.specs.CompiledClasses.{with_char_sets};
 ghost use Rattle.regress_ecma.specs.Compared.{IsComparable, state_on};
 ghost use Rattle.regress_ecma.specs.Compile.{compile_disjunction, compile_pattern};
 ghost use Rattle.regress_ecma.specs.Differences.{HasCaseDataOfUnicode, IsProper};
+ghost use Rattle.regress_ecma.specs.Exec.{builtin_exec};
 ghost use Rattle.regress_ecma.specs.Notation.{failure};
 
 /// States the theorem that the matcher of ECMA-262 (section 22.2.2) returns the first outcome of a pattern, and fails if
@@ -32,6 +36,25 @@ pub fn first_outcome_is_the_match()
         (fuel : ℕ) → length text < fuel → (d : Direction) (s : MatchState) → IsStateOf text s →
         compile_disjunction setting.table (names p) fuel setting.flags d 0 p (state_on text s) accept ≡ failure →
         meaning setting text d p s ≡ [] }
+
+    // The same with the CharSets of ECMA-262 for classes: those that CompileCharacterClass and CompileToCharSet return for the
+    // source of each. They take the place of what the syntax tree has.
+    ensures source { (ctx : Context) (p : Pattern) (t rest : Source) (derived : IsPattern ctx p t rest) → IsComparable ctx.setting p →
+        (text : List ℕ) → IsText text → (fuel : ℕ) → length text < fuel → (index : ℕ) → index ≤ length text →
+        compile_pattern fuel ctx.setting.table ctx.setting.flags (with_char_sets ctx p t rest derived) text index
+        ≡ option_map (state_on text) (slice_get
+        (meaning ctx.setting text forwards p (record { position = index; captures = replicate (length (names p)) None })) 0) }
+
+    // A class ends where its parse node does.
+    ensures ends { (ctx : Context) → HasCaseDataOfUnicode ctx.setting.table →
+        (ctx.setting.flags.unicode_sets ≡ true → ctx.setting.flags.unicode ≡ true) →
+        (t rest : Source) (a : Atom) → head_at ctx (char "[" ∷ t) ≡ Some (single a, rest) → (node : CharacterClass)
+        × (character_class_at ctx.setting.table ctx.setting.flags.unicode ctx.setting.flags.unicode_sets t ≡ Some (node, rest)) }
+
+    // So a search finds the same with them.
+    ensures search { (ctx : Context) (p : Pattern) (t rest : Source) (derived : IsPattern ctx p t rest) → IsComparable ctx.setting p →
+        (text : List ℕ) → IsText text → (index : ℕ) → index ≤ length text →
+        builtin_exec ctx.setting (with_char_sets ctx p t rest derived) text index ≡ builtin_exec ctx.setting p text index }
 
     // Each syntax tree of the grammar has the flags in force, and quantifiers in order.
     ensures proper { (ctx : Context) (p : Pattern) (t rest : Source) → IsPattern ctx p t rest → IsProper ctx.setting.flags p }

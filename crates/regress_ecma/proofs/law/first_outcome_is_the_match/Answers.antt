@@ -1,5 +1,6 @@
 use Rattle.regress_ecma.proofs.CaseData.{unicode_case_data}
 use Rattle.regress_ecma.proofs.Derived.{derived_proper}
+use Rattle.regress_ecma.proofs.FromSource.{node_ends, source_outcome, source_search}
 use Rattle.regress_ecma.proofs.Theorem.{first_outcome, none_at_all, pattern_outcome}
 use Rattle.regress_ecma.proofs.law.first_outcome_is_the_match.Goals as goal
 
@@ -17,3 +18,14 @@ returns-clause-proper c = derived_proper
 
 pub returns-clause-unicode : goal.returns-clause-unicode
 returns-clause-unicode c = unicode_case_data
+
+pub returns-clause-source : goal.returns-clause-source
+returns-clause-source c ctx p t rest derived comparable text is_text fuel enough index within =
+    source_outcome ctx p t rest derived comparable text is_text fuel enough index within
+
+pub returns-clause-search : goal.returns-clause-search
+returns-clause-search c ctx p t rest derived comparable text is_text index within =
+    source_search ctx p t rest derived comparable text is_text index within
+
+pub returns-clause-ends : goal.returns-clause-ends
+returns-clause-ends c ctx maps with_u t rest a e = node_ends ctx maps with_u t rest a e

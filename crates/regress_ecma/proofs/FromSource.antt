@@ -1,0 +1,457 @@
+-- Classes as they are written: their CharSets in ECMA-262 match what the classes of the syntax tree match.
+use Rattle.std.proofs.Common.{◌≡◌, ℕ, zero, suc, ◌+◌, ◌-◌, ◌<◌, ◌≤◌, nat_le, ◌==◌, Bool, true, false, ◌&&◌, ◌||◌, List, [], ◌∷◌, length, drop, slice_get, Option, Some, None, option_map, if◌then◌else◌, refl, sym, ap, ap₂, subst, ◌∙◌, arith}
+use Rattle.std.proofs.Math.ListN.{replicate}
+use Rattle.std.proofs.lemmas.Bool.{eqb-true, false≢true, or_parts}
+use Rattle.std.proofs.lemmas.Option.{none-some, same_Some}
+use Rattle.regress_base.specs.Table.{Table}
+use Rattle.regress_base.specs.declared.charclasses.CharacterClassType.{CharacterClassType}
+use Rattle.regress_base.specs.declared.types.Flags.{Flags}
+use Rattle.regress_tree.specs.Assertions.{differ}
+use Rattle.regress_tree.specs.Reading.{Direction, forwards, backwards, IsText}
+use Rattle.regress_tree.specs.Setting.{Setting}
+use Rattle.regress_base.specs.declared.types.AnchorType.TheVariants.{StartOfLine, EndOfLine}
+use Rattle.regress_lexer.specs.Digits.{is_decimal, number, front}
+use Rattle.regress_lexer.specs.Escapes.{escape_at}
+use Rattle.regress_lexer.specs.Modifiers.{modifiers_at}
+use Rattle.regress_lexer.specs.Source.{Source, Found, ◌>>=◌, found_map, first_production, char, is_at, opening, colon, question_mark}
+use Rattle.regress_lexer.proofs.lemmas.Sources.{EachProduction, no_more, ◌also◌, first_production-has}
+use Rattle.regress_classes.specs.ClassProductions.{class_letter, complement_if, class_at}
+use Rattle.regress_classes.specs.ClassProductions as ClassProductions
+use Rattle.regress_classes.specs.ClassSets.{Value, has_strings, class_set_at}
+use Rattle.regress_classes.specs.Properties.{Property, of_points, of_strings, property_at}
+use Rattle.regress_syntax.specs.Grammar.{IsPattern, AreTerms, IsItem}
+use Rattle.regress_syntax.specs.Meaning.{is_in_class, meaning}
+use Rattle.regress_syntax.specs.Names.{group_name_at}
+use Rattle.regress_syntax.specs.Productions.{Context, context_inside, Head, single, opens, head_at, character_at, point_property, property_atom, number_reference_at, name_reference_at, has_name, escape_productions, escaped_by, escaped_at, brackets_at, atom_productions, atom_by, angle_at, after_question_mark_at}
+use Rattle.regress_syntax.specs.Syntax.{Name, names, Atom, literal, dot, anchor, boundary, class_escape, class, class_set, string_property, back_reference, by_number, by_name, Group, grouping, modified, capture, look, Pattern, Terms, Item, one, either, no_terms, more_terms, atom, group}
+use Rattle.regress_ecma.specs.Notation.{CharSet}
+use Rattle.regress_ecma.specs.Assertions.{accept}
+use Rattle.regress_ecma.specs.CharacterMatchers.{is_found}
+use Rattle.regress_ecma.specs.Characters.{character_complement}
+use Rattle.regress_ecma.specs.CharSets.{Elements, only, complement, atom_to_char_set, compile_to_char_set, class_of, compile_character_class}
+use Rattle.regress_ecma.specs.ClassGrammar.{property_node, character_class_at}
+use Rattle.regress_ecma.specs.ClassNodes.{property, CharacterClass}
+use Rattle.regress_ecma.specs.CompiledClasses.{class_compiled, property_compiled, compiled, atom_of, with_char_sets, terms_with_char_sets, item_with_char_sets}
+use Rattle.regress_ecma.specs.Compile.{compile_disjunction, compile_pattern}
+use Rattle.regress_ecma.specs.Compared.{state_on, IsComparable}
+use Rattle.regress_ecma.specs.Differences.{HasCaseDataOfUnicode, has_ends, has_unlike, differs_in_case, differs_at_atom}
+use Rattle.regress_ecma.specs.Exec.{match_at, or_later, first_match, builtin_exec}
+use Rattle.regress_ecma.proofs.CharacterSets.{Agrees-character}
+use Rattle.regress_ecma.proofs.ClassMembers.{IsCharSetOf, HasNoEnds, covers-same, covers-found, complement-same, property_is, class_follows}
+use Rattle.regress_ecma.proofs.ClassSetMembers.{elements, class_set_follows}
+use Rattle.regress_ecma.proofs.Derived.{Holds, holds_none, holds_some, holds_if, holds_then, holds_map, holds_found}
+use Rattle.regress_ecma.proofs.Sets.{complement_is_set}
+use Rattle.regress_ecma.proofs.Theorem.{HasFlagsOf, AtomAgrees, with_u_in, members_set, atom_agrees, IsLikeAtom, IsLike, like_one, like_either, AreLike, like_none, like_more, IsLikeItem, like_atom, like_group, names_like, like_outcome, unset_everywhere, pattern_outcome}
+
+-- Without u and i, or where the class may contain `\W`, no condition is needed.
+no_ends_of : (rer : Flags) (members : CharSet) → (rer.icase && differs_in_case rer members) ≡ false → HasNoEnds rer members
+no_ends_of rer members none case' = by_tests rer.unicode rer.icase refl case' none
+  where
+    by_tests : (u i : Bool) → rer.unicode ≡ u → (u && i) ≡ true →
+        (i && (rer.unicode_sets || (if u then has_ends members else has_unlike members))) ≡ false → has_ends members ≡ false
+    by_tests true true e both h = (or_parts rer.unicode_sets (has_ends members) h).1
+    by_tests true false e both h = absurd (false≢true both)
+    by_tests false i e both h = absurd (false≢true both)
+
+no_fold_of : (rer : Flags) (members : CharSet) → (rer.icase && differs_in_case rer members) ≡ false → (rer.unicode_sets && rer.icase) ≡ false
+no_fold_of rer members none = by_tests rer.unicode_sets rer.icase none
+  where
+    by_tests : (v i : Bool) → (i && (v || (if rer.unicode then has_ends members else has_unlike members))) ≡ false → (v && i) ≡ false
+    by_tests true true h = absurd (false≢true (sym h))
+    by_tests true false h = refl
+    by_tests false i h = refl
+
+module _ (setting : Setting) (maps : HasCaseDataOfUnicode setting.table) (with_u : setting.flags.unicode_sets ≡ true → setting.flags.unicode ≡ true)
+    (all : List (Option Name)) (text : List ℕ) (is_text : IsText text) (fuel : ℕ) (enough : length text < fuel) where
+  abbrev HasFlags : Flags → Type 0
+  HasFlags rer = HasFlagsOf setting maps with_u all text is_text fuel enough rer
+
+  abbrev Like : Atom → Atom → Type 0
+  Like a b = IsLikeAtom setting maps with_u all text is_text fuel enough a b
+
+  alike : (a : Atom) → Like a a
+  alike a d = atom_agrees setting maps with_u all text is_text fuel enough d a
+
+  with_u_of : (rer : Flags) → HasFlags rer → rer.unicode_sets ≡ true → rer.unicode ≡ true
+  with_u_of rer flags = with_u_in setting maps with_u all text is_text fuel enough rer flags
+
+  class_like : (rer : Flags) (inverted : Bool) (members set' : CharSet) → (HasFlags rer → IsCharSetOf setting.table rer set' members) →
+      Like (class rer inverted members) (class rer inverted set')
+  class_like rer inverted members set' is d flags none =
+      Agrees-character setting.table rer set' inverted (is_in_class setting.table rer inverted members) text is_text
+      (λ ch scalar'.
+      ap (differ inverted)
+      (covers-found setting.table maps rer (with_u_of rer flags) set' members ((is flags).covers (no_ends_of rer members none)) ch)
+      ∙ members_set setting maps with_u all text is_text fuel enough rer flags inverted members none ch scalar')
+      d
+
+  module _ (ctx : Context) (same : ctx.setting.table ≡ setting.table) where
+    abbrev flags' : Flags
+    flags' = ctx.setting.flags
+
+    abbrev IsGood : Source → Atom → Type 0
+    IsGood t a = Like a (atom_of ctx a t)
+
+    abbrev Matches : Direction → Atom → Atom → Type 0
+    Matches d a b = AtomAgrees setting maps with_u all text is_text fuel enough d a b flags'
+
+    here : HasCaseDataOfUnicode ctx.setting.table
+    here = subst HasCaseDataOfUnicode (sym same) maps
+
+    -- ---- classes in brackets
+
+    abbrev by_class : Found CharacterClass → Atom
+    by_class found =
+        elim found as (λ _. Atom) [ None ↦ class flags' false [] | Some read ↦ compile_character_class ctx.setting.table flags' read.0 ]
+
+    compiled_is : (c : ℕ) (t : Source) (sets : Bool) (node : CharacterClass) (rest : Source) → (c == char "[") ≡ true → flags'.unicode_sets ≡ sets →
+        character_class_at ctx.setting.table flags'.unicode sets t ≡ Some (node, rest) →
+        compiled ctx (c ∷ t) ≡ compile_character_class ctx.setting.table flags' node
+    compiled_is c t sets node rest first is_sets found =
+        ap (λ (b : Bool). if b then class_compiled ctx t else property_compiled ctx t) first
+        ∙ ap (λ (b : Bool). by_class (character_class_at ctx.setting.table flags'.unicode b t)) is_sets
+        ∙ ap by_class found
+
+    class_good : (c : ℕ) (t : Source) (inverted : Bool) (members : CharSet) (rest : Source) → (c == char "[") ≡ true →
+        flags'.unicode_sets ≡ false → class_at ctx.setting.table flags'.unicode t ≡ Some ((inverted, members), rest) →
+        IsGood (c ∷ t) (class flags' inverted members)
+    class_good c t inverted members rest first no_sets found d flags none =
+        let read =
+        (class_follows ctx.setting.table here flags' (with_u_of flags' flags) (no_fold_of flags' members none) flags'.unicode t).each
+        (inverted, members) rest found in
+        let set' : CharSet = (compile_to_char_set ctx.setting.table flags' read.value.contents).characters in
+        let is : compiled ctx (c ∷ t) ≡ class flags' inverted set' =
+        compiled_is c t false read.value rest first no_sets read.found
+        ∙ ap (λ (b : Bool). if b then class_of ctx.setting.table flags' (if read.value.invert then complement ctx.setting.table flags' (compile_to_char_set ctx.setting.table flags' read.value.contents) else compile_to_char_set ctx.setting.table flags' read.value.contents) else class flags' read.value.invert set') no_sets
+        ∙ ap (λ (b : Bool). class flags' b set') read.related.invert in
+        subst (λ (b : Atom). Matches d (class flags' inverted members) b) (sym is)
+        (class_like flags' inverted members set' (λ _. subst (λ (table : Table). IsCharSetOf table flags' set' members) same read.related.contents) d)
+        flags none
+
+    class_set_good : (c : ℕ) (t : Source) (negated : Bool) (value : Value) (rest : Source) → (c == char "[") ≡ true →
+        flags'.unicode_sets ≡ true → class_set_at ctx.setting.table flags'.unicode t ≡ Some ((negated, value), rest) →
+        IsGood (c ∷ t) (class_set flags' negated value)
+    class_set_good c t negated value rest first sets found d flags none =
+        let plain : flags'.icase ≡ false = (or_parts flags'.icase (negated && has_strings value) none).0 in
+        let read = (class_set_follows ctx.setting.table here flags' (with_u_of flags' flags) plain flags'.unicode t).each (negated, value) rest found in
+        let is : compiled ctx (c ∷ t) ≡ class_of ctx.setting.table flags' (if negated then complement ctx.setting.table flags' (elements value) else elements value) =
+        compiled_is c t true read.value rest first sets read.found
+        ∙ ap (λ (b : Bool). if b then class_of ctx.setting.table flags' (if read.value.invert then complement ctx.setting.table flags' (compile_to_char_set ctx.setting.table flags' read.value.contents) else compile_to_char_set ctx.setting.table flags' read.value.contents) else class flags' read.value.invert (compile_to_char_set ctx.setting.table flags' read.value.contents).characters) sets
+        ∙ ap₂ (λ (b : Bool) (e : Elements). class_of ctx.setting.table flags' (if b then complement ctx.setting.table flags' e else e)) read.related.invert read.related.contents in
+        subst (λ (b : Atom). Matches d (class_set flags' negated value) b) (sym is) (by_sign negated none) flags none
+      where
+        by_sign : (b : Bool) → differs_at_atom all flags' (class_set flags' b value) ≡ false →
+            Matches d (class_set flags' b value) (class_of ctx.setting.table flags' (if b then complement ctx.setting.table flags' (elements value) else elements value))
+        by_sign true h =
+            subst
+            (λ (table : Table). Matches d (class_set flags' true value) (class_of ctx.setting.table flags' (only (character_complement table flags' value.members))))
+            (sym same) (alike (class_set flags' true value) d)
+        by_sign false h = alike (class_set flags' false value) d
+
+    brackets_good : (c : ℕ) (t : Source) → (c == char "[") ≡ true → Holds (IsGood (c ∷ t)) (brackets_at ctx t)
+    brackets_good c t first = by_test flags'.unicode_sets refl
+      where
+        by_test : (v : Bool) → flags'.unicode_sets ≡ v →
+            Holds (IsGood (c ∷ t))
+            (if v
+            then found_map (λ (negated, value). class_set flags' negated value) (class_set_at ctx.setting.table flags'.unicode t)
+            else found_map (λ (inverted, members). class flags' inverted members) (class_at ctx.setting.table flags'.unicode t))
+        by_test true e =
+            holds_found (IsGood (c ∷ t)) (λ (negated, value). class_set flags' negated value) (class_set_at ctx.setting.table flags'.unicode t)
+            (λ (negated, value) rest found. class_set_good c t negated value rest first e found)
+        by_test false e =
+            holds_found (IsGood (c ∷ t)) (λ (inverted, members). class flags' inverted members) (class_at ctx.setting.table flags'.unicode t)
+            (λ (inverted, members) rest found. class_good c t inverted members rest first e found)
+
+    -- ---- properties
+
+    abbrev by_property : Bool → Found Property → Atom
+    by_property capital found =
+        elim found as (λ _. Atom) [
+          | None ↦ class flags' false []
+          | Some read ↦ class flags' false ((atom_to_char_set ctx.setting.table flags' (property_node capital read.0)).characters)
+        ]
+
+    abbrev property_set : Bool → CharSet → CharSet
+    property_set capital members = (atom_to_char_set ctx.setting.table flags' (property members capital)).characters
+
+    property_is_good : (members : CharSet) (capital cased : Bool) → flags'.icase ≡ cased →
+        Like (if capital && cased then class flags' false (ClassProductions.complement members) else class flags' capital members)
+        (class flags' false (property_set capital members))
+    property_is_good members false cased e d flags none =
+        class_like flags' false members (property_set false members)
+        (λ _. covers-same setting.table flags' _ _
+        (property_is ctx.setting.table here flags' (with_u_of flags' flags) (no_fold_of flags' members none) false members))
+        d flags none
+    property_is_good members true true e d flags none =
+        class_like flags' false (ClassProductions.complement members) (property_set true members)
+        (λ _. covers-same setting.table flags' _ _
+        (property_is ctx.setting.table here flags' (with_u_of flags' flags)
+        (no_fold_of flags' (ClassProductions.complement members) none) true members))
+        d flags none
+    property_is_good members true false e d flags none =
+        let no_fold = no_fold_of flags' members none in
+        let is : property_set true members ≡ character_complement setting.table flags' members =
+        property_is ctx.setting.table here flags' (with_u_of flags' flags) no_fold true members
+        ∙ sym (complement-same setting.table maps flags' (with_u_of flags' flags) no_fold members) in
+        Agrees-character setting.table flags' (property_set true members) false (is_in_class setting.table flags' true members) text is_text
+        (λ ch scalar'.
+        ap (λ (s : CharSet). is_found setting.table flags' s ch) is
+        ∙ complement_is_set setting.table maps flags' (with_u_of flags' flags) e members ch scalar')
+        d
+
+    property_good : (c k : ℕ) (t : Source) (members : CharSet) (rest : Source) → (c == char "\\") ≡ true →
+        property_at flags'.unicode_sets ctx.setting.table t ≡ Some (of_points members, rest) →
+        IsGood (c ∷ k ∷ t) (point_property ctx (k == char "P") members)
+    property_good c k t members rest first found =
+        good (k == char "P") flags'.icase refl
+        (ap (λ (b : Bool). if b then class_compiled ctx (k ∷ t) else property_compiled ctx (k ∷ t)) no_bracket ∙ ap (by_property (k == char "P")) found)
+      where
+        no_bracket : (c == char "[") ≡ false
+        no_bracket = ap (λ (x : ℕ). x == char "[") (eqb-true c (char "\\") first)
+
+        good : (capital cased : Bool) → flags'.icase ≡ cased → compiled ctx (c ∷ k ∷ t) ≡ class flags' false (property_set capital members) →
+            IsGood (c ∷ k ∷ t) (if capital && cased then class flags' false (ClassProductions.complement members) else class flags' capital members)
+        good true true e is = subst (Like (class flags' false (ClassProductions.complement members))) (sym is) (property_is_good members true true e)
+        good true false e is = subst (Like (class flags' true members)) (sym is) (property_is_good members true false e)
+        good false cased e is = subst (Like (class flags' false members)) (sym is) (property_is_good members false cased e)
+
+    property_holds : (c k : ℕ) (t : Source) → (c == char "\\") ≡ true → (p : Property) (rest : Source) →
+        property_at flags'.unicode_sets ctx.setting.table t ≡ Some (p, rest) → Holds (IsGood (c ∷ k ∷ t)) (property_atom ctx (k == char "P") (p, rest))
+    property_holds c k t first (of_points members) rest found =
+        holds_some (IsGood (c ∷ k ∷ t)) (point_property ctx (k == char "P") members) rest (property_good c k t members rest first found)
+    property_holds c k t first (of_strings written) rest found =
+        holds_if (IsGood (c ∷ k ∷ t)) (k == char "P") _ _ (holds_none (IsGood (c ∷ k ∷ t)))
+        (holds_some (IsGood (c ∷ k ∷ t)) (string_property flags' written) rest (alike (string_property flags' written)))
+
+    property_at_holds : (c k : ℕ) (t : Source) → (c == char "\\") ≡ true →
+        Holds (IsGood (c ∷ k ∷ t)) (property_at flags'.unicode_sets ctx.setting.table t >>= property_atom ctx (k == char "P"))
+    property_at_holds c k t first = by (property_at flags'.unicode_sets ctx.setting.table t) refl
+      where
+        by : (found : Found Property) → property_at flags'.unicode_sets ctx.setting.table t ≡ found →
+            Holds (IsGood (c ∷ k ∷ t)) (found >>= property_atom ctx (k == char "P"))
+        by None e = holds_none (IsGood (c ∷ k ∷ t))
+        by (Some (p, rest)) e = property_holds c k t first p rest e
+
+    -- ---- other atoms
+
+    module _ (s : Source) where
+      literal_good : (c : ℕ) → IsGood s (literal flags' c)
+      literal_good c = alike (literal flags' c)
+
+      character_good : (c : ℕ) (t : Source) → Holds (IsGood s) (character_at ctx c t)
+      character_good c t = holds_map (IsGood s) (literal flags') (escape_at flags'.unicode (c ∷ t)) literal_good
+
+      number_good : (c : ℕ) (t : Source) → Holds (IsGood s) (number_reference_at ctx c t)
+      number_good c t =
+          holds_if (IsGood s) (nat_le (number 10 (front is_decimal (c ∷ t))) ctx.groups) _ _
+          (holds_some (IsGood s) (back_reference flags' (by_number (number 10 (front is_decimal (c ∷ t))))) _ (alike (back_reference flags' (by_number _))))
+          (holds_if (IsGood s) flags'.unicode _ _ (holds_none (IsGood s)) (character_good c t))
+
+      name_good : (t : Source) → Holds (IsGood s) (name_reference_at ctx t)
+      name_good t =
+          holds_then (IsGood s) (group_name_at ctx.setting.table t) _
+          (λ x. holds_if (IsGood s) (has_name x.0 ctx.names) _ _
+          (holds_some (IsGood s) (back_reference flags' (by_name x.0)) x.1 (alike (back_reference flags' (by_name x.0))))
+          (holds_none (IsGood s)))
+
+    escapes_good : (c k : ℕ) (t : Source) → (c == char "\\") ≡ true → EachProduction (Holds (IsGood (c ∷ k ∷ t))) (escape_productions ctx k t)
+    escapes_good c k t first =
+        (λ _. holds_some (IsGood (c ∷ k ∷ t)) (boundary flags' false) _ (alike (boundary flags' false)))
+        also (λ _. holds_some (IsGood (c ∷ k ∷ t)) (boundary flags' true) _ (alike (boundary flags' true)))
+        also (λ _. holds_some (IsGood (c ∷ k ∷ t)) (literal flags' (char "\\")) _ (alike (literal flags' (char "\\"))))
+        also (λ _. property_at_holds c k t first)
+        also (λ _. number_good (c ∷ k ∷ t) k t)
+        also (λ _. name_good (c ∷ k ∷ t) t)
+        also (λ _. character_good (c ∷ k ∷ t) k t)
+        also no_more
+
+    escaped_by-good : (c k : ℕ) (t : Source) → (c == char "\\") ≡ true → Holds (IsGood (c ∷ k ∷ t)) (escaped_by ctx k t)
+    escaped_by-good c k t first = by (class_letter k)
+      where
+        by : (letter : Option (CharacterClassType × Bool)) →
+            Holds (IsGood (c ∷ k ∷ t)) (elim letter as (λ _. Found Atom) [
+              | Some named ↦ Some (class_escape flags' named.0 named.1, t)
+              | None ↦ first_production (escape_productions ctx k t)
+            ])
+        by (Some named) = holds_some (IsGood (c ∷ k ∷ t)) (class_escape flags' named.0 named.1) t (alike (class_escape flags' named.0 named.1))
+        by None =
+            first_production-has (Holds (IsGood (c ∷ k ∷ t))) (escape_productions ctx k t) (holds_none (IsGood (c ∷ k ∷ t))) (escapes_good c k t first)
+
+    escaped_good : (c : ℕ) (t : Source) → (c == char "\\") ≡ true → Holds (IsGood (c ∷ t)) (escaped_at ctx t)
+    escaped_good c [] first = holds_none (IsGood (c ∷ []))
+    escaped_good c (k ∷ t) first = escaped_by-good c k t first
+
+    atoms_good : (c : ℕ) (t : Source) → EachProduction (Holds (IsGood (c ∷ t))) (atom_productions ctx c t)
+    atoms_good c t =
+        (λ _. holds_some (IsGood (c ∷ t)) (dot flags') t (alike (dot flags')))
+        also (λ _. holds_some (IsGood (c ∷ t)) (anchor flags' StartOfLine) t (alike (anchor flags' StartOfLine)))
+        also (λ _. holds_some (IsGood (c ∷ t)) (anchor flags' EndOfLine) t (alike (anchor flags' EndOfLine)))
+        also (λ first. escaped_good c t first)
+        also (λ first. brackets_good c t first)
+        also (λ _. holds_if (IsGood (c ∷ t)) _ _ _ (holds_none (IsGood (c ∷ t))) (holds_some (IsGood (c ∷ t)) (literal flags' c) t (alike (literal flags' c))))
+        also (λ _. holds_some (IsGood (c ∷ t)) (literal flags' c) t (alike (literal flags' c)))
+        also no_more
+
+    abbrev HeadIsGood : Source → Head → Type 0
+    HeadIsGood s (single a) = IsGood s a
+    HeadIsGood s (opens kind) = Unit {0}
+
+    single_good : (s : Source) (found : Found Atom) → Holds (IsGood s) found → Holds (HeadIsGood s) (found_map single found)
+    single_good s None h = holds_none (HeadIsGood s)
+    single_good s (Some (a, t)) h = holds_some (HeadIsGood s) (single a) t (h.each (a, t) refl)
+
+    module _ (s : Source) where
+      opens_good : (kind : Group) (t : Source) → Holds (HeadIsGood s) (Some (opens kind, t))
+      opens_good kind t = holds_some (HeadIsGood s) (opens kind) t tt
+
+      map_good : {A : Type 0} (kind : A → Group) (found : Found A) → Holds (HeadIsGood s) (found_map (λ a. opens (kind a)) found)
+      map_good kind found = holds_map (HeadIsGood s) (λ a. opens (kind a)) found (λ a. tt)
+
+      angle_good : (t : Source) → Holds (HeadIsGood s) (angle_at ctx.setting.table t)
+      angle_good t =
+          holds_if (HeadIsGood s) (is_at 61 (drop 1 t)) _ _ (opens_good (look false backwards) (drop 2 t))
+          (holds_if (HeadIsGood s) (is_at 33 (drop 1 t)) _ _ (opens_good (look true backwards) (drop 2 t))
+          (map_good (λ name. capture (Some name)) (group_name_at ctx.setting.table t)))
+
+      question_mark_good : (t : Source) → Holds (HeadIsGood s) (after_question_mark_at ctx.setting.table t)
+      question_mark_good t =
+          holds_if (HeadIsGood s) (is_at colon t) _ _ (opens_good grouping (drop 1 t))
+          (holds_if (HeadIsGood s) (is_at 61 t) _ _ (opens_good (look false forwards) (drop 1 t))
+          (holds_if (HeadIsGood s) (is_at 33 t) _ _ (opens_good (look true forwards) (drop 1 t))
+          (holds_if (HeadIsGood s) (is_at 60 t) _ _ (angle_good t) (map_good modified (modifiers_at t)))))
+
+    head_good : (s : Source) → Holds (HeadIsGood s) (head_at ctx s)
+    unfolding head_at
+    head_good [] = holds_none (HeadIsGood [])
+    head_good (c ∷ t) =
+        holds_if (HeadIsGood (c ∷ t)) (c == opening) _ _
+        (holds_if (HeadIsGood (c ∷ t)) (is_at question_mark t) _ _ (question_mark_good (c ∷ t) (drop 1 t)) (opens_good (c ∷ t) (capture None) t))
+        (single_good (c ∷ t) (atom_by ctx c t)
+        (first_production-has (Holds (IsGood (c ∷ t))) (atom_productions ctx c t) (holds_none (IsGood (c ∷ t))) (atoms_good c t)))
+
+  -- ---- syntax trees
+
+  table_inside : (kind : Group) (ctx : Context) → (context_inside kind ctx).setting.table ≡ ctx.setting.table
+  table_inside grouping ctx = refl
+  table_inside (modified change) ctx = refl
+  table_inside (capture name) ctx = refl
+  table_inside (look negate direction) ctx = refl
+
+  abbrev LikePatterns : Pattern → Pattern → Type 0
+  LikePatterns p q = IsLike setting maps with_u all text is_text fuel enough p q
+
+  abbrev LikeTerms : Terms → Terms → Type 0
+  LikeTerms ts us = AreLike setting maps with_u all text is_text fuel enough ts us
+
+  abbrev LikeItems : Item → Item → Type 0
+  LikeItems x y = IsLikeItem setting maps with_u all text is_text fuel enough x y
+
+  mutual
+    pub derived_like : (ctx : Context) → ctx.setting.table ≡ setting.table → (p : Pattern) (t rest : Source) (derived : IsPattern ctx p t rest) →
+        LikePatterns p (with_char_sets ctx p t rest derived)
+    derived_like ctx same (one ts) t rest derived = like_one ts _ (terms_like ctx same ts t rest derived.0)
+    derived_like ctx same (either ts p) t rest derived =
+        like_either ts _ p _ (terms_like ctx same ts t _ derived.1) (derived_like ctx same p derived.0 rest derived.2)
+
+    terms_like : (ctx : Context) → ctx.setting.table ≡ setting.table → (ts : Terms) (t rest : Source) (derived : AreTerms ctx ts t rest) →
+        LikeTerms ts (terms_with_char_sets ctx ts t rest derived)
+    terms_like ctx same no_terms t rest derived = like_none
+    terms_like ctx same (more_terms x q xs) t rest derived =
+        like_more x _ q xs _ (item_like ctx same x t derived.0 derived.2) (terms_like ctx same xs derived.1 rest derived.4)
+
+    item_like : (ctx : Context) → ctx.setting.table ≡ setting.table → (x : Item) (t rest : Source) (derived : IsItem ctx x t rest) →
+        LikeItems x (item_with_char_sets ctx x t rest derived)
+    item_like ctx same (atom a) t rest derived = like_atom a _ ((head_good ctx same t).each (single a, rest) derived)
+    item_like ctx same (group kind p) t rest derived =
+        like_group kind p _ (derived_like (context_inside kind ctx) (table_inside kind ctx ∙ same) p derived.0 _ derived.2)
+
+-- ---- the theorem, from the source
+
+module _ (ctx : Context) (p : Pattern) (t rest : Source) (derived : IsPattern ctx p t rest) (comparable : IsComparable ctx.setting p)
+    (text : List ℕ) (is_text : IsText text) where
+  abbrev standard : Pattern
+  standard = with_char_sets ctx p t rest derived
+
+  pub source_outcome : (fuel : ℕ) → length text < fuel → (index : ℕ) → index ≤ length text →
+      compile_pattern fuel ctx.setting.table ctx.setting.flags standard text index
+      ≡ option_map (state_on text) (slice_get (meaning ctx.setting text forwards p (record { position = index; captures = replicate (length (names p)) None })) 0)
+  source_outcome fuel enough index within =
+      let like = derived_like ctx.setting comparable.maps comparable.with_u (names p) text is_text fuel enough ctx refl p t rest derived in
+      ap (λ (ns : List (Option Name)). compile_disjunction ctx.setting.table ns fuel ctx.setting.flags forwards 0 standard
+      (record { input = text; end_index = index; captures = replicate (length ns) None }) accept)
+      (names_like ctx.setting comparable.maps comparable.with_u (names p) text is_text fuel enough p standard like)
+      ∙ like_outcome ctx.setting p standard comparable text is_text fuel enough like forwards
+      (record { position = index; captures = replicate (length (names p)) None })
+      (record { position = within; captures = unset_everywhere text (length (names p)) })
+
+  -- RegExpBuiltinExec finds the same.
+  same_at : (index : ℕ) → index ≤ length text → match_at ctx.setting standard text index ≡ match_at ctx.setting p text index
+  same_at index within =
+      source_outcome (length text + 1) (omega arith) index within
+      ∙ sym (pattern_outcome ctx.setting p comparable text is_text (length text + 1) (omega arith) index within)
+
+  first_same : (n index : ℕ) → n + index ≤ length text + 1 →
+      first_match (match_at ctx.setting standard text) n index ≡ first_match (match_at ctx.setting p text) n index
+  unfolding first_match
+  first_same zero index within = refl
+  first_same (suc n) index within =
+      ap₂ (or_later index) (same_at index (omega arith)) (first_same n (index + 1) (omega arith))
+
+  pub source_search : (index : ℕ) → index ≤ length text → builtin_exec ctx.setting standard text index ≡ builtin_exec ctx.setting p text index
+  source_search index within = first_same (length text + 1 - index) index (omega arith)
+
+-- ---- the end of a class
+
+module _ (ctx : Context) (maps : HasCaseDataOfUnicode ctx.setting.table)
+    (with_u : ctx.setting.flags.unicode_sets ≡ true → ctx.setting.flags.unicode ≡ true) where
+  -- Without i the same nodes are found.
+  abbrev without_i : Flags
+  without_i = record ctx.setting.flags { icase = false }
+
+  abbrev EndsAt : Source → Bool → Source → Type 0
+  EndsAt t sets rest = (node : CharacterClass) × (character_class_at ctx.setting.table ctx.setting.flags.unicode sets t ≡ Some (node, rest))
+
+  class_ends : (t : Source) (x : (Bool × CharSet) × Source) → class_at ctx.setting.table ctx.setting.flags.unicode t ≡ Some x → EndsAt t false x.1
+  class_ends t (read, rest) e =
+      let found = (class_follows ctx.setting.table maps without_i with_u (and_false ctx.setting.flags.unicode_sets) ctx.setting.flags.unicode t).each read rest e in
+      (found.value, found.found)
+    where
+      and_false : (b : Bool) → (b && false) ≡ false
+      and_false true = refl
+      and_false false = refl
+
+  class_set_ends : (t : Source) (x : (Bool × Value) × Source) → class_set_at ctx.setting.table ctx.setting.flags.unicode t ≡ Some x → EndsAt t true x.1
+  class_set_ends t (read, rest) e =
+      let found = (class_set_follows ctx.setting.table maps without_i with_u refl ctx.setting.flags.unicode t).each read rest e in
+      (found.value, found.found)
+
+  mapped_end : {A B : Type 0} (f : A → B) (found : Found A) (y : B) (rest : Source) → found_map f found ≡ Some (y, rest) →
+      (x : A) × (found ≡ Some (x, rest))
+  mapped_end f None y rest e = absurd (none-some (y, rest) e)
+  mapped_end {B = B} f (Some (x, t)) y rest e =
+      let same : (f x, t) ≡ (y, rest) = same_Some (f x, t) (y, rest) e in
+      (x, ap (λ (u : Source). Some (x, u)) (ap (λ (z : B × Source). z.1) same))
+
+  brackets_end : (t rest : Source) (a : Atom) → brackets_at ctx t ≡ Some (a, rest) → EndsAt t ctx.setting.flags.unicode_sets rest
+  brackets_end t rest a e = by_test ctx.setting.flags.unicode_sets e
+    where
+      by_test : (v : Bool) →
+          (if v
+          then found_map (λ (negated, value). class_set ctx.setting.flags negated value) (class_set_at ctx.setting.table ctx.setting.flags.unicode t)
+          else found_map (λ (inverted, members). class ctx.setting.flags inverted members) (class_at ctx.setting.table ctx.setting.flags.unicode t))
+          ≡ Some (a, rest) → EndsAt t v rest
+      by_test true h =
+          let found = mapped_end (λ (negated, value). class_set ctx.setting.flags negated value) (class_set_at ctx.setting.table ctx.setting.flags.unicode t) a rest h in
+          class_set_ends t (found.0, rest) found.1
+      by_test false h =
+          let found = mapped_end (λ (inverted, members). class ctx.setting.flags inverted members) (class_at ctx.setting.table ctx.setting.flags.unicode t) a rest h in
+          class_ends t (found.0, rest) found.1
+
+  pub node_ends : (t rest : Source) (a : Atom) → head_at ctx (char "[" ∷ t) ≡ Some (single a, rest) →
+      (node : CharacterClass)
+      × (character_class_at ctx.setting.table ctx.setting.flags.unicode ctx.setting.flags.unicode_sets t ≡ Some (node, rest))
+  unfolding head_at
+  node_ends t rest a e =
+      let found = mapped_end single (brackets_at ctx t) (single a) rest e in
+      brackets_end t rest found.0 found.1
