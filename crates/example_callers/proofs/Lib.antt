@@ -1,3 +1,4 @@
 pub mod LengthLemmas
 pub mod ListedLemmas
 pub mod NestedLemmas
+mod RemarksLemmas

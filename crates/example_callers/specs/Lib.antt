@@ -2,3 +2,4 @@ pub mod Least
 pub mod Listed
 pub mod MatchedText
 pub mod Nested
+pub mod Remarks

@@ -8,6 +8,7 @@ pub mod caret;
 pub mod length;
 pub mod linter;
 pub mod quickstart;
+pub mod remarks;
 pub mod slice;
 pub mod underline;
 

@@ -7,7 +7,7 @@ use Rattle.regress_classes.specs.ClassSets.{set_character_at, strings_by}
 use Rattle.regress_lexer.specs.Digits.{front, after}
 use Rattle.regress_lexer.specs.Escapes.{escape_at, unicode_at}
 use Rattle.regress_lexer.specs.Source.{Source}
-use Rattle.regress_ecma.specs.CharSets.{Elements, no_elements, only, compile_to_char_set}
+use Rattle.regress_ecma.specs.CharSets.{Elements, only, compile_to_char_set}
 use Rattle.regress_ecma.specs.ClassGrammar.{class_ranges_by, class_set_by, class_union_by, operands_by, operand_at, character_class_at}
 use Rattle.example_definitions.proofs.Meanings.{empty_table, no_flags, run}
 

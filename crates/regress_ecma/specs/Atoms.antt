@@ -1,5 +1,5 @@
--- ECMA-262, 22.2.2.7 CompileAtom and 22.2.2.10 CompileClassSetString. The contents of a class are those that the syntax
--- tree has.
+-- ECMA-262, 22.2.2.7 CompileAtom. The CharSet of a class is what the syntax tree has; in `CompiledClasses` that is what
+-- CompileToCharSet returns.
 use Rattle.std.specs.Prelude.{ℕ, zero, suc, ◌+◌, Bool, false, not, ◌&&◌, ◌==◌, List, [], ◌∷◌, ◌++◌, length, filter, map, nat_lt, Option, if◌then◌else◌}
 use Rattle.std.specs.List.{concat}
 use Rattle.regress_base.specs.Classes.{line_terminators}

@@ -1,5 +1,5 @@
--- ECMA-262, 22.2.2.8 CompileCharacterClass, 22.2.2.9 CompileToCharSet and 22.2.2.10 CompileClassSetString. The singular of
--- a CharSet with the flag v is a sequence of characters.
+-- ECMA-262, 22.2.2.8 CompileCharacterClass, 22.2.2.9 CompileToCharSet and 22.2.2.10 CompileClassSetString. With the flag v
+-- the elements of a CharSet are sequences of characters.
 use Rattle.std.specs.Prelude.{ℕ, Bool, false, true, not, ◌&&◌, ◌||◌, List, [], ◌∷◌, ◌++◌, map, filter, Option, Some, None, if◌then◌else◌}
 use Rattle.std.specs.List.{list_any}
 use Rattle.std.specs.Str.{bytes_eq}

@@ -1,4 +1,4 @@
--- ECMA-262, 22.2.1: the parse nodes of classes, as far as 22.2.2.9 CompileToCharSet reads them.
+-- ECMA-262, 22.2.1: the parse nodes of classes, as far as 22.2.2.9 CompileToCharSet uses them.
 use Rattle.std.specs.Prelude.{ℕ, Bool, List}
 use Rattle.regress_base.specs.declared.charclasses.CharacterClassType.{CharacterClassType}
 use Rattle.regress_ecma.specs.Notation.{CharSet}

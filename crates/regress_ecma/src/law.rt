@@ -45,16 +45,16 @@ pub fn first_outcome_is_the_match()
         ≡ option_map (state_on text) (slice_get
         (meaning ctx.setting text forwards p (record { position = index; captures = replicate (length (names p)) None })) 0) }
 
+    // So a search finds the same with them.
+    ensures search { (ctx : Context) (p : Pattern) (t rest : Source) (derived : IsPattern ctx p t rest) → IsComparable ctx.setting p →
+        (text : List ℕ) → IsText text → (index : ℕ) → index ≤ length text →
+        builtin_exec ctx.setting (with_char_sets ctx p t rest derived) text index ≡ builtin_exec ctx.setting p text index }
+
     // A class ends where its parse node does.
     ensures ends { (ctx : Context) → HasCaseDataOfUnicode ctx.setting.table →
         (ctx.setting.flags.unicode_sets ≡ true → ctx.setting.flags.unicode ≡ true) →
         (t rest : Source) (a : Atom) → head_at ctx (char "[" ∷ t) ≡ Some (single a, rest) → (node : CharacterClass)
         × (character_class_at ctx.setting.table ctx.setting.flags.unicode ctx.setting.flags.unicode_sets t ≡ Some (node, rest)) }
-
-    // So a search finds the same with them.
-    ensures search { (ctx : Context) (p : Pattern) (t rest : Source) (derived : IsPattern ctx p t rest) → IsComparable ctx.setting p →
-        (text : List ℕ) → IsText text → (index : ℕ) → index ≤ length text →
-        builtin_exec ctx.setting (with_char_sets ctx p t rest derived) text index ≡ builtin_exec ctx.setting p text index }
 
     // Each syntax tree of the grammar has the flags in force, and quantifiers in order.
     ensures proper { (ctx : Context) (p : Pattern) (t rest : Source) → IsPattern ctx p t rest → IsProper ctx.setting.flags p }

@@ -2,6 +2,9 @@
 
 use super::parsed;
 use example_callers::linter::lint;
+use example_callers::remarks::remarks;
+use regress_front::types::Flags;
+use regress_front::unicode::Tables;
 use std::test::Fail;
 
 #[test]
@@ -48,6 +51,38 @@ fn nested_unbounded_loops_are_reported(rt: HostRuntime) -> Result<(), Fail> {
     ] {
         let report = lint(alloc, &parsed(alloc, pattern, false)?)?;
         assert_eq!(rt; report.nested, wanted, "{pattern}");
+    }
+    Ok(())
+}
+
+// docs/differences.md has the first two patterns. V8 matches the others as this library does.
+#[test]
+fn what_matches_otherwise_than_in_javascript_is_explained(rt: HostRuntime) -> Result<(), Fail> {
+    let alloc = rt.alloc();
+    let tables = Tables::small(alloc)?;
+    for (pattern, icase, wanted) in [
+        ("a[k]", true, Some((1, 4, "case-closure", "U+212A"))),
+        (
+            "(?:(?<a>x)|(?<a>y))\\k<a>",
+            false,
+            Some((19, 24, "same-name", "y of yy")),
+        ),
+        ("a[k]", false, None),
+        ("a[b]", true, None),
+        ("(?:(?<a>x)|(?<b>y))\\k<a>", false, None),
+    ] {
+        let flags = Flags {
+            icase,
+            ..Flags::default()
+        };
+        let found = remarks(alloc, pattern, flags, &tables)?;
+        assert_eq!(rt; found.len(), usize::from(wanted.is_some()), "{pattern}");
+        if let (Some(remark), Some((start, end, name, example))) = (found.first(), wanted) {
+            assert_eq!(rt; remark.span.start, start, "{pattern}");
+            assert_eq!(rt; remark.span.end, end, "{pattern}");
+            assert_eq!(rt; remark.name, name, "{pattern}");
+            assert!(rt; remark.text.contains(example), "{pattern}");
+        }
     }
     Ok(())
 }
