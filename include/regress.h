@@ -10,9 +10,12 @@
 
    No pointer may be NULL or dangling, even if its length is 0. Buffers must not overlap each other or the input. A
    handle is a variable that regress_compile writes. It may be moved, but two copies of it must not be used. It is freed
-   once, by regress_free, and not used afterwards, except that regress_compile may write it again. A handle stays on the
-   thread that compiled it: threads that search at the same time have a handle each. A call allocates with malloc, and
-   frees everything but the handle before it returns. It must not be made in a signal handler. */
+   once, by regress_free, and not used afterwards, except that regress_compile may write it again. A call allocates with
+   malloc, and frees everything but the handle before it returns. It must not be made in a signal handler.
+
+   Any number of threads may use a handle one after another, and free it: one call at a time, ordered by a lock, by a
+   start or join of a thread, or by a sequentially consistent atomic. Threads that search at the same time have a handle
+   each. */
 
 #ifndef REGRESS_H
 #define REGRESS_H
@@ -27,7 +30,7 @@ extern "C" {
 /* The version of this header, and that of the calls: it grows when a call, a status or a number changes its meaning,
    and not when one is added. */
 #define REGRESS_VERSION "0.1.0"
-#define REGRESS_ABI_VERSION 2u
+#define REGRESS_ABI_VERSION 3u
 
 /* A handle to a compiled regular expression. `inside` is the library's own. */
 typedef struct regress_regex {
@@ -87,6 +90,15 @@ uint32_t regress_compile(const uint8_t *pattern, size_t length, uint32_t flags, 
    instructions. */
 uint32_t regress_is_linear(regress_regex *handle);
 
+/* Why searches are not linear. The numbers never change; a later version may have more of them. */
+#define REGRESS_NONLINEAR_BACK_REFERENCE 1u        /* the pattern has a back reference */
+#define REGRESS_NONLINEAR_CAPTURING_LOOKAROUND 2u  /* a lookaround that is not negated contains a capture group */
+#define REGRESS_NONLINEAR_TOO_MANY_INSTRUCTIONS 3u /* the pattern has more than limits.tables instructions */
+
+/* Returns why searches are not linear, one of REGRESS_NONLINEAR_.., and 0 if they are. If there are several reasons, it
+   is the one with the least number. */
+uint32_t regress_nonlinear(regress_regex *handle);
+
 /* Returns an upper bound for the steps of a search for each byte of a text, and once more; at most UINT64_MAX. The
    result is 0 if searches are not linear. */
 uint64_t regress_steps_per_character(regress_regex *handle);
@@ -103,15 +115,16 @@ uint64_t regress_steps_per_character(regress_regex *handle);
 uint32_t regress_find(regress_regex *handle, const uint8_t *text, size_t length, size_t from, size_t *spans,
                       size_t room, size_t *needed);
 
-/* Searches for all non-overlapping matches, from left to right: as regress_find from the end of the match before, and
-   one character further after an empty match. The step limit is for all of them together. Prefer it to calls of
-   regress_find in a loop, each of which decodes the whole text.
+/* Searches for all non-overlapping matches that start at the byte offset `from` or later, from left to right: the first
+   as regress_find, and each further one from the end of the match before it, and one character further after an empty
+   match. The step limit is for all of them together. Prefer it to calls of regress_find in a loop, each of which decodes
+   the whole text.
 
    Returns OK, ROOM, OUT_OF_STEPS, MEMORY or BAD_INPUT. With OK `spans` begins with the numbers of each match, as
    regress_find writes them, one match after the other. `needed` is their number with OK and ROOM, else 0; it is 0 if
    there is no match. */
-uint32_t regress_find_all(regress_regex *handle, const uint8_t *text, size_t length, size_t *spans, size_t room,
-                          size_t *needed);
+uint32_t regress_find_all(regress_regex *handle, const uint8_t *text, size_t length, size_t from, size_t *spans,
+                          size_t room, size_t *needed);
 
 /* Returns whether the pattern matches somewhere in the text: OK or NO_MATCH; or OUT_OF_STEPS, MEMORY or BAD_INPUT. */
 uint32_t regress_is_match(regress_regex *handle, const uint8_t *text, size_t length);
@@ -128,7 +141,8 @@ uint32_t regress_is_match(regress_regex *handle, const uint8_t *text, size_t len
 uint32_t regress_replace(regress_regex *handle, const uint8_t *text, size_t length, const uint8_t *replacement,
                          size_t replacement_length, uint8_t *out, size_t room, size_t *needed);
 
-/* Writes the text with all its matches replaced that regress_find_all finds, as regress_replace does with one. */
+/* Writes the text with all its matches replaced that regress_find_all finds from 0 on, as regress_replace does with
+   one. */
 uint32_t regress_replace_all(regress_regex *handle, const uint8_t *text, size_t length, const uint8_t *replacement,
                              size_t replacement_length, uint8_t *out, size_t room, size_t *needed);
 

@@ -5,7 +5,7 @@
    stack, at most 800 KiB in measurements of patterns with the greatest nesting depth: 255 parentheses or 256 class
    brackets. Alternatives take no stack.
 
-   A pointer may be NULL if its length is 0. A pointer to a number, `needed`, `kind` or `place`, must not be NULL.
+   A pointer may be NULL if its length is 0. A pointer to a number, such as `needed`, `kind` or `place`, must not be NULL.
    Buffers must not overlap each other or the pattern. */
 
 #ifndef REGRESS_FRONT_H
@@ -123,12 +123,26 @@ extern "C" {
 /* A quantifier is: greedy; wide: the minimum number of iterations; whether there is a maximum; if so, wide: the
    maximum. */
 
+/* The span of a node: the half-open range of code-point indices of the pattern that it is parsed from. A node of a
+   reference by name, or of a class under UNICODE_SETS, has the span of the whole item. */
+typedef struct regress_front_span {
+    size_t start;
+    size_t end;
+} regress_front_span;
+
 /* The functions of the library. They are as those below, but no pointer may be NULL. */
 uint32_t regress_front_parse_code_points(const uint32_t *pattern, size_t pattern_length, uint32_t flags,
                                         uint32_t optimize, uint32_t *words, size_t room, size_t *needed,
                                         uint32_t *kind, size_t *place);
 uint32_t regress_front_parse_text(const uint8_t *pattern, size_t pattern_length, uint32_t flags, uint32_t optimize,
                                  uint32_t *words, size_t room, size_t *needed, uint32_t *kind, size_t *place);
+uint32_t regress_front_parse_code_points_with_spans(const uint32_t *pattern, size_t pattern_length, uint32_t flags,
+                                                   uint32_t *words, size_t room, size_t *needed,
+                                                   regress_front_span *spans, size_t span_room, size_t *spans_needed,
+                                                   uint32_t *kind, size_t *place);
+uint32_t regress_front_parse_text_with_spans(const uint8_t *pattern, size_t pattern_length, uint32_t flags,
+                                            uint32_t *words, size_t room, size_t *needed, regress_front_span *spans,
+                                            size_t span_room, size_t *spans_needed, uint32_t *kind, size_t *place);
 uint32_t regress_front_tell_fault(const uint32_t *pattern, size_t pattern_length, uint32_t flags, uint8_t *text,
                                  size_t room, size_t *needed, uint32_t *kind, size_t *place);
 uint32_t regress_front_tell_fault_of_text(const uint8_t *pattern, size_t pattern_length, uint32_t flags, uint8_t *text,
@@ -169,8 +183,48 @@ REGRESS_FRONT_INLINE uint32_t regress_front_parse_utf8(const char *pattern, size
                                     words ? words : &none, room, needed, kind, place);
 }
 
+/* Parses a pattern of code points without optimizing its tree, as regress_front_parse, and writes the span of each node
+   to `spans`, a buffer of `span_room` elements, in the order in which `words` has the nodes: a node comes before those
+   inside it.
+
+   For OK and ROOM `spans_needed` is the number of spans, that of the nodes, else 0. For ROOM `words` or `spans` is too
+   small, and both are unchanged. */
+REGRESS_FRONT_INLINE uint32_t regress_front_parse_with_spans(const uint32_t *pattern, size_t pattern_length,
+                                                             uint32_t flags, uint32_t *words, size_t room,
+                                                             size_t *needed, regress_front_span *spans,
+                                                             size_t span_room, size_t *spans_needed, uint32_t *kind,
+                                                             size_t *place) {
+    uint32_t none = 0;
+    regress_front_span no_span = {0, 0};
+    if ((!pattern && pattern_length) || (!words && room) || !needed || (!spans && span_room) || !spans_needed || !kind
+        || !place) {
+        return REGRESS_FRONT_BAD_INPUT;
+    }
+    return regress_front_parse_code_points_with_spans(pattern ? pattern : &none, pattern_length, flags,
+                                                      words ? words : &none, room, needed, spans ? spans : &no_span,
+                                                      span_room, spans_needed, kind, place);
+}
+
+/* As regress_front_parse_with_spans, for a pattern in UTF-8. Spans and `place` count code points here too. */
+REGRESS_FRONT_INLINE uint32_t regress_front_parse_utf8_with_spans(const char *pattern, size_t pattern_length,
+                                                                  uint32_t flags, uint32_t *words, size_t room,
+                                                                  size_t *needed, regress_front_span *spans,
+                                                                  size_t span_room, size_t *spans_needed,
+                                                                  uint32_t *kind, size_t *place) {
+    uint8_t no_byte = 0;
+    uint32_t none = 0;
+    regress_front_span no_span = {0, 0};
+    if ((!pattern && pattern_length) || (!words && room) || !needed || (!spans && span_room) || !spans_needed || !kind
+        || !place) {
+        return REGRESS_FRONT_BAD_INPUT;
+    }
+    return regress_front_parse_text_with_spans(pattern ? (const uint8_t *)pattern : &no_byte, pattern_length, flags,
+                                               words ? words : &none, room, needed, spans ? spans : &no_span,
+                                               span_room, spans_needed, kind, place);
+}
+
 /* Parses a pattern of code points, and writes the text of its syntax error to `text`, a buffer of `room` bytes: in
-   UTF-8, not terminated by a zero.
+   UTF-8, with a zero after it if there is room for one.
 
    Returns FAULT if the pattern is rejected and the text is written, ROOM if the buffer is too small for it, and OK if
    the pattern is accepted, with nothing written. For FAULT and ROOM `needed` is the length of the text in bytes, and
@@ -178,13 +232,17 @@ REGRESS_FRONT_INLINE uint32_t regress_front_parse_utf8(const char *pattern, size
 REGRESS_FRONT_INLINE uint32_t regress_front_fault(const uint32_t *pattern, size_t pattern_length, uint32_t flags,
                                                   char *text, size_t room, size_t *needed, uint32_t *kind,
                                                   size_t *place) {
-    uint32_t none = 0;
+    uint32_t none = 0, status;
     uint8_t no_byte = 0;
     if ((!pattern && pattern_length) || (!text && room) || !needed || !kind || !place) {
         return REGRESS_FRONT_BAD_INPUT;
     }
-    return regress_front_tell_fault(pattern ? pattern : &none, pattern_length, flags, text ? (uint8_t *)text : &no_byte,
-                                    room, needed, kind, place);
+    status = regress_front_tell_fault(pattern ? pattern : &none, pattern_length, flags,
+                                      text ? (uint8_t *)text : &no_byte, room, needed, kind, place);
+    if (status == REGRESS_FRONT_FAULT && *needed < room) {
+        text[*needed] = 0;
+    }
+    return status;
 }
 
 /* As regress_front_fault, for a pattern in UTF-8. `place` counts code points here too. */
@@ -193,11 +251,16 @@ REGRESS_FRONT_INLINE uint32_t regress_front_fault_utf8(const char *pattern, size
                                                        size_t *place) {
     uint8_t no_byte = 0;
     uint8_t no_text = 0;
+    uint32_t status;
     if ((!pattern && pattern_length) || (!text && room) || !needed || !kind || !place) {
         return REGRESS_FRONT_BAD_INPUT;
     }
-    return regress_front_tell_fault_of_text(pattern ? (const uint8_t *)pattern : &no_byte, pattern_length, flags,
-                                            text ? (uint8_t *)text : &no_text, room, needed, kind, place);
+    status = regress_front_tell_fault_of_text(pattern ? (const uint8_t *)pattern : &no_byte, pattern_length, flags,
+                                              text ? (uint8_t *)text : &no_text, room, needed, kind, place);
+    if (status == REGRESS_FRONT_FAULT && *needed < room) {
+        text[*needed] = 0;
+    }
+    return status;
 }
 
 /* Writes an upper bound on the number of nodes of the tree of a pattern of code points to `bound`, or SIZE_MAX, which

@@ -22,7 +22,7 @@ static uint32_t print_matches(regress_regex *regex, const char *text) {
     size_t *spans = malloc(room * sizeof *spans);
     uint32_t status = REGRESS_MEMORY;
     while (spans) {
-        status = regress_find_all(regex, (const uint8_t *)text, length, spans, room, &needed);
+        status = regress_find_all(regex, (const uint8_t *)text, length, 0, spans, room, &needed);
         if (status != REGRESS_ROOM) {
             break;
         }

@@ -1,10 +1,11 @@
-/* A target for libFuzzer: compiles a pattern, searches a text and replaces matches, with small limits, and escapes the
-   text. tools/fuzz_c builds and runs it. */
+/* A target for libFuzzer: parses a pattern, compiles it, searches a text and replaces matches, with small limits, and
+   escapes the text. tools/fuzz_c builds and runs it. */
 
 #include <stdlib.h>
 #include <string.h>
 
 #include <regress.h>
+#include <regress_front.h>
 
 static uint8_t out[4096];
 
@@ -44,6 +45,49 @@ static void escape(const uint8_t *text, size_t most, uint32_t flags) {
     regress_free(&regex);
 }
 
+/* Searches for all matches from an offset on. The first is that of a search for one, and none begins before the offset. */
+static void find_all(regress_regex *regex, const uint8_t *text, size_t most, uint32_t flags, size_t count) {
+    static size_t spans[512], first[512];
+    size_t from = most ? flags % most : flags, needed, needed_first;
+    uint32_t status = regress_find_all(regex, text, most, from, spans, 512, &needed);
+    uint32_t one = regress_find(regex, text, most, from, first, 512, &needed_first);
+    if (status != REGRESS_OK || one == REGRESS_OUT_OF_STEPS || one == REGRESS_ROOM) {
+        return;
+    }
+    size_t width = 2 * (count + 1);
+    if (needed % width != 0 || (one == REGRESS_NO_MATCH) != (needed == 0)
+        || (needed && memcmp(spans, first, width * sizeof *spans) != 0)) {
+        abort();
+    }
+    for (size_t at = 0; at < needed; at += width) {
+        if (spans[at] < (at ? spans[at - width + 1] : from)) {
+            abort();
+        }
+    }
+}
+
+/* Parses a pattern to its tree with spans: one for each node, inside the pattern. */
+static void parse(const uint8_t *pattern, size_t length, uint32_t flags) {
+    static uint32_t words[4096];
+    static regress_front_span spans[1024];
+    size_t needed, spans_needed, place, bound;
+    uint32_t kind;
+    if (regress_front_node_bound_utf8((const char *)pattern, length, flags, &bound) != REGRESS_FRONT_OK
+        || bound > 10000) {
+        return;
+    }
+    uint32_t status = regress_front_parse_utf8_with_spans((const char *)pattern, length, flags, words, 4096, &needed,
+                                                          spans, 1024, &spans_needed, &kind, &place);
+    if (status == REGRESS_FRONT_ROOM ? needed <= 4096 && spans_needed <= 1024 : (status != REGRESS_FRONT_OK) != !needed) {
+        abort();
+    }
+    for (size_t i = 0; status == REGRESS_FRONT_OK && i < spans_needed; i++) {
+        if (spans[i].start > spans[i].end || spans[i].end > length) {
+            abort();
+        }
+    }
+}
+
 int LLVMFuzzerTestOneInput(const uint8_t *data, size_t size) {
     static size_t spans[512];
     if (size < 3) {
@@ -54,6 +98,7 @@ int LLVMFuzzerTestOneInput(const uint8_t *data, size_t size) {
     size_t rest = size - 2, length = data[1] % (rest + 1), needed, position;
     const uint8_t *pattern = data + 2, *text = pattern + length;
     uint32_t kind;
+    parse(pattern, length, flags);
     regress_regex regex = {NULL};
     regress_limits limits = {100000, 10000, 0, 0};
     uint32_t status = regress_compile(pattern, length, flags, &limits, &regex, &kind, &position);
@@ -91,6 +136,9 @@ int LLVMFuzzerTestOneInput(const uint8_t *data, size_t size) {
             }
         }
     }
+    if (regress_is_linear(&regex) != (regress_nonlinear(&regex) == 0)) {
+        abort();
+    }
     if (regress_is_linear(&regex) && (status == REGRESS_OUT_OF_STEPS || tested == REGRESS_OUT_OF_STEPS)) {
         abort();
     }
@@ -98,7 +146,7 @@ int LLVMFuzzerTestOneInput(const uint8_t *data, size_t size) {
         abort();
     }
     replace(&regex, text, most, pattern, length, status == REGRESS_NO_MATCH);
-    regress_find_all(&regex, text, most, spans, 512, &needed);
+    find_all(&regex, text, most, flags, count);
     regress_free(&regex);
     escape(text, most, flags);
     return 0;

@@ -163,6 +163,7 @@ static uint32_t told(const char *pattern, uint32_t flags, char *text, size_t roo
 
 static void faults(void) {
     static const char expected[] = "Unbalanced parenthesis";
+    const uint32_t point[] = {0x29};
     char text[64];
     memset(text, '#', sizeof text);
     CHECK(parsed("\xC3\xA9)", SMALL, 0, ROOM) == REGRESS_FRONT_FAULT && place == 1 && needed == 0);
@@ -172,8 +173,15 @@ static void faults(void) {
     CHECK(needed == strlen(expected) && text[0] == '#');
     CHECK(kind == REGRESS_FRONT_KIND_UNBALANCED_PARENTHESIS && place == 1);
     CHECK(told("\xC3\xA9)", SMALL, text, sizeof text) == REGRESS_FRONT_FAULT);
-    CHECK(needed == strlen(expected) && memcmp(text, expected, needed) == 0 && text[needed] == '#');
+    CHECK(needed == strlen(expected) && memcmp(text, expected, needed) == 0);
     CHECK(kind == REGRESS_FRONT_KIND_UNBALANCED_PARENTHESIS && place == 1);
+    /* a zero follows the text if there is room for it */
+    CHECK(text[needed] == 0 && text[needed + 1] == '#');
+    text[needed] = '#';
+    CHECK(told("a)", SMALL, text, needed) == REGRESS_FRONT_FAULT && text[needed] == '#');
+    CHECK(told("a)", SMALL, text, needed + 1) == REGRESS_FRONT_FAULT && strcmp(text, expected) == 0);
+    CHECK(regress_front_fault(point, 1, SMALL, text, sizeof text, &needed, &kind, &place) == REGRESS_FRONT_FAULT);
+    CHECK(strcmp(text, expected) == 0 && text[needed + 1] == '#');
     CHECK(told("a", SMALL, NULL, 0) == REGRESS_FRONT_OK && needed == 0 && kind == 0 && place == 0);
     CHECK(regress_front_fault(NULL, 0, 64, NULL, 0, &needed, &kind, &place) == REGRESS_FRONT_BAD_INPUT);
     CHECK(regress_front_fault(NULL, 0, SMALL, NULL, 0, &needed, NULL, &place) == REGRESS_FRONT_BAD_INPUT);
@@ -227,6 +235,97 @@ static void kinds_of_faults(void) {
         CHECK(told(pattern, flags, text, sizeof text) == REGRESS_FRONT_FAULT);
         CHECK(kind == examples[i].kind && place == examples[i].place);
     }
+}
+
+/* A buffer for spans, and one more that must stay unchanged. */
+static regress_front_span spans[ROOM + 1];
+static size_t spans_needed;
+
+static void mark_both(void) {
+    for (size_t i = 0; i <= ROOM; i++) {
+        words[i] = MARK;
+        spans[i].start = spans[i].end = MARK;
+    }
+}
+
+static uint32_t spanned(const char *pattern, uint32_t flags, size_t room, size_t span_room) {
+    mark_both();
+    return regress_front_parse_utf8_with_spans(pattern, strlen(pattern), flags, words, room, &needed, spans, span_room,
+                                               &spans_needed, &kind, &place);
+}
+
+static int have_spans(const size_t *expected, size_t count) {
+    for (size_t i = 0; i < count / 2; i++) {
+        if (spans[i].start != expected[2 * i] || spans[i].end != expected[2 * i + 1]) {
+            return 0;
+        }
+    }
+    return spans_needed == count / 2 && spans[count / 2].start == MARK && spans[count / 2].end == MARK;
+}
+
+#define HAVE(...) have_spans((const size_t[]){__VA_ARGS__}, sizeof((const size_t[]){__VA_ARGS__}) / sizeof(size_t))
+
+static int is_unchanged(void) { return words[0] == MARK && spans[0].start == MARK && spans[0].end == MARK; }
+
+/* The spans are by the rules that the documentation of try_parse_with_spans lists. */
+static void trees_with_spans(void) {
+    const uint32_t points[] = {0x61, 0x2A}, past = 0x110000;
+    CHECK(spanned("a*", SMALL, ROOM, ROOM) == REGRESS_FRONT_OK && HAVE(0, 2, 0, 2, 0, 1, 2, 2));
+    CHECK(kind == 0 && place == 0);
+    CHECK(ARE(6, 2, 0, 14, 0, 0, 1, 0, 0, 0, 2, 0x61, 1));
+    /* CAT, ALT, CAPTURE_GROUP, CAT, CHAR, BRACKET, CHAR, GOAL */
+    CHECK(spanned("(?<n>a[bc])|d", SMALL, ROOM, ROOM) == REGRESS_FRONT_OK
+          && HAVE(0, 13, 0, 13, 0, 11, 5, 10, 5, 6, 6, 10, 12, 13, 13, 13));
+    /* an ALT has the span up to the last alternative */
+    CHECK(spanned("a|b|c", SMALL, ROOM, ROOM) == REGRESS_FRONT_OK
+          && HAVE(0, 5, 0, 5, 0, 1, 2, 5, 2, 3, 4, 5, 5, 5));
+    /* the parts are in reverse order in a lookbehind */
+    CHECK(spanned("(?<=ab)", SMALL, ROOM, ROOM) == REGRESS_FRONT_OK && HAVE(0, 7, 0, 7, 4, 6, 5, 6, 4, 5, 7, 7));
+    CHECK(spanned("", SMALL, ROOM, ROOM) == REGRESS_FRONT_OK && HAVE(0, 0, 0, 0, 0, 0));
+    CHECK(spanned("\xC3\xA9" "b", SMALL, ROOM, ROOM) == REGRESS_FRONT_OK && HAVE(0, 2, 0, 2, 0, 1, 1, 2, 2, 2));
+    mark_both();
+    CHECK(regress_front_parse_with_spans(points, 2, SMALL, words, ROOM, &needed, spans, ROOM, &spans_needed, &kind,
+                                         &place) == REGRESS_FRONT_OK && HAVE(0, 2, 0, 2, 0, 1, 2, 2));
+    for (size_t room = 0; room < 6; room++) {
+        CHECK(spanned("a", SMALL, room, ROOM) == REGRESS_FRONT_ROOM && needed == 6 && spans_needed == 3 && is_unchanged());
+        CHECK(spanned("a", SMALL, 6, room) == (room < 3 ? REGRESS_FRONT_ROOM : REGRESS_FRONT_OK));
+        CHECK(needed == 6 && spans_needed == 3 && (room >= 3 || is_unchanged()));
+    }
+    CHECK(spanned("\xC3\xA9)", SMALL, ROOM, ROOM) == REGRESS_FRONT_FAULT && place == 1 && is_unchanged());
+    CHECK(kind == REGRESS_FRONT_KIND_UNBALANCED_PARENTHESIS && needed == 0 && spans_needed == 0);
+    CHECK(spanned("\xFF", SMALL, ROOM, ROOM) == REGRESS_FRONT_BAD_INPUT && is_unchanged());
+    CHECK(spanned("a", 64, ROOM, ROOM) == REGRESS_FRONT_BAD_INPUT && needed == 0 && spans_needed == 0);
+    CHECK(regress_front_parse_with_spans(&past, 1, SMALL, words, ROOM, &needed, spans, ROOM, &spans_needed, &kind,
+                                         &place) == REGRESS_FRONT_BAD_INPUT && is_unchanged());
+    CHECK(regress_front_parse_with_spans(NULL, 0, SMALL, NULL, 0, &needed, NULL, 0, &spans_needed, &kind, &place)
+              == REGRESS_FRONT_ROOM && needed == 5 && spans_needed == 3);
+    CHECK(regress_front_parse_with_spans(NULL, 0, SMALL, words, ROOM, &needed, NULL, 1, &spans_needed, &kind, &place)
+          == REGRESS_FRONT_BAD_INPUT);
+    CHECK(regress_front_parse_utf8_with_spans("", 0, SMALL, words, ROOM, &needed, spans, ROOM, NULL, &kind, &place)
+          == REGRESS_FRONT_BAD_INPUT);
+}
+
+/* As `refuse`, for a tree with spans. */
+static void refuse_spans(const char *pattern, uint32_t expected) {
+    uint32_t ample_words[ROOM];
+    regress_front_span ample_spans[ROOM];
+    size_t wanting = 0;
+    requests = 0;
+    CHECK(spanned(pattern, SMALL, ROOM, ROOM) == expected);
+    memcpy(ample_words, words, sizeof ample_words);
+    memcpy(ample_spans, spans, sizeof ample_spans);
+    long most = requests;
+    for (refused = 0; refused < most; refused++) {
+        requests = 0;
+        uint32_t status = spanned(pattern, SMALL, ROOM, ROOM);
+        wanting += status == REGRESS_FRONT_MEMORY;
+        CHECK(status == REGRESS_FRONT_MEMORY ? is_unchanged() && needed == 0 && spans_needed == 0 && kind == 0 && place == 0
+                                             : status == expected && memcmp(words, ample_words, sizeof ample_words) == 0
+                                                   && memcmp(spans, ample_spans, sizeof ample_spans) == 0);
+    }
+    refused = -1;
+    CHECK(wanting > 0);
+    printf("%s: out of memory in %zu of %ld trees with spans\n", pattern, wanting, most);
 }
 
 /* With each allocation failing in order, the status is MEMORY, or the result is that of a run without failures. */
@@ -310,6 +409,7 @@ int main(int count, char **arguments) {
     faults();
     kinds_of_faults();
     bounds();
+    trees_with_spans();
     refuse("(?<a>x)|(?<a>y)\\k<a>", SMALL, REGRESS_FRONT_PARSED);
     refuse("(?<=ab)c{2}[a-c]+|[^a]", SMALL | REGRESS_FRONT_ICASE, REGRESS_FRONT_OPTIMIZED);
     refuse("a)", SMALL, REGRESS_FRONT_PARSED);
@@ -317,6 +417,8 @@ int main(int count, char **arguments) {
         refuse("\\p{L}", REGRESS_FRONT_UNICODE, REGRESS_FRONT_OPTIMIZED);
     }
     refuse_text("\\k<b>(?<a>x)", SMALL);
+    refuse_spans("(?<a>x)|(?<a>y)\\k<a>|(?<=ab)c{2}", REGRESS_FRONT_OK);
+    refuse_spans("[k])", REGRESS_FRONT_FAULT);
     if (wrong) {
         fprintf(stderr, "%d checks fail\n", wrong);
         return 1;

@@ -21,13 +21,16 @@ static bool finds() {
                  && spans[1] == 2 && spans[2] == 1 && spans[3] == 2;
     bool second = regress_find(&regex, text, 3, 2, spans, 4, &needed) == REGRESS_OK && spans[0] == 2
                   && spans[2] == REGRESS_UNSET;
+    bool all = regress_find_all(&regex, text, 3, 2, spans, 4, &needed) == REGRESS_OK && needed == 4 && spans[0] == 2;
+    bool linear = regress_is_linear(&regex) == 1 && regress_nonlinear(&regex) == 0;
     regress_free(&regex);
-    return first && second && regress_abi_version() == REGRESS_ABI_VERSION;
+    return first && second && all && linear && regress_abi_version() == REGRESS_ABI_VERSION;
 }
 
 static bool parses() {
     uint32_t words[64], kind;
-    size_t needed, place;
+    size_t needed, spans_needed, place;
+    regress_front_span spans[8];
     char text[64];
     return regress_front_parse_utf8("a", 1, REGRESS_FRONT_SMALL_TABLE, REGRESS_FRONT_PARSED, words, 64, &needed, &kind,
                                     &place) == REGRESS_FRONT_OK
@@ -35,7 +38,10 @@ static bool parses() {
            && std::strcmp(regress_front_node_name(words[0]), "Cat") == 0
            && regress_front_fault_utf8(")", 1, REGRESS_FRONT_SMALL_TABLE, text, sizeof text, &needed, &kind, &place)
                   == REGRESS_FRONT_FAULT
-           && kind == REGRESS_FRONT_KIND_UNBALANCED_PARENTHESIS;
+           && kind == REGRESS_FRONT_KIND_UNBALANCED_PARENTHESIS
+           && regress_front_parse_utf8_with_spans("a", 1, REGRESS_FRONT_SMALL_TABLE, words, 64, &needed, spans, 8,
+                                                  &spans_needed, &kind, &place) == REGRESS_FRONT_OK
+           && spans_needed == 3 && spans[1].start == 0 && spans[1].end == 1;
 }
 
 int main() {

@@ -74,9 +74,13 @@ static uint32_t found(regress_regex *regex, const char *text, size_t from, size_
     return regress_find(regex, (const uint8_t *)text, strlen(text), from, spans, room, &needed);
 }
 
-static uint32_t found_all(regress_regex *regex, const char *text, size_t room) {
+static uint32_t found_all_from(regress_regex *regex, const char *text, size_t from, size_t room) {
     mark();
-    return regress_find_all(regex, (const uint8_t *)text, strlen(text), spans, room, &needed);
+    return regress_find_all(regex, (const uint8_t *)text, strlen(text), from, spans, room, &needed);
+}
+
+static uint32_t found_all(regress_regex *regex, const char *text, size_t room) {
+    return found_all_from(regex, text, 0, room);
 }
 
 static int are(const size_t *expected, size_t count) {
@@ -99,6 +103,9 @@ static void searches(void) {
           && ARE(0, 1, 0, 1, REGRESS_UNSET, REGRESS_UNSET, 1, 2, REGRESS_UNSET, REGRESS_UNSET, 1, 2, 3, 4, 3, 4,
                  REGRESS_UNSET, REGRESS_UNSET));
     CHECK(found_all(&regex, "xyz", ROOM) == REGRESS_OK && needed == 0 && spans[0] == MARK);
+    CHECK(found_all_from(&regex, "abca", 2, ROOM) == REGRESS_OK && ARE(3, 4, 3, 4, REGRESS_UNSET, REGRESS_UNSET));
+    CHECK(found_all_from(&regex, "abca", 4, ROOM) == REGRESS_OK && needed == 0 && spans[0] == MARK);
+    CHECK(found_all_from(&regex, "abca", SIZE_MAX, ROOM) == REGRESS_OK && needed == 0 && spans[0] == MARK);
     CHECK(regress_is_match(&regex, (const uint8_t *)"xa", 2) == REGRESS_OK);
     CHECK(regress_is_match(&regex, (const uint8_t *)"xx", 2) == REGRESS_NO_MATCH);
     regress_free(&regex);
@@ -106,6 +113,13 @@ static void searches(void) {
     CHECK(compiled("", SMALL, &regex) == REGRESS_OK);
     CHECK(found_all(&regex, "\xE2\x82\xAC", ROOM) == REGRESS_OK && ARE(0, 0, 3, 3));
     CHECK(found(&regex, "\xE2\x82\xAC", 1, ROOM) == REGRESS_OK && ARE(3, 3));
+    CHECK(found_all_from(&regex, "\xE2\x82\xAC", 1, ROOM) == REGRESS_OK && ARE(3, 3));
+    regress_free(&regex);
+    /* What precedes the offset is text too, and a match that begins before it is none. */
+    CHECK(compiled("^a|(?<=a)a|bb", SMALL, &regex) == REGRESS_OK);
+    CHECK(found_all(&regex, "aabbb", ROOM) == REGRESS_OK && ARE(0, 1, 1, 2, 2, 4));
+    CHECK(found_all_from(&regex, "aabbb", 1, ROOM) == REGRESS_OK && ARE(1, 2, 2, 4));
+    CHECK(found_all_from(&regex, "aabbb", 3, ROOM) == REGRESS_OK && ARE(3, 5));
     regress_free(&regex);
     CHECK(compiled("\\p{Lu}", REGRESS_UNICODE, &regex) == REGRESS_OK);
     CHECK(found(&regex, "\xC3\xA9\xC3\x89", 0, ROOM) == REGRESS_OK && ARE(2, 4));
@@ -123,6 +137,8 @@ static void rooms(void) {
     CHECK(found(&regex, "a", 0, 4) == REGRESS_OK && ARE(0, 1, 0, 1));
     CHECK(found_all(&regex, "aa", 7) == REGRESS_ROOM && needed == 8 && spans[0] == MARK);
     CHECK(found_all(&regex, "aa", 8) == REGRESS_OK && ARE(0, 1, 0, 1, 1, 2, 1, 2));
+    CHECK(found_all_from(&regex, "aa", 1, 3) == REGRESS_ROOM && needed == 4 && spans[0] == MARK);
+    CHECK(found_all_from(&regex, "aa", 1, 4) == REGRESS_OK && ARE(1, 2, 1, 2));
     regress_free(&regex);
 }
 
@@ -309,6 +325,9 @@ static void errors(void) {
     CHECK(found(&regex, "aab", 0, ROOM) == REGRESS_OUT_OF_STEPS && needed == 0 && spans[0] == MARK);
     CHECK(found(&regex, "\xFF", 0, ROOM) == REGRESS_BAD_INPUT && needed == 0 && spans[0] == MARK);
     CHECK(regress_is_match(&regex, (const uint8_t *)"\xFF", 1) == REGRESS_BAD_INPUT);
+    CHECK(found_all_from(&regex, "aaaaaaaaaaaaaaaaaaaaaaaaaaaaaaaa", 8, ROOM) == REGRESS_OUT_OF_STEPS && needed == 0
+          && spans[0] == MARK);
+    CHECK(found_all_from(&regex, "a\xFF", 1, ROOM) == REGRESS_BAD_INPUT && needed == 0 && spans[0] == MARK);
     regress_free(&regex);
     /* a linear search has no step limit */
     CHECK(compiled_within(&one_step, "(a*)*b", &regex) == REGRESS_OK);
@@ -332,16 +351,23 @@ static void limits(void) {
     /* a program that is too long for tables is searched within the step limit */
     CHECK(compiled_within(&tables, "(a*)*b", &regex) == REGRESS_OK);
     CHECK(regress_is_linear(&regex) == 0 && regress_steps_per_character(&regex) == 0);
-    CHECK(found(&regex, "aaaaaaaaaaaaaaaaaaaaaaaaaaaaaaaacb", 0, ROOM) == REGRESS_OUT_OF_STEPS);
-    /* without a b, which each match contains, there is none */
-    CHECK(found(&regex, "aaaaaaaaaaaaaaaaaaaaaaaaaaaaaaaa", 0, ROOM) == REGRESS_NO_MATCH);
+    CHECK(regress_nonlinear(&regex) == REGRESS_NONLINEAR_TOO_MANY_INSTRUCTIONS);
+    CHECK(found(&regex, "aaaaaaaaaaaaaaaaaaaaaaaaaaaaaaaa", 0, ROOM) == REGRESS_OUT_OF_STEPS);
     regress_free(&regex);
     CHECK(compiled("(a*)*b", SMALL, &regex) == REGRESS_OK);
     CHECK(regress_is_linear(&regex) == 1 && regress_steps_per_character(&regex) > 0);
+    CHECK(regress_nonlinear(&regex) == 0);
     CHECK(found(&regex, "ab", 0, ROOM) == REGRESS_OK && ARE(0, 2, 0, 1));
     regress_free(&regex);
     CHECK(compiled("(?=(a))b", SMALL, &regex) == REGRESS_OK);
     CHECK(regress_is_linear(&regex) == 0 && regress_steps_per_character(&regex) == 0);
+    CHECK(regress_nonlinear(&regex) == REGRESS_NONLINEAR_CAPTURING_LOOKAROUND);
+    regress_free(&regex);
+    /* of several reasons the first */
+    CHECK(compiled_within(&tables, "(?=(a))\\1", &regex) == REGRESS_OK);
+    CHECK(regress_nonlinear(&regex) == REGRESS_NONLINEAR_BACK_REFERENCE);
+    regress_free(&regex);
+    CHECK(compiled("(?!(a))b", SMALL, &regex) == REGRESS_OK && regress_nonlinear(&regex) == 0);
     regress_free(&regex);
 }
 
@@ -369,6 +395,7 @@ static void refuse(const char *pattern, const char *text) {
             CHECK(name(&regex, 1, ROOM) == (regress_group_count(&regex) ? REGRESS_OK : REGRESS_BAD_INPUT));
             CHECK(message(kind ? kind : 1, ROOM) == REGRESS_OK);
             CHECK((regress_is_linear(&regex) == 1) == (regress_steps_per_character(&regex) > 0));
+            CHECK((regress_is_linear(&regex) == 1) == (regress_nonlinear(&regex) == 0));
             CHECK(requests == 0);
             refused = -1;
             CHECK(found_all(&regex, text, ROOM) == REGRESS_OK && memcmp(spans, expected, sizeof expected) == 0);
@@ -384,19 +411,23 @@ static void refuse(const char *pattern, const char *text) {
     printf("%s: out of memory in %zu of %ld runs\n", pattern, wanting, most);
 }
 
-/* A call that searches for one match. */
-enum searching { FINDING, TESTING };
+/* A call that searches. That for all matches begins at an offset, and there has no status for no match. */
+enum searching { FINDING, FINDING_ALL, TESTING };
 
 static uint32_t searched(enum searching how, regress_regex *regex, const char *text) {
     if (how == FINDING) {
         return found(regex, text, 0, ROOM);
+    }
+    if (how == FINDING_ALL) {
+        uint32_t status = found_all_from(regex, text, 1, ROOM);
+        return status == REGRESS_OK && needed == 0 ? REGRESS_NO_MATCH : status;
     }
     mark();
     needed = 0;
     return regress_is_match(regex, (const uint8_t *)text, strlen(text));
 }
 
-/* As `refuse`, for a call that searches for one match. */
+/* As `refuse`, for a call that searches. */
 static void refuse_search(enum searching how, const char *pattern, const char *text, uint32_t expected) {
     regress_regex regex;
     size_t ample[ROOM + 1], wanting = 0;

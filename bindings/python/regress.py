@@ -29,10 +29,10 @@ a str or bytes of a bytes. A lone surrogate in a str raises UnicodeEncodeError, 
 UnicodeDecodeError.
 
 A search takes linear time, unless the pattern has a back reference, a group in a lookaround that is not negated, or
-more than a thousand instructions (Pattern.is_linear). Then it backtracks within a limit of steps, so that it also ends
+more than a thousand instructions (Pattern.nonlinear). Then it backtracks within a limit of steps, so that it also ends
 for untrusted patterns and texts: at the limit it raises the exception error of the kind 'OutOfSteps'. Ctrl-C takes
-effect when the search has ended. Threads may search with a pattern at the same time; it is compiled once more at the
-first search of each.
+effect when the search has ended. Threads may search with a pattern at the same time; it is compiled once more for each
+search that begins while all others are being made.
 
 The module calls the shared library libregress.so in its folder, or the file that the environment variable
 REGRESS_LIBRARY names. The searches of the library are proved to be right; this module is tested.
@@ -44,8 +44,6 @@ import operator
 import os
 import re as _re
 import sys
-import threading
-import weakref
 
 __all__ = ['compile', 'differences', 'escape', 'node_bound', 'error', 'Difference', 'Pattern', 'Match']
 __version__ = '0.1.0'
@@ -53,8 +51,11 @@ __version__ = '0.1.0'
 _OK, _NO_MATCH, _MEMORY, _ROOM, _BAD_INPUT, _SYNTAX, _TOO_LARGE, _OUT_OF_STEPS = range(8)
 # The status for a syntax error of the calls for trees.
 _FAULT = 1
-_ABI_VERSION = 2
+_ABI_VERSION = 3
 _UNSET = ctypes.c_size_t(-1).value
+
+# Why searches are not linear, by the numbers of the library.
+_NONLINEAR = None, 'back-reference', 'capturing-lookaround', 'too-many-instructions'
 
 # The flags of the library. JavaScript's v includes u.
 _FLAGS = {'i': 1, 'm': 2, 's': 4, 'u': 8, 'v': 8 | 16}
@@ -190,6 +191,8 @@ class Pattern:
         pattern: its text
         flags: its flags, as letters in alphabetical order
         is_linear: whether searches take linear time, so that the limit of steps does not apply to them
+        nonlinear: why they do not, 'back-reference', 'capturing-lookaround' or 'too-many-instructions', the first of
+            these that holds; None if they do
         steps_per_character: an upper bound for the steps of a search for each byte of the text in UTF-8, and once more,
             or None if searches are not linear
         groups: the number of its groups
@@ -205,7 +208,8 @@ class Pattern:
         self._full = None
         self._names = self._program.names()
         self.steps_per_character = self._program.steps_per_character or None
-        self.is_linear = self.steps_per_character is not None
+        self.nonlinear = self._program.nonlinear
+        self.is_linear = self.nonlinear is None
         self.groups = self._program.groups
         self.groupindex = {}
         for number, name in enumerate(self._names, 1):
@@ -245,7 +249,7 @@ class Pattern:
         """Returns an iterator over all non-overlapping matches, from left to right.
 
         After an empty match the search goes on one character further. All matches are found by one search before this
-        call returns. With pos above 0 there is a search for each, which takes quadratic time.
+        call returns.
         """
         return iter(self._all(_Text(self, string, pos, endpos)))
 
@@ -266,7 +270,8 @@ class Pattern:
         if callable(repl) or count not in (0, 1):
             return self.subn(repl, string, count)[0]
         text = _Text(self, string)
-        return text.part(self._program.handle().replace(text.data, _utf8(_same_type(self, repl)), count))
+        repl = _utf8(_same_type(self, repl))
+        return text.part(self._program.use(lambda handle: handle.replace(text.data, repl, count)))
 
     def subn(self, repl, string, count=0):
         """Returns a tuple of the string as by sub(), and the number of matches that were replaced."""
@@ -319,26 +324,14 @@ class Pattern:
         """Returns the leftmost match in a text."""
         if text.from_offset > len(text.data):
             return None
-        spans = program.handle().find(text.data, text.from_offset)
+        spans = program.use(lambda handle: handle.find(text.data, text.from_offset))
         return spans and Match(self, text, spans)
 
     def _all(self, text):
         """Returns all matches in a text."""
-        if text.from_offset:
-            return list(self._one_by_one(text))
-        spans = self._program.handle().find_all(text.data)
+        spans = self._program.use(lambda handle: handle.find_all(text.data, text.from_offset))
         width = 2 * (self.groups + 1)
         return [Match(self, text, spans[at:at + width]) for at in range(0, len(spans), width)]
-
-    def _one_by_one(self, text):
-        offset = text.from_offset
-        while offset <= len(text.data):
-            spans = self._program.handle().find(text.data, offset)
-            if spans is None:
-                return
-            yield Match(self, text, spans)
-            start, end = spans[:2]
-            offset = end if start < end else _after_character(text.data, end)
 
     def __repr__(self):
         return 'regress.compile(%r%s)' % (self.pattern, self.flags and ', %r' % self.flags)
@@ -497,12 +490,11 @@ class _Difference(ctypes.Structure):
 
 
 class _Handle:
-    """A handle of the library, and the calls with it. It stays on the thread that has compiled it."""
+    """A handle of the library, and the calls with it. Only one call at a time uses it."""
 
     def __init__(self, program):
         self._source = program.source
         self._regex = _Regex()
-        self._thread = threading.get_ident()
         kind, position = ctypes.c_uint32(), ctypes.c_size_t()
         status = _library.regress_compile(
             program.pattern, len(program.pattern), program.flags, ctypes.byref(program.limits),
@@ -512,20 +504,20 @@ class _Handle:
         self._check(status)
         self.groups = _library.regress_group_count(ctypes.byref(self._regex))
         self.steps_per_character = _library.regress_steps_per_character(ctypes.byref(self._regex))
+        self.nonlinear = _library.regress_nonlinear(ctypes.byref(self._regex))
 
-    def __del__(self, get_ident=threading.get_ident):
-        # At the end of the program values of a thread may be deleted by another one.
-        if self._regex.inside and self._thread == get_ident():
+    def __del__(self):
+        if self._regex.inside:
             _library.regress_free(ctypes.byref(self._regex))
 
     def find(self, data, start):
         """Returns the spans of the leftmost match, or None."""
         return self._spans(2 * (self.groups + 1), _library.regress_find, data, len(data), start)
 
-    def find_all(self, data):
+    def find_all(self, data, start):
         """Returns the spans of all matches. If the first buffer is too small for them, the search is made again."""
         room = max(64 * (self.groups + 1), len(data) // 4)
-        return self._spans(room, _library.regress_find_all, data, len(data))
+        return self._spans(room, _library.regress_find_all, data, len(data), start)
 
     def replace(self, data, template, count):
         """Returns the text with its first match replaced by a template, or with count 0 all matches."""
@@ -558,7 +550,7 @@ class _Handle:
 
 
 class _Program:
-    """A pattern as the library has it. Each thread that searches with it has a handle of its own."""
+    """A pattern as the library has it. It has as many handles as searches with it were made at the same time."""
 
     def __init__(self, pattern, flags, limits, source, offset=0):
         for limit in limits:
@@ -570,20 +562,23 @@ class _Program:
         # The pattern of the caller, and the number of code points before it.
         self.source = source
         self.offset = offset
-        self.groups = self.handle().groups
-        self.steps_per_character = self.handle().steps_per_character
+        # The handles that no call uses. Threads may take from a list and append to it at the same time.
+        self._idle = []
+        self.groups = self.use(lambda handle: handle.groups)
+        self.steps_per_character = self.use(lambda handle: handle.steps_per_character)
+        number = self.use(lambda handle: handle.nonlinear)
+        self.nonlinear = _NONLINEAR[number] if number < len(_NONLINEAR) else 'other'
 
-    def handle(self):
-        """Returns the handle of this thread."""
-        own, handle = _threads.handles.get(id(self), (None, None))
-        if own is None or own() is not self:
+    def use(self, call):
+        """Returns the result of a call with a handle that no other call uses."""
+        try:
+            handle = self._idle.pop()
+        except IndexError:
             handle = _Handle(self)
-            _threads.add(self, handle)
-        return handle
-
-    def __del__(self):
-        # Those of other threads are deleted there, at the latest when the thread ends.
-        _threads.handles.pop(id(self), None)
+        try:
+            return call(handle)
+        finally:
+            self._idle.append(handle)
 
     def names(self):
         """Returns the list of the names of all groups, None for a group without one."""
@@ -593,24 +588,6 @@ class _Program:
             for number, name in _group_names(_tree(self)):
                 names[number] = name
         return names
-
-
-class _Threads(threading.local):
-    """The handles of each thread, by the id of their program."""
-
-    def __init__(self):
-        self.handles = {}
-        self.most = 16
-
-    def add(self, program, handle):
-        if len(self.handles) > self.most:
-            for key in [key for key, (own, _) in self.handles.items() if own() is None]:
-                del self.handles[key]
-            self.most = 2 * len(self.handles) + 16
-        self.handles[id(program)] = weakref.ref(program), handle
-
-
-_threads = _Threads()
 
 
 def _call(item, room, written, function):
@@ -766,14 +743,6 @@ def _characters(data):
     return len(data.translate(None, _CONTINUING))
 
 
-def _after_character(data, offset):
-    """Returns the offset after the character at an offset."""
-    offset += 1
-    while offset < len(data) and 0x80 <= data[offset] < 0xC0:
-        offset += 1
-    return offset
-
-
 # The references of templates: a letter, a number, and a name, if the pattern has names.
 _REFERENCES = rb"\$(?:([$&`'])|([0-9][0-9]?))"
 _PLAIN = _re.compile(_REFERENCES)
@@ -837,11 +806,12 @@ def _load():
         'regress_abi_version': (number,),
         'regress_compile': (number, data, size, number, limits, handle, numbers, sizes),
         'regress_find': (number, handle, data, size, size, sizes, size, sizes),
-        'regress_find_all': (number, handle, data, size, sizes, size, sizes),
+        'regress_find_all': (number, handle, data, size, size, sizes, size, sizes),
         'regress_replace': replacing,
         'regress_replace_all': replacing,
         'regress_group_count': (size, handle),
         'regress_steps_per_character': (wide, handle),
+        'regress_nonlinear': (number, handle),
         'regress_escape': (number, data, size, octets, size, sizes),
         'regress_free': (None, handle),
         'regress_differences': (number, data, size, number, listed, size, sizes, numbers, sizes),

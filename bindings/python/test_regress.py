@@ -253,9 +253,16 @@ class Calls(unittest.TestCase):
         pattern = regress.compile('(a*)*b')
         self.assertTrue(pattern.is_linear)
         self.assertGreater(pattern.steps_per_character, 0)
-        for pattern in (regress.compile('(a*)*b', tables=1), regress.compile(r'(a)\1')):
+        self.assertIsNone(pattern.nonlinear)
+        for pattern, nonlinear in (
+            (regress.compile(r'(a)\1'), 'back-reference'),
+            (regress.compile('(?=(a))b'), 'capturing-lookaround'),
+            (regress.compile('(a*)*b', tables=1), 'too-many-instructions'),
+            (regress.compile(r'(?=(a))\1', tables=1), 'back-reference'),
+        ):
             self.assertFalse(pattern.is_linear)
             self.assertIsNone(pattern.steps_per_character)
+            self.assertEqual(pattern.nonlinear, nonlinear)
 
     def test_node_bound(self):
         # 3, one for each code point, and one more for the bar.
@@ -315,7 +322,24 @@ class Calls(unittest.TestCase):
         begin = time.perf_counter()
         spans = [found.span() for found in regress.compile('(?<=(é).)x').finditer(text)]
         self.assertEqual(spans, [(3 * n + 2, 3 * n + 3) for n in range(100_000)])
+        self.assertEqual(len(regress.compile('x').findall(text, 3)), 99_999)
         self.assertLess(time.perf_counter() - begin, 20)
+
+    def test_all_matches_from_a_position(self):
+        pattern = regress.compile('^a|(?<=a)a|bb')
+        self.assertEqual([found.span() for found in pattern.finditer('aabbb', 1)], [(1, 2), (2, 4)])
+        self.assertEqual([found.span() for found in pattern.finditer('aabbb', 3)], [(3, 5)])
+        self.assertEqual([found.span() for found in regress.compile('').finditer('é', 1)], [(1, 1)])
+        self.assertEqual(pattern.findall('aabbb', 5), [])
+        self.assertEqual(pattern.findall('aabbb', 3, 2), [])
+        # The limit of steps is for all matches together.
+        pattern = regress.compile(r'(a)\1', steps=1000)
+        self.assertEqual(len(pattern.findall('aa' * 10, 2)), 9)
+        self.assertTrue(pattern.search('aa' * 1000))
+        for pos in (0, 2):
+            with self.assertRaises(regress.error) as caught:
+                pattern.findall('aa' * 1000, pos)
+            self.assertEqual(caught.exception.kind, 'OutOfSteps')
 
     def test_values(self):
         pattern = regress.compile('a', 'i')
@@ -352,6 +376,8 @@ class Calls(unittest.TestCase):
         for thread in threads:
             thread.join()
         self.assertEqual(len(lengths), 800)
+        # There are at most as many handles as threads that search.
+        self.assertLessEqual(len(pattern._program._idle), 5)
 
     def test_documentation(self):
         self.assertEqual(doctest.testmod(regress).failed, 0)

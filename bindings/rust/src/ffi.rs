@@ -23,7 +23,7 @@ pub(crate) const TREE_BAD_INPUT: u32 = 4;
 pub(crate) const UNSET: usize = usize::MAX;
 
 /// The version of the calls that this crate makes.
-const ABI_VERSION: u32 = 2;
+const ABI_VERSION: u32 = 3;
 
 /// A `regress_regex` of the library.
 #[repr(C)]
@@ -45,6 +45,14 @@ pub(crate) struct Limits {
 #[derive(Clone, Default)]
 pub(crate) struct Difference {
     pub(crate) kind: u32,
+    pub(crate) start: usize,
+    pub(crate) end: usize,
+}
+
+/// A `regress_front_span` of the library.
+#[repr(C)]
+#[derive(Clone, Default)]
+pub(crate) struct Span {
     pub(crate) start: usize,
     pub(crate) end: usize,
 }
@@ -76,6 +84,7 @@ extern "C" {
         handle: *mut RegressRegex,
         text: *const u8,
         length: usize,
+        from: usize,
         spans: *mut usize,
         room: usize,
         needed: *mut usize,
@@ -106,6 +115,8 @@ extern "C" {
     ) -> u32;
 
     fn regress_group_count(handle: *mut RegressRegex) -> usize;
+
+    fn regress_nonlinear(handle: *mut RegressRegex) -> u32;
 
     fn regress_steps_per_character(handle: *mut RegressRegex) -> u64;
 
@@ -138,6 +149,20 @@ extern "C" {
         words: *mut u32,
         room: usize,
         needed: *mut usize,
+        kind: *mut u32,
+        place: *mut usize,
+    ) -> u32;
+
+    fn regress_front_parse_code_points_with_spans(
+        pattern: *const u32,
+        pattern_length: usize,
+        flags: u32,
+        words: *mut u32,
+        room: usize,
+        needed: *mut usize,
+        spans: *mut Span,
+        span_room: usize,
+        spans_needed: *mut usize,
         kind: *mut u32,
         place: *mut usize,
     ) -> u32;
@@ -179,9 +204,12 @@ pub(crate) struct Output<T> {
     pub(crate) items: Vec<T>,
 }
 
-/// A compiled regular expression of the library. It stays on the thread that has compiled it: its pointer makes it
-/// neither `Send` nor `Sync`.
+/// A compiled regular expression of the library. Its pointer makes it not `Sync`: a call uses it alone.
 pub(crate) struct Handle(RegressRegex);
+
+// SAFETY: the library is proved to keep nothing in a handle that depends on a thread, so that threads may use it one
+// after another. A value of this type is moved to another thread by means that order the calls.
+unsafe impl Send for Handle {}
 
 impl Drop for Handle {
     fn drop(&mut self) {
@@ -240,8 +268,8 @@ impl Handle {
         })
     }
 
-    /// Writes the spans of all matches.
-    pub(crate) fn find_all(&mut self, text: &str) -> Output<usize> {
+    /// Writes the spans of all matches from an offset on.
+    pub(crate) fn find_all(&mut self, text: &str, from: usize) -> Output<usize> {
         // If there are more matches, the search is made a second time.
         let room = (64 * (self.group_count() + 1)).max(text.len() / 4);
         with_room(room, |spans: &mut [usize], needed| {
@@ -251,6 +279,7 @@ impl Handle {
                     &mut self.0,
                     start_of(text),
                     text.len(),
+                    from,
                     spans.as_mut_ptr(),
                     spans.len(),
                     needed,
@@ -299,6 +328,12 @@ impl Handle {
     pub(crate) fn group_count(&mut self) -> usize {
         // SAFETY: the handle is alive.
         unsafe { regress_group_count(&mut self.0) }
+    }
+
+    /// Returns the number of the reason why searches are not linear, 0 if they are.
+    pub(crate) fn nonlinear(&mut self) -> u32 {
+        // SAFETY: the handle is alive.
+        unsafe { regress_nonlinear(&mut self.0) }
     }
 
     /// Returns the bound for the steps of a search for each byte of a text, 0 if searches are not linear.
@@ -367,6 +402,37 @@ pub(crate) fn tree_words(pattern: &[u32], flags: u32, optimize: u32) -> Output<u
             )
         }
     })
+}
+
+/// Writes the encoding of a pattern's tree, for a pattern of code points. Also returns the spans of its nodes.
+pub(crate) fn tree_words_with_spans(pattern: &[u32], flags: u32) -> (Output<u32>, Vec<Span>) {
+    // Most trees fit at the first call.
+    let room = 16 * pattern.len() + 64;
+    let mut spans = vec![Span::default(); 4 * pattern.len() + 16];
+    let (mut spans_needed, mut kind, mut place) = (0, 0, 0);
+    let output = with_room(room, |words: &mut [u32], needed| {
+        if spans_needed > spans.len() {
+            spans = vec![Span::default(); spans_needed];
+        }
+        // SAFETY: as for `tree_words`.
+        unsafe {
+            regress_front_parse_code_points_with_spans(
+                pattern.as_ptr(),
+                pattern.len(),
+                flags,
+                words.as_mut_ptr(),
+                words.len(),
+                needed,
+                spans.as_mut_ptr(),
+                spans.len(),
+                &mut spans_needed,
+                &mut kind,
+                &mut place,
+            )
+        }
+    });
+    spans.truncate(spans_needed);
+    (output, spans)
 }
 
 /// Writes the text of the syntax error of a pattern that is rejected. Also returns its kind and its position.

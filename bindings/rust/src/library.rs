@@ -1,12 +1,13 @@
 //! Parsing.
 
-use crate::ffi::{self, TREE_BAD_INPUT, TREE_FAULT, TREE_MEMORY};
+use crate::ffi::{self, Output, TREE_BAD_INPUT, TREE_FAULT, TREE_MEMORY};
 use crate::flags::{bits, Flags, Table};
 use crate::kind::FaultKind;
 use crate::node::Node;
 use crate::words::decode;
 use std::error::Error;
 use std::fmt;
+use std::ops::Range;
 
 /// Why parsing fails.
 #[derive(Clone, Debug, PartialEq, Eq)]
@@ -69,6 +70,49 @@ pub fn parse_str(pattern: &str, flags: Flags, table: Table) -> Result<Node, Faul
     parse(&code_points(pattern), flags, table)
 }
 
+/// Parses a pattern of code points, and returns its tree with the span of each node, in the order of
+/// [`Node::preorder`].
+///
+/// A span is the half-open range of code-point indices of the pattern that a node is parsed from. The nodes of a
+/// reference by name, or of a class with the flag v, all have the span of the whole item.
+///
+/// # Errors
+/// As [`parse`].
+pub fn parse_with_spans(
+    pattern: &[u32],
+    flags: Flags,
+    table: Table,
+) -> Result<(Node, Vec<Range<usize>>), Fault> {
+    let bits = bits(flags, table);
+    let (output, spans) = ffi::tree_words_with_spans(pattern, bits);
+    let node = decoded(pattern, bits, output)?;
+    let spans = spans.into_iter().map(|span| span.start..span.end);
+    Ok((node, spans.collect()))
+}
+
+/// Parses a pattern, and returns its tree with the span of each node, in the order of [`Node::preorder`]. Spans count
+/// code points here too.
+///
+/// # Errors
+/// As [`parse`].
+///
+/// ```
+/// use regress_front::{parse_str_with_spans, Flags, Node, Table};
+///
+/// let (tree, spans) = parse_str_with_spans("é|[ab]*", Flags::default(), Table::Small)?;
+/// let nodes = tree.preorder().map(|(_, node)| node);
+/// let bracket = nodes.zip(spans).find(|(node, _)| matches!(node, Node::Bracket(_)));
+/// assert_eq!(bracket.map(|(_, span)| span), Some(2..6));
+/// # Ok::<(), regress_front::Fault>(())
+/// ```
+pub fn parse_str_with_spans(
+    pattern: &str,
+    flags: Flags,
+    table: Table,
+) -> Result<(Node, Vec<Range<usize>>), Fault> {
+    parse_with_spans(&code_points(pattern), flags, table)
+}
+
 /// Parses a pattern and returns its optimized tree, in normal form.
 ///
 /// # Errors
@@ -99,7 +143,11 @@ pub(crate) fn code_points(text: &str) -> Vec<u32> {
 }
 
 fn tree(pattern: &[u32], bits: u32, optimize: u32) -> Result<Node, Fault> {
-    let output = ffi::tree_words(pattern, bits, optimize);
+    decoded(pattern, bits, ffi::tree_words(pattern, bits, optimize))
+}
+
+/// Returns the tree that a call for a pattern has written.
+fn decoded(pattern: &[u32], bits: u32, output: Output<u32>) -> Result<Node, Fault> {
     match output.status {
         ffi::OK => decode(&output.items).ok_or(Fault::Library),
         TREE_FAULT => Err(fault(pattern, bits)),

@@ -23,18 +23,20 @@ mod escape;
 mod found;
 mod handles;
 mod names;
+mod nonlinear;
 mod replace;
 mod split;
 
 pub use error::{Error, SearchError};
 pub use escape::escape;
 pub use found::{Match, Matches};
+pub use nonlinear::Nonlinear;
 
 use crate::ffi::{self, Handle};
 use crate::flags::{bits, Flags, Table};
 use crate::library::parse_str;
 use error::{compile_error, search_error};
-use handles::{with_handle, Recipe};
+use handles::Recipe;
 use names::group_names;
 use std::borrow::Cow;
 use std::fmt;
@@ -44,16 +46,18 @@ use std::sync::Arc;
 /// A compiled regular expression.
 ///
 /// A clone shares it, in next to no time. Threads may search with it at the same time: the pattern is compiled once
-/// more at the first search of each further thread.
+/// more for each search that begins while all others are being made.
 #[derive(Clone)]
 pub struct Regex {
     compiled: Arc<Compiled>,
 }
 
 struct Compiled {
-    recipe: Arc<Recipe>,
+    recipe: Recipe,
     flags: Flags,
-    /// The bound for the steps of a search for each byte of a text, 0 if searches are not linear.
+    /// Why searches are not linear, `None` if they are.
+    nonlinear: Option<Nonlinear>,
+    /// The bound for the steps of a search for each byte of a text, if they are linear.
     steps_per_character: u64,
     /// The name of each group, in order.
     names: Vec<Option<String>>,
@@ -117,21 +121,27 @@ impl Regex {
         if !ffi::has_abi() {
             return Err(Error::Library);
         }
-        let recipe = Arc::new(Recipe {
-            pattern: pattern.to_owned(),
-            bits: bits(flags, options.table),
-            limits: ffi::Limits {
-                steps: options.steps,
-                nodes: options.nodes,
-                instructions: options.instructions,
-                tables: options.tables,
-            },
-        });
+        let limits = ffi::Limits {
+            steps: options.steps,
+            nodes: options.nodes,
+            instructions: options.instructions,
+            tables: options.tables,
+        };
+        let recipe = Recipe::new(pattern, bits(flags, options.table), limits);
         let failed = |status| compile_error(status, pattern, recipe.bits);
-        let asked = with_handle(&recipe, |handle| {
-            (handle.group_count(), handle.steps_per_character())
+        let asked = recipe.with_handle(|handle| {
+            let steps_per_character = handle.steps_per_character();
+            (
+                handle.group_count(),
+                handle.nonlinear(),
+                steps_per_character,
+            )
         });
-        let (count, steps_per_character) = asked.map_err(failed)?;
+        let (count, number, steps_per_character) = asked.map_err(failed)?;
+        let nonlinear = match number {
+            0 => None,
+            _ => Some(Nonlinear::from_number(number).ok_or(Error::Library)?),
+        };
         // Only a pattern with a name is parsed to its tree.
         let names = match pattern.contains("(?<") {
             true => group_names(&parse_str(pattern, flags, options.table)?, count),
@@ -141,6 +151,7 @@ impl Regex {
             compiled: Arc::new(Compiled {
                 recipe,
                 flags,
+                nonlinear,
                 steps_per_character,
                 names,
             }),
@@ -150,7 +161,7 @@ impl Regex {
     /// Returns whether the pattern matches somewhere in `text`.
     ///
     /// # Errors
-    /// As for [`Regex::find_from`].
+    /// As for [`Regex::find_at`].
     pub fn is_match(&self, text: &str) -> Result<bool, SearchError> {
         match self.call(|handle| handle.is_match(text))? {
             ffi::OK => Ok(true),
@@ -162,9 +173,9 @@ impl Regex {
     /// Returns the leftmost match in `text`, and of those at its position the preferred one; `None` if there is none.
     ///
     /// # Errors
-    /// As for [`Regex::find_from`].
+    /// As for [`Regex::find_at`].
     pub fn find<'t>(&self, text: &'t str) -> Result<Option<Match<'t>>, SearchError> {
-        self.find_from(text, 0)
+        self.find_at(text, 0)
     }
 
     /// Returns the leftmost match in `text` that starts at the byte offset `start` or later; `None` if there is none.
@@ -176,7 +187,7 @@ impl Regex {
     /// # Errors
     /// - [`SearchError::OutOfSteps`] if the search takes more steps than [`Options`] allow.
     /// - [`SearchError::Memory`] if the library is out of memory.
-    pub fn find_from<'t>(
+    pub fn find_at<'t>(
         &self,
         text: &'t str,
         start: usize,
@@ -194,13 +205,19 @@ impl Regex {
     ///
     /// All matches are found by this call. If the search fails, the iterator returns the error, and no match.
     pub fn find_iter<'r, 't>(&'r self, text: &'t str) -> Matches<'r, 't> {
-        Matches::new(self, text, self.all_spans(text))
+        self.find_from(text, 0)
+    }
+
+    /// Returns an iterator over the non-overlapping matches in `text` that start at the byte offset `start` or later, as
+    /// [`Regex::find_iter`], and with a `start` as for [`Regex::find_at`].
+    pub fn find_from<'r, 't>(&'r self, text: &'t str, start: usize) -> Matches<'r, 't> {
+        Matches::new(self, text, self.all_spans(text, start))
     }
 
     /// Returns all non-overlapping matches in `text`, from left to right.
     ///
     /// # Errors
-    /// As for [`Regex::find_from`]. The step limit is for all matches together.
+    /// As for [`Regex::find_at`]. The step limit is for all matches together.
     pub fn find_all<'t>(&self, text: &'t str) -> Result<Vec<Match<'t>>, SearchError> {
         self.find_iter(text).collect()
     }
@@ -211,7 +228,7 @@ impl Regex {
     /// `$99` and `$<name>` the capture of a group, empty if the group is unset. Everything else is taken as it is.
     ///
     /// # Errors
-    /// As for [`Regex::find_from`].
+    /// As for [`Regex::find_at`].
     pub fn replace<'t>(&self, text: &'t str, template: &str) -> Result<Cow<'t, str>, SearchError> {
         replace::written(text, self.call(|handle| handle.replace(text, template))?)
     }
@@ -219,7 +236,7 @@ impl Regex {
     /// Returns `text` with all matches replaced by a template, as by [`Regex::replace`].
     ///
     /// # Errors
-    /// As for [`Regex::find_from`]. The step limit is for all matches together.
+    /// As for [`Regex::find_at`]. The step limit is for all matches together.
     pub fn replace_all<'t>(
         &self,
         text: &'t str,
@@ -234,7 +251,7 @@ impl Regex {
     /// Returns `text` with the first match replaced by what a function returns for it.
     ///
     /// # Errors
-    /// As for [`Regex::find_from`].
+    /// As for [`Regex::find_at`].
     pub fn replace_with<'t>(
         &self,
         text: &'t str,
@@ -247,7 +264,7 @@ impl Regex {
     /// Returns `text` with each match replaced by what a function returns for it, from left to right.
     ///
     /// # Errors
-    /// As for [`Regex::find_from`]. The step limit is for all matches together.
+    /// As for [`Regex::find_at`]. The step limit is for all matches together.
     pub fn replace_all_with<'t>(
         &self,
         text: &'t str,
@@ -260,7 +277,7 @@ impl Regex {
     /// Returns the parts of `text` before, between and after the matches, one more than there are matches.
     ///
     /// # Errors
-    /// As for [`Regex::find_from`]. The step limit is for all matches together.
+    /// As for [`Regex::find_at`]. The step limit is for all matches together.
     pub fn split<'t>(&self, text: &'t str) -> Result<Vec<&'t str>, SearchError> {
         Ok(split::at_matches(text, &self.find_all(text)?))
     }
@@ -310,7 +327,21 @@ impl Regex {
     /// They do if the pattern has neither a back reference nor a capture group in a lookaround that is not negated, and
     /// if its program has at most [`Options::tables`] instructions.
     pub fn is_linear(&self) -> bool {
-        self.compiled.steps_per_character > 0
+        self.nonlinear().is_none()
+    }
+
+    /// Returns why searches do not take linear time, and `None` if they do. If there are several reasons, it is the first
+    /// in the order of [`Nonlinear`].
+    ///
+    /// ```
+    /// use regress_front::{Nonlinear, Regex};
+    ///
+    /// assert_eq!(Regex::new(r"(a)\1")?.nonlinear(), Some(Nonlinear::BackReference));
+    /// assert_eq!(Regex::new("(a|a)*b")?.nonlinear(), None);
+    /// # Ok::<(), regress_front::Error>(())
+    /// ```
+    pub fn nonlinear(&self) -> Option<Nonlinear> {
+        self.compiled.nonlinear
     }
 
     /// Returns an upper bound for the steps of a search for each byte of a text, and once more; at most `u64::MAX`. The
@@ -329,18 +360,18 @@ impl Regex {
         self.compiled.names.iter().map(Option::as_deref)
     }
 
-    /// Returns the spans of all matches and their groups.
-    fn all_spans(&self, text: &str) -> Result<Vec<usize>, SearchError> {
-        let output = self.call(|handle| handle.find_all(text))?;
+    /// Returns the spans of all matches from an offset on, and of their groups.
+    fn all_spans(&self, text: &str, start: usize) -> Result<Vec<usize>, SearchError> {
+        let output = self.call(|handle| handle.find_all(text, start))?;
         match output.status {
             ffi::OK => Ok(output.items),
             status => Err(search_error(status)),
         }
     }
 
-    /// Makes a call with the handle of this thread.
     fn call<T>(&self, call: impl FnOnce(&mut Handle) -> T) -> Result<T, SearchError> {
-        with_handle(&self.compiled.recipe, call).map_err(search_error)
+        let recipe = &self.compiled.recipe;
+        recipe.with_handle(call).map_err(search_error)
     }
 }
 

@@ -1,8 +1,8 @@
 //! Tests of the public functions.
 
 use regress_front::{
-    node_bound, parse, parse_and_optimize, parse_and_optimize_str, parse_str, Fault, FaultKind,
-    Flags, Interval, Node, Table,
+    node_bound, parse, parse_and_optimize, parse_and_optimize_str, parse_str, parse_str_with_spans,
+    parse_with_spans, Fault, FaultKind, Flags, Interval, Node, Table,
 };
 
 fn points(text: &str) -> Vec<u32> {
@@ -181,6 +181,43 @@ fn nodes_come_in_preorder_with_their_depth() {
     let children: Vec<&Node> = tree.children().collect();
     assert_eq!(children.len(), 2);
     assert_eq!(children[1], &Node::Goal);
+}
+
+/// The spans are by the rules that the documentation of `try_parse_with_spans` lists.
+#[test]
+fn each_node_has_a_span() {
+    let spans = |pattern, flags| {
+        let (tree, spans) = parse_str_with_spans(pattern, flags, Table::Small).unwrap();
+        assert_eq!(tree.preorder().count(), spans.len());
+        assert_eq!(Ok(tree), parse_str(pattern, flags, Table::Small));
+        spans
+    };
+    let flags = Flags::default();
+    // The whole pattern, the loop, the letter, and the end.
+    assert_eq!(spans("a*", flags), [0..2, 0..2, 0..1, 2..2]);
+    // The whole pattern, the alternatives, the group, its contents, the letter, the bracket; the other side, the end.
+    assert_eq!(
+        spans("(?<n>é[bc])|d", flags),
+        [0..13, 0..13, 0..11, 5..10, 5..6, 6..10, 12..13, 13..13]
+    );
+    // In a lookbehind the order is reversed.
+    assert_eq!(
+        spans("(?<=ab)", flags),
+        [0..7, 0..7, 4..6, 5..6, 4..5, 7..7]
+    );
+    let (_, points) = parse_with_spans(&points("a*"), flags, Table::Small).unwrap();
+    assert_eq!(points, [0..2, 0..2, 0..1, 2..2]);
+    let fault = parse_str_with_spans("é)", flags, Table::Small).unwrap_err();
+    assert!(matches!(fault, Fault::Syntax { place: 1, .. }));
+    assert_eq!(
+        parse_with_spans(&[0x110000], flags, Table::Small),
+        Err(Fault::NoCodePoint)
+    );
+    // More nodes than the first buffers have room for, and as many alternatives as no recursion would allow.
+    let many = "a|".repeat(200_000);
+    assert_eq!(spans(&many, flags).last(), Some(&(400_000..400_000)));
+    let names = "(?<a>x)|".repeat(100) + &"\\k<a>".repeat(100);
+    assert!(spans(&names, flags).len() > 10_000);
 }
 
 #[test]

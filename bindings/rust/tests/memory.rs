@@ -7,13 +7,13 @@
 #![cfg(all(target_os = "linux", target_env = "gnu"))]
 
 use regress_front::{
-    differences, parse_str, Error, Fault, Flags, Options, Regex, SearchError, Table,
+    differences, parse_str, parse_str_with_spans, Error, Fault, Flags, Options, Regex, SearchError,
+    Table,
 };
 use std::alloc::{GlobalAlloc, Layout};
 use std::cell::Cell;
 use std::ffi::c_void;
 use std::fmt::Debug;
-use std::thread;
 
 extern "C" {
     fn __libc_malloc(size: usize) -> *mut c_void;
@@ -135,6 +135,9 @@ fn parsing_reports_that_it_is_out_of_memory() {
         each_refused(pattern, Err(Fault::Memory), || {
             parse_str(pattern, Flags::default(), Table::Small)
         });
+        each_refused("with spans", Err(Fault::Memory), || {
+            parse_str_with_spans(pattern, Flags::default(), Table::Small)
+        });
     }
 }
 
@@ -163,6 +166,13 @@ fn searches_report_that_they_are_out_of_memory() {
                 .map(|found| found.range())
                 .collect::<Vec<_>>())
         });
+        each_refused("find_from", Err(memory), || {
+            let matches = regex.find_from(text, 1).collect::<Result<Vec<_>, _>>()?;
+            Ok(matches
+                .iter()
+                .map(|found| found.range())
+                .collect::<Vec<_>>())
+        });
         each_refused("replace", Err(memory), || regex.replace(text, "<$&$1>"));
         each_refused("replace_all", Err(memory), || {
             regex.replace_all(text, "<$&$1>")
@@ -171,26 +181,5 @@ fn searches_report_that_they_are_out_of_memory() {
             regex.replace_all_with(text, |found| found.start().to_string())
         });
         each_refused("split", Err(memory), || regex.split(text));
-    }
-}
-
-#[test]
-fn the_first_search_of_a_thread_reports_that_it_is_out_of_memory() {
-    let regex = compiled("(?<a>x)|y+").unwrap();
-    let search = |number| {
-        let regex = &regex;
-        thread::scope(|scope| {
-            let search = move || with_refused(number, || regex.is_match("zy"));
-            let (result, requests) = scope.spawn(search).join().unwrap();
-            (result, requests)
-        })
-    };
-    let (result, requests) = search(usize::MAX);
-    assert_eq!(result, Ok(true));
-    // The thread compiles the pattern, which takes more requests than the search does.
-    assert!(requests > with_refused(usize::MAX, || regex.is_match("zy")).1);
-    for number in 0..requests {
-        let (result, _) = search(number);
-        assert!([Ok(true), Err(SearchError::Memory)].contains(&result));
     }
 }

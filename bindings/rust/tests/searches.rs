@@ -1,7 +1,8 @@
 //! Tests of regular expressions.
 
 use regress_front::{
-    escape, Error, FaultKind, Flags, FlagsError, Match, Options, Regex, SearchError, Table,
+    escape, Error, FaultKind, Flags, FlagsError, Match, Nonlinear, Options, Regex, SearchError,
+    Table,
 };
 use std::borrow::Cow;
 use std::thread;
@@ -64,7 +65,7 @@ fn matches_come_from_left_to_right() {
 fn a_search_may_begin_inside_the_text() {
     let regex = Regex::new("^a|a$|b").unwrap();
     let starts = |text, from| {
-        let found: Option<Match> = regex.find_from(text, from).unwrap();
+        let found: Option<Match> = regex.find_at(text, from).unwrap();
         found.map(|found| found.start())
     };
     assert_eq!(starts("aab", 0), Some(0));
@@ -74,6 +75,53 @@ fn a_search_may_begin_inside_the_text() {
     assert_eq!(starts("éb", 1), Some(2));
     assert!(regex.is_match("ba").unwrap());
     assert!(!regex.is_match("cac").unwrap());
+}
+
+#[test]
+fn all_matches_from_an_offset_on_are_found() {
+    let regex = Regex::new("^a|(?<=a)a|bb").unwrap();
+    let ranges = |text, start| {
+        let matches = regex.find_from(text, start);
+        matches
+            .map(|found| found.unwrap().range())
+            .collect::<Vec<_>>()
+    };
+    assert_eq!(ranges("aabbb", 0), [0..1, 1..2, 2..4]);
+    assert_eq!(ranges("aabbb", 1), [1..2, 2..4]);
+    assert_eq!(ranges("aabbb", 3), [3..5]);
+    assert_eq!(ranges("aabbb", 5), []);
+    assert_eq!(ranges("aabbb", usize::MAX), []);
+    // An offset inside a character: the search begins after it.
+    let starts: Vec<usize> = Regex::new("")
+        .unwrap()
+        .find_from("éa", 1)
+        .map(|m| m.unwrap().start())
+        .collect();
+    assert_eq!(starts, [2, 3]);
+}
+
+#[test]
+fn the_reason_why_searches_are_not_linear_is_known() {
+    let within = |pattern, tables| {
+        let options = Options {
+            tables,
+            ..Options::default()
+        };
+        let regex = Regex::with_options(pattern, Flags::default(), options).unwrap();
+        assert_eq!(regex.is_linear(), regex.steps_per_character().is_some());
+        assert_eq!(regex.is_linear(), regex.nonlinear().is_none());
+        regex.nonlinear()
+    };
+    assert_eq!(within("(a*)*b", 0), None);
+    assert_eq!(within("(?!(a))b", 0), None);
+    assert_eq!(within(r"(a)\1", 0), Some(Nonlinear::BackReference));
+    assert_eq!(within("(?=(a))b", 0), Some(Nonlinear::CapturingLookaround));
+    assert_eq!(within("(a*)*b", 1), Some(Nonlinear::TooManyInstructions));
+    assert_eq!(within(r"(?=(a))\1", 1), Some(Nonlinear::BackReference));
+    assert_eq!(
+        Nonlinear::CapturingLookaround.to_string(),
+        "a lookaround contains a capture group"
+    );
 }
 
 #[test]

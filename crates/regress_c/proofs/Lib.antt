@@ -5,4 +5,5 @@ mod LooseValues
 mod ReplaceLemmas
 mod ResultLemmas
 mod SearchLemmas
+mod SpannedLemmas
 mod TextLemmas

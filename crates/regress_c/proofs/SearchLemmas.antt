@@ -1,10 +1,19 @@
 -- The result of a search, from what it computed.
-use Rattle.std.proofs.Common.{◌≡◌, ◌++◌, ◌<◌, ◌+◌, ℕ, suc, List, [], ◌∷◌, Option, drop, flat_map, get_or, length, map, add-one, append_assoc, drop-cons, refl, sym, ap, ◌∙◌, subst}
+use Rattle.std.proofs.Common.{◌≡◌, ◌++◌, ◌<◌, ℕ, false, List, [], ◌∷◌, Option, drop, flat_map, length, append_assoc, append-nil, refl, sym, ap, ◌∙◌, subst}
+use Rattle.std.proofs.lemmas.Grind.{flat_map-append}
 use Rattle.std.specs.Prelude.{IfOk, IfSome, MatchOption, MatchResult, None, Some, Result, Ok, Err}
 use Rattle.regress.specs.declared.failure.SearchError.{SearchError}
 use Rattle.regress.specs.declared.failure.SearchError.TheVariants.{Memory, OutOfSteps}
-use Rattle.regress_front.specs.Steps.{CaptureSpan}
-use Rattle.regress_c.specs.Spans.{ends_of}
+use Rattle.regress_front.specs.Steps.{CaptureSpan, MatchState}
+use Rattle.regress_program.specs.Found as one
+use Rattle.regress_program.specs.declared.found.Match as found
+use Rattle.regress_match.specs.Searched.{AreMatches}
+use Rattle.regress_match.proofs.lemmas.Searched.{AreMatches-more}
+use Rattle.regress.specs.Found.{match_of}
+use Rattle.regress.specs.Searched.{Advances, has_failed, next_from, searched_outcomes, searched_text}
+use Rattle.regress.specs.declared.found.Match.{Match}
+use Rattle.regress.specs.declared.search.Matches.{Matches}
+use Rattle.regress_c.specs.Spans.{AreEndsOfAll, ends_of, match_ends}
 use Rattle.regress_c.specs.SearchResults.{IsBare, status_of, SearchResult, written, no_match, out_of_memory, little, bad, out_of_steps, TestResult, too_little_memory, too_many_steps}
 
 -- what is written has the property that was computed, and the arguments are valid
@@ -17,23 +26,67 @@ search-written {P = P} asked has (little u wants) = little asked (wants.0, subst
 search-written asked has (bad none) = absurd (none tt)
 search-written asked has (out_of_steps u) = out_of_steps asked
 
--- the rest of the items begins with the next one
-next_item : {X : Type 0} (xs : List X) (i : ℕ) (x : X) → i < length xs → x ≡ get_or xs i x → drop i xs ≡ x ∷ drop (i + 1) xs
-next_item xs i x below is = rw add-one (drop-cons xs i x below ∙ ap (λ k. k ∷ drop (suc i) xs) (sym is))
-
--- the numbers of one more item are appended
-pub item_more : {X Y : Type 0} (f : Y → List ℕ) (g : X → Y) (xs : List X) (i : ℕ) (x : X) (done whole : List ℕ) → i < length xs →
-    x ≡ get_or xs i x → done ++ flat_map f (map g (drop i xs)) ≡ whole → (done ++ f (g x)) ++ flat_map f (map g (drop (i + 1) xs)) ≡ whole
-item_more f g xs i x done whole below is so_far =
-    append_assoc done (f (g x)) (flat_map f (map g (drop (i + 1) xs)))
-    ∙ ap (λ rest. done ++ flat_map f (map g rest)) (sym (next_item xs i x below is)) ∙ so_far
-
 -- the two ends of one more span are appended
 pub span_more : (span : Option CaptureSpan) (rest : List (Option CaptureSpan)) (a b : ℕ) (done whole : List ℕ) → ends_of span ≡ a ∷ b ∷ [] →
     done ++ flat_map ends_of (span ∷ rest) ≡ whole → ((done ++ a ∷ []) ++ b ∷ []) ++ flat_map ends_of rest ≡ whole
 span_more span rest a b done whole is so_far =
     ap (λ xs. xs ++ flat_map ends_of rest) (append_assoc done (a ∷ []) (b ∷ [])) ∙ append_assoc done (a ∷ b ∷ []) (flat_map ends_of rest)
     ∙ ap (λ xs. done ++ (xs ++ flat_map ends_of rest)) (sym is) ∙ so_far
+
+-- -- of a search for all matches
+
+-- The iteration has found matches with these numbers without an error, and goes on after them.
+pub record HasEnds (text : List ℕ) (at : ℕ → List MatchState) (from : ℕ) (now : Matches) (numbers : List ℕ) : Type 0 where
+  pub same_text : searched_text now ≡ text
+  pub same_outcomes : searched_outcomes now ≡ at
+  pub failed : has_failed now ≡ false
+  pub ms : List found.Match
+  pub found : AreMatches text at from (next_from now) ms
+  pub are : numbers ≡ flat_map match_ends ms
+
+pub no-ends : (text : List ℕ) (at : ℕ → List MatchState) (from : ℕ) (now : Matches) (numbers : List ℕ) → searched_text now ≡ text →
+    searched_outcomes now ≡ at → has_failed now ≡ false → next_from now ≡ from → numbers ≡ [] → HasEnds text at from now numbers
+no-ends text at from now numbers same_text same_outcomes failed start none = record {
+  same_text = same_text;
+  same_outcomes = same_outcomes;
+  failed = failed;
+  ms = [];
+  found = start;
+  are = none;
+}
+
+module _ (text : List ℕ) (at : ℕ → List MatchState) (from : ℕ) (now : Matches) (numbers : List ℕ) (sofar : HasEnds text at from now numbers)
+    (new : Matches) where
+  pub more-ends : (m : Match) (more : List ℕ) → Advances now (Some (Ok m)) new → more ≡ numbers ++ match_ends (match_of m) →
+      HasEnds text at from new more
+  more-ends m more step is =
+      let next = step.yields.0 in
+      let here : one.IsLeftmost text at (next_from now) (match_of m) =
+      subst (λ t. one.IsLeftmost t at (next_from now) (match_of m)) sofar.same_text
+      (subst (λ f. one.IsLeftmost (searched_text now) f (next_from now) (match_of m)) sofar.same_outcomes next.leftmost) in
+      record {
+        same_text = step.same.text ∙ sofar.same_text;
+        same_outcomes = step.same.outcomes ∙ sofar.same_outcomes;
+        failed = step.yields.1;
+        ms = sofar.ms ++ match_of m ∷ [];
+        found = subst (λ k. AreMatches text at from k (sofar.ms ++ match_of m ∷ [])) (sym next.goes_on)
+            (AreMatches-more text at from (next_from now) sofar.ms (match_of m) sofar.found here);
+        are = is ∙ ap (λ xs. xs ++ match_ends (match_of m)) sofar.are
+            ∙ ap (λ ys. flat_map match_ends sofar.ms ++ ys) (sym (append-nil (match_ends (match_of m))))
+            ∙ sym (flat_map-append match_ends sofar.ms (match_of m ∷ []));
+      }
+
+  pub all-ends : Advances now None new → AreEndsOfAll text at from numbers
+  all-ends step = (
+    sofar.ms,
+    record {
+      to = next_from now;
+      found = sofar.found;
+      none = subst (λ t. one.Finds t at (next_from now) None) sofar.same_text
+          (subst (λ f. one.Finds (searched_text now) f (next_from now) None) sofar.same_outcomes (step.yields sofar.failed));
+    },
+    sofar.are,
+  )
 
 -- -- of a search that may fail
 

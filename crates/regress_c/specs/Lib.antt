@@ -5,9 +5,11 @@ pub mod ErrorResults
 pub mod Handles
 pub mod Spans
 pub mod SearchResults
+pub mod Reasons
 pub mod CompileResults
 pub mod TextResults
 pub mod ReplaceResults
 pub mod EscapeResults
 pub mod BoundResults
 pub mod DifferencesResults
+pub mod SpannedResults

@@ -2,7 +2,7 @@
 use Rattle.std.specs.Prelude.{◌≡◌, ℕ, ◌-◌, ◌^◌, List, [], ◌∷◌, flat_map, Option, None, Some}
 use Rattle.regress_front.specs.Steps.{CaptureSpan, MatchState}
 use Rattle.regress.specs.Groups.{all_spans}
-use Rattle.regress_match.specs.Searched.{AreAllMatches}
+use Rattle.regress_match.specs.Searched.{AreMatches}
 use Rattle.regress_program.specs.Found.{Finds}
 use Rattle.regress_program.specs.declared.found.Match.{Match}
 
@@ -23,6 +23,12 @@ match_ends m = flat_map ends_of (all_spans m)
 abbrev pub AreEndsOfFirst : (text : List ℕ) → (at : ℕ → List MatchState) → (from : ℕ) → List ℕ → Type 0
 AreEndsOfFirst text at from numbers = (m : Match) × Finds text at from (Some m) × (numbers ≡ match_ends m)
 
--- the numbers of all matches, one match after the other
-abbrev pub AreEndsOfAll : (text : List ℕ) → (at : ℕ → List MatchState) → List ℕ → Type 0
-AreEndsOfAll text at numbers = (ms : List Match) × AreAllMatches text at ms × (numbers ≡ flat_map match_ends ms)
+-- The list has all matches that a repeated search from an offset finds in order: after the last one there is none.
+pub record AreAllMatchesFrom (text : List ℕ) (at : ℕ → List MatchState) (from : ℕ) (ms : List Match) : Type 0 where
+  pub to : ℕ
+  pub found : AreMatches text at from to ms
+  pub none : Finds text at to None
+
+-- the numbers of all these matches, one match after the other
+abbrev pub AreEndsOfAll : (text : List ℕ) → (at : ℕ → List MatchState) → (from : ℕ) → List ℕ → Type 0
+AreEndsOfAll text at from numbers = (ms : List Match) × AreAllMatchesFrom text at from ms × (numbers ≡ flat_map match_ends ms)

@@ -1,8 +1,9 @@
 //! The functions that C calls to compile a pattern, and to search for it. include/regress.h documents them.
 ghost use Rattle.std.specs.Prelude.{◌≡◌, if◌then◌else◌, IfSome, IsUtf8, None, is_some, length, min, option_map, unwrap_or};
-ghost use Rattle.regress.specs.Compiled.{factor_of, groups_of, outcomes_of};
+ghost use Rattle.regress.specs.Compiled.{factor_of, groups_of, nonlinear_of, outcomes_of};
 ghost use Rattle.regress.specs.Found.{MatchesSomewhere};
 ghost use Rattle.regress_c.specs.CompileResults.{CompileResult, limits_of};
+ghost use Rattle.regress_c.specs.Reasons.{reason_number};
 ghost use Rattle.regress_c.specs.Request.{setting_by, IsTextRequest};
 ghost use Rattle.regress_c.specs.SearchResults.{SearchResult, TestResult};
 ghost use Rattle.regress_c.specs.Spans.{AreEndsOfAll, AreEndsOfFirst};
@@ -12,15 +13,16 @@ ghost use Rattle.regress_program.specs.Found.{Finds};
 use super::compiling::write_compiled;
 use super::handle::Handle;
 use super::limits::Limits;
+use super::reasons::reason_number;
 use super::{searches, texts};
 use std::alloc::Global;
 
-const ABI_VERSION: u32 = 2;
+const ABI_VERSION: u32 = 3;
 
 /// Returns the version of these functions.
 #[unsafe(no_mangle)]
 pub extern "C" fn regress_abi_version() -> u32
-    ensures { result ≡ 2 }
+    ensures { result ≡ 3 }
 {
     ABI_VERSION
 }
@@ -85,7 +87,8 @@ pub extern "C" fn regress_find(
     status
 }
 
-/// Writes the start and the end of each non-overlapping match from left to right, and those of its groups.
+/// Writes the start and the end of each non-overlapping match from the byte offset `from` on, from left to right, and
+/// those of its groups.
 ///
 /// # Errors
 /// As `regress_find`, but with no match the status is 0.
@@ -97,16 +100,17 @@ pub extern "C" fn regress_find_all(
     alloc: Global,
     handle: &mut Handle,
     text: &[u8],
+    from: usize,
     spans: &mut [usize],
     needed: &mut usize,
 ) -> u32
     requires { handle.old.value ≡ None → ⊥ }
     ensures same { handle.new.value ≡ handle.old.value }
     ensures status { IfSome handle.old.value (λ regex. SearchResult (IsUtf8 text.now)
-        (AreEndsOfAll text.now (outcomes_of regex text.now)) ⊥ spans.old result needed.new spans.new) }
+        (AreEndsOfAll text.now (outcomes_of regex text.now) from) ⊥ spans.old result needed.new spans.new) }
 {
     let regex = handle.take(alloc);
-    let status = searches::write_all(alloc, &regex, text, spans, needed);
+    let status = searches::write_all(alloc, &regex, text, from, spans, needed);
     *handle = Handle::of(regex);
     status
 }
@@ -146,6 +150,22 @@ pub extern "C" fn regress_is_linear(alloc: Global, handle: &mut Handle) -> u32
     let is_linear = regex.is_linear();
     *handle = Handle::of(regex);
     if is_linear { 1 } else { 0 }
+}
+
+/// Returns why searches are not known to take time linear in the length of the text, as a number: 0 if they are.
+///
+/// # Preconditions
+/// The handle is one of a compiled pattern.
+#[unsafe(no_mangle)]
+pub extern "C" fn regress_nonlinear(alloc: Global, handle: &mut Handle) -> u32
+    requires { handle.old.value ≡ None → ⊥ }
+    ensures same { handle.new.value ≡ handle.old.value }
+    ensures reason { IfSome handle.old.value (λ regex. result ≡ reason_number (nonlinear_of regex)) }
+{
+    let regex = handle.take(alloc);
+    let reason = regex.nonlinear();
+    *handle = Handle::of(regex);
+    reason_number(reason)
 }
 
 /// Returns an upper bound for the steps of a search for each byte of a text, counting its end as one more; at most

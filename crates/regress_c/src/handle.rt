@@ -12,7 +12,7 @@ use std::marker::Model;
 use std::mem;
 use std::ptr::null_mut;
 
-/// The pointer to a regular expression, or nothing, in a variable of the caller.
+/// The pointer to a regular expression, or nothing, in a variable of the caller. The caller may use it on any thread.
 ///
 /// Dropping it does not free the regular expression.
 #[repr(C)]
@@ -32,6 +32,7 @@ impl Handle {
     pub(crate) fn of(regex: Box<Regex>) -> Handle
         ensures { result.value ≡ Some regex.value }
     {
+        regex_is_send();
         Handle::from_loose(Loose::of(regex))
     }
 
@@ -69,3 +70,11 @@ impl Handle {
         }
     }
 }
+
+/// States that any thread may use a regular expression, and so its handle. The function does nothing.
+fn regex_is_send() {
+    is_send::<Regex>()
+}
+
+/// States by its bound that any thread may use a value of the type. The function does nothing.
+fn is_send<T: Send>() {}

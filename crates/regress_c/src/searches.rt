@@ -1,5 +1,5 @@
 //! The results of searches.
-ghost use Rattle.std.specs.Prelude.{◌≡◌, ◌++◌, ◌∷◌, [], IfOk, IsUtf8, MatchOption, MatchResult, None, flat_map, map};
+ghost use Rattle.std.specs.Prelude.{◌≡◌, ◌++◌, ◌∷◌, [], IfOk, IsUtf8, MatchOption, MatchResult, None};
 ghost use Rattle.regress.specs.Compiled.{outcomes_of};
 ghost use Rattle.regress.specs.Found.{MatchesSomewhere, match_of, span_of};
 ghost use Rattle.regress_c.specs.SearchResults.{IsBare, SearchResult, TestResult, status_of};
@@ -35,20 +35,21 @@ pub(crate) fn write_first(
     }
 }
 
-/// Writes the ends of all matches and of their groups. Returns the status.
+/// Writes the ends of all matches from an offset on and of their groups. Returns the status.
 pub(crate) fn write_all(
     alloc: Global,
     regex: &Regex,
     text: &[u8],
+    from: usize,
     spans: &mut [usize],
     needed: &mut usize,
 ) -> u32
-    ensures status { SearchResult (IsUtf8 text.now) (AreEndsOfAll text.now (outcomes_of regex.now text.now)) ⊥
+    ensures status { SearchResult (IsUtf8 text.now) (AreEndsOfAll text.now (outcomes_of regex.now text.now) from) ⊥
         spans.old result needed.new spans.new }
 {
     *needed = 0;
     match str::from_utf8(text) {
-        Ok(text) => report(all_ends(alloc, regex, text), spans, needed),
+        Ok(text) => report(all_ends(alloc, regex, text, from), spans, needed),
         Err(_) => BAD_INPUT,
     }
 }
@@ -123,22 +124,20 @@ fn first_ends(
     }
 }
 
-fn all_ends(alloc: Global, regex: &Regex, text: &str) -> Result<Option<Vec<usize>>, SearchError>
-    ensures { IfOk result (λ some. MatchOption some ⊥ (λ ends. AreEndsOfAll text.now (outcomes_of regex.now text.now) ends.items)) }
+fn all_ends(
+    alloc: Global,
+    regex: &Regex,
+    text: &str,
+    from: usize,
+) -> Result<Option<Vec<usize>>, SearchError>
+    ensures { IfOk result (λ some. MatchOption some ⊥ (λ ends. AreEndsOfAll text.now (outcomes_of regex.now text.now) from ends.items)) }
 {
-    let all = regex.find_all(alloc, text)?;
     let mut ends = Vec::new(alloc);
-    push_all_ends(&all, &mut ends)?;
-    Ok(Some(ends))
-}
-
-fn push_all_ends(all: &[Match<'_>], ends: &mut Vec<usize>) -> Result<(), AllocError>
-    ensures { IfOk result (λ _. ends.new.items ≡ ends.old.items ++ flat_map match_ends (map match_of all.now)) }
-{
-    for found in all {
-        push_ends(found, ends)?;
+    for found in regex.find_from(alloc, text, from) {
+        let found = found?;
+        push_ends(&found, &mut ends)?;
     }
-    Ok(())
+    Ok(Some(ends))
 }
 
 /// Appends the ends of a match, and then those of each group.

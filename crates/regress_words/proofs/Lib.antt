@@ -1,2 +1,3 @@
 mod CountLemmas
 mod DecodedLemmas
+mod OrderLemmas

@@ -1,2 +1,4 @@
 pub mod Words
 pub mod Decoded
+pub mod Order
+pub mod Closed

@@ -1,73 +1,67 @@
-//! The handles of each thread. A handle stays on the thread that has compiled it, so a pattern is compiled once in each
-//! thread that searches with it.
+//! The handles of a regular expression. A call uses one of them alone, so that there are as many as calls at the same
+//! time.
 
 use crate::ffi::{self, Handle, Limits};
-use std::cell::RefCell;
-use std::collections::HashMap;
-use std::sync::{Arc, Weak};
+use std::sync::{Mutex, MutexGuard, PoisonError};
 
-/// What a handle is compiled from.
+/// What the handles are compiled from, and those that no call uses.
 pub(crate) struct Recipe {
     pub(crate) pattern: String,
     /// The flags and the table as the library has them.
     pub(crate) bits: u32,
-    pub(crate) limits: Limits,
+    limits: Limits,
+    idle: Mutex<Vec<Handle>>,
 }
 
 impl Recipe {
-    fn compile(&self) -> Result<Handle, u32> {
-        ffi::compile(&self.pattern, self.bits, &self.limits)
-    }
-
-    /// Returns the key in the handles of a thread. No other recipe has it while a `Weak` refers to this one.
-    fn key(&self) -> usize {
-        self as *const Recipe as usize
-    }
-}
-
-impl Drop for Recipe {
-    fn drop(&mut self) {
-        // The handles of other threads are dropped there, at the latest when the thread ends.
-        let key = self.key();
-        let _ = HANDLES.try_with(|handles| handles.borrow_mut().entries.remove(&key));
-    }
-}
-
-thread_local! {
-    static HANDLES: RefCell<Handles> = RefCell::default();
-}
-
-#[derive(Default)]
-struct Handles {
-    entries: HashMap<usize, (Weak<Recipe>, Handle)>,
-    /// The number of entries after entries without a recipe were dropped.
-    used: usize,
-}
-
-impl Handles {
-    fn insert(&mut self, recipe: &Arc<Recipe>, handle: Handle) {
-        if self.entries.len() > 2 * self.used + 16 {
-            self.entries.retain(|_, entry| entry.0.strong_count() > 0);
-            self.used = self.entries.len();
+    pub(crate) fn new(pattern: &str, bits: u32, limits: Limits) -> Recipe {
+        Recipe {
+            pattern: pattern.to_owned(),
+            bits,
+            limits,
+            idle: Mutex::default(),
         }
-        let entry = (Arc::downgrade(recipe), handle);
-        self.entries.insert(recipe.key(), entry);
+    }
+
+    /// Makes a call with a handle that no other call uses, which is compiled if there is none. Returns the status if that
+    /// fails.
+    pub(crate) fn with_handle<T>(&self, call: impl FnOnce(&mut Handle) -> T) -> Result<T, u32> {
+        let idle = self.idle().pop();
+        let mut handle = match idle {
+            Some(handle) => handle,
+            None => ffi::compile(&self.pattern, self.bits, &self.limits)?,
+        };
+        let result = call(&mut handle);
+        self.idle().push(handle);
+        Ok(result)
+    }
+
+    fn idle(&self) -> MutexGuard<'_, Vec<Handle>> {
+        // Nothing panics while it is locked, so the list is always whole.
+        self.idle.lock().unwrap_or_else(PoisonError::into_inner)
     }
 }
 
-/// Makes a call with the handle of this thread, which is compiled if there is none. Returns the status if that fails.
-pub(crate) fn with_handle<T>(
-    recipe: &Arc<Recipe>,
-    call: impl FnOnce(&mut Handle) -> T,
-) -> Result<T, u32> {
-    let key = recipe.key();
-    // While the values of the thread are dropped, there are no handles any more.
-    let entry = HANDLES.try_with(|handles| handles.borrow_mut().entries.remove(&key));
-    let mut handle = match entry {
-        Ok(Some((_, handle))) => handle,
-        _ => recipe.compile()?,
-    };
-    let result = call(&mut handle);
-    let _ = HANDLES.try_with(|handles| handles.borrow_mut().insert(recipe, handle));
-    Ok(result)
+#[cfg(test)]
+mod tests {
+    use super::*;
+
+    #[test]
+    fn calls_at_the_same_time_have_a_handle_each() {
+        let limits = Limits {
+            steps: 0,
+            nodes: 0,
+            instructions: 0,
+            tables: 0,
+        };
+        let recipe = Recipe::new("a+b", 0, limits);
+        let found = recipe.with_handle(|outer| {
+            let inner = recipe.with_handle(|inner| inner.is_match("aab"));
+            (inner, outer.is_match("aa"))
+        });
+        assert_eq!(found, Ok((Ok(ffi::OK), ffi::NO_MATCH)));
+        assert_eq!(recipe.idle().len(), 2);
+        assert_eq!(recipe.with_handle(|_| recipe.idle().len()), Ok(1));
+        assert_eq!(recipe.idle().len(), 2);
+    }
 }

@@ -1,0 +1,93 @@
+//! The functions that C calls for a tree with the spans of its nodes. include/regress_front.h documents them.
+ghost use Rattle.std.specs.Prelude.{chars};
+ghost use Rattle.regress_c.specs.Request.{setting_by, IsRequest, IsTextRequest};
+ghost use Rattle.regress_c.specs.SpannedResults.{SpannedResult};
+
+use super::request::{is_request, read_points};
+use super::results::{BAD_INPUT, MEMORY};
+use super::spanning::{NodeSpan, write_spanned};
+use std::alloc::Global;
+
+/// Writes the encoding of the tree of a pattern in code points to `words`, and its length in words to `needed`; and the
+/// span of each node, in the order of the words, to `spans`, and their number to `spans_needed`. Or, if the pattern is
+/// rejected, writes the number of the kind of its syntax error to `kind`, and the code-point index to `position`.
+///
+/// Both are written only if both fit. Otherwise `words` and `spans` are unchanged.
+///
+/// # Errors
+/// As `regress_front_parse_code_points`; the status is 3 if `words` or `spans` is too small.
+#[unsafe(no_mangle)]
+pub extern "C" fn regress_front_parse_code_points_with_spans(
+    alloc: Global,
+    pattern: &[u32],
+    flags: u32,
+    words: &mut [u32],
+    needed: &mut usize,
+    spans: &mut [NodeSpan],
+    spans_needed: &mut usize,
+    kind: &mut u32,
+    position: &mut usize,
+) -> u32
+    ensures status { SpannedResult (IsRequest pattern.now flags 0) (setting_by flags) pattern.now words.old spans.old
+        result needed.new spans_needed.new kind.new position.new words.new spans.new }
+{
+    *needed = 0;
+    *spans_needed = 0;
+    *kind = 0;
+    *position = 0;
+    if !is_request(pattern, flags, 0) {
+        return BAD_INPUT;
+    }
+    write_spanned(
+        alloc,
+        pattern,
+        flags,
+        words,
+        needed,
+        spans,
+        spans_needed,
+        kind,
+        position,
+    )
+}
+
+/// As `regress_front_parse_code_points_with_spans`, for a pattern in UTF-8. Spans and `position` count code points here
+/// too.
+///
+/// # Errors
+/// As `regress_front_parse_code_points_with_spans`; a pattern that is not UTF-8 is an invalid argument.
+#[unsafe(no_mangle)]
+pub extern "C" fn regress_front_parse_text_with_spans(
+    alloc: Global,
+    pattern: &[u8],
+    flags: u32,
+    words: &mut [u32],
+    needed: &mut usize,
+    spans: &mut [NodeSpan],
+    spans_needed: &mut usize,
+    kind: &mut u32,
+    position: &mut usize,
+) -> u32
+    ensures status { SpannedResult (IsTextRequest pattern.now flags 0) (setting_by flags) (chars pattern.now) words.old spans.old
+        result needed.new spans_needed.new kind.new position.new words.new spans.new }
+{
+    *needed = 0;
+    *spans_needed = 0;
+    *kind = 0;
+    *position = 0;
+    match read_points(alloc, pattern, flags, 0) {
+        Ok(Some(points)) => write_spanned(
+            alloc,
+            &points,
+            flags,
+            words,
+            needed,
+            spans,
+            spans_needed,
+            kind,
+            position,
+        ),
+        Ok(None) => BAD_INPUT,
+        Err(_) => MEMORY,
+    }
+}
