@@ -8,9 +8,9 @@ pub loop-found-init : goal.loop-found-init
 loop-found-init c =
     let text = c.args.text.now in
     let at = outcomes_of c.args.regex.now text in
-    let made = c.find_iter_from-found-items.ensures in
+    let made = c.find_from-found-items.ensures in
     subst (λ m. HasEnds text at c.args.from m c.new-ends.result.items) (sym c.into_iter-found-iterator.ensures.into_iter_gives)
-    (no-ends text at c.args.from c.find_iter_from-found-items.result c.new-ends.result.items made.text made.outcomes made.failed made.from
+    (no-ends text at c.args.from c.find_from-found-items.result c.new-ends.result.items made.text made.outcomes made.failed made.from
     c.new-ends.ensures.items)
 
 pub loop-found-preserved : goal.loop-found-preserved
