@@ -2,7 +2,6 @@
 -- starts after its `[`. Each character and string that a CharSet has is matched by V8 11.3.
 use Rattle.std.proofs.Common.{◌≡◌, ℕ, Bool, true, false, List, [], ◌∷◌, Option, Some, option_map, refl, codes}
 use Rattle.regress_base.specs.Intervals.{Bounds}
-use Rattle.regress_base.specs.declared.types.Flags.{Flags}
 use Rattle.regress_classes.specs.ClassSets.{set_character_at, strings_by}
 use Rattle.regress_lexer.specs.Digits.{front, after}
 use Rattle.regress_lexer.specs.Escapes.{escape_at, unicode_at}

@@ -1,15 +1,19 @@
 //! The theorem that a search finds the match of ECMA-262.
-ghost use Rattle.std.specs.Prelude.{◌≡◌, ◌≤◌, ℕ, List, Option, chars, length, option_map};
+ghost use Rattle.std.specs.Prelude.{◌≡◌, ◌≤◌, ℕ, List, Option, chars, length, option_map, []};
 ghost use Rattle.std.specs.Str.{IsUtf8};
+ghost use Rattle.regress_front.specs.Accepted.{own_context};
 ghost use Rattle.regress_front.specs.Reading.{byte_position};
 ghost use Rattle.regress_front.specs.Setting.{Setting};
 ghost use Rattle.regress_front.specs.Source.{Source};
 ghost use Rattle.regress_ecma.specs.Compared.{IsComparable};
+ghost use Rattle.regress_ecma.specs.CompiledClasses.{with_char_sets};
 ghost use Rattle.regress_ecma.specs.Exec.{builtin_exec, found_in_bytes};
 ghost use Rattle.regress_program.specs.Found.{Finds, start_of, state_of};
 ghost use Rattle.regress_program.specs.declared.found.Match.{Match};
 ghost use Rattle.regress.specs.Compiled.{IsCompiledFrom, outcomes_of};
 ghost use Rattle.regress.specs.declared.pattern.Regex.{Regex};
+
+use regress_ecma::first_outcome_is_the_match;
 
 /// States the theorem that what a search finds is what RegExpBuiltinExec of ECMA-262 (section 22.2.7.2) finds, with byte
 /// offsets in place of indices, or that both find nothing.
@@ -32,4 +36,15 @@ pub fn find_returns_the_match_of_ecma()
         (found : Option Match) → Finds text (outcomes_of r text) (byte_position (chars text) index) found →
         option_map (λ m. (start_of m, state_of m)) found
         ≡ option_map found_in_bytes (builtin_exec setting compiled.tree.pattern (chars text) index) }
-{}
+
+    // The same with the CharSets that CompileToCharSet returns for the source of each class.
+    ensures source { (setting : Setting) (pattern : Source) (r : Regex) (compiled : IsCompiledFrom setting pattern r) →
+        IsComparable setting compiled.tree.pattern → (text : List ℕ) → IsUtf8 text → (index : ℕ) → index ≤ length (chars text) →
+        (found : Option Match) → Finds text (outcomes_of r text) (byte_position (chars text) index) found →
+        option_map (λ m. (start_of m, state_of m)) found
+        ≡ option_map found_in_bytes (builtin_exec setting
+        (with_char_sets (own_context setting compiled.tree.pattern) compiled.tree.pattern pattern [] compiled.tree.accepted.derived)
+        (chars text) index) }
+{
+    first_outcome_is_the_match();
+}
