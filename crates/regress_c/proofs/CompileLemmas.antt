@@ -6,17 +6,16 @@ use Rattle.regress_lexer.specs.FaultKinds.{number_of}
 use Rattle.regress_lexer.specs.declared.fault.FaultKind.{FaultKind}
 use Rattle.regress_parse.specs.Accepted.{NoneIsAccepted}
 use Rattle.regress_parse.specs.Settled.{IsReported}
-use Rattle.regress.specs.Compiled.{IsCompiled}
 use Rattle.regress.specs.Failures.{IsSyntaxError, IsTooLarge}
 use Rattle.regress.specs.declared.limits.Options.{Options}
 use Rattle.regress.specs.declared.pattern.Regex.{Regex}
-use Rattle.regress_c.specs.CompileResults.{CompileResult, compiled, rejected, too_large}
+use Rattle.regress_c.specs.CompileResults.{CompileResult, IsCompiledWithin, compiled, rejected, too_large}
 
 module _ {Asked : Type 0} {setting : Setting} {text : List ℕ} {options : Options} {old : Option Regex} (pattern : List ℕ) (asked : Asked) (same : pattern ≡ text) where
-  pub compile-ok : (new : Option Regex) (regex : Regex) → IsCompiled setting pattern regex → new ≡ Some regex →
+  pub compile-ok : (new : Option Regex) (regex : Regex) → IsCompiledWithin setting pattern options regex → new ≡ Some regex →
       CompileResult Asked setting text options old 0 0 0 new
   compile-ok new regex is made =
-      subst (λ v. CompileResult Asked setting text options old 0 0 0 v) (sym made) (compiled asked (subst (λ t. IsCompiled setting t regex) same is))
+      subst (λ v. CompileResult Asked setting text options old 0 0 0 v) (sym made) (compiled asked (subst (λ t. IsCompiledWithin setting t options regex) same is))
 
   pub compile-rejected : (kind : FaultKind) (message : List ℕ) (number position : ℕ) → IsSyntaxError setting (chars pattern) kind message position →
       number ≡ number_of kind → CompileResult Asked setting text options old 5 number position old

@@ -1,8 +1,9 @@
 -- The result of a call that compiles a pattern.
-use Rattle.std.specs.Prelude.{◌==◌, ℕ, List, Option, Some, chars, if◌then◌else◌}
+use Rattle.std.specs.Prelude.{◌≡◌, ◌==◌, ℕ, List, Option, Some, chars, if◌then◌else◌}
 use Rattle.regress_front.specs.Setting.{Setting}
 use Rattle.regress_parse.specs.Accepted.{NoneIsAccepted}
-use Rattle.regress.specs.Compiled.{IsCompiled}
+use Rattle.regress_match.specs.Matcher.{IsFactorOf, IsNonlinearOf}
+use Rattle.regress.specs.Compiled.{IsCompiled, factor_of, limit_of, nonlinear_of, tree_of}
 use Rattle.regress.specs.Failures.{IsTooLarge}
 use Rattle.regress.specs.Limits.{default_options}
 use Rattle.regress.specs.declared.limits.Options.{Options}
@@ -23,11 +24,18 @@ limits_of l = record {
   tables = or_default l.tables default_options.tables;
 }
 
+-- The regular expression is compiled from this text, and searches within these limits.
+pub record IsCompiledWithin (setting : Setting) (text : List ℕ) (options : Options) (regex : Regex) : Type 0 where
+  pub compiled : IsCompiled setting text regex
+  pub limit : limit_of regex ≡ options.steps
+  pub linear : IsFactorOf options.tables (tree_of regex) (factor_of regex)
+  pub nonlinear : IsNonlinearOf options.tables (tree_of regex) (nonlinear_of regex)
+
 -- The status, `kind`, `position`, and the handle before and after. `Asked` states that the arguments are valid.
 pub data CompileResult (Asked : Type 0) (setting : Setting) (text : List ℕ) (options : Options) (old : Option Regex) :
     (status kind position : ℕ) (new : Option Regex) → Type 0 where
   -- the handle is that of the compiled pattern
-  compiled : {regex : Regex} → Asked → IsCompiled setting text regex → CompileResult Asked setting text options old 0 0 0 (Some regex)
+  compiled : {regex : Regex} → Asked → IsCompiledWithin setting text options regex → CompileResult Asked setting text options old 0 0 0 (Some regex)
   -- an allocation failed
   out_of_memory : Asked → CompileResult Asked setting text options old 2 0 0 old
   -- the arguments are invalid

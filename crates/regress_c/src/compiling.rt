@@ -1,8 +1,7 @@
 //! The results of compiling a pattern.
 ghost use Rattle.std.specs.Prelude.{◌≡◌, chars, IfErr, IfOk};
-ghost use Rattle.regress.specs.Compiled.{IsCompiled};
 ghost use Rattle.regress.specs.Failures.{IsDue};
-ghost use Rattle.regress_c.specs.CompileResults.{CompileResult};
+ghost use Rattle.regress_c.specs.CompileResults.{CompileResult, IsCompiledWithin};
 ghost use Rattle.regress_c.specs.Request.{setting_by, IsTextRequest};
 
 use super::handle::Handle;
@@ -60,7 +59,7 @@ pub(crate) fn write_compiled(
 }
 
 fn compile(alloc: Global, pattern: &str, bits: u32, options: Options) -> Result<Box<Regex>, Error>
-    ensures compiled { IfOk result (λ regex. IsCompiled (setting_by bits) pattern.now regex.value) }
+    ensures compiled { IfOk result (λ regex. IsCompiledWithin (setting_by bits) pattern.now options regex.value) }
     ensures failed { IfErr result (IsDue (setting_by bits) (chars pattern.now) options) }
 {
     let tables = Arc::new(alloc, make_tables(alloc, bits)?)?;

@@ -63,17 +63,6 @@ pub record IsOpen (whole : List ℕ) (total : ℕ) (numbers indices : List ℕ) 
   pub few : next + length indices ≤ length numbers
 
 module _ {whole : List ℕ} {total : ℕ} (numbers indices : List ℕ) (next : ℕ) where
-  -- before the first node
-  pub starts : (count : ℕ) (rest : List ℕ) → indices ≡ [] → numbers ++ rest ≡ whole → next + count ≡ total → next ≤ length numbers →
-      IsOpen whole total numbers indices next count rest
-  starts count rest none is counts few =
-      subst (λ is. IsOpen whole total numbers is next count rest) (sym none) (record {
-        completes = is;
-        counts = omega (arith, counts);
-        within = λ k d below. omega (arith, below);
-        few = omega (arith, few);
-      })
-
   -- a node is appended, whose number is set after those inside it
   pub enters : (count : ℕ) (rest : List ℕ) → IsOpen whole total numbers indices next (1 + count) ((next + count) ∷ rest) →
       IsOpen whole total (numbers ++ 0 ∷ []) (indices ++ length numbers ∷ []) next count rest
