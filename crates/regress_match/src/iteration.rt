@@ -182,7 +182,7 @@ impl<'m> MatcherMatches<'m> {
     }
 }
 
-/// Returns how far behind the byte offset `from` a byte occurs next.
+/// Returns the distance from the byte offset `from` to the next occurrence of a byte.
 fn offset_of(byte: u8, text: &str, from: usize) -> Option<usize>
     ensures { MatchOption result (NoneFrom byte text.now from) (λ ahead. from + ahead < length text.now) }
 {
