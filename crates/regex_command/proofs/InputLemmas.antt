@@ -73,23 +73,23 @@ module _ (r : Regex) (job : Job) (inputs : List Input) (before : Option (List �
       )
 
 -- the i-th file as an input
-pub input_at : (files : List (String Global)) (i : ℕ) (file : String Global) → i < length files → get_or files i file ≡ file →
-    get_or (named_files (map string_bytes files)) i (record { name = string_bytes file; in_front = nat_lt 1 (length files) }, None)
-    ≡ (record { name = string_bytes file; in_front = nat_lt 1 (length files) }, None)
-input_at files i file within here =
+pub input_at : (multiline : Bool) (files : List (String Global)) (i : ℕ) (file : String Global) → i < length files → get_or files i file ≡ file →
+    get_or (named_files multiline (map string_bytes files)) i (record { name = string_bytes file; in_front = nat_lt 1 (length files); multiline = multiline }, None)
+    ≡ (record { name = string_bytes file; in_front = nat_lt 1 (length files); multiline = multiline }, None)
+input_at multiline files i file within here =
     let names = map string_bytes files in
     let many = ap (nat_lt 1) (length-map files string_bytes) in
-    get_or-map (λ name. (record { name = name; in_front = nat_lt 1 (length names) }, None)) names i (string_bytes file) _
+    get_or-map (λ name. (record { name = name; in_front = nat_lt 1 (length names); multiline = multiline }, None)) names i (string_bytes file) _
     (omega (arith, within, length-map files string_bytes))
-    ∙ (λ j. (record { name = (get_or-map string_bytes files i file (string_bytes file) within ∙ ap string_bytes here) j; in_front = many j }, None))
+    ∙ (λ j. (record { name = (get_or-map string_bytes files i file (string_bytes file) within ∙ ap string_bytes here) j; in_front = many j; multiline = multiline }, None))
 
-pub inputs_length : (files : List (String Global)) → length (named_files (map string_bytes files)) ≡ length files
-inputs_length files = length-map (map string_bytes files) _ ∙ length-map files string_bytes
+pub inputs_length : (multiline : Bool) (files : List (String Global)) → length (named_files multiline (map string_bytes files)) ≡ length files
+inputs_length multiline files = length-map (map string_bytes files) _ ∙ length-map files string_bytes
 
-pub no_files : (files : List (String Global)) (input : Option (List ℕ)) → length files ≡ 0 →
-    inputs_of (map string_bytes files) input ≡ (record { name = codes "(standard input)"; in_front = false }, input) ∷ []
-no_files [] input none = refl
-no_files (file ∷ files) input none = absurd (omega (arith, none))
+pub no_files : (multiline : Bool) (files : List (String Global)) (input : Option (List ℕ)) → length files ≡ 0 →
+    inputs_of multiline (map string_bytes files) input ≡ (record { name = codes "(standard input)"; in_front = false; multiline = multiline }, input) ∷ []
+no_files multiline [] input none = refl
+no_files multiline (file ∷ files) input none = absurd (omega (arith, none))
 
 module _ (r : Regex) (job : Job) (place : Named) (input before after : Option (List ℕ)) where
   pub one_some : SearchesFirst r job place input before after → WritesSomeOf r job ((place, input) ∷ []) before after

@@ -1,9 +1,12 @@
 pub mod BufferedLemmas
 pub mod CountLemmas
+pub mod ExplainLemmas
 pub mod FoldLemmas
 pub mod InputLemmas
+pub mod JsonLemmas
 pub mod LineLemmas
 pub mod LintLemmas
 pub mod ReplyLemmas
 pub mod SearchLemmas
+pub mod SettingLemmas
 pub mod TreeLemmas

@@ -7,8 +7,9 @@ use Rattle.std.specs.List.{onto_first}
 use Rattle.std.proofs.lemmas.Bool.{cases_lt, eqb-true}
 use Rattle.std.proofs.lemmas.List.{get_or-take, length-take}
 use Rattle.std.proofs.lemmas.List.Elements.{All-head, All-tail}
-use Rattle.regex_command.specs.Lines.{AreLinesOf, lines_of}
+use Rattle.regex_command.specs.Lines.{AreLinesOf, lines_of, one_line, split_text}
 use Rattle.regex_command.specs.Reading.{IsRead}
+use Rattle.regex_command.specs.Source.{without_line_feed}
 use Rattle.regex_command.specs.declared.reading.Next.TheVariants.{Line, LastLine}
 
 -- no line feed is taken
@@ -59,31 +60,62 @@ consumes_more (Some a) (Some b) None xs ys one two = two
 consumes_more (Some a) (Some b) (Some c) xs ys one two = one ∙ ap (λ t. xs ++ t) two ∙ sym (append_assoc xs ys c)
 
 -- the lines that a reader has lost since it had `old`
-pub record HasRead (old now : Option (List ℕ)) (read : List (List ℕ)) : Type 0 where
+pub record HasRead (multiline : Bool) (old now : Option (List ℕ)) (read : List (List ℕ)) : Type 0 where
   pub bytes : List ℕ
   pub consumed : Consumes old now bytes
-  pub lines : (rest : List ℕ) → lines_of (bytes ++ rest) ≡ read ++ lines_of rest
+  pub lines : (rest : List ℕ) → split_text multiline (bytes ++ rest) ≡ read ++ split_text multiline rest
 
-pub begins : (old : Option (List ℕ)) → HasRead old old []
-begins old = record { bytes = []; consumed = by old; lines = λ rest. refl }
+pub begins : (multiline : Bool) (old : Option (List ℕ)) → HasRead multiline old old []
+begins multiline old = record { bytes = []; consumed = by old; lines = λ rest. refl }
   where
     by : (old : Option (List ℕ)) → Consumes old old []
     by None = tt
     by (Some xs) = refl
 
-module _ (old now : Option (List ℕ)) (lines : List (List ℕ)) (sofar : HasRead old now lines) where
-  pub goes_on : (new : Option (List ℕ)) (line : List ℕ) → IsRead now new line Line → HasRead old new (lines ++ line ∷ [])
-  goes_on new line read =
-      let bytes = sofar.bytes in
-      record {
-        bytes = bytes ++ (line ++ 10 ∷ []);
-        consumed = consumes_more old now new bytes (line ++ 10 ∷ []) sofar.consumed read.1;
-        lines = λ rest.
-            ap lines_of (append_assoc bytes (line ++ 10 ∷ []) rest ∙ ap (λ t. bytes ++ t) (append_assoc line (10 ∷ []) rest))
-            ∙ sofar.lines (line ++ 10 ∷ rest) ∙ ap (λ t. lines ++ t) (lines_of-line line rest read.0)
-            ∙ sym (append_assoc lines (line ∷ []) (lines_of rest));
-      }
+-- another line
+pub goes_on : (multiline : Bool) (old now : Option (List ℕ)) (lines : List (List ℕ)) → HasRead multiline old now lines →
+    (new : Option (List ℕ)) (line : List ℕ) → IsRead multiline now new line Line → HasRead multiline old new (lines ++ line ∷ [])
+goes_on true old now lines sofar new line read = absurd read
+goes_on false old now lines sofar new line read =
+    let bytes = sofar.bytes in
+    record {
+      bytes = bytes ++ (line ++ 10 ∷ []);
+      consumed = consumes_more old now new bytes (line ++ 10 ∷ []) sofar.consumed read.1;
+      lines = λ rest.
+          ap lines_of (append_assoc bytes (line ++ 10 ∷ []) rest ∙ ap (λ t. bytes ++ t) (append_assoc line (10 ∷ []) rest))
+          ∙ sofar.lines (line ++ 10 ∷ rest) ∙ ap (λ t. lines ++ t) (lines_of-line line rest read.0)
+          ∙ sym (append_assoc lines (line ∷ []) (lines_of rest));
+    }
 
+nothing_left : (multiline : Bool) → split_text multiline [] ≡ []
+nothing_left true = refl
+nothing_left false = refl
+
+-- What is left is read as the last line.
+pub record IsLast (multiline : Bool) (now new : Option (List ℕ)) (line : List ℕ) : Type 0 where
+  pub text : List ℕ
+  pub consumed : Consumes now new text
+  pub all : OnSome now (IsAtEnd new)
+  pub lines : split_text multiline text ≡ line ∷ []
+
+last_line : (line : List ℕ) → 0 < length line → All (λ b. b ≢ 10) line → lines_of line ≡ line ∷ []
+last_line [] some none = absurd (omega (arith, some))
+last_line (x ∷ line) some none = lines_of-last x line none
+
+one_of_text : (text : List ℕ) → 0 < length text → one_line text ≡ without_line_feed text ∷ []
+one_of_text [] some = absurd (omega (arith, some))
+one_of_text (b ∷ bs) some = refl
+
+is_last : (multiline : Bool) (now new : Option (List ℕ)) (line : List ℕ) → IsRead multiline now new line LastLine → IsLast multiline now new line
+is_last true now new line read = record {
+  text = read.text;
+  consumed = read.consumed;
+  all = read.all;
+  lines = one_of_text read.text read.some ∙ ap (λ x. x ∷ []) (sym read.is);
+}
+is_last false now new line read = record { text = line; consumed = read.2; all = read.3; lines = last_line line read.1 read.0 }
+
+module _ (multiline : Bool) (old now : Option (List ℕ)) (lines : List (List ℕ)) (sofar : HasRead multiline old now lines) where
   whole_text : (known : Option (List ℕ)) (bytes rest : List ℕ) → IfSome known (λ xs. xs ≡ bytes ++ rest) → IfSome known (λ xs. bytes ++ rest ≡ xs)
   whole_text None bytes rest h = tt
   whole_text (Some xs) bytes rest h = sym h
@@ -99,45 +131,42 @@ module _ (old now : Option (List ℕ)) (lines : List (List ℕ)) (sofar : HasRea
   at_its_end (Some xs) None bytes h is = absurd h
   at_its_end (Some xs) (Some ys) bytes h is = sym (h ∙ ap (λ t. bytes ++ t) is ∙ append-nil bytes)
 
-  pub ended : IsAtEnd now → AreLinesOf old true lines
+  pub ended : IsAtEnd now → AreLinesOf multiline old true lines
   ended is = record {
     text = sofar.bytes;
     known = at_its_end old now sofar.bytes sofar.consumed is;
     others = [];
-    whole = ap lines_of (sym (append-nil sofar.bytes)) ∙ sofar.lines [];
+    whole = ap (split_text multiline) (sym (append-nil sofar.bytes)) ∙ sofar.lines [] ∙ ap (λ t. lines ++ t) (nothing_left multiline);
     all = λ _. refl;
   }
 
-  last_line : (line : List ℕ) → 0 < length line → All (λ b. b ≢ 10) line → lines_of line ≡ line ∷ []
-  last_line [] some none = absurd (omega (arith, some))
-  last_line (x ∷ line) some none = lines_of-last x line none
-
-  pub ended_by_last : (new : Option (List ℕ)) (line : List ℕ) → IsRead now new line LastLine → AreLinesOf old true (lines ++ line ∷ [])
+  pub ended_by_last : (new : Option (List ℕ)) (line : List ℕ) → IsRead multiline now new line LastLine → AreLinesOf multiline old true (lines ++ line ∷ [])
   ended_by_last new line read =
-      let bytes = sofar.bytes ++ line in
+      let last = is_last multiline now new line read in
+      let bytes = sofar.bytes ++ last.text in
       record {
         text = bytes;
-        known = at_the_last old now new sofar.bytes line sofar.consumed read.2 read.3;
+        known = at_the_last old now new sofar.bytes last.text sofar.consumed last.consumed last.all;
         others = [];
-        whole = sofar.lines line ∙ ap (λ t. lines ++ t) (last_line line read.1 read.0) ∙ sym (append-nil (lines ++ line ∷ []));
+        whole = sofar.lines last.text ∙ ap (λ t. lines ++ t) last.lines ∙ sym (append-nil (lines ++ line ∷ []));
         all = λ _. refl;
       }
     where
-      at_the_last : (old now new : Option (List ℕ)) (bytes line : List ℕ) → Consumes old now bytes → Consumes now new line → OnSome now (IsAtEnd new) →
-          IfSome old (λ xs. bytes ++ line ≡ xs)
-      at_the_last None now new bytes line one two is = tt
-      at_the_last (Some xs) None new bytes line one two is = absurd one
-      at_the_last (Some xs) (Some ys) None bytes line one two is = absurd two
-      at_the_last (Some xs) (Some ys) (Some zs) bytes line one two is =
-          sym (one ∙ ap (λ t. bytes ++ t) (two ∙ ap (λ t. line ++ t) is ∙ append-nil line))
+      at_the_last : (old now new : Option (List ℕ)) (bytes text : List ℕ) → Consumes old now bytes → Consumes now new text → OnSome now (IsAtEnd new) →
+          IfSome old (λ xs. bytes ++ text ≡ xs)
+      at_the_last None now new bytes text one two is = tt
+      at_the_last (Some xs) None new bytes text one two is = absurd one
+      at_the_last (Some xs) (Some ys) None bytes text one two is = absurd two
+      at_the_last (Some xs) (Some ys) (Some zs) bytes text one two is =
+          sym (one ∙ ap (λ t. bytes ++ t) (two ∙ ap (λ t. text ++ t) is ∙ append-nil text))
 
-  pub stopped : AreLinesOf old false lines
+  pub stopped : AreLinesOf multiline old false lines
   stopped =
       let rest = left old now sofar.bytes sofar.consumed in
       record {
         text = sofar.bytes ++ rest.0;
         known = whole_text old sofar.bytes rest.0 rest.1;
-        others = lines_of rest.0;
+        others = split_text multiline rest.0;
         whole = sofar.lines rest.0;
         all = λ is. let bad : ⊥ = cc in absurd bad;
       }

@@ -1,5 +1,5 @@
 -- What a report is.
-use Rattle.std.proofs.Common.{◌≡◌, ◌∙◌, ◌+◌, ◌<◌, ◌≤◌, ℕ, Bool, false, List, [], ◌++◌, Option, Some, None, length, take, get_or, inl, inr, refl, ap, subst, sym, append-nil, append_assoc}
+use Rattle.std.proofs.Common.{◌≡◌, ◌∙◌, ◌+◌, ◌<◌, ◌≤◌, ℕ, Bool, List, [], ◌++◌, Option, Some, None, length, take, get_or, inl, inr, refl, ap, subst, sym, append-nil, append_assoc}
 use Rattle.std.specs.Prelude.{Result, Ok, Err, IfOk, codes}
 use Rattle.std.specs.Fmt.{decimal}
 use Rattle.std.specs.Io.KnownBytes.{Appends}
@@ -12,11 +12,14 @@ use Rattle.regress_base.specs.Table.{Table}
 use Rattle.regress_differences.specs.Kinds.{name_of, text_of}
 use Rattle.regress_differences.specs.declared.kind.Difference.{Difference}
 use Rattle.regress_parse.specs.Accepted.{NoneIsAccepted}
-use Rattle.regress_tree.specs.Setting.{Setting}
 use Rattle.regress_ucd.specs.UnicodeTable.{unicode_table}
-use Rattle.regex_command.specs.Asked.{LintRequest}
-use Rattle.regex_command.specs.Linted.{HasDifferences, IsListed, IsListedNext, IsReport, difference_line, is_nothing, setting_of_lint}
+use Rattle.regress_parse.specs.declared.fault.PlacedFault.{PlacedFault}
+use Rattle.regress_parse.specs.declared.fault.PlacedFault.TheVariants as placed
+use Rattle.regex_command.specs.Ending.{unaccepted}
+use Rattle.regex_command.specs.Linted.{HasDifferences, IsListed, IsListedNext, IsReport, difference_line, is_nothing}
+use Rattle.regex_command.specs.Setting.{unicode_setting}
 use Rattle.regex_command.specs.declared.failure.Failure.{Failure}
+use Rattle.regex_command.proofs.SettingLemmas.{OnSyntax, under_unicode}
 
 pub appends_nothing : (known : Option (List ℕ)) → Appends known known []
 appends_nothing None = tt
@@ -56,19 +59,16 @@ one_more found i e before after within steps next =
 pub all_listed : (found : List Difference) (i : ℕ) (bytes : List ℕ) → length found ≤ i → FoldsTo IsListedNext [] (take i found) bytes → IsListed found bytes
 all_listed found i bytes all steps = subst (λ (some : List Difference). FoldsTo IsListedNext [] some bytes) (take_all i found all) steps
 
-abbrev setting : Flags → Table → Setting
-setting flags table = record { flags = flags; table = table }
-
-module _ (request : LintRequest) (source : List ℕ) (table : Table) (characters : source ≡ request.pattern) (same : table ≡ unicode_table) where
+module _ (flags : Flags) (points source : List ℕ) (table : Table) (characters : points ≡ source) (same : table ≡ unicode_table) where
   -- the differences of the pattern
-  pub reports : (found : List Difference) (r : Result Bool Failure) (old new : Option (List ℕ)) → HasDifferences (setting request.flags table) source found →
-      IfOk r (λ _. Took old new (IsListed found)) → IfOk r (λ clean. clean ≡ is_nothing found) → IfOk r (λ clean. Took old new (IsReport clean request))
+  pub reports : (found : List Difference) (r : Result Bool Failure) (old new : Option (List ℕ)) → HasDifferences (record { flags = flags; table = table }) points found →
+      IfOk r (λ _. Took old new (IsListed found)) → IfOk r (λ clean. clean ≡ is_nothing found) →
+      IfOk r (λ clean. Took old new (IsReport clean (unicode_setting flags) source))
   reports found (Ok clean) old new differ (bytes, listed, appends) is_clean = (
     bytes,
     inl (record {
       found = found;
-      differ = subst (λ (x : List ℕ). HasDifferences (setting_of_lint request) x found) characters
-          (subst (λ (x : Table). HasDifferences (setting request.flags x) source found) same differ);
+      differ = under_unicode flags points source table characters same (λ setting text. HasDifferences setting text found) differ;
       listed = listed;
       is_clean = is_clean;
     }),
@@ -77,14 +77,21 @@ module _ (request : LintRequest) (source : List ℕ) (table : Table) (characters
   reports found (Err failure) old new differ took is_clean = tt
 
   -- a rejected pattern
-  pub rejects : (known : Option (List ℕ)) → NoneIsAccepted (setting request.flags table) source → Took known known (IsReport false request)
-  rejects known none = (
-    [],
-    inr (record {
-      none = subst (λ (x : List ℕ). NoneIsAccepted (setting_of_lint request) x) characters
-          (subst (λ (x : Table). NoneIsAccepted (setting request.flags x) source) same none);
-      nothing = refl;
-      unclean = refl;
-    }),
-    appends_nothing known,
-  )
+  pub rejects : (known : Option (List ℕ)) (fault : PlacedFault) (r : Result Bool Failure) → r ≡ unaccepted fault →
+      OnSyntax fault (NoneIsAccepted (record { flags = flags; table = table }) points) →
+      IfOk r (λ clean. Took known known (IsReport clean (unicode_setting flags) source))
+  rejects known fault r is none = subst (λ (r : Result Bool Failure). IfOk r (λ clean. Took known known (IsReport clean (unicode_setting flags) source)))
+      (sym is) (by fault none)
+    where
+      by : (fault : PlacedFault) → OnSyntax fault (NoneIsAccepted (record { flags = flags; table = table }) points) →
+          IfOk (unaccepted fault) (λ clean. Took known known (IsReport clean (unicode_setting flags) source))
+      by (placed.Syntax kind error position) none = (
+        [],
+        inr (record {
+          none = under_unicode flags points source table characters same NoneIsAccepted none;
+          nothing = refl;
+          unclean = refl;
+        }),
+        appends_nothing known,
+      )
+      by (placed.Memory error) none = tt

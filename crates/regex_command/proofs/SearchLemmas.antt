@@ -27,8 +27,9 @@ appends_nothing None = tt
 appends_nothing (Some bytes) = sym (append-nil bytes)
 
 -- the lines and those after them
-whole_of : (old : Option (List ℕ)) (lines : List (List ℕ)) (are : AreLinesOf old false lines) → AreLinesOf old true (lines ++ are.others)
-whole_of old lines are = record {
+whole_of : (multiline : Bool) (old : Option (List ℕ)) (lines : List (List ℕ)) (are : AreLinesOf multiline old false lines) →
+    AreLinesOf multiline old true (lines ++ are.others)
+whole_of multiline old lines are = record {
   text = are.text;
   known = are.known;
   others = [];
@@ -45,7 +46,7 @@ module _ (r : Regex) (job : Job) (place : Named) (old before : Option (List ℕ)
   -- how far the search is: what the reader has lost, and what was written
   pub record SoFar (now after : Option (List ℕ)) (number selected : ℕ) : Type 0 where
     pub lines : List (List ℕ)
-    pub read : HasRead old now lines
+    pub read : HasRead place.multiline old now lines
     pub progress : Progress
     pub steps : FoldsTo (IsStep r job place) at_start lines progress
     pub number_is : progress.lines ≡ number
@@ -54,7 +55,7 @@ module _ (r : Regex) (job : Job) (place : Named) (old before : Option (List ℕ)
     pub written : Appends before after progress.written
 
   pub nothing_first : SearchesFirst r job place old before before
-  nothing_first = (at_start, record { lines = []; are = stopped old old [] (begins old); steps = refl }, appends_nothing before)
+  nothing_first = (at_start, record { lines = []; are = stopped place.multiline old old [] (begins place.multiline old); steps = refl }, appends_nothing before)
 
   pub whole : (between after : Option (List ℕ)) (n : ℕ) → SearchesAll r job place old before between n →
       Appends between after (written_at_end job place n) → WritesInput r job place old before after (nat_lt 0 n)
@@ -102,10 +103,10 @@ module _ (r : Regex) (job : Job) (place : Named) (old before : Option (List ℕ)
     within true = omega (arith, sofar.few)
     within false = omega (arith, sofar.few)
 
-    pub another : (new : Option (List ℕ)) → IsRead now new line Line → SoFar new after (number + 1) (selected + one_if is_selected)
+    pub another : (new : Option (List ℕ)) → IsRead place.multiline now new line Line → SoFar new after (number + 1) (selected + one_if is_selected)
     another new read = record {
       lines = sofar.lines ++ line ∷ [];
-      read = goes_on old now sofar.lines sofar.read new line read;
+      read = goes_on place.multiline old now sofar.lines sofar.read new line read;
       progress = next;
       steps = FoldsTo-push (IsStep r job place) at_start sofar.lines sofar.progress line next sofar.steps step;
       number_is = refl;
@@ -114,12 +115,12 @@ module _ (r : Regex) (job : Job) (place : Named) (old before : Option (List ℕ)
       written = appends_both before between after sofar.progress.written reply.0 sofar.written reply.2;
     }
 
-    pub last : (new : Option (List ℕ)) → IsRead now new line LastLine → SearchesAll r job place old before after (selected + one_if is_selected)
+    pub last : (new : Option (List ℕ)) → IsRead place.multiline now new line LastLine → SearchesAll r job place old before after (selected + one_if is_selected)
     last new read = (
       next,
       record {
         lines = sofar.lines ++ line ∷ [];
-        are = ended_by_last old now sofar.lines sofar.read new line read;
+        are = ended_by_last place.multiline old now sofar.lines sofar.read new line read;
         steps = FoldsTo-push (IsStep r job place) at_start sofar.lines sofar.progress line next sofar.steps step;
       },
       refl,
@@ -130,7 +131,7 @@ module _ (r : Regex) (job : Job) (place : Named) (old before : Option (List ℕ)
     pub all : IsAtEnd now → SearchesAll r job place old before after selected
     all is = (
       sofar.progress,
-      record { lines = sofar.lines; are = ended old now sofar.lines sofar.read is; steps = sofar.steps },
+      record { lines = sofar.lines; are = ended place.multiline old now sofar.lines sofar.read is; steps = sofar.steps },
       sofar.selected_is,
       sofar.written,
     )
@@ -140,9 +141,9 @@ module _ (r : Regex) (job : Job) (place : Named) (old before : Option (List ℕ)
     enough is = (
       sofar.progress,
       record {
-        lines = sofar.lines ++ (stopped old now sofar.lines sofar.read).others;
-        are = whole_of old sofar.lines (stopped old now sofar.lines sofar.read);
-        steps = stays (IsStep r job place) at_start sofar.progress sofar.lines (stopped old now sofar.lines sofar.read).others
+        lines = sofar.lines ++ (stopped place.multiline old now sofar.lines sofar.read).others;
+        are = whole_of place.multiline old sofar.lines (stopped place.multiline old now sofar.lines sofar.read);
+        steps = stays (IsStep r job place) at_start sofar.progress sofar.lines (stopped place.multiline old now sofar.lines sofar.read).others
             (passed_over r job place sofar.progress (ap (is_enough job) sofar.selected_is ∙ is)) sofar.steps;
       },
       sofar.selected_is,
@@ -152,7 +153,7 @@ module _ (r : Regex) (job : Job) (place : Named) (old before : Option (List ℕ)
     pub first : SearchesFirst r job place old before after
     first = (
       sofar.progress,
-      record { lines = sofar.lines; are = stopped old now sofar.lines sofar.read; steps = sofar.steps },
+      record { lines = sofar.lines; are = stopped place.multiline old now sofar.lines sofar.read; steps = sofar.steps },
       sofar.written,
     )
 
@@ -161,11 +162,15 @@ module _ (r : Regex) (job : Job) (place : Named) (old before : Option (List ℕ)
     first_or_output (Err failure) = inr first
 
 -- another variant than these two
-pub is_line : (old new : Option (List ℕ)) (line : List ℕ) (next : Next) → (next ≡ End → ⊥) → (next ≡ LastLine → ⊥) → IsRead old new line next →
-    IsRead old new line Line
-is_line old new line Line not_end not_last read = read
-is_line old new line LastLine not_end not_last read = absurd (not_last refl)
-is_line old new line End not_end not_last read = absurd (not_end refl)
+pub is_line : (multiline : Bool) (old new : Option (List ℕ)) (line : List ℕ) (next : Next) → (next ≡ End → ⊥) → (next ≡ LastLine → ⊥) →
+    IsRead multiline old new line next → IsRead multiline old new line Line
+is_line multiline old new line Line not_end not_last read = read
+is_line multiline old new line LastLine not_end not_last read = absurd (not_last refl)
+is_line multiline old new line End not_end not_last read = absurd (not_end refl)
+
+pub is_end : (multiline : Bool) (old new : Option (List ℕ)) (line : List ℕ) → IsRead multiline old new line End → IsAtEnd old
+is_end true old new line read = read
+is_end false old new line read = read
 
 -- a failure that `?` passes on
 pub passed_on : {X : Type 0} (P : Failure → Type 0) (result : Result X Failure) (failure : Failure) → IsErrAnd result (λ f. f ≡ failure) → P failure → IfErr result P

@@ -1,5 +1,5 @@
 -- What is written for a rejected pattern.
-use Rattle.std.proofs.Common.{◌≡◌, ◌⊎◌, ℕ, Bool, true, false, List, [], Option, inl, inr, refl, sym, subst}
+use Rattle.std.proofs.Common.{◌≡◌, ◌⊎◌, ℕ, Bool, false, List, [], Option, inl, inr, refl, sym, subst}
 use Rattle.std.specs.Prelude.{Result, Ok, Err, IfOk, IfErr}
 use Rattle.regress_arguments.specs.Output.{Took}
 use Rattle.regress_display.specs.Accepted.{NoneIsAccepted}

@@ -7,20 +7,20 @@ use Rattle.regress.specs.declared.pattern.Regex.{Regex}
 use Rattle.regex_command.specs.Job.{Job, Named, matching, replacing, splitting}
 use Rattle.regex_command.specs.Searched.{IsSearched, Progress, written_at_end}
 use Rattle.regex_command.specs.declared.task.Shown.{Shown}
-use Rattle.regex_command.specs.declared.task.Shown.TheVariants.{Lines, Matches, Count, Names, Nothing}
+use Rattle.regex_command.specs.declared.task.Shown.TheVariants.{Lines, Matches, Json, Count, Names, Nothing}
 
 -- an input: its name, and its bytes if they are known
 abbrev pub Input : Type 0
 Input = Named × Option (List ℕ)
 
 -- The files with these names. Their names are in front of lines if there are several. Nothing is known of their bytes.
-abbrev pub named_files : List (List ℕ) → List Input
-named_files files = map (λ name. (record { name = name; in_front = nat_lt 1 (length files) }, None)) files
+abbrev pub named_files : (multiline : Bool) → List (List ℕ) → List Input
+named_files multiline files = map (λ name. (record { name = name; in_front = nat_lt 1 (length files); multiline = multiline }, None)) files
 
 -- the files, or standard input if there are none
-abbrev pub inputs_of : (files : List (List ℕ)) → (input : Option (List ℕ)) → List Input
-inputs_of [] input = (record { name = codes "(standard input)"; in_front = false }, input) ∷ []
-inputs_of (file ∷ files) input = named_files (file ∷ files)
+abbrev pub inputs_of : (multiline : Bool) → (files : List (List ℕ)) → (input : Option (List ℕ)) → List Input
+inputs_of multiline [] input = (record { name = codes "(standard input)"; in_front = false; multiline = multiline }, input) ∷ []
+inputs_of multiline (file ∷ files) input = named_files multiline (file ∷ files)
 
 -- whether a line was selected, and what was written
 pub record Result : Type 0 where
@@ -30,6 +30,7 @@ pub record Result : Type 0 where
 abbrev pub is_nothing : Shown → Bool
 is_nothing Lines = false
 is_nothing Matches = false
+is_nothing Json = false
 is_nothing Count = false
 is_nothing Names = false
 is_nothing Nothing = true

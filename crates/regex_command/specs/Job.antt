@@ -17,11 +17,12 @@ job (Match s) = matching s
 job (Replace template) = replacing template.now
 job Split = splitting
 
--- the name of an input, and whether it is shown in front of each line
+-- the name of an input, whether it is shown in front of each line, and whether the input is one line
 pub record Named : Type 0 where
   pub name : List ℕ
   pub in_front : Bool
+  pub multiline : Bool
 
 -- the name as the code represents it
 abbrev pub named : Place → Named
-named place = record { name = place.name.now; in_front = place.in_front }
+named place = record { name = place.name.now; in_front = place.in_front; multiline = place.multiline }

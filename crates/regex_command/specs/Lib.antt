@@ -1,7 +1,10 @@
 pub mod Asked
+pub mod Commands
 pub mod Ending
+pub mod Explained
 pub mod Inputs
 pub mod Job
+pub mod Json
 pub mod Lines
 pub mod Linted
 pub mod Options
@@ -9,5 +12,6 @@ pub mod Printed
 pub mod Reading
 pub mod Reply
 pub mod Searched
-pub mod TreeOptions
+pub mod Setting
+pub mod Source
 pub mod Trees

@@ -10,12 +10,6 @@ use Rattle.regress_parse.specs.Accepted.{IsAccepted, NoneIsAccepted}
 use Rattle.regress_spans.specs.Paired.{spanned_of}
 use Rattle.regress_syntax.specs.Syntax.{Pattern}
 use Rattle.regress_tree.specs.Setting.{Setting}
-use Rattle.regress_ucd.specs.UnicodeTable.{unicode_table}
-use Rattle.regex_command.specs.Asked.{LintRequest}
-
--- the request's flags, and the table of all of Unicode
-abbrev pub setting_of_lint : LintRequest → Setting
-setting_of_lint request = record { flags = request.flags; table = unicode_table }
 
 -- the differences of an accepted pattern from ECMA-262
 abbrev pub HasDifferences : Setting → (source : List ℕ) → List Difference → Type 0
@@ -38,17 +32,17 @@ abbrev pub is_nothing : List Difference → Bool
 is_nothing found = length found == 0
 
 -- what is written for an accepted pattern, which is clean if nothing is
-pub record IsReportOfAccepted (clean : Bool) (request : LintRequest) (bytes : List ℕ) : Type 0 where
+pub record IsReportOfAccepted (clean : Bool) (setting : Setting) (source : List ℕ) (bytes : List ℕ) : Type 0 where
   pub found : List Difference
-  pub differ : HasDifferences (setting_of_lint request) request.pattern found
+  pub differ : HasDifferences setting source found
   pub listed : IsListed found bytes
   pub is_clean : clean ≡ is_nothing found
 
 -- Nothing is written to standard output for a rejected pattern.
-pub record IsReportOfRejected (clean : Bool) (request : LintRequest) (bytes : List ℕ) : Type 0 where
-  pub none : NoneIsAccepted (setting_of_lint request) request.pattern
+pub record IsReportOfRejected (clean : Bool) (setting : Setting) (source : List ℕ) (bytes : List ℕ) : Type 0 where
+  pub none : NoneIsAccepted setting source
   pub nothing : bytes ≡ []
   pub unclean : clean ≡ false
 
-abbrev pub IsReport : (clean : Bool) → LintRequest → List ℕ → Type 0
-IsReport clean request bytes = IsReportOfAccepted clean request bytes ⊎ IsReportOfRejected clean request bytes
+abbrev pub IsReport : (clean : Bool) → Setting → (source : List ℕ) → List ℕ → Type 0
+IsReport clean setting source bytes = IsReportOfAccepted clean setting source bytes ⊎ IsReportOfRejected clean setting source bytes

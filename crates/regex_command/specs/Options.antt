@@ -1,5 +1,6 @@
 -- The options before the pattern.
-use Rattle.std.specs.Prelude.{ℕ, Bool, true, false, not, ◌||◌, ◌&&◌, ◌^◌, nat_lt, List, [], ◌∷◌, Option, Some, None, option_and_then, option_map, if◌then◌else◌, ◌==◌, bytes_eq, codes, drop, length, slice_index, String, string_bytes}
+use Rattle.std.specs.Borrow.{Bor}
+use Rattle.std.specs.Prelude.{ℕ, Bool, true, false, not, ◌||◌, ◌&&◌, ◌^◌, nat_lt, List, [], ◌∷◌, Option, Some, None, is_some, option_and_then, option_map, if◌then◌else◌, ◌==◌, bytes_eq, codes, drop, length, slice_index, String, string_bytes}
 use Rattle.std.specs.List.{starts_with}
 use Rattle.std.specs.Str.{all_ascii_digits}
 use Rattle.std.specs.Str.Parse.{digits_value}
@@ -7,13 +8,42 @@ use Rattle.std.specs.declared.alloc.Global.{Global}
 use Rattle.regress_arguments.specs.Letters.{no_flags}
 use Rattle.regress_arguments.specs.Letters as flags
 use Rattle.regress_base.specs.declared.types.Flags.{Flags}
+use Rattle.regress_display.specs.declared.request.Stage.TheVariants.{Parsed, Optimized}
+use Rattle.regex_command.specs.Source.{Source, in_argument, in_file, source}
+use Rattle.regex_command.specs.declared.options.Given as code
 use Rattle.regex_command.specs.declared.options.Options.{Options}
+use Rattle.regex_command.specs.declared.options.Value.{Value}
+use Rattle.regex_command.specs.declared.options.Value.TheVariants.{Count, Pattern, File}
 use Rattle.regex_command.specs.declared.task.Shown.{Shown}
-use Rattle.regex_command.specs.declared.task.Shown.TheVariants.{Lines, Matches, Count, Names, Nothing}
+use Rattle.regex_command.specs.declared.task.Shown.TheVariants as shows
 
 -- the options where none is given
 abbrev pub no_options : Options
-no_options = record { help = false; flags = no_flags; selection = record { invert = false; numbers = false; shown = Lines; max_count = None } }
+no_options = record {
+  help = false;
+  flags = no_flags;
+  selection = record { invert = false; numbers = false; shown = shows.Lines; max_count = None };
+  multiline = false;
+  json = false;
+  stage = None;
+  small = false;
+}
+
+-- the options, and the pattern if an option has it
+pub record Given : Type 0 where
+  pub options : Options
+  pub pattern : Option Source
+
+abbrev pub nothing_given : Given
+nothing_given = record { options = no_options; pattern = None }
+
+-- what the options specify, as the code represents it
+abbrev pub given_by : code.Given → Given
+given_by given = record { options = given.options; pattern = option_map source given.pattern }
+
+-- the same, with the arguments after the options
+abbrev pub after_options : code.Given × Bor (List (String Global)) → Given × List (String Global)
+after_options found = (given_by found.0, found.1.now)
 
 -- the text after a prefix, if it has that
 abbrev pub after_prefix : List ℕ → List ℕ → Option (List ℕ)
@@ -43,10 +73,11 @@ with_letter options c =
     else if c == 105 then Some (record options { flags = record options.flags { icase = true } })
     else if c == 118 then Some (record options { selection = record options.selection { invert = true } })
     else if c == 110 then Some (record options { selection = record options.selection { numbers = true } })
-    else if c == 111 then Some (with_shown options Matches)
-    else if c == 99 then Some (with_shown options Count)
-    else if c == 108 then Some (with_shown options Names)
-    else if c == 113 then Some (with_shown options Nothing)
+    else if c == 111 then Some (with_shown options shows.Matches)
+    else if c == 99 then Some (with_shown options shows.Count)
+    else if c == 108 then Some (with_shown options shows.Names)
+    else if c == 113 then Some (with_shown options shows.Nothing)
+    else if c == 77 then Some (record options { multiline = true })
     else None
 
 -- the options with those that have these letters
@@ -64,13 +95,28 @@ abbrev pub with_count : Options → (text : List ℕ) → Option Options
 with_count options text =
     option_map (λ count. record options { selection = record options.selection { max_count = Some count } }) (count_of text)
 
+-- the options with the one that has this name and that commands have which show a tree
+abbrev pub with_tree : Options → List ℕ → Option Options
+with_tree options name =
+    if bytes_eq name (codes "json") then Some (record options { json = true })
+    else if bytes_eq name (codes "parsed") then Some (record options { stage = Some Parsed })
+    else if bytes_eq name (codes "optimized") then Some (record options { stage = Some Optimized })
+    else if bytes_eq name (codes "small") then Some (record options { small = true })
+    else with_named_flags options name
+
+-- the options with `max-count=NUM`, or with another one
+abbrev pub with_named_count : Options → List ℕ → Option Options
+with_named_count options name =
+    if starts_with (λ b c. b == c) name (codes "max-count=") then option_and_then (with_count options) (after_prefix (codes "max-count=") name)
+    else with_tree options name
+
 -- the options with the one that has this name
 abbrev pub with_long : Options → List ℕ → Option Options
 with_long options name =
     if bytes_eq name (codes "help") then Some (record options { help = true })
-    else if bytes_eq name (codes "quiet") then Some (with_shown options Nothing)
-    else if starts_with (λ b c. b == c) name (codes "max-count=") then option_and_then (with_count options) (after_prefix (codes "max-count=") name)
-    else with_named_flags options name
+    else if bytes_eq name (codes "quiet") then Some (with_shown options shows.Nothing)
+    else if bytes_eq name (codes "multiline") then Some (record options { multiline = true })
+    else with_named_count options name
 
 -- the options with those of an argument: two hyphens and a name, `-m` and a number, or a hyphen and letters
 abbrev pub with_option : Options → List ℕ → Option Options
@@ -83,20 +129,34 @@ with_option options word =
 abbrev pub is_option : List ℕ → Bool
 is_option word = slice_index word 0 == 45 && not (bytes_eq word (codes "-"))
 
--- The argument after this one is a number.
-abbrev pub takes_count : List ℕ → Bool
-takes_count word = bytes_eq word (codes "-m") || bytes_eq word (codes "--max-count")
+-- what the argument after this one is, if it belongs to this option
+abbrev pub takes : List ℕ → Option Value
+takes word =
+    if bytes_eq word (codes "-m") || bytes_eq word (codes "--max-count") then Some Count
+    else if bytes_eq word (codes "-e") then Some Pattern
+    else if bytes_eq word (codes "-f") then Some File
+    else None
 
--- The options, and the arguments after them. Options end at `--`, or before an argument that is none. `awaits` states
--- that the first argument is the number of the option before it.
-abbrev pub options_of : (awaits : Bool) → Options → List (String Global) → Option (Options × List (String Global))
-options_of true options [] = None
-options_of true options (first ∷ rest) =
-    option_and_then (λ more. options_of false more rest) (with_count options (string_bytes first))
-options_of false options [] = Some (options, [])
-options_of false options (first ∷ rest) =
+-- an option and the argument after it
+abbrev pub with_value : Given → Value → List ℕ → Option Given
+with_value given Count value = option_map (λ options. record given { options = options }) (with_count given.options value)
+with_value given Pattern value = Some (record given { pattern = Some (in_argument value) })
+with_value given File value = Some (record given { pattern = Some (in_file value) })
+
+-- an option that is one argument
+abbrev pub with_word : Given → List ℕ → Option Given
+with_word given word = option_map (λ options. record given { options = options }) (with_option given.options word)
+
+-- What the options specify, and the arguments after them. Options end at `--`, or before an argument that is none.
+-- `awaits` is what the first argument is, if it belongs to the option before it.
+abbrev pub options_of : (awaits : Option Value) → Given → List (String Global) → Option (Given × List (String Global))
+options_of (Some value) given [] = None
+options_of (Some value) given (first ∷ rest) =
+    option_and_then (λ more. options_of None more rest) (with_value given value (string_bytes first))
+options_of None given [] = Some (given, [])
+options_of None given (first ∷ rest) =
     if is_option (string_bytes first) then
-    (if bytes_eq (string_bytes first) (codes "--") then Some (options, rest)
-    else if takes_count (string_bytes first) then options_of true options rest
-    else option_and_then (λ more. options_of false more rest) (with_option options (string_bytes first)))
-    else Some (options, first ∷ rest)
+    (if bytes_eq (string_bytes first) (codes "--") then Some (given, rest)
+    else if is_some (takes (string_bytes first)) then options_of (takes (string_bytes first)) given rest
+    else option_and_then (λ more. options_of None more rest) (with_word given (string_bytes first)))
+    else Some (given, first ∷ rest)

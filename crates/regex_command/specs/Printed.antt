@@ -2,46 +2,45 @@
 use Rattle.std.specs.Prelude.{◌≡◌, ℕ, Bool, true, false, ◌⊎◌, ◌||◌, List, ◌++◌, Option, ⊤, chars, codes}
 use Rattle.std.specs.Io.KnownBytes.{Appends}
 use Rattle.regress_arguments.specs.Output.{Took}
+use Rattle.regress_base.specs.declared.types.Flags.{Flags}
 use Rattle.regress_escape.specs.Escape.{escaped}
 use Rattle.regress_front.specs.Accepted.{NoneIsAccepted}
-use Rattle.regress_front.specs.Setting.{Setting}
-use Rattle.regress_ucd.specs.UnicodeTable.{unicode_table}
+use Rattle.regress_tree.specs.Setting.{Setting}
 use Rattle.regress.specs.Compiled.{IsCompiled}
 use Rattle.regress.specs.declared.pattern.Regex.{Regex}
+use Rattle.regress_display.specs.Request.{table_asked}
+use Rattle.regress_display.specs.Request as trees
 use Rattle.regress_display.specs.Shown.{IsFirstOutput}
-use Rattle.regex_command.specs.Asked.{Ask, Request, escape, help, lint, search, show}
+use Rattle.regex_command.specs.Asked.{Action, Ask, apply, escape, explain, help, lint, search, show}
 use Rattle.regex_command.specs.Ending.{IsLate}
+use Rattle.regex_command.specs.Explained.{IsExplanation}
 use Rattle.regex_command.specs.Inputs.{WritesInputs, WritesSomeOf, inputs_of}
 use Rattle.regex_command.specs.Job.{Job, matching, replacing, splitting}
 use Rattle.regex_command.specs.Linted.{IsReport}
+use Rattle.regex_command.specs.Setting.{unicode_setting}
+use Rattle.regex_command.specs.Source.{IsUnread, OfText}
 use Rattle.regex_command.specs.Trees.{IsAnswer, IsQuietFor, IsShowFailure}
+use Rattle.regex_command.specs.declared.asked.View.{View}
 use Rattle.regex_command.specs.declared.failure.Failure.{Failure}
-use Rattle.regex_command.specs.declared.failure.Failure.TheVariants.{Usage, Argument, Memory, Output, Syntax, TooLarge, OutOfSteps, Unreadable, NotUtf8, TooLong}
-
--- the request's flags, and the table of all of Unicode
-abbrev pub setting_of : Request → Setting
-setting_of request = record { flags = request.flags; table = unicode_table }
-
--- The regular expression is that of the request.
-abbrev pub IsRegexOf : Request → Regex → Type 0
-IsRegexOf request r = IsCompiled (setting_of request) request.pattern r
+use Rattle.regex_command.specs.declared.failure.Failure.TheVariants.{Usage, Argument, Memory, Output, Syntax, TooLarge, OutOfSteps, Unreadable, NotUtf8, PatternNotUtf8, TooLong}
 
 -- No pattern is accepted, or it is too large, or memory is short.
-abbrev pub IsRejected : Request → Failure → Type 0
-IsRejected request Usage = ⊥
-IsRejected request Argument = ⊥
-IsRejected request Memory = ⊤
-IsRejected request Output = ⊥
-IsRejected request (Syntax pattern text position) = NoneIsAccepted (setting_of request) (chars request.pattern)
-IsRejected request TooLarge = ⊤
-IsRejected request OutOfSteps = ⊥
-IsRejected request (Unreadable name) = ⊥
-IsRejected request (NotUtf8 name line offset) = ⊥
-IsRejected request (TooLong name) = ⊥
+abbrev pub IsRejected : Setting → (text : List ℕ) → Failure → Type 0
+IsRejected setting text Usage = ⊥
+IsRejected setting text Argument = ⊥
+IsRejected setting text Memory = ⊤
+IsRejected setting text Output = ⊥
+IsRejected setting text (Syntax pattern message position) = NoneIsAccepted setting (chars text)
+IsRejected setting text TooLarge = ⊤
+IsRejected setting text OutOfSteps = ⊥
+IsRejected setting text (Unreadable name) = ⊥
+IsRejected setting text (NotUtf8 name line offset) = ⊥
+IsRejected setting text (PatternNotUtf8 name offset) = ⊥
+IsRejected setting text (TooLong name) = ⊥
 
--- a syntax error is due only if no pattern is accepted
-abbrev pub IsDue : Request → Failure → Type 0
-IsDue request failure = IsRejected request failure ⊎ IsLate failure
+-- A failure of a search: a syntax error is due only if no pattern is accepted.
+abbrev pub IsDue : Setting → (text : List ℕ) → Failure → Type 0
+IsDue setting text failure = IsRejected setting text failure ⊎ IsLate failure
 
 -- a job that changes lines
 abbrev pub changes : Job → Bool
@@ -49,49 +48,82 @@ changes (matching s) = false
 changes (replacing template) = true
 changes splitting = true
 
--- All inputs were searched, and `found` states whether a line was selected, or the job changes lines.
-abbrev pub PrintsAll : (input old new : Option (List ℕ)) → (found : Bool) → Request → Type 0
-PrintsAll input old new found request =
-    (r : Regex) × IsRegexOf request r × ((any : Bool) × (found ≡ any || changes request.job) × WritesInputs r request.job (inputs_of request.files input) old new any)
+module _ (setting : Setting) (text : List ℕ) (job : Job) (multiline : Bool) (files : List (List ℕ)) where
+  -- All inputs were searched, and `found` states whether a line was selected, or the job changes lines.
+  abbrev pub PrintsAll : (input old new : Option (List ℕ)) → (found : Bool) → Type 0
+  PrintsAll input old new found =
+      (r : Regex) × IsCompiled setting text r × ((any : Bool) × (found ≡ any || changes job) × WritesInputs r job (inputs_of multiline files input) old new any)
 
--- The first lines of the inputs were searched.
-abbrev pub PrintsFirst : (input old new : Option (List ℕ)) → Request → Type 0
-PrintsFirst input old new request =
-    (r : Regex) × IsRegexOf request r × WritesSomeOf r request.job (inputs_of request.files input) old new
+  -- The first lines of the inputs were searched.
+  abbrev pub PrintsFirst : (input old new : Option (List ℕ)) → Type 0
+  PrintsFirst input old new = (r : Regex) × IsCompiled setting text r × WritesSomeOf r job (inputs_of multiline files input) old new
 
 -- a text, escaped, on a line
 abbrev pub PrintsEscaped : (old new : Option (List ℕ)) → (text : List ℕ) → Type 0
 PrintsEscaped old new text = Took old new (λ bytes. (pattern : List ℕ) × (chars pattern ≡ escaped (chars text)) × (bytes ≡ pattern ++ codes "\n"))
 
--- What is written: the help, an escaped text, the output of a search, a tree, or a report. `found` states whether something
--- is found, or a pattern is accepted and, for a report, without differences.
+-- the tree of a pattern, and how it is shown
+abbrev pub view_of : View → Flags → (text : List ℕ) → trees.Request
+view_of view flags text = record {
+  format = view.format;
+  stage = view.stage;
+  table = table_asked view.small;
+  pattern = chars text;
+  flags = flags;
+}
+
+module _ (flags : Flags) (text : List ℕ) where
+  -- What is written for a pattern: the output of a search, a tree, a report, or an explanation. `found` states whether
+  -- something is found, or the pattern is accepted and, for a report, without differences.
+  abbrev pub Does : Action → (input old new : Option (List ℕ)) → (found : Bool) → Type 0
+  Does (search job multiline files) input old new found = PrintsAll (unicode_setting flags) text job multiline files input old new found
+  Does (show view) input old new found = Took old new (IsAnswer found (view_of view flags text))
+  Does lint input old new found = Took old new (IsReport found (unicode_setting flags) (chars text))
+  Does explain input old new found = Took old new (IsExplanation found (unicode_setting flags) (chars text))
+
+  -- What may be written before a failure: what a search writes for its first lines, or the first of two trees.
+  abbrev pub Begins : Action → (input old new : Option (List ℕ)) → Type 0
+  Begins (search job multiline files) input old new = PrintsFirst (unicode_setting flags) text job multiline files input old new
+  Begins (show view) input old new = Took old new (IsFirstOutput (view_of view flags text))
+  Begins lint input old new = ⊥
+  Begins explain input old new = ⊥
+
+  -- A failure is due: a syntax error only for a search whose pattern is rejected.
+  abbrev pub MayFailAt : Action → Failure → Type 0
+  MayFailAt (search job multiline files) failure = IsDue (unicode_setting flags) text failure
+  MayFailAt (show view) failure = IsShowFailure (view_of view flags text) failure
+  MayFailAt lint failure = IsLate failure
+  MayFailAt explain failure = IsLate failure
+
+-- What is written: the help, an escaped text, or the output for a pattern.
 abbrev pub Prints : (help : List ℕ) → (input old new : Option (List ℕ)) → (found : Bool) → Ask → Type 0
 Prints text input old new found help = (found ≡ true) × Appends old new text
 Prints text input old new found (escape string) = (found ≡ true) × PrintsEscaped old new string
-Prints text input old new found (search request) = PrintsAll input old new found request
-Prints text input old new found (show request) = Took old new (IsAnswer found request)
-Prints text input old new found (lint request) = Took old new (IsReport found request)
+Prints text input old new found (apply request) =
+    OfText request.pattern (λ pattern. Does request.flags pattern request.action input old new found)
 
--- Nothing is written to standard error, unless a pattern is shown or reported on: if it is rejected, its syntax error is.
+-- Nothing is written to standard error, unless a pattern is rejected that is not searched for: then its syntax error is.
+abbrev pub IsQuietAt : (quiet : Type 0) → Action → Type 0
+IsQuietAt quiet (search job multiline files) = quiet
+IsQuietAt quiet (show view) = IsQuietFor view.format quiet
+IsQuietAt quiet lint = ⊤
+IsQuietAt quiet explain = ⊤
+
 abbrev pub IsQuiet : (quiet : Type 0) → Ask → Type 0
 IsQuiet quiet help = quiet
 IsQuiet quiet (escape string) = quiet
-IsQuiet quiet (search request) = quiet
-IsQuiet quiet (show request) = IsQuietFor request.format quiet
-IsQuiet quiet (lint request) = ⊤
+IsQuiet quiet (apply request) = IsQuietAt quiet request.action
 
--- What is written before a failure: nothing, what a search writes for its first lines, or the first of two trees.
+-- What is written before a failure: nothing, or what an action begins with.
 abbrev pub PrintsSome : (input old new : Option (List ℕ)) → (nothing : Type 0) → Ask → Type 0
 PrintsSome input old new nothing help = nothing
 PrintsSome input old new nothing (escape string) = nothing
-PrintsSome input old new nothing (search request) = nothing ⊎ PrintsFirst input old new request
-PrintsSome input old new nothing (show request) = nothing ⊎ Took old new (IsFirstOutput request)
-PrintsSome input old new nothing (lint request) = nothing
+PrintsSome input old new nothing (apply request) =
+    nothing ⊎ OfText request.pattern (λ pattern. Begins request.flags pattern request.action input old new)
 
--- A failure is due: a syntax error only for a search whose pattern is rejected, wrong usage never.
+-- A failure is due. Wrong usage never is.
 abbrev pub MayFail : Ask → Failure → Type 0
 MayFail help failure = IsLate failure
 MayFail (escape string) failure = IsLate failure
-MayFail (search request) failure = IsDue request failure
-MayFail (show request) failure = IsShowFailure request failure
-MayFail (lint request) failure = IsLate failure
+MayFail (apply request) failure =
+    IsUnread request.pattern failure ⊎ OfText request.pattern (λ pattern. MayFailAt request.flags pattern request.action failure)

@@ -1,11 +1,27 @@
 -- Reading one line.
-use Rattle.std.specs.Prelude.{◌≢◌, ℕ, ◌<◌, List, [], ◌∷◌, ◌++◌, length, All, Option, OnSome}
+use Rattle.std.specs.Prelude.{◌≡◌, ◌≢◌, ℕ, ◌<◌, Bool, true, false, List, [], ◌∷◌, ◌++◌, length, All, Option, OnSome}
 use Rattle.std.specs.Io.KnownBytes.{Consumes, IsAtEnd}
+use Rattle.regex_command.specs.Source.{without_line_feed}
 use Rattle.regex_command.specs.declared.reading.Next.{Next}
 use Rattle.regex_command.specs.declared.reading.Next.TheVariants.{Line, LastLine, End}
 
 -- What a reader has left before and after this line, or the end, was read.
-abbrev pub IsRead : (old new : Option (List ℕ)) → (line : List ℕ) → Next → Type 0
-IsRead old new line Line = All (λ b. b ≢ 10) line × Consumes old new (line ++ 10 ∷ [])
-IsRead old new line LastLine = All (λ b. b ≢ 10) line × (0 < length line) × Consumes old new line × OnSome old (IsAtEnd new)
-IsRead old new line End = IsAtEnd old
+abbrev pub IsReadLine : (old new : Option (List ℕ)) → (line : List ℕ) → Next → Type 0
+IsReadLine old new line Line = All (λ b. b ≢ 10) line × Consumes old new (line ++ 10 ∷ [])
+IsReadLine old new line LastLine = All (λ b. b ≢ 10) line × (0 < length line) × Consumes old new line × OnSome old (IsAtEnd new)
+IsReadLine old new line End = IsAtEnd old
+
+-- All that a reader had left was read as one line.
+pub record IsReadText (old new : Option (List ℕ)) (line : List ℕ) : Type 0 where
+  pub text : List ℕ
+  pub some : 0 < length text
+  pub is : line ≡ without_line_feed text
+  pub consumed : Consumes old new text
+  pub all : OnSome old (IsAtEnd new)
+
+-- A line was read, or with `multiline` all lines as one.
+abbrev pub IsRead : (multiline : Bool) → (old new : Option (List ℕ)) → (line : List ℕ) → Next → Type 0
+IsRead false old new line next = IsReadLine old new line next
+IsRead true old new line Line = ⊥
+IsRead true old new line LastLine = IsReadText old new line
+IsRead true old new line End = IsAtEnd old

@@ -8,8 +8,9 @@ use Rattle.regress.specs.Found.{MatchesSomewhere}
 use Rattle.regress.specs.Replaced.{IsSplit, ReplacesAll}
 use Rattle.regress.specs.declared.pattern.Regex.{Regex}
 use Rattle.regex_command.specs.declared.task.Shown.{Shown}
-use Rattle.regex_command.specs.declared.task.Shown.TheVariants.{Lines, Matches, Count, Names, Nothing}
+use Rattle.regex_command.specs.declared.task.Shown.TheVariants.{Lines, Matches, Json, Count, Names, Nothing}
 use Rattle.regex_command.specs.Job.{Job, matching, replacing, splitting}
+use Rattle.regex_command.specs.Json.{ShowsJson}
 
 -- the bytes and a line feed
 abbrev pub ended : List ℕ → List ℕ
@@ -33,6 +34,7 @@ module _ (r : Regex) (line : List ℕ) where
   abbrev pub Shows : Shown → (front bytes : List ℕ) → Type 0
   Shows Lines front bytes = bytes ≡ front ++ ended line
   Shows Matches front bytes = ShowsMatches front bytes
+  Shows Json front bytes = ShowsJson r line front bytes
   Shows Count front bytes = bytes ≡ []
   Shows Names front bytes = bytes ≡ []
   Shows Nothing front bytes = bytes ≡ []

@@ -7,8 +7,9 @@ use Rattle.regress.specs.declared.pattern.Regex.{Regex}
 use Rattle.regex_command.specs.Lines.{AreLinesOf}
 use Rattle.regex_command.specs.Reply.{IsReply, ended}
 use Rattle.regex_command.specs.Job.{Job, Named, matching, replacing, splitting}
+use Rattle.regex_command.specs.Json.{json_front}
 use Rattle.regex_command.specs.declared.task.Shown.{Shown}
-use Rattle.regex_command.specs.declared.task.Shown.TheVariants.{Lines, Matches, Count, Names, Nothing}
+use Rattle.regex_command.specs.declared.task.Shown.TheVariants.{Lines, Matches, Json, Count, Names, Nothing}
 
 -- how far an input is searched: the number of lines, the number of selected lines, and what was written for them
 pub record Progress : Type 0 where
@@ -42,6 +43,7 @@ name_of place = if place.in_front then place.name ++ codes ":" else []
 abbrev pub needs_one : Shown → Bool
 needs_one Lines = false
 needs_one Matches = false
+needs_one Json = false
 needs_one Count = false
 needs_one Names = true
 needs_one Nothing = true
@@ -52,14 +54,33 @@ is_enough (matching s) selected = reaches s.max_count selected || (needs_one s.s
 is_enough (replacing template) selected = false
 is_enough splitting selected = false
 
+-- whether matches are shown as JSON
+abbrev pub is_json : Shown → Bool
+is_json Lines = false
+is_json Matches = false
+is_json Json = true
+is_json Count = false
+is_json Names = false
+is_json Nothing = false
+
+abbrev pub shows_json : Job → Bool
+shows_json (matching s) = is_json s.shown
+shows_json (replacing template) = false
+shows_json splitting = false
+
+-- what is in front of a line as text: the name of the input and the number of the line, if they are shown
+abbrev pub text_front : Job → Named → (number : ℕ) → List ℕ
+text_front job place number = name_of place ++ (if has_numbers job then decimal number ++ codes ":" else [])
+
 -- what is in front of what is shown of the line with this number
 abbrev pub front_of : Job → Named → (number : ℕ) → List ℕ
-front_of job place number = name_of place ++ (if has_numbers job then decimal number ++ codes ":" else [])
+front_of job place number = if shows_json job then json_front place.name number else text_front job place number
 
 -- what is written at the end of an input for the number of selected lines
 abbrev pub shown_at_end : Shown → Named → (selected : ℕ) → List ℕ
 shown_at_end Lines place selected = []
 shown_at_end Matches place selected = []
+shown_at_end Json place selected = []
 shown_at_end Count place selected = name_of place ++ ended (decimal selected)
 shown_at_end Names place selected = if nat_lt 0 selected then ended place.name else []
 shown_at_end Nothing place selected = []
@@ -86,7 +107,7 @@ module _ (r : Regex) (job : Job) where
   -- The lines of an input were searched in order: all of them, or the first ones.
   pub record IsSearched (place : Named) (input : Option (List ℕ)) (all : Bool) (p : Progress) : Type 0 where
     pub lines : List (List ℕ)
-    pub are : AreLinesOf input all lines
+    pub are : AreLinesOf place.multiline input all lines
     pub steps : FoldsTo (IsStep place) at_start lines p
 
   -- all lines of an input were searched, this many are selected, and their output was written

@@ -7,7 +7,7 @@ use Rattle.regress_display.specs.Shown.{IsOutput}
 use Rattle.regress_display.specs.declared.request.Format.{Format}
 use Rattle.regress_display.specs.declared.request.Format.TheVariants.{Text, Json, Svg}
 use Rattle.regex_command.specs.declared.failure.Failure.{Failure}
-use Rattle.regex_command.specs.declared.failure.Failure.TheVariants.{Usage, Argument, Memory, Output, Syntax, TooLarge, OutOfSteps, Unreadable, NotUtf8, TooLong}
+use Rattle.regex_command.specs.declared.failure.Failure.TheVariants.{Usage, Argument, Memory, Output, Syntax, TooLarge, OutOfSteps, Unreadable, NotUtf8, PatternNotUtf8, TooLong}
 
 -- What is written to standard output for a rejected pattern: its syntax error as JSON, and nothing in the other formats.
 abbrev pub IsFaultWritten : Format → Request → List ℕ → Type 0
@@ -43,4 +43,5 @@ IsShowFailure request TooLarge = ⊥
 IsShowFailure request OutOfSteps = ⊥
 IsShowFailure request (Unreadable name) = ⊥
 IsShowFailure request (NotUtf8 name line offset) = ⊥
+IsShowFailure request (PatternNotUtf8 name offset) = ⊥
 IsShowFailure request (TooLong name) = ⊥

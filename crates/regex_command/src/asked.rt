@@ -1,13 +1,15 @@
-//! The request that the arguments make.
+//! What the arguments ask for.
 ghost use Rattle.std.specs.Prelude.{◌≡◌, option_map};
-ghost use Rattle.regex_command.specs.Asked.{ask, asked_of, command_of, escape_of, help_of, is_plain, search_of, search_with};
+ghost use Rattle.regex_command.specs.Asked.{action, action_of, after_pattern, ask, asked_of, command_with, escape_of, help_of, other_of, printed_format, search_with, selection_of, stage_of, taken_pattern, view_in};
 ghost use Rattle.regex_command.specs.Job.{job};
+ghost use Rattle.regex_command.specs.Source.{source};
 
+use crate::command::{Command, allows, command_of};
 use crate::options::{Options, read_options};
+use crate::pattern::PatternSource;
 use crate::task::{Selection, Shown, Task};
-use crate::tree_request::{LintRequest, View, read_lint, read_show};
 use regress_base::types::Flags;
-use regress_display::Request as TreeRequest;
+use regress_display::{Format, Stage};
 
 /// What the arguments ask for.
 #[derive(Clone, Copy)]
@@ -15,28 +17,46 @@ pub(crate) enum Asked<'a> {
     Help,
     /// Write this text, escaped.
     Escape(&'a str),
-    Search(Request<'a>),
-    /// Show the tree of a pattern.
-    Show(TreeRequest<'a>),
-    /// Report where a pattern may match otherwise than in ECMA-262.
-    Lint(LintRequest<'a>),
+    /// Do something with a pattern.
+    Apply(Request<'a>),
+}
+
+/// A pattern, its flags, and what to do with it.
+#[derive(Clone, Copy)]
+pub(crate) struct Request<'a> {
+    pub(crate) pattern: PatternSource<'a>,
+    pub(crate) flags: Flags,
+    pub(crate) action: Action<'a>,
+}
+
+/// What to do with a pattern.
+#[derive(Clone, Copy)]
+pub(crate) enum Action<'a> {
+    Search(Search<'a>),
+    /// Show its tree.
+    Show(View),
+    /// Report where it may match otherwise than in ECMA-262.
+    Lint,
+    /// Explain it in words.
+    Explain,
 }
 
 /// A task for the lines of files, or of standard input if there are none.
 #[derive(Clone, Copy)]
-pub(crate) struct Request<'a> {
-    pub(crate) pattern: &'a str,
-    pub(crate) flags: Flags,
+pub(crate) struct Search<'a> {
     pub(crate) task: Task<'a>,
+    /// Whether a text is searched as one, and not line by line.
+    pub(crate) multiline: bool,
     pub(crate) files: &'a [String],
 }
 
-/// A command that searches.
+/// How a tree is shown.
 #[derive(Clone, Copy)]
-enum Command {
-    Match,
-    Replace,
-    Split,
+pub(crate) struct View {
+    pub(crate) format: Format,
+    pub(crate) stage: Stage,
+    /// Whether to use the small table instead of that of all of Unicode.
+    pub(crate) small: bool,
 }
 
 /// Parses a command and its arguments; `None` if they are invalid.
@@ -46,15 +66,20 @@ pub(crate) fn read_asked(args: &[String]) -> Option<Asked<'_>>
     let [first, rest @ ..] = args else {
         return None;
     };
-    match first.as_str() {
-        "match" => read_command(Command::Match, rest),
-        "replace" => read_command(Command::Replace, rest),
-        "split" => read_command(Command::Split, rest),
-        "escape" => read_escape(rest),
-        "parse" => read_show(View::Parse, rest),
-        "draw" => read_show(View::Draw, rest),
-        "lint" => read_lint(rest),
-        "--help" | "-h" => read_help(rest),
+    let word = first.as_str();
+    match command_of(word) {
+        Some(command) => read_command(command, rest),
+        None => read_other(word, rest),
+    }
+}
+
+/// Parses a command without a pattern, or the option for the help, and its arguments.
+fn read_other<'a>(word: &str, args: &'a [String]) -> Option<Asked<'a>>
+    ensures { option_map ask result ≡ other_of word.now args.now }
+{
+    match word {
+        "escape" => read_escape(args),
+        "--help" | "-h" => read_help(args),
         _ => None,
     }
 }
@@ -77,65 +102,111 @@ fn read_help(args: &[String]) -> Option<Asked<'_>>
     }
 }
 
-/// Parses the options of a command, and what follows them.
+/// Parses the options of a command, its pattern, and what follows them.
 fn read_command(command: Command, args: &[String]) -> Option<Asked<'_>>
-    ensures { option_map ask result ≡ command_of command args.now }
+    ensures { option_map ask result ≡ command_with command args.now }
 {
-    let (options, rest) = read_options(args)?;
+    let (given, rest) = read_options(args)?;
+    let options = given.options;
     if options.help {
         return Some(Asked::Help);
     }
-    read_search(command, options, rest)
+    if !allows(command, options) {
+        return None;
+    }
+    let (pattern, rest) = take_pattern(given.pattern, rest)?;
+    let action = read_action(command, options, rest)?;
+    Some(Asked::Apply(Request {
+        pattern,
+        flags: options.flags,
+        action,
+    }))
 }
 
-/// Parses what follows the options. Only `match` has others than those for flags.
-fn read_search(command: Command, options: Options, args: &[String]) -> Option<Asked<'_>>
-    ensures { option_map ask result ≡ search_of command options args.now }
+/// Returns the pattern, and the arguments after it: it is the first one, if no option has it.
+pub(crate) fn take_pattern<'a>(
+    given: Option<PatternSource<'a>>,
+    args: &'a [String],
+) -> Option<(PatternSource<'a>, &'a [String])>
+    ensures { option_map after_pattern result ≡ taken_pattern (option_map source given.entry) args.now }
+{
+    match (given, args) {
+        (Some(pattern), _) => Some((pattern, args)),
+        (None, [pattern, rest @ ..]) => Some((PatternSource::Text(pattern.as_str()), rest)),
+        (None, []) => None,
+    }
+}
+
+/// Parses what follows the pattern.
+fn read_action(command: Command, options: Options, args: &[String]) -> Option<Action<'_>>
+    ensures { option_map action result ≡ action_of command options args.now }
 {
     match (command, args) {
-        (Command::Match, [pattern, files @ ..]) => Some(search(
+        (Command::Match, files) => Some(search_for(
             options,
-            Task::Match(options.selection),
-            pattern,
+            Task::Match(selection_of(options)),
             files,
         )),
-        (Command::Replace, [pattern, template, files @ ..]) if is_plain(options.selection) => Some(
-            search(options, Task::Replace(template.as_str()), pattern, files),
-        ),
-        (Command::Split, [pattern, files @ ..]) if is_plain(options.selection) => {
-            Some(search(options, Task::Split, pattern, files))
+        (Command::Replace, [template, files @ ..]) => {
+            Some(search_for(options, Task::Replace(template.as_str()), files))
         }
+        (Command::Split, files) => Some(search_for(options, Task::Split, files)),
+        (Command::Parse, []) => Some(Action::Show(view_in(options, printed_format(options.json)))),
+        (Command::Draw, []) => Some(Action::Show(view_in(options, Format::Svg))),
+        (Command::Lint, []) => Some(Action::Lint),
+        (Command::Explain, []) => Some(Action::Explain),
         _ => None,
     }
 }
 
-fn search<'a>(
-    options: Options,
-    task: Task<'a>,
-    pattern: &'a String,
-    files: &'a [String],
-) -> Asked<'a>
-    ensures { ask result ≡ search_with options (job task.entry) pattern.now files.now }
+/// Returns what to show of which lines.
+fn selection_of(options: Options) -> Selection
+    ensures { result ≡ selection_of options }
 {
-    Asked::Search(Request {
-        pattern: pattern.as_str(),
-        flags: options.flags,
+    if options.json {
+        Selection {
+            shown: Shown::Json,
+            ..options.selection
+        }
+    } else {
+        options.selection
+    }
+}
+
+fn search_for<'a>(options: Options, task: Task<'a>, files: &'a [String]) -> Action<'a>
+    ensures { action result ≡ search_with options (job task.entry) files.now }
+{
+    Action::Search(Search {
         task,
+        multiline: options.multiline,
         files,
     })
 }
 
-/// Returns whether no option is given that selects lines or what is shown of them.
-pub(crate) fn is_plain(selection: Selection) -> bool
-    ensures { result ≡ is_plain selection }
+fn view_in(options: Options, format: Format) -> View
+    ensures { result ≡ view_in options format }
 {
-    match selection {
-        Selection {
-            invert: false,
-            numbers: false,
-            shown: Shown::Lines,
-            max_count: None,
-        } => true,
-        _ => false,
+    View {
+        format,
+        stage: stage_of(options.stage, format),
+        small: options.small,
+    }
+}
+
+/// Returns the format of a printed tree.
+fn printed_format(json: bool) -> Format
+    ensures { result ≡ printed_format json }
+{
+    if json { Format::Json } else { Format::Text }
+}
+
+/// Returns the requested tree. JSON and a picture show one tree only.
+fn stage_of(stage: Option<Stage>, format: Format) -> Stage
+    ensures { result ≡ stage_of stage format }
+{
+    match (stage, format) {
+        (Some(stage), _) => stage,
+        (None, Format::Text) => Stage::Both,
+        (None, Format::Json | Format::Svg) => Stage::Parsed,
     }
 }

@@ -1,26 +1,32 @@
-//! Compiles the pattern of a request.
+//! Compiles a pattern.
 ghost use Rattle.std.specs.Prelude.{IfOk, IfErr};
-ghost use Rattle.regex_command.specs.Asked.{requested};
-ghost use Rattle.regex_command.specs.Printed.{IsRegexOf, IsRejected};
+ghost use Rattle.regress.specs.Compiled.{IsCompiled};
+ghost use Rattle.regex_command.specs.Printed.{IsRejected};
+ghost use Rattle.regex_command.specs.Setting.{unicode_setting};
 
-use crate::asked::Request;
 use crate::failure::Failure;
+use crate::pattern::Pattern;
 use regress::{Error, Options, Regex};
 use regress_ucd::unicode_tables;
 use std::alloc::Global;
 use std::sync::Arc;
 
-/// Compiles the pattern of a request.
-pub(crate) fn compiled<'a>(alloc: Global, request: Request<'a>) -> Result<Regex, Failure<'a>>
-    ensures compiled { IfOk result (IsRegexOf (requested request.entry)) }
-    ensures failed { IfErr result (IsRejected (requested request.entry)) }
+/// Compiles a pattern over all of Unicode.
+pub(crate) fn compiled<'f>(alloc: Global, pattern: Pattern<'_>) -> Result<Regex, Failure<'f>>
+    ensures compiled { IfOk result (IsCompiled (unicode_setting pattern.entry.flags) pattern.entry.text.now) }
+    ensures failed { IfErr result (IsRejected (unicode_setting pattern.entry.flags) pattern.entry.text.now) }
 {
     let tables = Arc::new(alloc, unicode_tables(alloc)?)?;
-    let options = Options::default();
-    match Regex::with_options(alloc, request.pattern, request.flags, options, &tables) {
+    match Regex::with_options(
+        alloc,
+        pattern.text,
+        pattern.flags,
+        Options::default(),
+        &tables,
+    ) {
         Ok(regex) => Ok(regex),
         Err(Error::Syntax { text, position, .. }) => Err(Failure::Syntax {
-            pattern: request.pattern,
+            pattern: String::from_str(alloc, pattern.text)?,
             text,
             position,
         }),

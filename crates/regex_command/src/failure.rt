@@ -1,10 +1,13 @@
 //! Failures of a run.
 ghost use Rattle.std.specs.Prelude.{◌≡◌};
+ghost use Rattle.regex_command.specs.Ending.{IsLate, unaccepted};
+ghost use Rattle.regex_command.specs.Source.{MayFailToRead};
 ghost use Rattle.regex_command.specs.declared.failure.Failure.TheVariants.{Output};
 
 use crate::usage::write_usage_error;
 use regress::{Error, SearchError};
 use regress_arguments::{write_visible, write_with_caret};
+use regress_parse::PlacedFault;
 use std::alloc::{AllocError, AllocFailed};
 use std::io::{self, ErrorKind, Write};
 
@@ -23,7 +26,7 @@ pub(crate) enum Failure<'a> {
     Output,
     /// The pattern is rejected, with a syntax error at a code-point index of the pattern or at its end.
     Syntax {
-        pattern: &'a str,
+        pattern: String,
         text: String,
         position: usize,
     },
@@ -31,12 +34,17 @@ pub(crate) enum Failure<'a> {
     TooLarge,
     /// The step limit was reached.
     OutOfSteps,
-    /// The input with this name cannot be opened or read.
+    /// The file with this name cannot be opened or read.
     Unreadable(&'a str),
     /// This line of the input with this name is not UTF-8 from this byte offset in the line on.
     NotUtf8 {
         name: &'a str,
         line: u64,
+        offset: usize,
+    },
+    /// The pattern in the file with this name is not UTF-8 from this byte offset on.
+    PatternNotUtf8 {
+        name: &'a str,
         offset: usize,
     },
     /// The input with this name has 2^64 lines.
@@ -97,7 +105,7 @@ fn write_message<E: Write>(failure: Failure<'_>, args: &[String], err: &mut E) -
             pattern,
             text,
             position,
-        } => write_syntax_error(&text, pattern, position, err),
+        } => write_syntax_error(&text, &pattern, position, err),
         Failure::TooLarge => writeln!(err, "regex: the pattern is too large"),
         Failure::OutOfSteps => writeln!(err, "regex: the search takes too many steps"),
         Failure::Unreadable(name) => {
@@ -107,6 +115,10 @@ fn write_message<E: Write>(failure: Failure<'_>, args: &[String], err: &mut E) -
         Failure::NotUtf8 { name, line, offset } => {
             write_name(name, err)?;
             writeln!(err, "line {line} is not UTF-8, at byte offset {offset}")
+        }
+        Failure::PatternNotUtf8 { name, offset } => {
+            write_name(name, err)?;
+            writeln!(err, "the pattern is not UTF-8, at byte offset {offset}")
         }
         Failure::TooLong(name) => {
             write_name(name, err)?;
@@ -120,6 +132,38 @@ fn write_name<E: Write>(name: &str, err: &mut E) -> io::Result<()> {
     err.write_all(b"regex: ")?;
     write_visible(name, err)?;
     err.write_all(b": ")
+}
+
+/// Writes to `err` why a pattern is rejected, and returns that it is not accepted. An error of that write is ignored.
+pub(crate) fn reject<'f, E: Write>(
+    fault: PlacedFault,
+    pattern: &str,
+    err: &mut E,
+) -> Result<bool, Failure<'f>>
+    ensures { result ≡ unaccepted fault }
+{
+    match fault {
+        PlacedFault::Syntax {
+            error,
+            position,
+            ..
+        } => {
+            let _ = write_syntax_error(&error.text, pattern, position, err);
+            Ok(false)
+        }
+        PlacedFault::Memory(_) => Err(Failure::Memory),
+    }
+}
+
+/// Returns why a file cannot be read.
+pub(crate) fn unread(error: io::Error, name: &str) -> Failure<'_>
+    ensures late { IsLate result }
+    ensures reading { MayFailToRead result }
+{
+    match error.kind() {
+        ErrorKind::OutOfMemory => Failure::Memory,
+        _ => Failure::Unreadable(name),
+    }
 }
 
 /// Writes a syntax error with its position, and the pattern with a caret.

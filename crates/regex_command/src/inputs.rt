@@ -5,6 +5,7 @@ ghost use Rattle.regex_command.specs.Inputs.{WritesInput, WritesInputs, WritesSo
 ghost use Rattle.regex_command.specs.Job.{job, named};
 ghost use Rattle.regex_command.specs.Searched.{SearchesFirst};
 
+use crate::asked::Search;
 use crate::failure::Failure;
 use crate::place::Place;
 use crate::searching::{search_lines, write_end};
@@ -19,24 +20,25 @@ pub(crate) fn search_all<'a, R: Files, I: Read + Drop, W: Write>(
     rt: &R,
     alloc: Global,
     regex: &Regex,
-    task: Task<'_>,
-    files: &'a [String],
+    search: Search<'a>,
     input: I,
     out: &mut W,
 ) -> Result<bool, Failure<'a>>
-    ensures all { IfOk result (WritesInputs regex.now (job task.entry) (inputs_of (map string_bytes files.now) (I.remaining input)) (W.contents out.old) (W.contents out.new)) }
-    ensures first { IfErr result (OrOutput (WritesSomeOf regex.now (job task.entry) (inputs_of (map string_bytes files.now) (I.remaining input))
-        (W.contents out.old) (W.contents out.new))) }
+    ensures all { IfOk result (WritesInputs regex.now (job search.entry.task)
+        (inputs_of search.entry.multiline (map string_bytes search.entry.files.now) (I.remaining input)) (W.contents out.old) (W.contents out.new)) }
+    ensures first { IfErr result (OrOutput (WritesSomeOf regex.now (job search.entry.task)
+        (inputs_of search.entry.multiline (map string_bytes search.entry.files.now) (I.remaining input)) (W.contents out.old) (W.contents out.new))) }
     ensures late { IfErr result IsLate }
 {
-    if files.is_empty() {
+    if search.files.is_empty() {
         let place = Place {
             name: "(standard input)",
             in_front: false,
+            multiline: search.multiline,
         };
-        search_input(alloc, regex, task, place, input, out)
+        search_input(alloc, regex, search.task, place, input, out)
     } else {
-        search_files(rt, alloc, regex, task, files, out)
+        search_files(rt, alloc, regex, search, out)
     }
 }
 
@@ -45,25 +47,27 @@ fn search_files<'a, R: Files, W: Write>(
     rt: &R,
     alloc: Global,
     regex: &Regex,
-    task: Task<'_>,
-    files: &'a [String],
+    search: Search<'a>,
     out: &mut W,
 ) -> Result<bool, Failure<'a>>
-    ensures all { IfOk result (WritesInputs regex.now (job task.entry) (named_files (map string_bytes files.now)) (W.contents out.old) (W.contents out.new)) }
-    ensures first { IfErr result (OrOutput (WritesSomeOf regex.now (job task.entry) (named_files (map string_bytes files.now)) (W.contents out.old) (W.contents out.new))) }
+    ensures all { IfOk result (WritesInputs regex.now (job search.entry.task)
+        (named_files search.entry.multiline (map string_bytes search.entry.files.now)) (W.contents out.old) (W.contents out.new)) }
+    ensures first { IfErr result (OrOutput (WritesSomeOf regex.now (job search.entry.task)
+        (named_files search.entry.multiline (map string_bytes search.entry.files.now)) (W.contents out.old) (W.contents out.new))) }
     ensures late { IfErr result IsLate }
 {
-    let in_front = files.len() > 1;
+    let in_front = search.files.len() > 1;
     let mut any = false;
-    for file in files {
-        if has_ended(task, any) {
+    for file in search.files {
+        if has_ended(search.task, any) {
             return Ok(any);
         }
         let place = Place {
             name: file.as_str(),
             in_front,
+            multiline: search.multiline,
         };
-        any |= search_file(rt, alloc, regex, task, place, out)?;
+        any |= search_file(rt, alloc, regex, search.task, place, out)?;
     }
     Ok(any)
 }

@@ -1,59 +1,49 @@
 //! `lint`.
-ghost use Rattle.std.specs.Prelude.{◌≡◌, true, Ok, IfOk, IfErr, OnOk, string_bytes};
+ghost use Rattle.std.specs.Prelude.{◌≡◌, true, Ok, IfOk, IfErr, OnOk, chars, string_bytes};
 ghost use Rattle.regress_arguments.specs.Output.{Took};
-ghost use Rattle.regex_command.specs.Asked.{lint_requested};
 ghost use Rattle.regex_command.specs.Ending.{IsLate, OrOutput};
 ghost use Rattle.regex_command.specs.Linted.{IsListed, IsListedNext, IsReport, difference_line, is_nothing};
+ghost use Rattle.regex_command.specs.Setting.{unicode_setting};
 
-use crate::failure::{Failure, write_syntax_error};
+use crate::failure::{Failure, reject};
+use crate::pattern::Pattern;
 use crate::printing::print;
-use crate::tree_request::LintRequest;
 use regress_arguments::write_with_caret;
 use regress_base::util::code_points;
-use regress_differences::{Difference, PlacedFault, Span, differences};
+use regress_differences::{Difference, Span, differences};
 use regress_ucd::unicode_tables;
 use std::alloc::{AllocError, Global};
 use std::io::Write;
 
 /// Writes what may match otherwise than in ECMA-262, or to `err` why the pattern is rejected. Returns whether it is
 /// accepted and nothing is written.
-pub(crate) fn print_lint<'a, W: Write, E: Write>(
+pub(crate) fn print_lint<'f, W: Write, E: Write>(
     alloc: Global,
-    request: LintRequest<'a>,
+    pattern: Pattern<'_>,
     out: &mut W,
     err: &mut E,
-) -> Result<bool, Failure<'a>>
-    ensures reported { IfOk result (λ clean.
-        Took (W.contents out.old) (W.contents out.new) (IsReport clean (lint_requested request.entry))) }
+) -> Result<bool, Failure<'f>>
+    ensures reported { IfOk result (λ clean. Took (W.contents out.old) (W.contents out.new)
+        (IsReport clean (unicode_setting pattern.entry.flags) (chars pattern.entry.text.now))) }
     ensures quiet { result ≡ Ok true → err.new ≡ err.old }
     ensures first { IfErr result (OrOutput (out.new ≡ out.old)) }
     ensures late { IfErr result IsLate }
 {
-    let points = code_points(alloc, request.pattern)?;
+    let points = code_points(alloc, pattern.text)?;
     let tables = unicode_tables(alloc)?;
-    match differences(alloc, &points, request.flags, &tables) {
-        Ok(found) => print_differences(alloc, request.pattern, &found, out),
-        Err(
-            PlacedFault::Syntax {
-                error,
-                position,
-                ..
-            },
-        ) => {
-            let _ = write_syntax_error(&error.text, request.pattern, position, err);
-            Ok(false)
-        }
-        Err(PlacedFault::Memory(_)) => Err(Failure::Memory),
+    match differences(alloc, &points, pattern.flags, &tables) {
+        Ok(found) => print_differences(alloc, pattern.text, &found, out),
+        Err(fault) => reject(fault, pattern.text, err),
     }
 }
 
 /// Writes the differences, and returns whether there is none.
-fn print_differences<'a, W: Write>(
+fn print_differences<'f, W: Write>(
     alloc: Global,
     pattern: &str,
     found: &[Difference],
     out: &mut W,
-) -> Result<bool, Failure<'a>>
+) -> Result<bool, Failure<'f>>
     ensures written { IfOk result (λ _. Took (W.contents out.old) (W.contents out.new) (IsListed found.now)) }
     ensures clean { IfOk result (λ clean. clean ≡ is_nothing found.now) }
     ensures first { IfErr result (OrOutput (out.new ≡ out.old)) }

@@ -1,23 +1,30 @@
 //! `regex` searches in lines of text, by `regex match`, `regex replace` and `regex split`, escapes texts, by
-//! `regex escape`, and shows and checks patterns, by `regex parse`, `regex draw` and `regex lint`. It exits with the
-//! status that `run_regex` returns, and with 2 if an argument is not UTF-8 or an allocation for the arguments or the
-//! output buffer fails.
+//! `regex escape`, and shows, checks and explains patterns, by `regex parse`, `regex draw`, `regex lint` and
+//! `regex explain`. It exits with the status that `run_regex` returns, and with 2 if an argument is not UTF-8 or an
+//! allocation for the arguments or the output buffer fails.
 #![tactic(auto)]
 
-ghost use Rattle.std.specs.Prelude.{◌≡◌, ◌≤◌, ◌⊎◌, true, false, None, IfSome, IfOk, IfErr, Ok, Err};
+ghost use Rattle.std.specs.Prelude.{◌≡◌, ◌≤◌, ◌⊎◌, true, false, None, IfSome, IfOk, IfErr, Ok, Err, map, string_bytes};
 ghost use Rattle.std.specs.Io.KnownBytes.{Appends};
-ghost use Rattle.regex_command.specs.Asked.{asked_of, requested};
+ghost use Rattle.regress_display.specs.Request.{requested};
+ghost use Rattle.regex_command.specs.Asked.{action, asked_of};
 ghost use Rattle.regex_command.specs.Ending.{IsLate, OrOutput};
 ghost use Rattle.regex_command.specs.Job.{job};
-ghost use Rattle.regex_command.specs.Printed.{IsDue, IsQuiet, MayFail, Prints, PrintsAll, PrintsEscaped, PrintsFirst, PrintsSome, changes};
+ghost use Rattle.regex_command.specs.Printed.{Begins, Does, IsDue, IsQuiet, IsQuietAt, MayFail, MayFailAt, Prints, PrintsAll, PrintsEscaped, PrintsFirst, PrintsSome, changes, view_of};
+ghost use Rattle.regex_command.specs.Setting.{unicode_setting};
+ghost use Rattle.regex_command.specs.Source.{IsUnread, OfText, source};
 ghost use Rattle.regex_command.specs.declared.failure.Failure.TheVariants.{Output, Usage};
 
 mod asked;
+mod command;
 mod compiling;
+mod explaining;
 mod failure;
 mod inputs;
+mod json;
 mod linting;
 mod options;
+mod pattern;
 mod place;
 mod printing;
 mod reading;
@@ -25,17 +32,18 @@ mod reply;
 mod searching;
 mod showing;
 mod task;
-mod tree_options;
-mod tree_request;
 mod usage;
 
-use asked::{Asked, Request, read_asked};
+use asked::{Action, Asked, Request, Search, View, read_asked};
 use compiling::compiled;
+use explaining::print_explanation;
 use failure::{Failure, report};
 use inputs::search_all;
 use linting::print_lint;
+use pattern::{Pattern, pattern_text};
 use printing::print;
 use regress_arguments::{ArgumentsError, arguments};
+use regress_display::Request as TreeRequest;
 use regress_escape::escape;
 use showing::print_tree;
 use std::alloc::Global;
@@ -97,10 +105,10 @@ fn run_buffered<R: Files, I: Read + Drop, W: Write + Drop, E: Write>(
 }
 
 /// Runs the program on its arguments, without its own name, and returns its exit status:
-/// - 0: a line is selected; the output of `replace`, `split`, `escape`, `parse`, `draw` or the help is written to
-///   `out`; or `lint` reports nothing;
-/// - 1: no line is selected; `lint` reports a difference; or `parse`, `draw` or `lint` rejects the pattern, and writes
-///   why to `err`, or with `--json` to `out`;
+/// - 0: a line is selected; the output of `replace`, `split`, `escape`, `parse`, `draw`, `explain` or the help is
+///   written to `out`; or `lint` reports nothing;
+/// - 1: no line is selected; `lint` reports a difference; or `parse`, `draw`, `lint` or `explain` rejects the pattern,
+///   and writes why to `err`, or with `--json` to `out`;
 /// - 2: a failure, whose message is written to `err`.
 ///
 /// With 2, the output for the first lines, or the first of two trees, may have been written to `out`. An error of a
@@ -129,8 +137,8 @@ pub fn run_regex<R: Files, I: Read + Drop, W: Write, E: Write>(
     }
 }
 
-/// Writes what the arguments ask for, and returns whether it is found. Why a pattern is rejected that is to be shown or
-/// reported on is written to `err`.
+/// Writes what the arguments ask for, and returns whether it is found. Why a pattern is rejected that is not searched for
+/// is written to `err`.
 fn response<'a, R: Files, I: Read + Drop, W: Write, E: Write>(
     rt: &R,
     alloc: Global,
@@ -153,29 +161,96 @@ fn response<'a, R: Files, I: Read + Drop, W: Write, E: Write>(
         None => Err(Failure::Usage),
         Some(Asked::Help) => print_help(out),
         Some(Asked::Escape(text)) => print_escaped(alloc, text, out),
-        Some(Asked::Search(request)) => print_search(rt, alloc, request, input, out),
-        Some(Asked::Show(request)) => print_tree(alloc, request, out, err),
-        Some(Asked::Lint(request)) => print_lint(alloc, request, out, err),
+        Some(Asked::Apply(request)) => apply(rt, alloc, request, input, out, err),
     }
 }
 
-/// Searches for what a request asks, and returns whether a line is selected, or the task changes lines.
-fn print_search<'a, R: Files, I: Read + Drop, W: Write>(
+/// Reads the pattern of a request, and does what it asks for.
+fn apply<'a, R: Files, I: Read + Drop, W: Write, E: Write>(
     rt: &R,
     alloc: Global,
     request: Request<'a>,
     input: I,
     out: &mut W,
+    err: &mut E,
 ) -> Result<bool, Failure<'a>>
-    ensures all { IfOk result (λ found. PrintsAll (I.remaining input) (W.contents out.old) (W.contents out.new) found (requested request.entry)) }
-    ensures first { IfErr result (OrOutput ((out.new ≡ out.old) ⊎ PrintsFirst (I.remaining input) (W.contents out.old) (W.contents out.new) (requested request.entry))) }
-    ensures due { IfErr result (IsDue (requested request.entry)) }
+    ensures found { IfOk result (λ found. OfText (source request.entry.pattern) (λ text. Does request.entry.flags text
+        (action request.entry.action) (I.remaining input) (W.contents out.old) (W.contents out.new) found)) }
+    ensures first { IfErr result (OrOutput ((out.new ≡ out.old) ⊎ OfText (source request.entry.pattern)
+        (λ text. Begins request.entry.flags text (action request.entry.action) (I.remaining input) (W.contents out.old) (W.contents out.new)))) }
+    ensures due { IfErr result (λ failure. IsUnread (source request.entry.pattern) failure
+        ⊎ OfText (source request.entry.pattern) (λ text. MayFailAt request.entry.flags text (action request.entry.action) failure)) }
+    ensures quiet { result ≡ Ok true → err.new ≡ err.old }
+    ensures quiet_none { IsQuietAt (err.new ≡ err.old) (action request.entry.action) }
 {
-    let regex = compiled(alloc, request)?;
-    let searched = search_all(rt, alloc, &regex, request.task, request.files, input, out);
+    let text = pattern_text(rt, alloc, request.pattern)?;
+    let pattern = Pattern {
+        text: &text,
+        flags: request.flags,
+    };
+    apply_to(rt, alloc, pattern, request.action, input, out, err)
+}
+
+/// Does with a pattern what is asked for.
+fn apply_to<'a, R: Files, I: Read + Drop, W: Write, E: Write>(
+    rt: &R,
+    alloc: Global,
+    pattern: Pattern<'_>,
+    asked: Action<'a>,
+    input: I,
+    out: &mut W,
+    err: &mut E,
+) -> Result<bool, Failure<'a>>
+    ensures found { IfOk result (Does pattern.entry.flags pattern.entry.text.now (action asked.entry) (I.remaining input)
+        (W.contents out.old) (W.contents out.new)) }
+    ensures first { IfErr result (OrOutput ((out.new ≡ out.old) ⊎ Begins pattern.entry.flags pattern.entry.text.now
+        (action asked.entry) (I.remaining input) (W.contents out.old) (W.contents out.new))) }
+    ensures due { IfErr result (MayFailAt pattern.entry.flags pattern.entry.text.now (action asked.entry)) }
+    ensures quiet { result ≡ Ok true → err.new ≡ err.old }
+    ensures quiet_none { IsQuietAt (err.new ≡ err.old) (action asked.entry) }
+{
+    match asked {
+        Action::Search(search) => print_search(rt, alloc, pattern, search, input, out),
+        Action::Show(view) => print_tree(alloc, view_of(view, pattern), out, err),
+        Action::Lint => print_lint(alloc, pattern, out, err),
+        Action::Explain => print_explanation(alloc, pattern, out, err),
+    }
+}
+
+/// Returns what to show of a pattern.
+fn view_of(view: View, pattern: Pattern<'_>) -> TreeRequest<'_>
+    ensures request { requested result ≡ view_of view pattern.entry.flags pattern.entry.text.now }
+    ensures format { result.format ≡ view.format }
+{
+    TreeRequest {
+        pattern: pattern.text,
+        flags: pattern.flags,
+        format: view.format,
+        stage: view.stage,
+        small: view.small,
+    }
+}
+
+/// Searches for a pattern, and returns whether a line is selected, or the task changes lines.
+fn print_search<'a, R: Files, I: Read + Drop, W: Write>(
+    rt: &R,
+    alloc: Global,
+    pattern: Pattern<'_>,
+    search: Search<'a>,
+    input: I,
+    out: &mut W,
+) -> Result<bool, Failure<'a>>
+    ensures all { IfOk result (PrintsAll (unicode_setting pattern.entry.flags) pattern.entry.text.now (job search.entry.task)
+        search.entry.multiline (map string_bytes search.entry.files.now) (I.remaining input) (W.contents out.old) (W.contents out.new)) }
+    ensures first { IfErr result (OrOutput ((out.new ≡ out.old) ⊎ PrintsFirst (unicode_setting pattern.entry.flags) pattern.entry.text.now
+        (job search.entry.task) search.entry.multiline (map string_bytes search.entry.files.now) (I.remaining input) (W.contents out.old) (W.contents out.new))) }
+    ensures due { IfErr result (IsDue (unicode_setting pattern.entry.flags) pattern.entry.text.now) }
+{
+    let regex = compiled(alloc, pattern)?;
+    let searched = search_all(rt, alloc, &regex, search, input, out);
     out.flush().map_err(|_| Failure::Output)?;
     let any = searched?;
-    Ok(any || changes(request.task))
+    Ok(any || changes(search.task))
 }
 
 fn changes(task: Task<'_>) -> bool
@@ -223,6 +298,7 @@ usage: regex match [OPTION..] [--] PATTERN [FILE..]
        regex escape TEXT
        regex parse [OPTION..] [--] PATTERN
        regex draw [OPTION..] [--] PATTERN
+       regex explain [OPTION..] [--] PATTERN
        regex lint [OPTION..] [--] PATTERN
 
 Searches in the lines of files, or of standard input, for PATTERN, a regular expression in ECMAScript
@@ -234,12 +310,17 @@ syntax, over all of Unicode.
   escape   writes a pattern that matches TEXT
   parse    writes the parsed tree of PATTERN, a line --, and the optimized tree
   draw     writes a railroad diagram of PATTERN as an SVG picture
+  explain  writes for each part of PATTERN its span and, in words, what it matches
   lint     writes where PATTERN may match otherwise than in ECMA-262, and why
 
+  -e PATTERN       the pattern, which may begin with a hyphen; no argument is the pattern then
+  -f FILE          the pattern is in FILE, without a line feed at the end
   -i               ignore case
   --flags=LETTERS  flags of JavaScript, of imsuv; none without this option
   -h, --help       this help
   --               end of the options: PATTERN may begin with a hyphen
+Of match, replace and split only:
+  -M  search a text as one line, without the line feed at its end; also --multiline
 Of match only, and -no is -n -o:
   -v      select the lines without a match
   -m NUM  select at most NUM lines of each file, the first ones; also --max-count=NUM
@@ -248,6 +329,7 @@ Of match only, and -no is -n -o:
   -c      write only how many lines are selected
   -l      write only the names of the files in which a line is selected
   -q      write nothing, and end at the first selected line; also --quiet
+  --json  write a JSON object for each match on a line, instead of the lines
 Of parse and draw only:
   --json       one JSON object, of the parsed tree unless --optimized is given; of parse only
   --parsed     the parsed tree only
@@ -255,15 +337,20 @@ Of parse and draw only:
   --small      with the small table: ASCII and a few more characters
 
 exit status:
-  0  a line is selected, or the output of replace, split, escape, parse or draw is written, or lint
-     reports nothing
-  1  no line is selected, or parse, draw or lint rejects PATTERN, or lint reports something
+  0  a line is selected, or the output of replace, split, escape, parse, draw or explain is written, or
+     lint reports nothing
+  1  no line is selected, or parse, draw, explain or lint rejects PATTERN, or lint reports something
   2  an error of any kind: its message is on standard error, and no more lines are searched
 
 examples:
   regex match -n '\\d+' notes.txt
+  regex match -e '--+' -n notes.txt
+  regex match -f pattern.txt notes.txt
+  regex match --json '(?<year>\\d{4})-(\\d\\d)' notes.txt
   regex replace '(\\w+) (\\w+)' '$2, $1' names.txt
+  regex replace -M '\\n+' ' ' notes.txt
   regex parse --json '[a-f]+'
   regex draw '\\d{4}-\\d\\d' >date.svg
+  regex explain '\\d{4}-\\d\\d'
   regex lint -i '[k]'
 ";

@@ -1,10 +1,12 @@
 //! The options before the pattern.
-ghost use Rattle.std.specs.Prelude.{◌≡◌, false, option_map};
-ghost use Rattle.regex_command.specs.Options.{count_of, is_option, no_options, options_of, takes_count, with_count, with_flags, with_letter, with_letters, with_long, with_named_flags, with_option};
+ghost use Rattle.std.specs.Prelude.{◌≡◌, None, true, option_map};
+ghost use Rattle.regex_command.specs.Options.{after_options, count_of, given_by, is_option, no_options, nothing_given, options_of, takes, with_count, with_flags, with_letter, with_letters, with_long, with_named_count, with_named_flags, with_option, with_tree, with_value};
 
+use crate::pattern::PatternSource;
 use crate::task::{Selection, Shown};
 use regress_arguments::parse_flags;
 use regress_base::types::Flags;
+use regress_display::Stage;
 
 /// The options. The last one of a kind takes effect.
 #[derive(Clone, Copy)]
@@ -12,6 +14,13 @@ pub(crate) struct Options {
     pub(crate) help: bool,
     pub(crate) flags: Flags,
     pub(crate) selection: Selection,
+    /// Whether a text is searched as one, and not line by line.
+    pub(crate) multiline: bool,
+    pub(crate) json: bool,
+    /// The tree to show.
+    pub(crate) stage: Option<Stage>,
+    /// Whether to use the small table instead of that of all of Unicode.
+    pub(crate) small: bool,
 }
 
 pub(crate) const NO_OPTIONS: Options = Options {
@@ -29,34 +38,57 @@ pub(crate) const NO_OPTIONS: Options = Options {
         shown: Shown::Lines,
         max_count: None,
     },
+    multiline: false,
+    json: false,
+    stage: None,
+    small: false,
 };
 
-/// Parses the options, and returns them with the arguments after them; `None` if one is unknown.
-pub(crate) fn read_options(args: &[String]) -> Option<(Options, &[String])>
-    ensures { option_map (λ found. (found.0, found.1.now)) result ≡ options_of false no_options args.now }
+/// What the options specify.
+#[derive(Clone, Copy)]
+pub(crate) struct Given<'a> {
+    pub(crate) options: Options,
+    /// The pattern, if an option has it.
+    pub(crate) pattern: Option<PatternSource<'a>>,
+}
+
+/// The argument that an option has after it.
+#[derive(Clone, Copy)]
+pub(crate) enum Value {
+    Count,
+    Pattern,
+    File,
+}
+
+/// Parses the options, and returns what they specify with the arguments after them; `None` if one is unknown.
+pub(crate) fn read_options(args: &[String]) -> Option<(Given<'_>, &[String])>
+    ensures { option_map after_options result ≡ options_of None nothing_given args.now }
 {
-    let mut options = NO_OPTIONS;
+    let mut given = Given {
+        options: NO_OPTIONS,
+        pattern: None,
+    };
     let mut rest = args;
     while let [first, after @ ..] = rest {
         let word = first.as_str();
         if !is_option(word) {
-            return Some((options, rest));
+            return Some((given, rest));
         }
         if word == "--" {
-            return Some((options, after));
+            return Some((given, after));
         }
-        if takes_count(word) {
-            let [count, after @ ..] = after else {
+        if let Some(value) = takes(word) {
+            let [text, after @ ..] = after else {
                 return None;
             };
-            options = with_count(options, count.as_str())?;
+            given = with_value(given, value, text.as_str())?;
             rest = after;
         } else {
-            options = with_option(options, word)?;
+            given.options = with_option(given.options, word)?;
             rest = after;
         }
     }
-    Some((options, rest))
+    Some((given, rest))
 }
 
 /// Returns whether an argument is an option, or ends the options.
@@ -66,11 +98,36 @@ pub(crate) fn is_option(word: &str) -> bool
     word.starts_with('-') && word != "-"
 }
 
-/// Returns whether the argument after an option is its number.
-pub(crate) fn takes_count(word: &str) -> bool
-    ensures { result ≡ takes_count word.now }
+/// Returns what the argument after an option is, if it belongs to the option.
+pub(crate) fn takes(word: &str) -> Option<Value>
+    ensures { result ≡ takes word.now }
 {
-    word == "-m" || word == "--max-count"
+    match word {
+        "-m" | "--max-count" => Some(Value::Count),
+        "-e" => Some(Value::Pattern),
+        "-f" => Some(Value::File),
+        _ => None,
+    }
+}
+
+/// Adds an option and the argument after it.
+fn with_value<'a>(given: Given<'a>, value: Value, text: &'a str) -> Option<Given<'a>>
+    ensures { option_map given_by result ≡ with_value (given_by given.entry) value text.now }
+{
+    match value {
+        Value::Count => Some(Given {
+            options: with_count(given.options, text)?,
+            ..given
+        }),
+        Value::Pattern => Some(Given {
+            pattern: Some(PatternSource::Text(text)),
+            ..given
+        }),
+        Value::File => Some(Given {
+            pattern: Some(PatternSource::File(text)),
+            ..given
+        }),
+    }
 }
 
 /// Adds an option, or several by their letters; `None` if one is unknown.
@@ -91,18 +148,49 @@ pub(crate) fn with_option(options: Options, word: &str) -> Option<Options>
 fn with_long(options: Options, name: &str) -> Option<Options>
     ensures { result ≡ with_long options name.now }
 {
-    if name == "help" {
-        return Some(Options {
+    match name {
+        "help" => Some(Options {
             help: true,
             ..options
-        });
+        }),
+        "quiet" => Some(with_shown(options, Shown::Nothing)),
+        "multiline" => Some(with_multiline(options)),
+        _ => with_named_count(options, name),
     }
-    if name == "quiet" {
-        return Some(with_shown(options, Shown::Nothing));
-    }
+}
+
+/// Adds the option `max-count=NUM`, or another one.
+fn with_named_count(options: Options, name: &str) -> Option<Options>
+    ensures { result ≡ with_named_count options name.now }
+{
     match name.strip_prefix("max-count=") {
         Some(count) => with_count(options, count),
-        None => with_named_flags(options, name),
+        None => with_tree(options, name),
+    }
+}
+
+/// Adds the option with this name that commands have which show a tree.
+fn with_tree(options: Options, name: &str) -> Option<Options>
+    ensures { result ≡ with_tree options name.now }
+{
+    match name {
+        "json" => Some(Options {
+            json: true,
+            ..options
+        }),
+        "parsed" => Some(Options {
+            stage: Some(Stage::Parsed),
+            ..options
+        }),
+        "optimized" => Some(Options {
+            stage: Some(Stage::Optimized),
+            ..options
+        }),
+        "small" => Some(Options {
+            small: true,
+            ..options
+        }),
+        _ => with_named_flags(options, name),
     }
 }
 
@@ -183,6 +271,7 @@ fn with_letter(options: Options, letter: u8) -> Option<Options>
         b'c' => Some(with_shown(options, Shown::Count)),
         b'l' => Some(with_shown(options, Shown::Names)),
         b'q' => Some(with_shown(options, Shown::Nothing)),
+        b'M' => Some(with_multiline(options)),
         _ => None,
     }
 }
@@ -195,6 +284,15 @@ fn with_shown(options: Options, shown: Shown) -> Options
             shown,
             ..options.selection
         },
+        ..options
+    }
+}
+
+fn with_multiline(options: Options) -> Options
+    ensures { result ≡ record options { multiline = true } }
+{
+    Options {
+        multiline: true,
         ..options
     }
 }

@@ -1,8 +1,9 @@
 //! Lines of an input.
-ghost use Rattle.std.specs.Prelude.{IfOk};
-ghost use Rattle.regex_command.specs.Reading.{IsRead};
+ghost use Rattle.std.specs.Prelude.{◌≡◌, IfOk, true};
+ghost use Rattle.regex_command.specs.Reading.{IsRead, IsReadLine};
+ghost use Rattle.regex_command.specs.Source.{without_line_feed};
 
-use std::io::{self, BufRead};
+use std::io::{self, BufRead, Read};
 
 /// What a reader had next.
 #[derive(Clone, Copy)]
@@ -15,9 +16,46 @@ pub(crate) enum Next {
     End,
 }
 
+/// Reads the next line into `line`, or with `multiline` all lines as one, without the line feed at its end.
+pub(crate) fn read_next<B: BufRead>(
+    reader: &mut B,
+    multiline: bool,
+    line: &mut Vec<u8>,
+) -> io::Result<Next>
+    ensures { IfOk result (IsRead multiline (B.Read.remaining reader.old) (B.Read.remaining reader.new) line.new.items) }
+{
+    if multiline {
+        read_text(reader, line)
+    } else {
+        read_line(reader, line)
+    }
+}
+
+/// Reads the rest of the input into `text`, without a line feed at its end.
+fn read_text<B: BufRead>(reader: &mut B, text: &mut Vec<u8>) -> io::Result<Next>
+    ensures { IfOk result (IsRead true (B.Read.remaining reader.old) (B.Read.remaining reader.new) text.new.items) }
+{
+    text.clear();
+    reader.read_to_end(text)?;
+    if text.is_empty() {
+        return Ok(Next::End);
+    }
+    remove_line_feed(text);
+    Ok(Next::LastLine)
+}
+
+/// Removes the line feed at the end, if there is one.
+pub(crate) fn remove_line_feed(bytes: &mut Vec<u8>)
+    ensures { bytes.new.items ≡ without_line_feed bytes.old.items }
+{
+    if let Some(b'\n') = bytes.last() {
+        bytes.pop();
+    }
+}
+
 /// Reads the next line into `line`, without its line feed.
-pub(crate) fn read_line<B: BufRead>(reader: &mut B, line: &mut Vec<u8>) -> io::Result<Next>
-    ensures { IfOk result (IsRead (B.Read.remaining reader.old) (B.Read.remaining reader.new) line.new.items) }
+fn read_line<B: BufRead>(reader: &mut B, line: &mut Vec<u8>) -> io::Result<Next>
+    ensures { IfOk result (IsReadLine (B.Read.remaining reader.old) (B.Read.remaining reader.new) line.new.items) }
 {
     line.clear();
     reader.read_until(b'\n', line)?;

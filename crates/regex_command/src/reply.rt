@@ -4,6 +4,7 @@ ghost use Rattle.regress.specs.Compiled.{outcomes_of};
 ghost use Rattle.regex_command.specs.Job.{job};
 ghost use Rattle.regex_command.specs.Reply.{IsReply, IsSelected, Shows, ShowsIf, ShowsMatches, ShowsPieces, ShowsReplaced};
 
+use crate::json::json_matches;
 use crate::task::{Selection, Shown, Task};
 use regress::{Match, Regex, SearchError};
 use std::alloc::Global;
@@ -72,6 +73,7 @@ fn shown(
     match shown {
         Shown::Lines => Ok(format!(in alloc; "{front}{line}\n")?),
         Shown::Matches => all_matches(alloc, regex, front, line),
+        Shown::Json => json_matches(alloc, regex, front, line),
         Shown::Count | Shown::Names | Shown::Nothing => Ok(String::new(alloc)),
     }
 }

@@ -6,17 +6,19 @@ ghost use Rattle.regex_command.specs.Reading.{IsRead};
 ghost use Rattle.regress_arguments.specs.Output.{Took};
 ghost use Rattle.regex_command.specs.Ending.{IsLate, OrOutput};
 ghost use Rattle.regex_command.specs.Job.{job, named};
-ghost use Rattle.regex_command.specs.Searched.{SearchesAll, SearchesFirst, front_of, has_numbers, is_enough, name_of, needs_one, reaches, written_at_end};
+ghost use Rattle.regex_command.specs.Json.{json_front};
+ghost use Rattle.regex_command.specs.Searched.{SearchesAll, SearchesFirst, front_of, has_numbers, is_enough, name_of, needs_one, reaches, shows_json, text_front, written_at_end};
 ghost use Rattle.regex_command.specs.declared.failure.Failure.TheVariants.{Output};
 
-use crate::failure::Failure;
+use crate::failure::{Failure, unread};
 use crate::place::Place;
-use crate::reading::{Next, read_line};
+use crate::reading::{Next, read_next};
 use crate::reply::{Reply, reply_to};
 use crate::task::{Shown, Task};
 use regress::Regex;
+use regress_display::JsonText;
 use std::alloc::{AllocError, Global};
-use std::io::{self, BufRead, ErrorKind, Write};
+use std::io::{BufRead, Write};
 use std::str;
 
 /// Writes what a task shows of each line of an input until enough are selected, and returns how many are.
@@ -79,7 +81,7 @@ fn needs_one(shown: Shown) -> bool
     ensures { result ≡ needs_one shown }
 {
     match shown {
-        Shown::Lines | Shown::Matches | Shown::Count => false,
+        Shown::Lines | Shown::Matches | Shown::Json | Shown::Count => false,
         Shown::Names | Shown::Nothing => true,
     }
 }
@@ -90,22 +92,12 @@ fn next_line<'a, B: BufRead>(
     place: Place<'a>,
     line: &mut Vec<u8>,
 ) -> Result<Next, Failure<'a>>
-    ensures read { IfOk result (IsRead (B.Read.remaining reader.old) (B.Read.remaining reader.new) line.new.items) }
+    ensures read { IfOk result (IsRead place.entry.multiline (B.Read.remaining reader.old) (B.Read.remaining reader.new) line.new.items) }
     ensures late { IfErr result IsLate }
 {
-    match read_line(reader, line) {
+    match read_next(reader, place.multiline, line) {
         Ok(next) => Ok(next),
-        Err(error) => Err(unread(error, place)),
-    }
-}
-
-/// Converts an error of an input.
-fn unread<'a>(error: io::Error, place: Place<'a>) -> Failure<'a>
-    ensures { IsLate result }
-{
-    match error.kind() {
-        ErrorKind::OutOfMemory => Failure::Memory,
-        _ => Failure::Unreadable(place.name),
+        Err(error) => Err(unread(error, place.name)),
     }
 }
 
@@ -143,6 +135,39 @@ fn write_reply<'a, W: Write>(
 /// Returns what is in front of what is shown of a line.
 fn front(alloc: Global, task: Task<'_>, place: Place<'_>, number: u64) -> Result<String, AllocError>
     ensures { IfOk result (λ front. string_bytes front ≡ front_of (job task.entry) (named place.entry) number) }
+{
+    if shows_json(task) {
+        json_front(alloc, place.name, number)
+    } else {
+        text_front(alloc, task, place, number)
+    }
+}
+
+fn shows_json(task: Task<'_>) -> bool
+    ensures { result ≡ shows_json (job task.entry) }
+{
+    match task {
+        Task::Match(selection) => matches!(selection.shown, Shown::Json),
+        Task::Replace(_) | Task::Split => false,
+    }
+}
+
+/// Returns the members of an object of JSON that are in front of a match.
+fn json_front(alloc: Global, name: &str, number: u64) -> Result<String, AllocError>
+    ensures { IfOk result (λ front. string_bytes front ≡ json_front name.now number) }
+{
+    let file = JsonText(name);
+    Ok(format!(in alloc; "{{\"file\":\"{file}\",\"line\":{number},")?)
+}
+
+/// Returns the name of an input and the number of a line, if they are shown in front.
+fn text_front(
+    alloc: Global,
+    task: Task<'_>,
+    place: Place<'_>,
+    number: u64,
+) -> Result<String, AllocError>
+    ensures { IfOk result (λ front. string_bytes front ≡ text_front (job task.entry) (named place.entry) number) }
 {
     let mut front = name_in_front(alloc, place)?;
     if has_numbers(task) {
@@ -201,6 +226,8 @@ fn end(alloc: Global, task: Task<'_>, place: Place<'_>, selected: u64) -> Result
             Ok(end)
         }
         Shown::Names if selected > 0 => Ok(format!(in alloc; "{}\n", place.name)?),
-        Shown::Lines | Shown::Matches | Shown::Names | Shown::Nothing => Ok(String::new(alloc)),
+        Shown::Lines | Shown::Matches | Shown::Json | Shown::Names | Shown::Nothing => {
+            Ok(String::new(alloc))
+        }
     }
 }

@@ -18,12 +18,12 @@ use std::io::Write;
 /// Writes the tree of a pattern, or why it is rejected, and returns whether it is accepted.
 ///
 /// A syntax error is written to `out` if the format is JSON, and else to `err`.
-pub(crate) fn print_tree<'a, W: Write, E: Write>(
+pub(crate) fn print_tree<'f, W: Write, E: Write>(
     alloc: Global,
-    request: Request<'a>,
+    request: Request<'_>,
     out: &mut W,
     err: &mut E,
-) -> Result<bool, Failure<'a>>
+) -> Result<bool, Failure<'f>>
     ensures shown { IfOk result (λ accepted.
         Took (W.contents out.old) (W.contents out.new) (IsAnswer accepted (requested request.entry))) }
     ensures quiet { result ≡ Ok true → err.new ≡ err.old }
@@ -47,14 +47,14 @@ pub(crate) fn print_tree<'a, W: Write, E: Write>(
 }
 
 /// Writes why a pattern is rejected, and returns that it is not accepted.
-fn print_fault<'a, W: Write, E: Write>(
+fn print_fault<'f, W: Write, E: Write>(
     kind: &FaultKind,
     error: &Error,
     position: usize,
-    request: Request<'a>,
+    request: Request<'_>,
     out: &mut W,
     err: &mut E,
-) -> Result<bool, Failure<'a>>
+) -> Result<bool, Failure<'f>>
     requires { IsFault (setting_of_request (requested request)) (requested request).pattern kind.now
         (string_bytes error.now.text) position }
     ensures shown { IfOk result (λ accepted. (accepted ≡ false) × Took (W.contents out.old) (W.contents out.new)
@@ -78,13 +78,13 @@ fn print_fault<'a, W: Write, E: Write>(
 }
 
 /// Writes why a pattern is rejected as JSON, and returns that it is not accepted.
-fn print_json_fault<'a, W: Write>(
+fn print_json_fault<'f, W: Write>(
     kind: &FaultKind,
     error: &Error,
     position: usize,
-    request: Request<'a>,
+    request: Request<'_>,
     out: &mut W,
-) -> Result<bool, Failure<'a>>
+) -> Result<bool, Failure<'f>>
     requires { IsFault (setting_of_request (requested request)) (requested request).pattern kind.now
         (string_bytes error.now.text) position }
     ensures shown { IfOk result (λ accepted. (accepted ≡ false)

@@ -29,6 +29,8 @@ pub(crate) enum Shown {
     Lines,
     /// Each match that is not empty, on a line of its own.
     Matches,
+    /// An object of JSON for each match, on a line of its own.
+    Json,
     /// Only how many there are.
     Count,
     /// Only the name of the input, if there is one.

@@ -1,8 +1,11 @@
 //! The message about invalid arguments.
 
-use crate::asked::is_plain;
-use crate::options::{NO_OPTIONS, is_option, read_options, takes_count, with_count, with_option};
-use crate::tree_options::{NO_TREE_OPTIONS, read_tree_options, with_tree_option};
+use crate::asked::take_pattern;
+use crate::command::{Command, allows, command_of, is_plain};
+use crate::options::{
+    NO_OPTIONS, Options, Value, is_option, read_options, takes, with_count, with_option,
+};
+use crate::pattern::PatternSource;
 use regress_arguments::write_visible;
 use std::io::{self, Write};
 
@@ -14,6 +17,7 @@ usage: regex match [OPTION..] PATTERN [FILE..]
        regex escape TEXT
        regex parse [OPTION..] PATTERN
        regex draw [OPTION..] PATTERN
+       regex explain [OPTION..] PATTERN
        regex lint [OPTION..] PATTERN
 ";
 
@@ -30,6 +34,8 @@ enum UsageError<'a> {
     InvalidCount(&'a str),
     /// Only `match` has this option.
     OnlyOfMatch(&'a str),
+    /// `--json` is given with an option that selects what `match` shows.
+    ExcludedByJson,
     /// There is an argument more than the command has.
     Unexpected(&'a str),
 }
@@ -43,6 +49,7 @@ pub(crate) fn write_usage_error<E: Write>(args: &[String], err: &mut E) -> io::R
         UsageError::InvalidFlags(word) => ("invalid flags", word),
         UsageError::InvalidCount(word) => ("invalid number", word),
         UsageError::OnlyOfMatch(word) => ("only match has the option", word),
+        UsageError::ExcludedByJson => ("--json excludes", "-o, -c, -l and -q"),
         UsageError::Unexpected(word) => ("unexpected argument", word),
     };
     write!(err, "regex: {text} ")?;
@@ -56,33 +63,68 @@ fn usage_error(args: &[String]) -> UsageError<'_> {
         return UsageError::Missing("COMMAND");
     };
     match (first.as_str(), rest) {
-        ("match" | "replace" | "split", _) => search_error(first.as_str(), rest),
-        ("parse" | "draw" | "lint", _) => pattern_error(first.as_str(), rest),
         ("escape", []) => UsageError::Missing("TEXT"),
         ("escape", [_, more, ..]) | ("--help" | "-h", [more, ..]) => {
             UsageError::Unexpected(more.as_str())
         }
-        (word, _) if word.starts_with('-') => UsageError::UnknownOption(word),
-        (word, _) => UsageError::UnknownCommand(word),
+        (word, _) => match command_of(word) {
+            Some(command) => command_error(command, rest),
+            None if word.starts_with('-') => UsageError::UnknownOption(word),
+            None => UsageError::UnknownCommand(word),
+        },
     }
 }
 
-/// Returns why an option of a command that searches is invalid, if it is; `after` has the arguments after it.
-fn option_error<'a>(command: &str, word: &'a str, after: &'a [String]) -> Option<UsageError<'a>> {
-    let (options, error) = match after {
-        [] if takes_count(word) => return Some(UsageError::Missing("NUM")),
-        [count, ..] if takes_count(word) => (
+/// Returns why the arguments of a command are invalid.
+fn command_error(command: Command, args: &[String]) -> UsageError<'_> {
+    let mut rest = args;
+    while let [first, after @ ..] = rest {
+        let word = first.as_str();
+        if word == "--" || !is_option(word) {
+            break;
+        }
+        if let Some(error) = option_error(command, word, after) {
+            return error;
+        }
+        rest = match after {
+            [_, others @ ..] if takes(word).is_some() => others,
+            _ => after,
+        };
+    }
+    match read_options(args) {
+        Some((given, _)) if !allows(command, given.options) => UsageError::ExcludedByJson,
+        Some((given, rest)) => rest_error(command, given.pattern, rest),
+        None => UsageError::Missing("PATTERN"),
+    }
+}
+
+/// Returns why an option of a command is invalid, if it is; `after` has the arguments after it.
+fn option_error<'a>(
+    command: Command,
+    word: &'a str,
+    after: &'a [String],
+) -> Option<UsageError<'a>> {
+    let (options, error) = match (takes(word), after) {
+        (Some(value), []) => return Some(UsageError::Missing(name_of(value))),
+        (Some(Value::Count), [count, ..]) => (
             with_count(NO_OPTIONS, count.as_str()),
             UsageError::InvalidCount(count.as_str()),
         ),
-        _ => (with_option(NO_OPTIONS, word), word_error(word)),
+        (Some(_), _) => return None,
+        (None, _) => (with_option(NO_OPTIONS, word), word_error(word)),
     };
     match options {
         None => Some(error),
-        Some(options) if command != "match" && !is_plain(options.selection) => {
-            Some(UsageError::OnlyOfMatch(word))
-        }
-        Some(_) => None,
+        Some(options) => disallowed(command, options, word),
+    }
+}
+
+/// Returns the name of an argument that an option takes.
+fn name_of(value: Value) -> &'static str {
+    match value {
+        Value::Count => "NUM",
+        Value::Pattern => "PATTERN",
+        Value::File => "FILE",
     }
 }
 
@@ -97,47 +139,27 @@ fn word_error(word: &str) -> UsageError<'_> {
     }
 }
 
-/// Returns why the arguments of a command that searches are invalid.
-fn search_error<'a>(command: &str, args: &'a [String]) -> UsageError<'a> {
-    let mut rest = args;
-    while let [first, after @ ..] = rest {
-        let word = first.as_str();
-        if word == "--" || !is_option(word) {
-            break;
-        }
-        if let Some(error) = option_error(command, word, after) {
-            return error;
-        }
-        rest = match after {
-            [_, others @ ..] if takes_count(word) => others,
-            _ => after,
-        };
-    }
-    match read_options(args) {
-        Some((_, [_, ..])) => UsageError::Missing("TEMPLATE"),
-        _ => UsageError::Missing("PATTERN"),
+/// Returns why a command lacks an option, if it does.
+fn disallowed(command: Command, options: Options, word: &str) -> Option<UsageError<'_>> {
+    if allows(command, options) {
+        None
+    } else if is_plain(options.selection) {
+        Some(UsageError::UnknownOption(word))
+    } else {
+        Some(UsageError::OnlyOfMatch(word))
     }
 }
 
-/// Returns why the arguments of a command that shows or checks a pattern are invalid.
-fn pattern_error<'a>(command: &str, args: &'a [String]) -> UsageError<'a> {
-    for arg in args {
-        let word = arg.as_str();
-        if word == "--" || !is_option(word) {
-            break;
-        }
-        match with_tree_option(NO_TREE_OPTIONS, word) {
-            None if word.starts_with("--flags=") => return UsageError::InvalidFlags(word),
-            Some(options) if !is_plain(options.common.selection) => {
-                return UsageError::OnlyOfMatch(word);
-            }
-            Some(_) if command == "parse" || word == "-i" || word.starts_with("--flags=") => {}
-            Some(_) if command == "draw" && word != "--json" => {}
-            _ => return UsageError::UnknownOption(word),
-        }
-    }
-    match read_tree_options(args) {
-        Some((_, [_, more, ..])) => UsageError::Unexpected(more.as_str()),
-        _ => UsageError::Missing("PATTERN"),
+/// Returns why the arguments after the options are invalid.
+fn rest_error<'a>(
+    command: Command,
+    pattern: Option<PatternSource<'a>>,
+    args: &'a [String],
+) -> UsageError<'a> {
+    match (command, take_pattern(pattern, args)) {
+        (_, None) => UsageError::Missing("PATTERN"),
+        (Command::Replace, Some((_, []))) => UsageError::Missing("TEMPLATE"),
+        (_, Some((_, [more, ..]))) => UsageError::Unexpected(more.as_str()),
+        (_, Some(_)) => UsageError::Missing("PATTERN"),
     }
 }

@@ -57,6 +57,24 @@ impl fmt::Display for JsonFault<'_> {
     }
 }
 
+/// A text that displays as the characters of a JSON string (RFC 8259, section 7), without the quotation marks.
+///
+/// A quotation mark and a backslash have a backslash in front, and a control character below U+0020 is an escape such as
+/// `\u001f`.
+#[derive(Clone, Copy)]
+pub struct JsonText<'a>(pub &'a str);
+
+impl fmt::Display for JsonText<'_> {
+    ghost use Rattle.std.specs.Prelude.{Some};
+    ghost use Rattle.regress_display.specs.Fault.{json_text};
+
+    ghost output = { λ text. Some (json_text text.0.now) };
+
+    fn fmt<W: fmt::Write>(&self, f: &mut Formatter<W>) -> fmt::Result {
+        write_json_text(self.0, f)
+    }
+}
+
 /// Writes the characters of a JSON string.
 fn write_json_text<W: fmt::Write>(text: &str, f: &mut Formatter<W>) -> fmt::Result
     ensures { WritesOnOk W.write_str_gives f.old result (json_text text.now) f.new }

@@ -8,6 +8,6 @@ mod request;
 mod trees;
 
 pub use error::ShowError;
-pub use fault::write_json_fault;
+pub use fault::{JsonText, write_json_fault};
 pub use request::{Format, Request, Stage};
 pub use trees::show;

@@ -1,30 +1,34 @@
-use Rattle.std.proofs.Common.{◌≡◌, ◌∙◌, ◌⊎◌, ◌||◌, inr, ap, sym}
+use Rattle.std.proofs.Common.{◌≡◌, ◌∙◌, ◌⊎◌, ◌||◌, inr, ap, map, sym}
+use Rattle.std.specs.Prelude.{string_bytes}
 use Rattle.regress_arguments.proofs.lemmas.Output.{appends_kept}
-use Rattle.regex_command.specs.Asked.{requested}
 use Rattle.regex_command.specs.Ending.{OrOutput}
 use Rattle.regex_command.specs.Inputs.{WritesSomeOf, inputs_of}
 use Rattle.regex_command.specs.Job.{job}
 use Rattle.regex_command.specs.Printed.{PrintsFirst, changes}
+use Rattle.regex_command.specs.Setting.{unicode_setting}
 use Rattle.regex_command.proofs.SearchLemmas.{or_output, passed_on}
 use Rattle.regex_command.proofs.print_search.Goals.{then-any, else-any}
 use Rattle.regex_command.proofs.print_search.Goals as goal
 
 pub returns-in_err-any-clause-first : goal.returns-in_err-any-clause-first
 returns-in_err-any-clause-first g c =
-    let request = requested c.args.request in
+    let task = job c.args.search.task in
+    let files = map string_bytes c.args.search.files.now in
+    let multiline = c.args.search.multiline in
     let input = g.I.Read.remaining c.args.input in
     let old = g.W.Write.contents c.args.out.now in
     let between = g.W.Write.contents c.search_all-searched.new.out in
     let new = g.W.Write.contents c.flush.new.self in
     let r = c.in_ok-regex.regex in
-    passed_on (OrOutput (c.flush.new.self ≡ c.args.out.now ⊎ PrintsFirst input old new request)) c.from_residual-in_err-any.result c.in_err-any.field-0.0
+    passed_on (OrOutput (c.flush.new.self ≡ c.args.out.now
+    ⊎ PrintsFirst (unicode_setting c.args.pattern.flags) c.args.pattern.text.now task multiline files input old new)) c.from_residual-in_err-any.result c.in_err-any.field-0.0
     c.from_residual-in_err-any.ensures.1
-    (or_output (WritesSomeOf r request.job (inputs_of request.files input) old between) _ c.in_err-any.field-0.0 c.in_err-any.ensures.first
+    (or_output (WritesSomeOf r task (inputs_of multiline files input) old between) _ c.in_err-any.field-0.0 c.in_err-any.ensures.first
     (λ some. inr (r, c.in_ok-regex.ensures.compiled, (some.0, some.1, appends_kept old between new some.0 some.2 c.flush.ensures.bytes))))
 
 pub returns-clause-all : goal.returns-clause-all
 returns-clause-all g c =
-    let task = job c.args.request.task in
+    let task = job c.args.search.task in
     let old = g.W.Write.contents c.args.out.now in
     let between = g.W.Write.contents c.search_all-searched.new.out in
     let new = g.W.Write.contents c.flush.new.self in

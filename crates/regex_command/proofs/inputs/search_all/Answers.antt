@@ -10,13 +10,14 @@ use Rattle.regex_command.proofs.inputs.search_all.Goals as goal
 
 pub returns-then-is_empty-clause-first : goal.returns-then-is_empty-clause-first
 returns-then-is_empty-clause-first g c =
-    let files = c.args.files.now in
+    let files = c.args.search.files.now in
+    let multiline = c.args.search.multiline in
     let input = g.I.Read.remaining c.args.input in
     let old = g.W.Write.contents c.args.out.now in
     let new = g.W.Write.contents c.search_input.new.out in
     let r = c.args.regex.now in
-    let task = job c.args.task in
+    let task = job c.args.search.task in
     let none : length files ≡ 0 = search rules in
-    subst (λ inputs. IfErr c.search_input.result (OrOutput (WritesSomeOf r task inputs old new))) (sym (no_files files input none))
-    (if_err_map (SearchesFirst r task (record { name = codes "(standard input)"; in_front = false }) input old new) _ c.search_input.result
+    subst (λ inputs. IfErr c.search_input.result (OrOutput (WritesSomeOf r task inputs old new))) (sym (no_files multiline files input none))
+    (if_err_map (SearchesFirst r task (record { name = codes "(standard input)"; in_front = false; multiline = multiline }) input old new) _ c.search_input.result
     c.search_input.ensures.first (one_some r task _ input old new))

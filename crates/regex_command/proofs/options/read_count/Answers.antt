@@ -1,4 +1,4 @@
-use Rattle.std.proofs.Common.{◌≡◌, ◌≢◌, ◌∙◌, get_or, rules}
+use Rattle.std.proofs.Common.{◌≢◌, ◌∙◌, get_or, rules}
 use Rattle.regex_command.proofs.CountLemmas.{count_read}
 use Rattle.regex_command.proofs.options.read_count.Goals as goal
 

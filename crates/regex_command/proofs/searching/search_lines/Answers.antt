@@ -4,7 +4,7 @@ use Rattle.regex_command.specs.Reading.{IsRead}
 use Rattle.regex_command.specs.Searched.{SearchesFirst}
 use Rattle.regex_command.specs.declared.reading.Next.TheVariants.{Line, LastLine}
 use Rattle.regex_command.specs.Job.{job, named}
-use Rattle.regex_command.proofs.SearchLemmas.{all, another, byte_of, enough, first, first_or_output, is_line, last, or_output, passed_on}
+use Rattle.regex_command.proofs.SearchLemmas.{all, another, byte_of, enough, first, first_or_output, is_end, is_line, last, or_output, passed_on}
 use Rattle.regex_command.proofs.searching.search_lines.Goals as goal
 
 pub returns-then-is_enough-clause-all : goal.returns-then-is_enough-clause-all
@@ -22,7 +22,8 @@ pub returns-in-End-clause-all : goal.returns-in-End-clause-all
 returns-in-End-clause-all g c =
     all c.args.regex.now (job c.args.task) (named c.args.place) (g.B.Read.remaining c.args.reader.now) (g.W.Write.contents c.args.out.now)
     (g.B.Read.remaining c.loop-number.reader) (g.W.Write.contents c.loop-number.out) c.loop-number.number c.loop-number.selected c.loop-number.invariant
-    (rw c.in-End.is at c.in_ok-next.ensures.read)
+    (is_end c.args.place.multiline (g.B.Read.remaining c.loop-number.reader) (g.B.Read.remaining c.next_line.new.reader) c.next_line.new.line.items
+    (rw c.in-End.is at c.in_ok-next.ensures.read))
 
 pub returns-in_err-is_selected-clause-first : goal.returns-in_err-is_selected-clause-first
 returns-in_err-is_selected-clause-first g c =
@@ -44,7 +45,7 @@ returns-in-LastLine-clause-all g c =
     old (g.W.Write.contents c.loop-number.out) (g.W.Write.contents c.write_reply.new.out) c.loop-number.number
     c.loop-number.selected c.loop-number.invariant line c.in_ok-is_selected.is_selected
     (sym c.is_enough.ensures ∙ c.if-is_enough.false) c.in_ok-is_selected.ensures.reply new
-    (subst (λ bytes. IsRead old new bytes LastLine) (sym c.deref.ensures.value) (rw c.in-LastLine.is at c.in_ok-next.ensures.read)))
+    (subst (λ bytes. IsRead c.args.place.multiline old new bytes LastLine) (sym c.deref.ensures.value) (rw c.in-LastLine.is at c.in_ok-next.ensures.read)))
 
 pub loop-number-preserved : goal.loop-number-preserved
 loop-number-preserved g c =
@@ -56,8 +57,8 @@ loop-number-preserved g c =
     old (g.W.Write.contents c.loop-number.out) (g.W.Write.contents c.write_reply.new.out) c.loop-number.number
     c.loop-number.selected c.loop-number.invariant line c.in_ok-is_selected.is_selected
     (sym c.is_enough.ensures ∙ c.if-is_enough.false) c.in_ok-is_selected.ensures.reply new
-    (subst (λ bytes. IsRead old new bytes Line) (sym c.deref.ensures.value)
-    (is_line old new _ c.in_ok-next.next c.in_default.not-End c.in_default-next.not-LastLine c.in_ok-next.ensures.read)))
+    (subst (λ bytes. IsRead c.args.place.multiline old new bytes Line) (sym c.deref.ensures.value)
+    (is_line c.args.place.multiline old new _ c.in_ok-next.next c.in_default.not-End c.in_default-next.not-LastLine c.in_ok-next.ensures.read)))
 
 pub returns-clause-first : goal.returns-clause-first
 returns-clause-first g c =

@@ -1,0 +1,28 @@
+-- What holds under a table that is that of all of Unicode.
+use Rattle.std.proofs.Common.{◌≡◌, ℕ, List, subst}
+use Rattle.std.specs.Prelude.{Result, Err, ⊤}
+use Rattle.regress_base.specs.declared.types.Flags.{Flags}
+use Rattle.regress_base.specs.Table.{Table}
+use Rattle.regress_parse.specs.Fault.{RejectedOnlyIf, unplaced}
+use Rattle.regress_parse.specs.declared.fault.PlacedFault.{PlacedFault}
+use Rattle.regress_parse.specs.declared.fault.PlacedFault.TheVariants as placed
+use Rattle.regress_tree.specs.Setting.{Setting}
+use Rattle.regress_ucd.specs.UnicodeTable.{unicode_table}
+use Rattle.regex_command.specs.Setting.{unicode_setting}
+
+module _ (flags : Flags) (points source : List ℕ) (table : Table) (characters : points ≡ source) (same : table ≡ unicode_table) where
+  pub under_unicode : (P : Setting → List ℕ → Type 0) → P (record { flags = flags; table = table }) points → P (unicode_setting flags) source
+  under_unicode P h =
+      subst (λ (x : List ℕ). P (unicode_setting flags) x) characters (subst (λ (x : Table). P (record { flags = flags; table = x }) points) same h)
+
+-- P holds, if the error is a syntax error.
+abbrev pub OnSyntax : PlacedFault → Type 0 → Type 0
+OnSyntax (placed.Syntax kind error position) P = P
+OnSyntax (placed.Memory error) P = ⊤
+
+pub rejected_by : {X : Type 0} (r : Result X PlacedFault) (fault : PlacedFault) (P : Type 0) → r ≡ Err fault → RejectedOnlyIf (unplaced r) P → OnSyntax fault P
+rejected_by {X} r fault P is only = by fault (subst (λ (r : Result X PlacedFault). RejectedOnlyIf (unplaced r) P) is only)
+  where
+    by : (fault : PlacedFault) → RejectedOnlyIf {X = X} (unplaced (Err fault)) P → OnSyntax fault P
+    by (placed.Syntax kind error position) h = h
+    by (placed.Memory error) h = tt
