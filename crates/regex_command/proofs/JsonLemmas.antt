@@ -1,18 +1,15 @@
 -- What loops over matches and groups have written as JSON.
-use Rattle.std.proofs.Common.{◌≡◌, ◌∙◌, ℕ, zero, suc, ◌+◌, ◌-◌, ◌<◌, ◌≤◌, List, [], ◌∷◌, ◌++◌, Option, Some, None, All, cond, drop, flat_map, length, map, take, get_or, ap, sym, subst, arith, append_assoc, append-nil, ne_eqb, codes}
-use Rattle.std.specs.Prelude.{IfSome}
-use Rattle.std.proofs.lemmas.List.Elements.{All-head, All-tail}
+use Rattle.std.proofs.Common.{◌≡◌, ◌∙◌, ℕ, ◌+◌, List, ◌++◌, Option, Some, flat_map, length, map, take, ap, sym, append_assoc, codes}
 use Rattle.regress_match.specs.Matched as matcher
 use Rattle.regress_match.specs.Matched.{IsInside}
-use Rattle.regress_tree.specs.Inside.{IsCaptureInside, IsSpanInside}
 use Rattle.regress_tree.specs.Steps.{CaptureSpan}
 use Rattle.regress.specs.Compiled.{groups_of}
-use Rattle.regress.specs.Found.{group_span, match_of}
+use Rattle.regress.specs.Found.{match_of}
 use Rattle.regress.specs.declared.found.Match.{Match}
 use Rattle.regress.specs.declared.pattern.Regex.{Regex}
 use Rattle.std.specs.Fmt.{decimal}
 use Rattle.regress_display.specs.Fault.{json_text}
-use Rattle.regex_command.specs.Json.{comma_before, group_json, groups_json, json_front, located_json, match_json, name_json, part_json}
+use Rattle.regex_command.specs.Json.{group_json, groups_json, json_front, located_json, match_json, name_json, part_json}
 
 -- the objects of the first i matches
 abbrev pub json_so_far : Regex → (front line : List ℕ) → List Match → ℕ → List ℕ

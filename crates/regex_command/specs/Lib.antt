@@ -12,6 +12,5 @@ pub mod Printed
 pub mod Reading
 pub mod Reply
 pub mod Searched
-pub mod Setting
 pub mod Source
 pub mod Trees

@@ -6,7 +6,7 @@ use Rattle.regress_base.specs.declared.types.Flags.{Flags}
 use Rattle.regress_escape.specs.Escape.{escaped}
 use Rattle.regress_front.specs.Accepted.{NoneIsAccepted}
 use Rattle.regress_tree.specs.Setting.{Setting}
-use Rattle.regress.specs.Compiled.{IsCompiled}
+use Rattle.regress.specs.Compiled.{IsCompiled, unicode_setting}
 use Rattle.regress.specs.declared.pattern.Regex.{Regex}
 use Rattle.regress_display.specs.Request.{table_asked}
 use Rattle.regress_display.specs.Request as trees
@@ -17,7 +17,6 @@ use Rattle.regex_command.specs.Explained.{IsExplanation}
 use Rattle.regex_command.specs.Inputs.{WritesInputs, WritesSomeOf, inputs_of}
 use Rattle.regex_command.specs.Job.{Job, matching, replacing, splitting}
 use Rattle.regex_command.specs.Linted.{IsReport}
-use Rattle.regex_command.specs.Setting.{unicode_setting}
 use Rattle.regex_command.specs.Source.{IsUnread, OfText}
 use Rattle.regex_command.specs.Trees.{IsAnswer, IsQuietFor, IsShowFailure}
 use Rattle.regex_command.specs.declared.asked.View.{View}

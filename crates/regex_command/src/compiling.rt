@@ -1,8 +1,7 @@
 //! Compiles a pattern.
 ghost use Rattle.std.specs.Prelude.{IfOk, IfErr};
-ghost use Rattle.regress.specs.Compiled.{IsCompiled};
+ghost use Rattle.regress.specs.Compiled.{IsCompiled, unicode_setting};
 ghost use Rattle.regex_command.specs.Printed.{IsRejected};
-ghost use Rattle.regex_command.specs.Setting.{unicode_setting};
 
 use crate::failure::Failure;
 use crate::pattern::Pattern;
