@@ -14,7 +14,7 @@ use super::buffer::copy_to;
 use super::compiling::SYNTAX;
 use super::request::{make_tables, parse_flags};
 use super::results::{BAD_INPUT, MEMORY, OK, ROOM};
-use super::texts::give_text;
+use super::texts::give_terminated;
 use regress_differences::{Difference, DifferenceKind, differences};
 use regress_front::parse::PlacedFault;
 use regress_front::types::Flags;
@@ -77,7 +77,7 @@ pub(crate) fn write_difference_name(number: u32, out: &mut [u8], needed: &mut us
 {
     *needed = 0;
     match kind_with_number(number) {
-        Some(kind) => give_text(kind.name(), out, needed),
+        Some(kind) => give_terminated(kind.name(), out, needed),
         None => BAD_INPUT,
     }
 }
@@ -88,7 +88,7 @@ pub(crate) fn write_difference_text(number: u32, out: &mut [u8], needed: &mut us
 {
     *needed = 0;
     match kind_with_number(number) {
-        Some(kind) => give_text(kind.text(), out, needed),
+        Some(kind) => give_terminated(kind.text(), out, needed),
         None => BAD_INPUT,
     }
 }

@@ -46,7 +46,7 @@ pub extern "C" fn regress_differences(
     }
 }
 
-/// Writes the name of a kind of difference, in UTF-8.
+/// Writes the name of a kind of difference, in UTF-8. A zero follows if there is room.
 ///
 /// # Errors
 /// Returns a status: 0 for success, 3 if `out` is too small, and 4 if there is no such kind. `out` is changed only with
@@ -58,7 +58,7 @@ pub extern "C" fn regress_difference_name(kind: u32, out: &mut [u8], needed: &mu
     differing::write_difference_name(kind, out, needed)
 }
 
-/// Writes the text of a kind of difference, in UTF-8.
+/// Writes the text of a kind of difference, in UTF-8. A zero follows if there is room.
 ///
 /// # Errors
 /// As `regress_difference_name`.

@@ -201,7 +201,8 @@ pub extern "C" fn regress_group_count(alloc: Global, handle: &mut Handle) -> usi
     count
 }
 
-/// Writes the name of the capture group with a number, from 1, in UTF-8; nothing for a group without a name.
+/// Writes the name of the capture group with a number, from 1, in UTF-8; nothing for a group without a name. A zero follows
+/// if there is room.
 ///
 /// # Errors
 /// Returns a status: 0 for success, 3 if `out` is too small, and 4 if there is no such group. `out` is changed only
@@ -228,7 +229,8 @@ pub extern "C" fn regress_group_name(
     status
 }
 
-/// Writes the text of a kind of syntax error, in UTF-8: the whole text, or that before the name of a group.
+/// Writes the text of a kind of syntax error, in UTF-8: the whole text, or that before the name of a group. A zero follows
+/// if there is room.
 ///
 /// # Errors
 /// Returns a status: 0 for success, 3 if `out` is too small, and 4 if there is no such kind. `out` is changed only with

@@ -2,7 +2,7 @@
 ghost use Rattle.std.specs.Prelude.{◌≡◌, IsUtf8, MatchOption, MatchResult, string_bytes};
 ghost use Rattle.regress_c.specs.ReplaceResults.{HasAllReplaced, HasFirstReplaced};
 ghost use Rattle.regress_c.specs.SearchResults.{IsBare, SearchResult, status_of};
-ghost use Rattle.regress_c.specs.TextResults.{TextResult};
+ghost use Rattle.regress_c.specs.TextResults.{PlainResult};
 
 use super::results::BAD_INPUT;
 use super::searches::error_status;
@@ -61,7 +61,7 @@ fn decode<'a>(text: &'a [u8], template: &'a [u8]) -> Option<(&'a str, &'a str)>
 
 /// Writes what replacing has returned. Returns the status.
 fn report(replaced: Result<String, SearchError>, out: &mut [u8], needed: &mut usize) -> u32
-    ensures { MatchResult replaced (λ text. TextResult (Unit {0}) (λ bytes. bytes ≡ string_bytes text) out.old result needed.new out.new)
+    ensures { MatchResult replaced (λ text. PlainResult (λ bytes. bytes ≡ string_bytes text) out.old result needed.new out.new)
         (λ error. IsBare (status_of error) out.old result needed.new out.new) }
 {
     *needed = 0;

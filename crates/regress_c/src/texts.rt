@@ -1,7 +1,7 @@
 //! The results of calls that write a text which does not depend on a search.
 ghost use Rattle.std.specs.Prelude.{◌≡◌, MatchOption};
 ghost use Rattle.regress.specs.Compiled.{groups_of};
-ghost use Rattle.regress_c.specs.TextResults.{HasGroup, HasKind, IsMessage, IsNameOf, TextResult};
+ghost use Rattle.regress_c.specs.TextResults.{HasGroup, HasKind, IsMessage, IsNameOf, PlainResult, TextResult};
 
 use super::buffer::copy_to;
 use super::results::{BAD_INPUT, OK, ROOM};
@@ -14,7 +14,7 @@ pub(crate) fn write_name(regex: &Regex, group: usize, out: &mut [u8], needed: &m
 {
     *needed = 0;
     match name_of(regex, group) {
-        Some(name) => give_text(name, out, needed),
+        Some(name) => give_terminated(name, out, needed),
         None => BAD_INPUT,
     }
 }
@@ -25,14 +25,25 @@ pub(crate) fn write_message(kind: u32, out: &mut [u8], needed: &mut usize) -> u3
 {
     *needed = 0;
     match message(kind) {
-        Some(text) => give_text(text, out, needed),
+        Some(text) => give_terminated(text, out, needed),
         None => BAD_INPUT,
     }
 }
 
+/// Writes a text, a zero after it if there is room, and its length. Returns the status.
+pub(crate) fn give_terminated(text: &str, out: &mut [u8], needed: &mut usize) -> u32
+    ensures { TextResult (Unit {0}) (λ bytes. bytes ≡ text.now) out.old result needed.new out.new }
+{
+    let status = give_text(text, out, needed);
+    if text.len() < out.len() {
+        out[text.len()] = 0;
+    }
+    status
+}
+
 /// Writes a text and its length. Returns the status.
 pub(crate) fn give_text(text: &str, out: &mut [u8], needed: &mut usize) -> u32
-    ensures { TextResult (Unit {0}) (λ bytes. bytes ≡ text.now) out.old result needed.new out.new }
+    ensures { PlainResult (λ bytes. bytes ≡ text.now) out.old result needed.new out.new }
 {
     *needed = text.len();
     if copy_to(text.as_bytes(), out) {

@@ -1,5 +1,5 @@
 -- What is known of the program of a pattern.
-use Rattle.std.specs.Prelude.{◌≡◌, ℕ, ◌≤◌, true, List, Option, IfSome, length}
+use Rattle.std.specs.Prelude.{◌≡◌, ℕ, ◌≤◌, true, List, length}
 use Rattle.std.proofs.Props.{props}
 use Rattle.regress_tree.specs.Matching.{steps}
 use Rattle.regress_tree.specs.Reading.{forwards}
@@ -8,7 +8,6 @@ use Rattle.regress_tree.specs.Steps.{MatchState}
 use Rattle.regress_tree.specs.Tree.{Tree}
 use Rattle.regress_tree.specs.WellFormed.{captures}
 use Rattle.regress_unicode.specs.declared.Tables.{Tables}
-use Rattle.regress_required.specs.Required.{IsRequired}
 use Rattle.regress_program.specs.Found.{no_groups}
 use Rattle.regress_program.specs.Linear.{is_linear}
 use Rattle.regress_program.specs.Program.{Out, IsSolution}
@@ -43,6 +42,3 @@ IsCodeOf-prop setting t tables code = hlevel (props, MatchState-set)
 
 pub IsProgramOf-prop : (setting : Setting) (t : Tree) (p : Program) → IsProp (IsProgramOf setting t p)
 IsProgramOf-prop setting t p = hlevel (props, MatchState-set)
-
-pub IfRequired-prop : (byte : Option ℕ) (t : Tree) → IsProp (IfSome byte (λ b. IsRequired b t))
-IfRequired-prop byte t = hlevel (props, MatchState-set)

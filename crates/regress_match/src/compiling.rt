@@ -16,7 +16,6 @@ use crate::matcher::Matcher;
 use regress_backtrack::Code;
 use regress_program::CompileFault;
 use regress_program::groups::group_count;
-use regress_required::required_byte;
 use regress_tree::ir::Regex;
 use regress_unicode::Tables;
 use std::alloc::Global;
@@ -49,14 +48,12 @@ impl Matcher {
         let groups = group_count(&regex.node);
         let code = compiled(alloc, &regex, tables, groups, limits.instructions)?;
         let within = code.instructions() <= limits.tables;
-        let required = required_byte(&regex.node);
         let tables = Arc::try_clone(tables)?;
         Ok(Matcher {
             regex,
             tables,
             code,
             within,
-            required,
         })
     }
 

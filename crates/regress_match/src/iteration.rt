@@ -6,14 +6,31 @@ ghost use Rattle.regress_match.specs.Kept.{IsRunOf};
 ghost use Rattle.regress_match.specs.Matched.{Finds, IfMatched, IfOutOfSteps, IsInside, start_of};
 ghost use Rattle.regress_match.specs.Matcher.{factor_of, matcher_outcomes, matcher_tree, outcome_if};
 ghost use Rattle.regress_match.specs.Searched.{EndsHere, offset_after};
-ghost use Rattle.regress_required.specs.Required.{NoneFrom};
+ghost use Rattle.regress_required.specs.Required.{IsRequired, NoneFrom};
 
 use crate::matcher::Matcher;
 use crate::matcher_matches::MatcherMatches;
 use memchr::memchr;
 use regress_backtrack::{Backtracker, Outcome};
 use regress_program::Match;
+use regress_required::required_byte;
 use std::alloc::{AllocError, Global};
+
+/// The length in bytes from which on a search first looks for a byte that each match contains.
+const LONG_TEXT: usize = 4096;
+
+impl Matcher {
+    /// Returns a byte that each match contains, if one is known, and if the program has at most `limit` instructions.
+    fn required_byte_within(&self, limit: usize) -> Option<u8>
+        ensures { IfSome result (λ b. IsRequired b (matcher_tree self.now)) }
+    {
+        if self.code.instructions() > limit {
+            None
+        } else {
+            required_byte(&self.regex.node)
+        }
+    }
+}
 
 impl<'m> MatcherMatches<'m> {
     /// Returns the next match.
@@ -88,7 +105,8 @@ impl<'m> MatcherMatches<'m> {
     /// Moves the search past the text if a byte that each match contains does not follow, and returns whether it did.
     ///
     /// It looks for the byte before the first match only, so that all searches together look at each byte of the text
-    /// once. Each byte looked at is a step; if there may be too few it does nothing.
+    /// once. Each byte looked at is a step. It does nothing in a text that is shorter than the program, or so short that
+    /// finding out which byte it is does not pay, or if there may be too few steps.
     fn skip_to_end(&mut self) -> bool
         requires { IsNone self.old.search }
         ensures ends { result ≡ true → EndsHere (iterated_text self.old) (matcher_outcomes (iterated_matcher self.old) (iterated_text self.old)) (iterated_from self.old) (iterated_from self.new) }
@@ -96,20 +114,21 @@ impl<'m> MatcherMatches<'m> {
         ensures same { IsSameIteration self.old self.new }
         ensures search { IsNone self.new.search }
     {
-        let Some(byte) = self.matcher.required else {
-            return false;
-        };
-        if self.backtracker.is_some() || (self.text.len() as u64) > self.left {
+        let len = self.text.len();
+        if self.backtracker.is_some() || len < LONG_TEXT || len as u64 > self.left {
             return false;
         }
+        let Some(byte) = self.matcher.required_byte_within(len) else {
+            return false;
+        };
         match offset_of(byte, self.text, self.from) {
             Some(ahead) => {
                 self.left -= ahead as u64 + 1;
                 false
             }
             None => {
-                self.left -= self.text.len().saturating_sub(self.from) as u64;
-                self.from = self.text.len() + 1;
+                self.left -= len.saturating_sub(self.from) as u64;
+                self.from = len + 1;
                 true
             }
         }

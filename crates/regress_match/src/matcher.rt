@@ -1,10 +1,8 @@
 //! Patterns that are prepared for searches.
-ghost use Rattle.std.specs.Prelude.{IfSome};
 ghost use Rattle.std.specs.Arc.{arc_value};
 ghost use Rattle.regress_tree.specs.Tree.{tree};
 ghost use Rattle.regress_unicode.specs.TableOf.{table_of};
-ghost use Rattle.regress_required.specs.Required.{IsRequired};
-ghost use Rattle.regress_match.specs.Compiled.{IfRequired-prop, IsCodeOf, IsCodeOf-prop};
+ghost use Rattle.regress_match.specs.Compiled.{IsCodeOf, IsCodeOf-prop};
 
 use regress_backtrack::Code;
 use regress_tree::ir::Regex;
@@ -20,8 +18,5 @@ pub struct Matcher {
     pub(crate) code: Code,
     /// Whether the program is within the limit on tables.
     pub(crate) within: bool,
-    /// A byte that each match contains, if one is known.
-    pub(crate) required: Option<u8>,
     ghost compiled: { IsCodeOf (record { flags = regex.flags; table = table_of (arc_value tables) }) (tree regex.node) (arc_value tables) code } by { IsCodeOf-prop (record { flags = regex.flags; table = table_of (arc_value tables) }) (tree regex.node) (arc_value tables) code },
-    ghost needed: { IfSome required (λ b. IsRequired b (tree regex.node)) } by { IfRequired-prop required (tree regex.node) },
 }

@@ -1,7 +1,7 @@
 use Rattle.std.proofs.Common.{◌≡◌, chars, string_bytes, subst}
 use Rattle.std.proofs.lemmas.Str.{IsUtf8-string_bytes}
 use Rattle.regress_c.specs.EscapeResults.{escape_bad, escape_out_of_memory}
-use Rattle.regress_c.specs.TextResults.{TextResult}
+use Rattle.regress_c.specs.TextResults.{PlainResult}
 use Rattle.regress_escape.specs.Escape.{escaped}
 use Rattle.regress_c.proofs.ReplaceLemmas.{escape-writes}
 use Rattle.regress_c.proofs.escaping.write_escaped.Goals as goal
@@ -11,7 +11,7 @@ returns-in-Ok-escape c = record {
   status =
       escape-writes (string_bytes c.in-Ok-escape.pattern) c.in-Ok.ensures.cases.1 (IsUtf8-string_bytes c.in-Ok-escape.pattern)
       (subst (λ t. chars (string_bytes c.in-Ok-escape.pattern) ≡ escaped (chars t)) c.in-Ok.ensures.cases.0 c.in-Ok-escape.ensures)
-      (subst (λ t. TextResult (Unit {0}) (λ bytes. bytes ≡ t) c.args.out.now c.give_text.result c.give_text.new.needed c.give_text.new.out)
+      (subst (λ t. PlainResult (λ bytes. bytes ≡ t) c.args.out.now c.give_text.result c.give_text.new.needed c.give_text.new.out)
       c.deref.ensures c.give_text.ensures);
 }
 
