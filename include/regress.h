@@ -158,14 +158,16 @@ uint32_t regress_escape(const uint8_t *text, size_t length, uint8_t *out, size_t
 /* Returns the number of groups, without the whole match. */
 size_t regress_group_count(regress_regex *handle);
 
-/* Writes the name of the group with the number `group`, from 1, in UTF-8, to `out`, a buffer of `room` bytes.
+/* Writes the name of the group with the number `group`, from 1, in UTF-8, to `out`, a buffer of `room` bytes. A zero
+   follows if there is room.
 
    Returns OK, ROOM or BAD_INPUT: the last if there is no such group. `needed` is the length of the name in bytes with
    OK and ROOM, else 0; with OK it is 0 for a group without a name. */
 uint32_t regress_group_name(regress_regex *handle, size_t group, uint8_t *out, size_t room, size_t *needed);
 
 /* Writes the text of a kind of syntax error, in UTF-8, to `out`, a buffer of `room` bytes. `kind` is the number that
-   regress_compile writes. The text of REGRESS_FRONT_KIND_UNKNOWN_NAME ends in a colon and a space, without the name.
+   regress_compile writes. The text of REGRESS_FRONT_KIND_UNKNOWN_NAME ends in a colon and a space, without the name. A
+   zero follows if there is room.
 
    Returns OK, ROOM or BAD_INPUT: the last if there is no such kind. `needed` is the length of the text in bytes with OK
    and ROOM, else 0. */
@@ -201,7 +203,8 @@ typedef struct regress_difference {
 uint32_t regress_differences(const uint8_t *pattern, size_t length, uint32_t flags, regress_difference *differences,
                              size_t room, size_t *needed, uint32_t *kind, size_t *position);
 
-/* Writes the name of a kind of difference, such as "case-closure", to `out`, a buffer of `room` bytes.
+/* Writes the name of a kind of difference, such as "case-closure", to `out`, a buffer of `room` bytes. A zero follows if
+   there is room.
 
    Returns OK, ROOM or BAD_INPUT: the last if there is no such kind. `needed` is the length of the name in bytes with OK
    and ROOM, else 0. */
