@@ -503,8 +503,12 @@ class _Handle:
             raise _syntax_error(program.pattern, program.flags, program.source, program.offset)
         self._check(status)
         self.groups = _library.regress_group_count(ctypes.byref(self._regex))
-        self.steps_per_character = _library.regress_steps_per_character(ctypes.byref(self._regex))
-        self.nonlinear = _library.regress_nonlinear(ctypes.byref(self._regex))
+
+    def about(self):
+        """Returns what does not differ from handle to handle: the number of groups, the bound for steps, and the number of
+        the reason why searches are not linear."""
+        regex = ctypes.byref(self._regex)
+        return self.groups, _library.regress_steps_per_character(regex), _library.regress_nonlinear(regex)
 
     def __del__(self):
         if self._regex.inside:
@@ -564,9 +568,7 @@ class _Program:
         self.offset = offset
         # The handles that no call uses. Threads may take from a list and append to it at the same time.
         self._idle = []
-        self.groups = self.use(lambda handle: handle.groups)
-        self.steps_per_character = self.use(lambda handle: handle.steps_per_character)
-        number = self.use(lambda handle: handle.nonlinear)
+        self.groups, self.steps_per_character, number = self.use(_Handle.about)
         self.nonlinear = _NONLINEAR[number] if number < len(_NONLINEAR) else 'other'
 
     def use(self, call):

@@ -381,12 +381,15 @@ pub(crate) fn differences(pattern: &str, flags: u32) -> Output<Difference> {
     })
 }
 
+/// Returns a number of words that most trees do not exceed, so that the first call writes them.
+fn usual_room(pattern: &[u32]) -> usize {
+    16 * pattern.len() + 64
+}
+
 /// Writes the encoding of a pattern's tree, for a pattern of code points.
 pub(crate) fn tree_words(pattern: &[u32], flags: u32, optimize: u32) -> Output<u32> {
-    // Most trees fit at the first call.
-    let room = 16 * pattern.len() + 64;
     let (mut kind, mut place) = (0, 0);
-    with_room(room, |words: &mut [u32], needed| {
+    with_room(usual_room(pattern), |words: &mut [u32], needed| {
         // SAFETY: pointers and lengths are those of slices and variables. A pointer may dangle if its length is 0.
         unsafe {
             regress_front_parse_code_points(
@@ -406,11 +409,9 @@ pub(crate) fn tree_words(pattern: &[u32], flags: u32, optimize: u32) -> Output<u
 
 /// Writes the encoding of a pattern's tree, for a pattern of code points. Also returns the spans of its nodes.
 pub(crate) fn tree_words_with_spans(pattern: &[u32], flags: u32) -> (Output<u32>, Vec<Span>) {
-    // Most trees fit at the first call.
-    let room = 16 * pattern.len() + 64;
     let mut spans = vec![Span::default(); 4 * pattern.len() + 16];
     let (mut spans_needed, mut kind, mut place) = (0, 0, 0);
-    let output = with_room(room, |words: &mut [u32], needed| {
+    let output = with_room(usual_room(pattern), |words: &mut [u32], needed| {
         if spans_needed > spans.len() {
             spans = vec![Span::default(); spans_needed];
         }
