@@ -8,9 +8,9 @@ ghost use Rattle.regex_command.specs.Searched.{SearchesFirst};
 use crate::asked::Search;
 use crate::failure::Failure;
 use crate::place::Place;
+use crate::searcher::Searcher;
 use crate::searching::{search_lines, write_end};
 use crate::task::{Selection, Shown, Task};
-use regress::Regex;
 use std::alloc::Global;
 use std::fs::{File, Files};
 use std::io::{BufRead, BufReader, Read, Write};
@@ -19,7 +19,7 @@ use std::io::{BufRead, BufReader, Read, Write};
 pub(crate) fn search_all<'a, R: Files, I: Read + Drop, W: Write>(
     rt: &R,
     alloc: Global,
-    regex: &Regex,
+    regex: &Searcher<'_>,
     search: Search<'a>,
     input: I,
     out: &mut W,
@@ -46,7 +46,7 @@ pub(crate) fn search_all<'a, R: Files, I: Read + Drop, W: Write>(
 fn search_files<'a, R: Files, W: Write>(
     rt: &R,
     alloc: Global,
-    regex: &Regex,
+    regex: &Searcher<'_>,
     search: Search<'a>,
     out: &mut W,
 ) -> Result<bool, Failure<'a>>
@@ -91,7 +91,7 @@ fn has_ended(task: Task<'_>, any: bool) -> bool
 fn search_file<'a, R: Files, W: Write>(
     rt: &R,
     alloc: Global,
-    regex: &Regex,
+    regex: &Searcher<'_>,
     task: Task<'_>,
     place: Place<'a>,
     out: &mut W,
@@ -109,7 +109,7 @@ fn search_file<'a, R: Files, W: Write>(
 /// Searches an input to its end.
 fn search_input<'a, I: Read + Drop, W: Write>(
     alloc: Global,
-    regex: &Regex,
+    regex: &Searcher<'_>,
     task: Task<'_>,
     place: Place<'a>,
     input: I,
@@ -128,7 +128,7 @@ fn search_input<'a, I: Read + Drop, W: Write>(
 /// Searches the lines of a reader, and writes what is shown at the end.
 fn search_reader<'a, B: BufRead, W: Write>(
     alloc: Global,
-    regex: &Regex,
+    regex: &Searcher<'_>,
     task: Task<'_>,
     place: Place<'a>,
     reader: &mut B,

@@ -29,6 +29,7 @@ mod place;
 mod printing;
 mod reading;
 mod reply;
+mod searcher;
 mod searching;
 mod showing;
 mod task;
@@ -45,6 +46,7 @@ use printing::print;
 use regress_arguments::{ArgumentsError, arguments};
 use regress_display::Request as TreeRequest;
 use regress_escape::escape;
+use searcher::Searcher;
 use showing::print_tree;
 use std::alloc::Global;
 use std::env::Env;
@@ -247,7 +249,8 @@ fn print_search<'a, R: Files, I: Read + Drop, W: Write>(
     ensures due { IfErr result (IsDue (unicode_setting pattern.entry.flags) pattern.entry.text.now) }
 {
     let regex = compiled(alloc, pattern)?;
-    let searched = search_all(rt, alloc, &regex, search, input, out);
+    let searcher = Searcher::new(&regex);
+    let searched = search_all(rt, alloc, &searcher, search, input, out);
     out.flush().map_err(|_| Failure::Output)?;
     let any = searched?;
     Ok(any || changes(search.task))

@@ -5,6 +5,7 @@ ghost use Rattle.regex_command.specs.Job.{job};
 ghost use Rattle.regex_command.specs.Reply.{IsReply, IsSelected, Shows, ShowsIf, ShowsMatches, ShowsPieces, ShowsReplaced};
 
 use crate::json::json_matches;
+use crate::searcher::Searcher;
 use crate::task::{Selection, Shown, Task};
 use regress::{Match, Regex, SearchError};
 use std::alloc::Global;
@@ -19,7 +20,7 @@ pub(crate) struct Reply {
 /// Returns what a task writes for a line, each line of it with `front` in front where the task selects lines.
 pub(crate) fn reply_to(
     alloc: Global,
-    regex: &Regex,
+    regex: &Searcher<'_>,
     task: Task<'_>,
     front: &str,
     line: &str,
@@ -30,11 +31,11 @@ pub(crate) fn reply_to(
         Task::Match(selection) => selected(alloc, regex, selection, front, line),
         Task::Replace(template) => Ok(Reply {
             selected: true,
-            text: replaced(alloc, regex, template, line)?,
+            text: replaced(alloc, regex.regex(), template, line)?,
         }),
         Task::Split => Ok(Reply {
             selected: true,
-            text: pieces(alloc, regex, line)?,
+            text: pieces(alloc, regex.regex(), line)?,
         }),
     }
 }
@@ -42,7 +43,7 @@ pub(crate) fn reply_to(
 /// Searches a line.
 fn selected(
     alloc: Global,
-    regex: &Regex,
+    regex: &Searcher<'_>,
     selection: Selection,
     front: &str,
     line: &str,
@@ -53,7 +54,7 @@ fn selected(
     let matches = regex.is_match(alloc, line)?;
     let selected = if selection.invert { !matches } else { matches };
     let text = if selected {
-        shown(alloc, regex, selection.shown, front, line)?
+        shown(alloc, regex.regex(), selection.shown, front, line)?
     } else {
         String::new(alloc)
     };

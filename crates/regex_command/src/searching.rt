@@ -14,8 +14,8 @@ use crate::failure::{Failure, unread};
 use crate::place::Place;
 use crate::reading::{Next, read_next};
 use crate::reply::{Reply, reply_to};
+use crate::searcher::Searcher;
 use crate::task::{Shown, Task};
-use regress::Regex;
 use regress_display::JsonText;
 use std::alloc::{AllocError, Global};
 use std::io::{BufRead, Write};
@@ -24,7 +24,7 @@ use std::str;
 /// Writes what a task shows of each line of an input until enough are selected, and returns how many are.
 pub(crate) fn search_lines<'a, B: BufRead, W: Write>(
     alloc: Global,
-    regex: &Regex,
+    regex: &Searcher<'_>,
     task: Task<'_>,
     place: Place<'a>,
     reader: &mut B,
@@ -104,7 +104,7 @@ fn next_line<'a, B: BufRead>(
 /// Writes what a task shows of the line with this number, and returns whether it is selected.
 fn write_reply<'a, W: Write>(
     alloc: Global,
-    regex: &Regex,
+    regex: &Searcher<'_>,
     task: Task<'_>,
     place: Place<'a>,
     number: u64,

@@ -3,4 +3,5 @@ mod EcmaLemmas
 mod FoundLemmas
 mod LettersLemmas
 mod ReplacedLemmas
+mod RequiredLemmas
 mod SourceLemmas

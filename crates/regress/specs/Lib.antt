@@ -7,4 +7,5 @@ pub mod Inside
 pub mod Letters
 pub mod Limits
 pub mod Replaced
+pub mod Required
 pub mod Searched

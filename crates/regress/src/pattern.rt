@@ -68,6 +68,7 @@ impl Regex {
     ghost use Rattle.regress.specs.Groups.{names_left};
     ghost use Rattle.regress.specs.Letters.{AreFlags, flags_of, no_flags};
     ghost use Rattle.regress.specs.Limits.{default_options};
+    ghost use Rattle.regress.specs.Required.{RequiresLiteral};
     ghost use Rattle.regress.specs.Searched.{has_failed, next_from, search_limit, searched_factor, searched_groups, searched_outcomes, searched_text};
     ghost use Rattle.regress.specs.declared.failure.SearchError.TheVariants.{OutOfSteps};
 
@@ -194,6 +195,25 @@ impl Regex {
     {
         let tables = Arc::new(alloc, unicode_tables(alloc)?)?;
         Regex::with_options(alloc, pattern, flags, Options::default(), &tables)
+    }
+
+    /// Returns a literal that each match contains, in UTF-8 and not empty, or `None` if none is known. A text without it
+    /// has no match, so a caller may look for it first, in many texts at once.
+    ///
+    /// It is the longest one that is found outside alternations and lookarounds. With the flag i, letters are none.
+    ///
+    /// # Complexity
+    /// One pass over the tree of the pattern, without allocations.
+    ///
+    /// # Examples
+    /// ```
+    /// let regex = Regex::new(alloc, "(?:id|name)=x+, user=\\d+")?;
+    /// assert_eq!(rt; regex.required_literal(), Some(", user=".as_bytes()));
+    /// ```
+    pub fn required_literal(&self) -> Option<&[u8]>
+        ensures { IfSome result (λ literal. RequiresLiteral self.now literal.now) }
+    {
+        self.matcher.required_literal()
     }
 
     /// Returns whether the pattern matches somewhere in `text`.

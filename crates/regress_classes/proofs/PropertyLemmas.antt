@@ -1,6 +1,8 @@
 -- Properties: words at the start of a source, what an escape parses to, and copies of strings.
-use Rattle.std.proofs.Common.{◌≡◌, ℕ, ◌<◌, ◌==◌, Bool, true, false, cond, List, [], ◌∷◌, ◌++◌, length, Some, None, refl, sym, ap, ap₂, ◌∙◌, append_assoc, append-nil, arith}
+use Rattle.std.proofs.Common.{◌≡◌, ℕ, zero, suc, ◌<◌, ◌==◌, Bool, true, false, cond, List, [], ◌∷◌, ◌++◌, length, Some, None, refl, sym, ap, ap₂, subst, ◌∙◌, append_assoc, append-nil, arith}
+use Rattle.std.specs.Str.{IsAscii}
 use Rattle.std.proofs.lemmas.Bool.{cond-true}
+use Rattle.std.proofs.lemmas.Str.{IsAscii-append}
 use Rattle.std.proofs.lemmas.Bool.Decides.{nat_tests}
 use Rattle.regress_lexer.specs.Source.{Source}
 use Rattle.regress_lexer.specs.Digits.{front, after}
@@ -8,6 +10,13 @@ use Rattle.regress_classes.specs.Properties.{is_property_character, property_wor
 
 pub ascii : (c : ℕ) → is_property_character c ≡ true → c < 128
 ascii c e = grind (arith, nat_tests)
+
+pub more_ascii : (word new : List ℕ) (c : ℕ) → IsAscii word → c < 128 → new ≡ word ++ c ∷ [] → IsAscii new
+more_ascii word new c are is pushed = subst IsAscii (sym pushed) (IsAscii-append word (c ∷ []) are one)
+  where
+    one : IsAscii (c ∷ [])
+    one zero = is
+    one (suc i) = omega arith
 
 -- From `t`, this word was parsed up to `rest`.
 pub record WordUpTo (t rest : Source) (word : List ℕ) : Type 0 where

@@ -84,7 +84,7 @@ fn read_braced(
 fn read_word(cursor: &mut Cursor) -> Result<Option<String>, AllocError>
     ensures { IfOk result (λ word. option_map (λ word. (string_bytes word, source cursor.new)) word ≡ property_word_at (source cursor.old)) }
 {
-    let mut word = String::with_capacity(cursor.alloc, WORD_CAPACITY)?;
+    let mut word = Vec::with_capacity(cursor.alloc, WORD_CAPACITY)?;
     while let Some((c, rest)) = property_character(cursor.rest) {
         word.push(c)?;
         cursor.rest = rest;
@@ -92,12 +92,15 @@ fn read_word(cursor: &mut Cursor) -> Result<Option<String>, AllocError>
     if word.is_empty() {
         return Ok(None);
     }
-    Ok(Some(word))
+    match String::from_utf8(word) {
+        Ok(word) => Ok(Some(word)),
+        Err(_) => unreachable!(),
+    }
 }
 
 /// Splits off the first character, if it is a letter, a digit or a low line.
 #[tactic(auto, unfolding(regress_lexer::specs::Digits::front))]
-fn property_character<'a>(text: &'a [u32]) -> Read<'a, char>
+fn property_character<'a>(text: &'a [u32]) -> Read<'a, u8>
     ensures some { IfSome result (λ found. (text.now ≡ found.0 ∷ found.1.now) × (is_property_character found.0 ≡ true)) }
     ensures none { IfNone result (front is_property_character text.now ≡ []) }
 {
@@ -105,7 +108,7 @@ fn property_character<'a>(text: &'a [u32]) -> Read<'a, char>
     if !is_property_character(*c) {
         return None;
     }
-    Some((char::from_u32(*c)?, rest))
+    Some((*c as u8, rest))
 }
 
 /// Returns whether `c` is a letter, a digit or a low line.

@@ -16,7 +16,7 @@ use Rattle.regress_match.specs.Searched.{EndsHere}
 pub nothing_left : (setting : Setting) (t : Tree) (text : List ℕ) (byte from to : ℕ) → IsRequired byte t → NoneFrom byte text from →
     to ≡ length text + 1 → EndsHere text (outcomes_at setting text t) from to
 nothing_left setting t text byte from to is none past = record {
-  none = λ p later on. no_matches byte t is setting text (no_groups (length (captures t)) p) (λ k le. none k (omega (arith, later, le)));
+  none = λ p later on. no_matches (NoneFrom byte) t is setting text (no_groups (length (captures t)) p) (λ k le. none k (omega (arith, later, le)));
   past = past;
 }
 

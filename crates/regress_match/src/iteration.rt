@@ -6,31 +6,17 @@ ghost use Rattle.regress_match.specs.Kept.{IsRunOf};
 ghost use Rattle.regress_match.specs.Matched.{Finds, IfMatched, IfOutOfSteps, IsInside, start_of};
 ghost use Rattle.regress_match.specs.Matcher.{factor_of, matcher_outcomes, matcher_tree, outcome_if};
 ghost use Rattle.regress_match.specs.Searched.{EndsHere, offset_after};
-ghost use Rattle.regress_required.specs.Required.{IsRequired, NoneFrom};
+ghost use Rattle.regress_required.specs.Required.{NoneFrom};
 
 use crate::matcher::Matcher;
 use crate::matcher_matches::MatcherMatches;
 use memchr::memchr;
 use regress_backtrack::{Backtracker, Outcome};
 use regress_program::Match;
-use regress_required::required_byte;
 use std::alloc::{AllocError, Global};
 
 /// The length in bytes from which on a search first looks for a byte that each match contains.
 const LONG_TEXT: usize = 4096;
-
-impl Matcher {
-    /// Returns a byte that each match contains, if one is known, and if the program has at most `limit` instructions.
-    fn required_byte_within(&self, limit: usize) -> Option<u8>
-        ensures { IfSome result (λ b. IsRequired b (matcher_tree self.now)) }
-    {
-        if self.code.instructions() > limit {
-            None
-        } else {
-            required_byte(&self.regex.node)
-        }
-    }
-}
 
 impl<'m> MatcherMatches<'m> {
     /// Returns the next match.

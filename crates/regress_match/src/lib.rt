@@ -9,6 +9,7 @@ mod matcher;
 mod matcher_matches;
 pub mod names;
 mod nonlinear;
+mod required;
 mod searches;
 
 pub use limits::Limits;

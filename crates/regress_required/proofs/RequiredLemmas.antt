@@ -1,5 +1,6 @@
--- The bytes that trees require, from those that their parts require.
+-- The bytes and literals that trees require, from those that their parts require.
 use Rattle.std.proofs.Common.{◌≡◌, ◌⊎◌, inl, inr, ℕ, zero, suc, ◌+◌, ◌≤◌, ◌<◌, ◌==◌, Bool, true, false, not, ◌&&◌, ◌||◌, List, [], ◌∷◌, ◌++◌, flat_map, map, length, drop, get_or, slice_index, All, refl, sym, ap, subst, ◌∙◌, arith, nat_eq, if◌then◌else◌, Option, Some, None, String, Box, Global, Vec}
+use Rattle.std.specs.Borrow.{Bor}
 use Rattle.std.specs.Prelude.{nat_lt, IfSome, IsTrue}
 use Rattle.std.specs.List.{starts_with, list_any}
 use Rattle.std.specs.declared.ops.Range.{Range}
@@ -19,45 +20,70 @@ use Rattle.regress_tree.specs.declared.ir.node.Node.{Node}
 use Rattle.regress_tree.specs.declared.ir.node.Node.TheVariants.{Cat, Alt, CaptureGroup, Loop, Loop1CharBody}
 use Rattle.regress_tree.proofs.lemmas.Nodes.{tree-Cat, tree-Alt, tree-CaptureGroup, tree-Loop, tree-Loop1CharBody}
 use Rattle.regress_tree.proofs.lemmas.Onward.{Advances-less, Advances-stay, Advances-then, Advances-or, Advances-hold_at, Advances-one_character, Advances-these_bytes, Advances-any_string, Advances-back_reference, Advances-capture, Advances-look, Advances-repeat}
-use Rattle.regress_required.specs.Required.{AreRequired, IsRequired, Needs, NoneFrom}
+use Rattle.regress_required.specs.Required.{AbsentFrom, AreRequired, IsRequired, IsRequiredLiteral, Needs, NoneFrom, Requires}
 
 -- ---- matchers
 
-module _ (b : ℕ) (bytes : List ℕ) where
-  needs_first : (f g : Matcher) → Needs b bytes f → Needs b bytes (f then_ g)
+-- a property of offsets that later offsets have too
+abbrev pub IsLasting : (absent : ℕ → Type 0) → Type 0
+IsLasting absent = (j k : ℕ) → j ≤ k → absent j → absent k
+
+abbrev pub AreLasting : (absent : List ℕ → ℕ → Type 0) → Type 0
+AreLasting absent = (bytes : List ℕ) → IsLasting (absent bytes)
+
+pub byte_lasts : (b : ℕ) → AreLasting (NoneFrom b)
+byte_lasts b = λ bytes j k le none i from. none i (omega (arith, le, from))
+
+pub literal_lasts : (literal : List ℕ) → AreLasting (AbsentFrom literal)
+literal_lasts literal = λ bytes j k le none i from. none i (omega (arith, le, from))
+
+module _ (absent : ℕ → Type 0) where
+  needs_first : (f g : Matcher) → Needs absent f → Needs absent (f then_ g)
   needs_first f g needs = record { none = λ s none. ap (flat_map g) (needs.none s none) }
 
-  none_after : (g : Matcher) (s : MatchState) (ts : List MatchState) → Needs b bytes g → NoneFrom b bytes s.position →
+  none_after : (g : Matcher) (s : MatchState) (ts : List MatchState) → IsLasting absent → Needs absent g → absent s.position →
       All (λ t. s.position + 0 ≤ t.position) ts → flat_map g ts ≡ []
-  none_after g s [] needs none on = refl
-  none_after g s (t ∷ ts) needs none on =
+  none_after g s [] lasts needs none on = refl
+  none_after g s (t ∷ ts) lasts needs none on =
       let le = All-head (λ t. s.position + 0 ≤ t.position) t ts on in
-      let here : g t ≡ [] = needs.none t (λ k from. none k (omega (arith, le, from))) in
-      ap (λ us. us ++ flat_map g ts) here ∙ none_after g s ts needs none (All-tail (λ t. s.position + 0 ≤ t.position) t ts on)
+      let here : g t ≡ [] = needs.none t (lasts s.position t.position (omega (arith, le)) none) in
+      ap (λ us. us ++ flat_map g ts) here ∙ none_after g s ts lasts needs none (All-tail (λ t. s.position + 0 ≤ t.position) t ts on)
 
-  needs_second : (f g : Matcher) → Advances 0 f → Needs b bytes g → Needs b bytes (f then_ g)
-  needs_second f g on needs = record { none = λ s none. none_after g s (f s) needs none (on.onward s) }
+  needs_second : (f g : Matcher) → IsLasting absent → Advances 0 f → Needs absent g → Needs absent (f then_ g)
+  needs_second f g lasts on needs = record { none = λ s none. none_after g s (f s) lasts needs none (on.onward s) }
 
-  needs_or : (f g : Matcher) → Needs b bytes f → Needs b bytes g → Needs b bytes (f or_ g)
+  needs_or : (f g : Matcher) → Needs absent f → Needs absent g → Needs absent (f or_ g)
   needs_or f g left right =
       record { none = λ s none. ap (λ ts. ts ++ g s) (left.none s none) ∙ right.none s none }
 
-  needs_capture : (id : ℕ) (f : Matcher) → Needs b bytes f → Needs b bytes (capture id f)
+  needs_capture : (id : ℕ) (f : Matcher) → Needs absent f → Needs absent (capture id f)
   unfolding capture
   needs_capture id f needs = record { none = λ s none. ap (map (captured id s.position)) (needs.none s none) }
 
-  needs_iterations : (n : ℕ) (f g : Matcher) → 0 < n → Needs b bytes f → Needs b bytes (iterations n f then_ g)
+  needs_iterations : (n : ℕ) (f g : Matcher) → 0 < n → Needs absent f → Needs absent (iterations n f then_ g)
   needs_iterations zero f g some needs = absurd (omega (arith, some))
   needs_iterations (suc n) f g some needs = needs_first (iterations (suc n) f) g (needs_first f (iterations n f) needs)
 
-  needs_repeat : (bound : ℕ) (q : Quantifier) (start end : ℕ) (f : Matcher) → 0 < q.min → Needs b bytes f →
-      Needs b bytes (repeat_matcher bound q start end f)
+  needs_repeat : (bound : ℕ) (q : Quantifier) (start end : ℕ) (f : Matcher) → 0 < q.min → Needs absent f →
+      Needs absent (repeat_matcher bound q start end f)
   unfolding repeat_matcher
   needs_repeat bound q start end f some needs =
       let T = iteration start end f in
       needs_iterations q.min T (up_to q.greedy (extra_iterations bound q) T) some
       (record { none = λ s none. needs.none (unset start end s) none })
 
+  -- a literal at an offset with the property, which it contradicts
+  needs_bytes : (bytes written : List ℕ) → ((k : ℕ) → absent k → starts_with nat_eq (drop k bytes) written ≡ true → ⊥) →
+      Needs absent (these_bytes forwards bytes written)
+  unfolding these_bytes
+  needs_bytes bytes written contradicts = record { none = λ s none. nowhere s none (starts_with nat_eq (drop s.position bytes) written) refl }
+    where
+      nowhere : (s : MatchState) → absent s.position → (x : Bool) → starts_with nat_eq (drop s.position bytes) written ≡ x →
+          (if x then record s { position = s.position + length written } ∷ [] else []) ≡ []
+      nowhere s none true there = absurd (contradicts s.position none there)
+      nowhere s none false there = refl
+
+module _ (b : ℕ) (bytes : List ℕ) where
   -- a list of bytes at an offset has none of its bytes past their last occurrences
   not_there : (k : ℕ) (written rest : List ℕ) → drop k bytes ≡ written ++ rest → list_any (λ x. x == b) written ≡ true → NoneFrom b bytes k → ⊥
   not_there k [] rest here is none = let bad : ⊥ = cc in bad
@@ -75,15 +101,10 @@ module _ (b : ℕ) (bytes : List ℕ) where
       tested true same is differs fewer = differs (eqb-true x b same)
       tested false same is differs fewer = fewer is
 
-  needs_bytes : (written : List ℕ) → list_any (λ x. x == b) written ≡ true → Needs b bytes (these_bytes forwards bytes written)
-  unfolding these_bytes
-  needs_bytes written is = record { none = λ s none. nowhere s none (starts_with nat_eq (drop s.position bytes) written) refl }
-    where
-      nowhere : (s : MatchState) → NoneFrom b bytes s.position → (x : Bool) → starts_with nat_eq (drop s.position bytes) written ≡ x →
-          (if x then record s { position = s.position + length written } ∷ [] else []) ≡ []
-      nowhere s none true there =
-          absurd (not_there s.position written _ ((starts_is Decides-eqb (drop s.position bytes) written _ refl).0 there) is none)
-      nowhere s none false there = refl
+  needs_a_byte : (written : List ℕ) → list_any (λ x. x == b) written ≡ true → Needs (NoneFrom b bytes) (these_bytes forwards bytes written)
+  needs_a_byte written is =
+      needs_bytes (NoneFrom b bytes) bytes written
+      (λ k none there. not_there k written _ ((starts_is Decides-eqb (drop k bytes) written _ refl).0 there) is none)
 
 -- ---- trees
 
@@ -119,44 +140,49 @@ mutual
   list_takes_none no_trees = λ setting bytes. Advances-stay
   list_takes_none (more_trees t ts) = λ setting bytes. Advances-then 0 0 _ _ (takes_none t setting bytes) (list_takes_none ts setting bytes)
 
-pub first_required : (b : ℕ) (t : Tree) (ts : Trees) → IsRequired b t → IsRequired b (cat (more_trees t ts))
-first_required b t ts is = λ setting bytes. needs_first b bytes _ _ (is setting bytes)
+module _ (absent : List ℕ → ℕ → Type 0) where
+  pub first_requires : (t : Tree) (ts : Trees) → Requires absent t → Requires absent (cat (more_trees t ts))
+  first_requires t ts is = λ setting bytes. needs_first (absent bytes) _ _ (is setting bytes)
 
-pub rest_required : (b : ℕ) (t : Tree) (ts : Trees) → IsRequired b (cat ts) → IsRequired b (cat (more_trees t ts))
-rest_required b t ts is = λ setting bytes. needs_second b bytes _ _ (takes_none t setting bytes) (is setting bytes)
+  pub rest_requires : (t : Tree) (ts : Trees) → AreLasting absent → Requires absent (cat ts) → Requires absent (cat (more_trees t ts))
+  rest_requires t ts lasting is =
+      λ setting bytes. needs_second (absent bytes) _ _ (lasting bytes) (takes_none t setting bytes) (is setting bytes)
 
-pub same_required : (b : ℕ) (node other : Node) → node ≡ other → IsRequired b (tree node) → IsRequired b (tree other)
-same_required b node other same is = subst (λ (x : Node). IsRequired b (tree x)) same is
+  pub same_requires : (node other : Node) → node ≡ other → Requires absent (tree node) → Requires absent (tree other)
+  same_requires node other same is = subst (λ (x : Node). Requires absent (tree x)) same is
 
-pub cat_required : (set : ℕ → Bool) (node : Node) (parts : Vec Node Global) (items : List Node) → node ≡ Cat parts → items ≡ parts.items →
-    AreRequired set (cat (trees items)) → AreRequired set (tree node)
-cat_required set node parts items is same are = rw (is, tree-Cat, ← same) are
+  pub cat_requires : (node : Node) (parts : Vec Node Global) (items : List Node) → node ≡ Cat parts → items ≡ parts.items →
+      Requires absent (cat (trees items)) → Requires absent (tree node)
+  cat_requires node parts items is same requires = rw (is, tree-Cat, ← same) requires
 
-pub alt_required : (b : ℕ) (node : Node) (left right : Box Node Global) → node ≡ Alt left right → IsRequired b (tree left.value) →
-    IsRequired b (tree right.value) → IsRequired b (tree node)
-alt_required b node left right is first rest =
-    let both : IsRequired b (alt (tree left.value) (tree right.value)) =
-    λ setting bytes. needs_or b bytes _ _ (first setting bytes) (rest setting bytes) in
-    rw (is, tree-Alt) both
+  pub alt_requires : (node : Node) (left right : Box Node Global) → node ≡ Alt left right → Requires absent (tree left.value) →
+      Requires absent (tree right.value) → Requires absent (tree node)
+  alt_requires node left right is first rest =
+      let both : Requires absent (alt (tree left.value) (tree right.value)) =
+      λ setting bytes. needs_or (absent bytes) _ _ (first setting bytes) (rest setting bytes) in
+      rw (is, tree-Alt) both
 
-pub group_required : (set : ℕ → Bool) (node : Node) (id : ℕ) (contents : Box Node Global) (name : Option (String Global)) →
-    node ≡ CaptureGroup id contents name → AreRequired set (tree contents.value) → AreRequired set (tree node)
-group_required set node id contents name is are =
-    rw (is, tree-CaptureGroup) (λ b member setting bytes. needs_capture b bytes id _ (are b member setting bytes))
+  pub group_requires : (node : Node) (id : ℕ) (contents : Box Node Global) (name : Option (String Global)) →
+      node ≡ CaptureGroup id contents name → Requires absent (tree contents.value) → Requires absent (tree node)
+  group_requires node id contents name is requires =
+      rw (is, tree-CaptureGroup) (λ setting bytes. needs_capture (absent bytes) id _ (requires setting bytes))
 
-pub loop_required : (set : ℕ → Bool) (node : Node) (loopee : Box Node Global) (q : Quantifier) (groups : Range ℕ) →
-    node ≡ Loop groups loopee q → 0 < q.min → AreRequired set (tree loopee.value) → AreRequired set (tree node)
-loop_required set node loopee q groups is some are =
-    rw (is, tree-Loop) (λ b member setting bytes. needs_repeat b bytes _ q _ _ _ some (are b member setting bytes))
+  pub loop_requires : (node : Node) (loopee : Box Node Global) (q : Quantifier) (groups : Range ℕ) →
+      node ≡ Loop groups loopee q → 0 < q.min → Requires absent (tree loopee.value) → Requires absent (tree node)
+  loop_requires node loopee q groups is some requires =
+      rw (is, tree-Loop) (λ setting bytes. needs_repeat (absent bytes) _ q _ _ _ some (requires setting bytes))
 
-pub loop_one_required : (set : ℕ → Bool) (node : Node) (loopee : Box Node Global) (q : Quantifier) →
-    node ≡ Loop1CharBody loopee q → 0 < q.min → AreRequired set (tree loopee.value) → AreRequired set (tree node)
-loop_one_required set node loopee q is some are =
-    rw (is, tree-Loop1CharBody) (λ b member setting bytes. needs_repeat b bytes _ q _ _ _ some (are b member setting bytes))
+  pub loop_one_requires : (node : Node) (loopee : Box Node Global) (q : Quantifier) →
+      node ≡ Loop1CharBody loopee q → 0 < q.min → Requires absent (tree loopee.value) → Requires absent (tree node)
+  loop_one_requires node loopee q is some requires =
+      rw (is, tree-Loop1CharBody) (λ setting bytes. needs_repeat (absent bytes) _ q _ _ _ some (requires setting bytes))
+
+pub literal_required : (written : List ℕ) → IsRequiredLiteral written (leaf (byte_sequence written))
+literal_required written = λ setting bytes. needs_bytes (AbsentFrom written bytes) bytes written (λ k none there. none k (omega arith) there)
 
 pub bytes_required : (written : List ℕ) → AreRequired (bytes_of written) (leaf (byte_sequence written))
 unfolding bytes_of
-bytes_required written = λ b member setting bytes. needs_bytes b bytes written (and_parts (nat_lt b 256) (list_any (λ x. x == b) written) member).1
+bytes_required written = λ b member setting bytes. needs_a_byte b bytes written (and_parts (nat_lt b 256) (list_any (λ x. x == b) written) member).1
 
 pub none_required : (set : ℕ → Bool) (t : Tree) → ((b : ℕ) → set b ≡ false) → AreRequired set t
 none_required set t none = λ b member. let bad : ⊥ = cc (none b, member) in absurd bad
@@ -189,10 +215,26 @@ one_more b had set now t ts Whole is requires whole (inl member) = either had se
     either : (had set : Bool) → (had || set) ≡ true → (set ≡ true → IsRequired b t) →
         ((had ≡ true) ⊎ IsRequired b (cat (more_trees t ts)) → Whole) → Whole
     either true set on requires whole = whole (inl refl)
-    either false set on requires whole = whole (inr (first_required b t ts (requires on)))
-one_more b had set now t ts Whole is requires whole (inr rest) = whole (inr (rest_required b t ts rest))
+    either false set on requires whole = whole (inr (first_requires (NoneFrom b) t ts (requires on)))
+one_more b had set now t ts Whole is requires whole (inr rest) = whole (inr (rest_requires (NoneFrom b) t ts (byte_lasts b) rest))
 
 pub member_required : (set : ℕ → Bool) (t : Tree) (found : Option ℕ) → AreRequired set t → IfSome found (λ b. IsTrue (set b)) →
     IfSome found (λ b. IsRequired b t)
 member_required set t None are is = tt
 member_required set t (Some b) are is = are b is
+
+-- ---- literals that were found
+
+abbrev pub IfRequired : Option (Bor (List ℕ)) → Tree → Type 0
+IfRequired found t = IfSome found (λ literal. IsRequiredLiteral literal.now t)
+
+-- what requires each literal of a part requires the one that was found
+pub found_of_part : (found : Option (Bor (List ℕ))) (t whole : Tree) →
+    ((literal : List ℕ) → IsRequiredLiteral literal t → IsRequiredLiteral literal whole) → IfRequired found t → IfRequired found whole
+found_of_part None t whole on is = tt
+found_of_part (Some literal) t whole on is = on literal.now is
+
+pub found_of_two : (one two found : Option (Bor (List ℕ))) (t : Tree) → (found ≡ one) ⊎ (found ≡ two) → IfRequired one t → IfRequired two t →
+    IfRequired found t
+found_of_two one two found t (inl is) first second = subst (λ (o : Option (Bor (List ℕ))). IfRequired o t) (sym is) first
+found_of_two one two found t (inr is) first second = subst (λ (o : Option (Bor (List ℕ))). IfRequired o t) (sym is) second

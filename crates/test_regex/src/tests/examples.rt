@@ -45,6 +45,12 @@ fn the_examples_of_regular_expressions_hold(rt: HostRuntime) -> Result<(), Fail>
         let regex = Regex::new(alloc, "(a)\\1")?;
         assert_eq!(rt; regex.nonlinear(), Some(Nonlinear::BackReference));
     }
+    // a literal that each match contains is found
+    {
+        let regex = Regex::new(alloc, "(?:id|name)=x+, user=\\d+")?;
+        assert_eq!(rt; regex.required_literal(), Some(", user=".as_bytes()));
+        assert!(rt; Regex::new(alloc, "user=|id=")?.required_literal().is_none());
+    }
     // flags are parsed
     {
         let flags = parse_flags("gi")?;

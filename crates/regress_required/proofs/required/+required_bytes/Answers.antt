@@ -6,8 +6,8 @@ use Rattle.regress_tree.specs.Tree.{Tree, tree, trees, cat, leaf, byte_sequence}
 use Rattle.regress_tree.specs.declared.ir.node.Node.{size-Node}
 use Rattle.regress_tree.proofs.lemmas.Visits.{right_smaller}
 use Rattle.regress_tree.proofs.lemmas.Nodes.{tree-ByteSequence}
-use Rattle.regress_required.specs.Required.{IsRequired}
-use Rattle.regress_required.proofs.RequiredLemmas.{same_required, cat_required, alt_required, group_required, loop_required, loop_one_required, bytes_required, not_lacking, of_complement, one_more}
+use Rattle.regress_required.specs.Required.{IsRequired, NoneFrom}
+use Rattle.regress_required.proofs.RequiredLemmas.{same_requires, cat_requires, alt_requires, group_requires, loop_requires, loop_one_requires, bytes_required, not_lacking, of_complement, one_more}
 use Rattle.regress_required.proofs.required.+required_bytes.Goals as goal
 
 pub required_bytes-loop-last-preserved : goal.required_bytes-loop-last-preserved
@@ -20,9 +20,9 @@ required_bytes-loop-last-preserved t c =
       rest = λ b small off takes.
           let both = not_lacking (contains l.lacking) (contains c.add_others.new.others) (contains c.required_bytes.result) b
           (c.add_others.ensures b) small off in
-          let first = same_required b _ _ c.deref.ensures (c.required_bytes.ensures b both.1) in
-          let rest = same_required b _ _ c.deref-last.ensures takes in
-          l.invariant.rest b small both.0 (alt_required b l.last.now c.in-Alt.left c.in-Alt.right c.in-Alt.is first rest);
+          let first = same_requires (NoneFrom b) _ _ c.deref.ensures (c.required_bytes.ensures b both.1) in
+          let rest = same_requires (NoneFrom b) _ _ c.deref-last.ensures takes in
+          l.invariant.rest b small both.0 (alt_requires (NoneFrom b) l.last.now c.in-Alt.left c.in-Alt.right c.in-Alt.is first rest);
     }
 
 pub required_bytes-returns : goal.required_bytes-returns
@@ -35,25 +35,25 @@ required_bytes-returns t c =
 
 pub required_bytes_inside-returns-in-Cat : goal.required_bytes_inside-returns-in-Cat
 required_bytes_inside-returns-in-Cat t c =
-    cat_required _ _ c.in-Cat.parts _ c.in-Cat.is c.deref.ensures.value c.required_bytes_of_any.ensures
+    λ b member. cat_requires (NoneFrom b) _ c.in-Cat.parts _ c.in-Cat.is c.deref.ensures.value (c.required_bytes_of_any.ensures b member)
 
 pub required_bytes_inside-returns-in-CaptureGroup : goal.required_bytes_inside-returns-in-CaptureGroup
 required_bytes_inside-returns-in-CaptureGroup t c =
     let at = c.in-CaptureGroup in
-    group_required _ _ at.id at.contents at.name at.is
-    (λ b member. same_required b _ _ c.deref-in-CaptureGroup.ensures (c.required_bytes.ensures b member))
+    λ b member. group_requires (NoneFrom b) _ at.id at.contents at.name at.is
+    (same_requires (NoneFrom b) _ _ c.deref-in-CaptureGroup.ensures (c.required_bytes.ensures b member))
 
 pub required_bytes_inside-returns-in-Loop : goal.required_bytes_inside-returns-in-Loop
 required_bytes_inside-returns-in-Loop t c =
     let at = c.in-Loop in
-    loop_required _ _ at.loopee at.quant at.enclosed_groups at.is (omega arith)
-    (λ b member. same_required b _ _ c.deref-in-Loop.ensures (c.required_bytes-in-Loop.ensures b member))
+    λ b member. loop_requires (NoneFrom b) _ at.loopee at.quant at.enclosed_groups at.is (omega arith)
+    (same_requires (NoneFrom b) _ _ c.deref-in-Loop.ensures (c.required_bytes-in-Loop.ensures b member))
 
 pub required_bytes_inside-returns-in-Loop1CharBody : goal.required_bytes_inside-returns-in-Loop1CharBody
 required_bytes_inside-returns-in-Loop1CharBody t c =
     let at = c.in-Loop1CharBody in
-    loop_one_required _ _ at.loopee at.quant at.is (omega arith)
-    (λ b member. same_required b _ _ c.deref-in-Loop1CharBody.ensures (c.required_bytes-in-Loop1CharBody.ensures b member))
+    λ b member. loop_one_requires (NoneFrom b) _ at.loopee at.quant at.is (omega arith)
+    (same_requires (NoneFrom b) _ _ c.deref-in-Loop1CharBody.ensures (c.required_bytes-in-Loop1CharBody.ensures b member))
 
 pub required_bytes_inside-returns-in-ByteSequence : goal.required_bytes_inside-returns-in-ByteSequence
 required_bytes_inside-returns-in-ByteSequence t c =

@@ -1,0 +1,71 @@
+//! Searches that look for a literal first.
+
+use memchr::memmem::Finder;
+use regress::{Regex, SearchError};
+use std::alloc::Global;
+use std::marker::Model;
+
+/// A regular expression, for searches in many texts, and a literal that each match contains, if one is known.
+#[derive(Drop)]
+pub(crate) struct Searcher<'r> {
+    regex: &'r Regex,
+    literal: Option<Finder<'r>>,
+}
+
+impl Model for Searcher<'_> {
+    ghost use Rattle.std.specs.Prelude.{IfSome};
+    ghost use Rattle.regress.specs.Required.{RequiresLiteral};
+    ghost use Rattle.regress.specs.declared.pattern.Regex.{Regex};
+
+    ghost Value = { Regex };
+
+    ghost view = { λ searcher. searcher.regex.now };
+
+    ghost invariant = { λ searcher. IfSome searcher.literal (RequiresLiteral searcher.regex.now) };
+}
+
+impl<'r> Searcher<'r> {
+    ghost use Rattle.std.specs.Prelude.{◌≡◌, ◌↔◌, IfOk, IsTrue, true};
+    ghost use Rattle.regress.specs.Compiled.{outcomes_of};
+    ghost use Rattle.regress.specs.Found.{MatchesSomewhere};
+
+    /// Returns a searcher for a regular expression.
+    pub(crate) fn new(regex: &'r Regex) -> Searcher<'r>
+        ensures { result ≡ regex.now }
+    {
+        Searcher {
+            regex,
+            literal: match regex.required_literal() {
+                Some(literal) => Some(Finder::new(literal)),
+                None => None,
+            },
+        }
+    }
+
+    /// Returns the regular expression.
+    pub(crate) fn regex(&self) -> &'r Regex
+        ensures { result.now ≡ self.now }
+    {
+        self.regex
+    }
+
+    /// Returns whether the regular expression matches somewhere in `text`.
+    pub(crate) fn is_match(&self, alloc: Global, text: &str) -> Result<bool, SearchError>
+        ensures { IfOk result (λ is. IsTrue is ↔ MatchesSomewhere text.now (outcomes_of self.now text.now)) }
+    {
+        if self.lacks_literal(text) {
+            return Ok(false);
+        }
+        self.regex.is_match(alloc, text)
+    }
+
+    /// Returns whether a literal is known that each match contains and that does not occur in `text`.
+    fn lacks_literal(&self, text: &str) -> bool
+        ensures { result ≡ true → MatchesSomewhere text.now (outcomes_of self.now text.now) → ⊥ }
+    {
+        match &self.literal {
+            Some(literal) => literal.find(text.as_bytes()).is_none(),
+            None => false,
+        }
+    }
+}

@@ -1,0 +1,30 @@
+//! What each match contains.
+ghost use Rattle.std.specs.Prelude.{IfSome};
+ghost use Rattle.regress_match.specs.Matcher.{matcher_tree};
+ghost use Rattle.regress_required.specs.Required.{IsRequired, IsRequiredLiteral};
+
+use crate::matcher::Matcher;
+use regress_required::{required_byte, required_literal};
+
+impl Matcher {
+    /// Returns a byte that each match contains, if one is known, and if the program has at most `limit` instructions.
+    pub(crate) fn required_byte_within(&self, limit: usize) -> Option<u8>
+        ensures { IfSome result (λ b. IsRequired b (matcher_tree self.now)) }
+    {
+        if self.code.instructions() > limit {
+            None
+        } else {
+            required_byte(&self.regex.node)
+        }
+    }
+
+    /// Returns a literal that each match contains, not empty, or `None` if none is known.
+    ///
+    /// # Complexity
+    /// One pass over the tree of the pattern, without allocations.
+    pub fn required_literal(&self) -> Option<&[u8]>
+        ensures { IfSome result (λ literal. IsRequiredLiteral literal.now (matcher_tree self.now)) }
+    {
+        required_literal(&self.regex.node)
+    }
+}
