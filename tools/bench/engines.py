@@ -11,20 +11,22 @@ from pathlib import Path
 
 HERE = Path(__file__).resolve().parent
 REJECTED, LIMIT, LATE = "-", "limit", ">"
+# The message of `regex match` for a search that reaches its step limit. Its status is that of any error.
+OUT_OF_STEPS = b"regex: the search takes too many steps\n"
 
 
-def run(command, seconds, text=None, out=subprocess.PIPE):
-    """Returns the status, the output and the CPU seconds of a run; None after the limit of time."""
+def run(command, seconds, text=None, err=subprocess.DEVNULL):
+    """Returns the process of a run with its status and output, and its CPU seconds; None after the limit of time."""
 
     def bound():
         resource.setrlimit(resource.RLIMIT_CPU, (seconds, seconds))
 
     before = resource.getrusage(resource.RUSAGE_CHILDREN)
-    ran = subprocess.run(command, stdin=text, stdout=out, stderr=subprocess.DEVNULL, preexec_fn=bound)
+    ran = subprocess.run(command, stdin=text, stdout=subprocess.PIPE, stderr=err, preexec_fn=bound)
     after = resource.getrusage(resource.RUSAGE_CHILDREN)
     if ran.returncode < 0:
         return None
-    return ran.returncode, ran.stdout, after.ru_utime + after.ru_stime - before.ru_utime - before.ru_stime
+    return ran, after.ru_utime + after.ru_stime - before.ru_utime - before.ru_stime
 
 
 class Timed:
@@ -38,10 +40,10 @@ class Timed:
         answer = run([*self.command, file, *self.written(pattern, flags), mode], seconds)
         if answer is None:
             return LATE
-        status, out, _ = answer
-        if status:
-            return LIMIT if status == 2 else REJECTED
-        count, used = out.split()
+        ran, _ = answer
+        if ran.returncode:
+            return LIMIT if ran.returncode == 2 else REJECTED
+        count, used = ran.stdout.split()
         return int(count), float(used)
 
 
@@ -56,26 +58,27 @@ class Kit:
             answer = run([self.program, *for_kit(pattern, flags), mode], seconds, text)
         if answer is None:
             return LATE
-        status, out, used = answer
-        return (int(out), used) if status == 0 else REJECTED
+        ran, used = answer
+        return (int(ran.stdout), used) if ran.returncode == 0 else REJECTED
 
 
 class Ours:
-    """`regex-match`, which prints all matches. The CPU seconds are those of the whole program, which makes the table of
-    Unicode, too."""
+    """`regex match -M --json`, which prints an object for each match, on a line. The CPU seconds are those of the whole
+    program, which makes the table of Unicode, too."""
 
     def __init__(self, program):
         self.program = program
 
-    def measure(self, pattern, flags, mode, file, seconds, out=subprocess.PIPE):
+    def measure(self, pattern, flags, mode, file, seconds):
+        command = [self.program, "match", "-M", "--json", f"--flags={flags}", "-e", pattern]
         with open(file, "rb") as text:
-            answer = run([self.program, "--", pattern, flags], seconds, text, out)
+            answer = run(command, seconds, text, subprocess.PIPE)
         if answer is None:
             return LATE
-        status, out, used = answer
-        if status in (0, 1):
-            return (out or b"").count(b"\n"), used
-        return LIMIT if status == 6 else REJECTED
+        ran, used = answer
+        if ran.returncode in (0, 1):
+            return ran.stdout.count(b"\n"), used
+        return LIMIT if ran.stderr == OUT_OF_STEPS else REJECTED
 
 
 def for_node(pattern, flags):

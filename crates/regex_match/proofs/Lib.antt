@@ -1,4 +1,0 @@
-pub mod BufferedLemmas
-pub mod LineLemmas
-pub mod SearchingLemmas
-pub mod FoundLemmas
