@@ -213,7 +213,7 @@ fn apply_to<'a, R: Files, I: Read + Drop, W: Write, E: Write>(
         Action::Search(search) => print_search(rt, alloc, pattern, search, input, out),
         Action::Show(view) => print_tree(alloc, view_of(view, pattern), out, err),
         Action::Lint => print_lint(alloc, pattern, out, err),
-        Action::Explain => print_explanation(alloc, pattern, out, err),
+        Action::Explain(form) => print_explanation(alloc, pattern, form, out, err),
     }
 }
 
