@@ -1,6 +1,6 @@
 -- What an explanation is.
-use Rattle.std.proofs.Common.{◌≡◌, ℕ, Bool, true, List, [], Option, refl, subst, sym}
-use Rattle.std.specs.Prelude.{Result, IfOk}
+use Rattle.std.proofs.Common.{◌≡◌, ℕ, Bool, true, List, [], Option, Some, inl, inr, refl, subst, sym}
+use Rattle.std.specs.Prelude.{Result, IfOk, chars}
 use Rattle.std.specs.Io.KnownBytes.{Appends}
 use Rattle.regress_arguments.specs.Output.{Took}
 use Rattle.regress_base.specs.declared.types.Flags.{Flags}
@@ -9,30 +9,59 @@ use Rattle.regress_parse.specs.Accepted.{IsAccepted, NoneIsAccepted}
 use Rattle.regress_parse.specs.declared.fault.PlacedFault.{PlacedFault}
 use Rattle.regress_parse.specs.declared.fault.PlacedFault.TheVariants as placed
 use Rattle.regress_syntax.specs.Syntax.{Pattern}
+use Rattle.regress_tree.specs.Setting.{Setting}
 use Rattle.regress_ucd.specs.UnicodeTable.{unicode_table}
 use Rattle.regex_command.specs.Ending.{unaccepted}
-use Rattle.regex_command.specs.Explained.{IsExplanation}
+use Rattle.regex_command.specs.Explained.{Form, HasForm, IsAcceptedPattern, IsExplanationIn, MayFailToExplain, MayFailToFind, page}
+use Rattle.regex_command.specs.Printed.{IsRejected}
 use Rattle.regress.specs.Compiled.{unicode_setting}
 use Rattle.regex_command.specs.declared.failure.Failure.{Failure}
+use Rattle.regex_command.specs.declared.failure.Failure.TheVariants.{Usage, Argument, Memory, Output, Syntax, TooLarge, OutOfSteps, Unreadable, NotUtf8, PatternNotUtf8, TooLong}
 use Rattle.regex_command.proofs.LintLemmas.{appends_nothing}
 use Rattle.regex_command.proofs.SettingLemmas.{OnSyntax, under_unicode}
 
 module _ (flags : Flags) (points source : List ℕ) (table : Table) (characters : points ≡ source) (same : table ≡ unicode_table) where
+  pub is_accepted : (p : Pattern) → IsAccepted (record { flags = flags; table = table }) points p → IsAcceptedPattern (unicode_setting flags) source
+  is_accepted p accepted = (p, under_unicode flags points source table characters same (λ setting text. IsAccepted setting text p) accepted)
+
   -- an accepted pattern
-  pub explained : (old new : Option (List ℕ)) (bytes : List ℕ) (p : Pattern) → IsAccepted (record { flags = flags; table = table }) points p →
-      Appends old new bytes → Took old new (IsExplanation true (unicode_setting flags) source)
-  explained old new bytes p accepted appends =
-      (bytes, (p, under_unicode flags points source table characters same (λ setting text. IsAccepted setting text p) accepted), appends)
+  pub explained : (form : Form) (old new : Option (List ℕ)) (text bytes : List ℕ) (p : Pattern) → IsAccepted (record { flags = flags; table = table }) points p →
+      HasForm form text → bytes ≡ text → Appends old new bytes → Took old new (IsExplanationIn form true (unicode_setting flags) source)
+  explained form old new text bytes p accepted has is appends = (bytes, (is_accepted p accepted, λ _. subst (HasForm form) (sym is) has), appends)
 
   -- a rejected pattern
-  pub unexplained : (known : Option (List ℕ)) (fault : PlacedFault) (r : Result Bool Failure) → r ≡ unaccepted fault →
+  pub unexplained : (form : Form) (known : Option (List ℕ)) (fault : PlacedFault) (r : Result Bool Failure) → r ≡ unaccepted fault →
       OnSyntax fault (NoneIsAccepted (record { flags = flags; table = table }) points) →
-      IfOk r (λ accepted. Took known known (IsExplanation accepted (unicode_setting flags) source))
-  unexplained known fault r is none =
-      subst (λ (r : Result Bool Failure). IfOk r (λ accepted. Took known known (IsExplanation accepted (unicode_setting flags) source))) (sym is) (by fault none)
+      IfOk r (λ accepted. Took known known (IsExplanationIn form accepted (unicode_setting flags) source))
+  unexplained form known fault r is none =
+      subst (λ (r : Result Bool Failure). IfOk r (λ accepted. Took known known (IsExplanationIn form accepted (unicode_setting flags) source))) (sym is)
+      (by fault none)
     where
       by : (fault : PlacedFault) → OnSyntax fault (NoneIsAccepted (record { flags = flags; table = table }) points) →
-          IfOk (unaccepted fault) (λ accepted. Took known known (IsExplanation accepted (unicode_setting flags) source))
-      by (placed.Syntax kind error position) none =
-          ([], (under_unicode flags points source table characters same NoneIsAccepted none, refl), appends_nothing known)
+          IfOk (unaccepted fault) (λ accepted. Took known known (IsExplanationIn form accepted (unicode_setting flags) source))
+      by (placed.Syntax kind error position) none = (
+        [],
+        ((under_unicode flags points source table characters same NoneIsAccepted none, refl), λ is. let bad : ⊥ = cc is in absurd bad),
+        appends_nothing known,
+      )
       by (placed.Memory error) none = tt
+
+-- An accepted pattern is rejected only if it is too large.
+pub may_fail : (setting : Setting) (text : List ℕ) (failure : Failure) → IsAcceptedPattern setting (chars text) → IsRejected setting text failure →
+    MayFailToFind failure
+may_fail setting text Usage accepted rejected = absurd rejected
+may_fail setting text Argument accepted rejected = absurd rejected
+may_fail setting text Memory accepted rejected = inl tt
+may_fail setting text Output accepted rejected = absurd rejected
+may_fail setting text (Syntax pattern message position) accepted rejected = absurd (rejected accepted.0 accepted.1)
+may_fail setting text TooLarge accepted rejected = inr refl
+may_fail setting text OutOfSteps accepted rejected = absurd rejected
+may_fail setting text (Unreadable name) accepted rejected = absurd rejected
+may_fail setting text (NotUtf8 name line offset) accepted rejected = absurd rejected
+may_fail setting text (PatternNotUtf8 name offset) accepted rejected = absurd rejected
+may_fail setting text (TooLong name) accepted rejected = absurd rejected
+
+-- a search for matches in the text of a page
+pub may_fail_with_text : (text : List ℕ) (failure : Failure) → MayFailToFind failure → MayFailToExplain (page (Some text)) failure
+may_fail_with_text text failure (inl late) = inl late
+may_fail_with_text text failure (inr large) = inr (tt, large)

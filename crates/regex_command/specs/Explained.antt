@@ -51,11 +51,15 @@ IsExplanationIn form accepted setting source bytes = IsExplanation accepted sett
 abbrev pub MayFailToFind : Failure → Type 0
 MayFailToFind failure = IsLate failure ⊎ (failure ≡ TooLarge)
 
--- A failure that may occur: with a text that of a search.
+-- A text is given.
+abbrev pub HasText : Form → Type 0
+HasText lines = ⊥
+HasText (page None) = ⊥
+HasText (page (Some text)) = ⊤
+
+-- A failure that may occur for an explanation: only with a text the pattern may be too large.
 abbrev pub MayFailToExplain : Form → Failure → Type 0
-MayFailToExplain lines failure = IsLate failure
-MayFailToExplain (page None) failure = IsLate failure
-MayFailToExplain (page (Some text)) failure = MayFailToFind failure
+MayFailToExplain form failure = IsLate failure ⊎ (HasText form × (failure ≡ TooLarge))
 
 -- the bytes that a match spans
 abbrev pub range_of : Match → Range ℕ

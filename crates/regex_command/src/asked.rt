@@ -175,7 +175,11 @@ fn read_action<'a>(command: Command, given: Given<'a>, args: &'a [String]) -> Op
 fn form_of(given: Given<'_>) -> Form<'_>
     ensures { asked_form result ≡ form_of (given_by given.entry) }
 {
-    if given.html { Form::Page(given.text) } else { Form::Lines }
+    if given.html {
+        Form::Page(given.text)
+    } else {
+        Form::Lines
+    }
 }
 
 /// Returns what to show of which lines.

@@ -335,6 +335,9 @@ Of parse and draw only:
   --parsed     the parsed tree only
   --optimized  the optimized tree only
   --small      with the small table: ASCII and a few more characters
+Of explain only:
+  --html       an HTML page that needs no other file, with a railroad diagram
+  --text TEXT  with --html: TEXT with its matches marked is in the page; also --text=TEXT
 
 exit status:
   0  a line is selected, or the output of replace, split, escape, parse, draw or explain is written, or
@@ -352,5 +355,6 @@ examples:
   regex parse --json '[a-f]+'
   regex draw '\\d{4}-\\d\\d' >date.svg
   regex explain '\\d{4}-\\d\\d'
+  regex explain --html --text 2024-05 '\\d{4}-\\d\\d' >date.html
   regex lint -i '[k]'
 ";
