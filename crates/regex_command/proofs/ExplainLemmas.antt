@@ -1,6 +1,6 @@
 -- What an explanation is.
-use Rattle.std.proofs.Common.{◌≡◌, ℕ, Bool, true, List, [], Option, Some, inl, inr, refl, subst, sym}
-use Rattle.std.specs.Prelude.{Result, IfOk, chars}
+use Rattle.std.proofs.Common.{◌≡◌, ℕ, Bool, true, List, [], Option, refl, subst, sym}
+use Rattle.std.specs.Prelude.{Result, IfOk}
 use Rattle.std.specs.Io.KnownBytes.{Appends}
 use Rattle.regress_arguments.specs.Output.{Took}
 use Rattle.regress_base.specs.declared.types.Flags.{Flags}
@@ -9,14 +9,11 @@ use Rattle.regress_parse.specs.Accepted.{IsAccepted, NoneIsAccepted}
 use Rattle.regress_parse.specs.declared.fault.PlacedFault.{PlacedFault}
 use Rattle.regress_parse.specs.declared.fault.PlacedFault.TheVariants as placed
 use Rattle.regress_syntax.specs.Syntax.{Pattern}
-use Rattle.regress_tree.specs.Setting.{Setting}
 use Rattle.regress_ucd.specs.UnicodeTable.{unicode_table}
 use Rattle.regex_command.specs.Ending.{unaccepted}
-use Rattle.regex_command.specs.Explained.{Form, HasForm, IsAcceptedPattern, IsExplanationIn, MayFailToExplain, MayFailToFind, page}
-use Rattle.regex_command.specs.Printed.{IsRejected}
+use Rattle.regex_command.specs.Explained.{Form, HasForm, IsAcceptedPattern, IsExplanationIn}
 use Rattle.regress.specs.Compiled.{unicode_setting}
 use Rattle.regex_command.specs.declared.failure.Failure.{Failure}
-use Rattle.regex_command.specs.declared.failure.Failure.TheVariants.{Usage, Argument, Memory, Output, Syntax, TooLarge, OutOfSteps, Unreadable, NotUtf8, PatternNotUtf8, TooLong}
 use Rattle.regex_command.proofs.LintLemmas.{appends_nothing}
 use Rattle.regex_command.proofs.SettingLemmas.{OnSyntax, under_unicode}
 
@@ -45,23 +42,3 @@ module _ (flags : Flags) (points source : List ℕ) (table : Table) (characters 
         appends_nothing known,
       )
       by (placed.Memory error) none = tt
-
--- An accepted pattern is rejected only if it is too large.
-pub may_fail : (setting : Setting) (text : List ℕ) (failure : Failure) → IsAcceptedPattern setting (chars text) → IsRejected setting text failure →
-    MayFailToFind failure
-may_fail setting text Usage accepted rejected = absurd rejected
-may_fail setting text Argument accepted rejected = absurd rejected
-may_fail setting text Memory accepted rejected = inl tt
-may_fail setting text Output accepted rejected = absurd rejected
-may_fail setting text (Syntax pattern message position) accepted rejected = absurd (rejected accepted.0 accepted.1)
-may_fail setting text TooLarge accepted rejected = inr refl
-may_fail setting text OutOfSteps accepted rejected = absurd rejected
-may_fail setting text (Unreadable name) accepted rejected = absurd rejected
-may_fail setting text (NotUtf8 name line offset) accepted rejected = absurd rejected
-may_fail setting text (PatternNotUtf8 name offset) accepted rejected = absurd rejected
-may_fail setting text (TooLong name) accepted rejected = absurd rejected
-
--- a search for matches in the text of a page
-pub may_fail_with_text : (text : List ℕ) (failure : Failure) → MayFailToFind failure → MayFailToExplain (page (Some text)) failure
-may_fail_with_text text failure (inl late) = inl late
-may_fail_with_text text failure (inr large) = inr (tt, large)

@@ -152,12 +152,17 @@ with_value given Pattern value = Some (record given { pattern = Some (in_argumen
 with_value given File value = Some (record given { pattern = Some (in_file value) })
 with_value given Text value = Some (record given { text = Some value })
 
+-- `--html`, or another option
+abbrev pub with_html : Given → List ℕ → Option Given
+with_html given word =
+    if bytes_eq word (codes "--html") then Some (record given { html = true })
+    else option_map (λ options. record given { options = options }) (with_option given.options word)
+
 -- an option that is one argument
 abbrev pub with_word : Given → List ℕ → Option Given
 with_word given word =
-    if bytes_eq word (codes "--html") then Some (record given { html = true })
-    else if starts_with (λ b c. b == c) word (codes "--text=") then option_map (λ text. record given { text = Some text }) (after_prefix (codes "--text=") word)
-    else option_map (λ options. record given { options = options }) (with_option given.options word)
+    if starts_with (λ b c. b == c) word (codes "--text=") then option_map (λ text. record given { text = Some text }) (after_prefix (codes "--text=") word)
+    else with_html given word
 
 -- What the options specify, and the arguments after them. Options end at `--`, or before an argument that is none.
 -- `awaits` is what the first argument is, if it belongs to the option before it.

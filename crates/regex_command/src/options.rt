@@ -1,6 +1,6 @@
 //! The options before the pattern.
 ghost use Rattle.std.specs.Prelude.{◌≡◌, None, true, option_map};
-ghost use Rattle.regex_command.specs.Options.{after_options, count_of, given_by, is_option, no_options, nothing_given, options_of, takes, with_count, with_flags, with_letter, with_letters, with_long, with_named_count, with_named_flags, with_option, with_tree, with_value, with_word};
+ghost use Rattle.regex_command.specs.Options.{after_options, count_of, given_by, is_option, no_options, nothing_given, options_of, takes, with_count, with_flags, with_html, with_letter, with_letters, with_long, with_named_count, with_named_flags, with_option, with_tree, with_value, with_word};
 
 use crate::pattern::PatternSource;
 use crate::task::{Selection, Shown};
@@ -146,18 +146,25 @@ fn with_value<'a>(given: Given<'a>, value: Value, text: &'a str) -> Option<Given
 fn with_word<'a>(given: Given<'a>, word: &'a str) -> Option<Given<'a>>
     ensures { option_map given_by result ≡ with_word (given_by given.entry) word.now }
 {
-    if word == "--html" {
-        return Some(Given {
-            html: true,
-            ..given
-        });
-    }
     match word.strip_prefix("--text=") {
         Some(text) => Some(Given {
             text: Some(text),
             ..given
         }),
-        None => Some(Given {
+        None => with_html(given, word),
+    }
+}
+
+/// Adds the option `--html`, or another one.
+fn with_html<'a>(given: Given<'a>, word: &str) -> Option<Given<'a>>
+    ensures { option_map given_by result ≡ with_html (given_by given.entry) word.now }
+{
+    match word {
+        "--html" => Some(Given {
+            html: true,
+            ..given
+        }),
+        _ => Some(Given {
             options: with_option(given.options, word)?,
             ..given
         }),

@@ -10,7 +10,7 @@ returns-in-Ok-clause-explained g c =
     let parsed = c.in-Ok.ensures.spanned in
     explained c.args.pattern.flags c.deref.result.now _ (table_of c.in_ok-tables.tables) (c.deref.ensures.value ∙ c.in_ok-points.ensures.characters)
     c.in_ok-tables.ensures (asked_form c.args.form) (g.W.Write.contents c.args.out.now) (g.W.Write.contents c.print.new.out) _ _ parsed.0 parsed.1
-    c.in_ok-text.ensures.form c.as_bytes.ensures.value c.in_ok-print-in-Ok.ensures.bytes
+    c.in_ok-text-in-Ok.ensures.form c.as_bytes.ensures.value c.in_ok-print-in-Ok.ensures.bytes
 
 pub returns-clause-explained : goal.returns-clause-explained
 returns-clause-explained g c =
