@@ -13,7 +13,7 @@ module _ (input old start between new : Option (List ℕ)) (empty : start ≡ ap
       (h.0, h.1, (h.2.0, h.2.1, (h.2.2.0, h.2.2.1, appends_through old start between new empty kept h.2.2.0 h.2.2.2)))
   does_through flags text (show view) found h = took_through old start between new empty kept _ h
   does_through flags text lint found h = took_through old start between new empty kept _ h
-  does_through flags text explain found h = took_through old start between new empty kept _ h
+  does_through flags text (explain form) found h = took_through old start between new empty kept _ h
 
   pub through : (text : List ℕ) (found : Bool) (ask : Ask) → Prints text input start between found ask → Prints text input old new found ask
   through text found help h = (h.0, appends_through old start between new empty kept text h.1)

@@ -11,28 +11,34 @@ use Rattle.regress_parse.specs.declared.fault.PlacedFault.TheVariants as placed
 use Rattle.regress_syntax.specs.Syntax.{Pattern}
 use Rattle.regress_ucd.specs.UnicodeTable.{unicode_table}
 use Rattle.regex_command.specs.Ending.{unaccepted}
-use Rattle.regex_command.specs.Explained.{IsExplanation}
+use Rattle.regex_command.specs.Explained.{Form, HasForm, IsAcceptedPattern, IsExplanationIn}
 use Rattle.regress.specs.Compiled.{unicode_setting}
 use Rattle.regex_command.specs.declared.failure.Failure.{Failure}
 use Rattle.regex_command.proofs.LintLemmas.{appends_nothing}
 use Rattle.regex_command.proofs.SettingLemmas.{OnSyntax, under_unicode}
 
 module _ (flags : Flags) (points source : List ℕ) (table : Table) (characters : points ≡ source) (same : table ≡ unicode_table) where
+  pub is_accepted : (p : Pattern) → IsAccepted (record { flags = flags; table = table }) points p → IsAcceptedPattern (unicode_setting flags) source
+  is_accepted p accepted = (p, under_unicode flags points source table characters same (λ setting text. IsAccepted setting text p) accepted)
+
   -- an accepted pattern
-  pub explained : (old new : Option (List ℕ)) (bytes : List ℕ) (p : Pattern) → IsAccepted (record { flags = flags; table = table }) points p →
-      Appends old new bytes → Took old new (IsExplanation true (unicode_setting flags) source)
-  explained old new bytes p accepted appends =
-      (bytes, (p, under_unicode flags points source table characters same (λ setting text. IsAccepted setting text p) accepted), appends)
+  pub explained : (form : Form) (old new : Option (List ℕ)) (text bytes : List ℕ) (p : Pattern) → IsAccepted (record { flags = flags; table = table }) points p →
+      HasForm form text → bytes ≡ text → Appends old new bytes → Took old new (IsExplanationIn form true (unicode_setting flags) source)
+  explained form old new text bytes p accepted has is appends = (bytes, (is_accepted p accepted, λ _. subst (HasForm form) (sym is) has), appends)
 
   -- a rejected pattern
-  pub unexplained : (known : Option (List ℕ)) (fault : PlacedFault) (r : Result Bool Failure) → r ≡ unaccepted fault →
+  pub unexplained : (form : Form) (known : Option (List ℕ)) (fault : PlacedFault) (r : Result Bool Failure) → r ≡ unaccepted fault →
       OnSyntax fault (NoneIsAccepted (record { flags = flags; table = table }) points) →
-      IfOk r (λ accepted. Took known known (IsExplanation accepted (unicode_setting flags) source))
-  unexplained known fault r is none =
-      subst (λ (r : Result Bool Failure). IfOk r (λ accepted. Took known known (IsExplanation accepted (unicode_setting flags) source))) (sym is) (by fault none)
+      IfOk r (λ accepted. Took known known (IsExplanationIn form accepted (unicode_setting flags) source))
+  unexplained form known fault r is none =
+      subst (λ (r : Result Bool Failure). IfOk r (λ accepted. Took known known (IsExplanationIn form accepted (unicode_setting flags) source))) (sym is)
+      (by fault none)
     where
       by : (fault : PlacedFault) → OnSyntax fault (NoneIsAccepted (record { flags = flags; table = table }) points) →
-          IfOk (unaccepted fault) (λ accepted. Took known known (IsExplanation accepted (unicode_setting flags) source))
-      by (placed.Syntax kind error position) none =
-          ([], (under_unicode flags points source table characters same NoneIsAccepted none, refl), appends_nothing known)
+          IfOk (unaccepted fault) (λ accepted. Took known known (IsExplanationIn form accepted (unicode_setting flags) source))
+      by (placed.Syntax kind error position) none = (
+        [],
+        ((under_unicode flags points source table characters same NoneIsAccepted none, refl), λ is. let bad : ⊥ = cc is in absurd bad),
+        appends_nothing known,
+      )
       by (placed.Memory error) none = tt

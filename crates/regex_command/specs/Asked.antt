@@ -1,13 +1,15 @@
 -- The request that the arguments make.
 use Rattle.std.specs.Borrow.{Bor}
-use Rattle.std.specs.Prelude.{ℕ, Bool, ◌||◌, List, [], ◌∷◌, map, Option, Some, None, option_and_then, option_map, if◌then◌else◌, bytes_eq, codes, String, string_bytes}
+use Rattle.std.specs.Prelude.{ℕ, Bool, ◌&&◌, ◌||◌, List, [], ◌∷◌, map, Option, Some, None, option_and_then, option_map, if◌then◌else◌, bytes_eq, codes, String, string_bytes}
 use Rattle.std.specs.declared.alloc.Global.{Global}
 use Rattle.regress_base.specs.declared.types.Flags.{Flags}
 use Rattle.regress_display.specs.declared.request.Format.{Format}
 use Rattle.regress_display.specs.declared.request.Format.TheVariants.{Text, Json, Svg}
 use Rattle.regress_display.specs.declared.request.Stage.{Stage}
 use Rattle.regress_display.specs.declared.request.Stage.TheVariants.{Parsed, Both}
-use Rattle.regex_command.specs.Commands.{allows, command_of}
+use Rattle.regex_command.specs.Commands.{allows, allows_page, command_of}
+use Rattle.regex_command.specs.Explained.{Form, page}
+use Rattle.regex_command.specs.Explained as explanations
 use Rattle.regex_command.specs.Job.{Job, matching, replacing, splitting}
 use Rattle.regex_command.specs.Job as jobs
 use Rattle.regex_command.specs.Options.{Given, nothing_given, options_of}
@@ -31,7 +33,7 @@ pub data Action : Type 0 where
   search : Job → (multiline : Bool) → (files : List (List ℕ)) → Action
   show : View → Action
   lint : Action
-  explain : Action
+  explain : Form → Action
 
 -- a pattern, its flags, and what to do with it
 pub record Request : Type 0 where
@@ -50,7 +52,7 @@ abbrev pub action : code_action.Action → Action
 action (Search s) = search (jobs.job s.task) s.multiline (map string_bytes s.files.now)
 action (Show view) = show view
 action Lint = lint
-action Explain = explain
+action (Explain form) = explain (explanations.asked_form form)
 
 -- a request as the code represents it
 abbrev pub requested : code.Request → Request
@@ -84,6 +86,10 @@ view_in options format = record { format = format; stage = stage_of options.stag
 abbrev pub selection_of : Options → Selection
 selection_of options = if options.json then record options.selection { shown = shows.Json } else options.selection
 
+-- how to explain a pattern
+abbrev pub form_of : Given → Form
+form_of given = if given.html then page given.text else explanations.lines
+
 -- The files are searched. For `replace` the template is in front of them.
 abbrev pub replace_of : Options → List (String Global) → Option Action
 replace_of options [] = None
@@ -95,14 +101,14 @@ alone action [] = Some action
 alone action (more ∷ others) = None
 
 -- what a command does with a pattern, with the arguments after the pattern
-abbrev pub action_of : Command → Options → List (String Global) → Option Action
-action_of commands.Match options args = Some (search_with options (matching (selection_of options)) args)
-action_of commands.Replace options args = replace_of options args
-action_of commands.Split options args = Some (search_with options splitting args)
-action_of commands.Parse options args = alone (show (view_in options (printed_format options.json))) args
-action_of commands.Draw options args = alone (show (view_in options Svg)) args
-action_of commands.Lint options args = alone lint args
-action_of commands.Explain options args = alone explain args
+abbrev pub action_of : Command → Given → List (String Global) → Option Action
+action_of commands.Match given args = Some (search_with given.options (matching (selection_of given.options)) args)
+action_of commands.Replace given args = replace_of given.options args
+action_of commands.Split given args = Some (search_with given.options splitting args)
+action_of commands.Parse given args = alone (show (view_in given.options (printed_format given.options.json))) args
+action_of commands.Draw given args = alone (show (view_in given.options Svg)) args
+action_of commands.Lint given args = alone lint args
+action_of commands.Explain given args = alone (explain (form_of given)) args
 
 -- the pattern, and the arguments after it, as the code represents them
 abbrev pub after_pattern : PatternSource × Bor (List (String Global)) → Source × List (String Global)
@@ -118,13 +124,13 @@ taken_pattern None (pattern ∷ args) = Some (in_argument (string_bytes pattern)
 abbrev pub request_of : Command → Given → List (String Global) → Option Ask
 request_of command given args =
     option_and_then (λ taken. option_map (λ action. apply (record { pattern = taken.0; flags = given.options.flags; action = action }))
-    (action_of command given.options taken.1)) (taken_pattern given.pattern args)
+    (action_of command given taken.1)) (taken_pattern given.pattern args)
 
 -- `[OPTION..] PATTERN` and what follows, or the help
 abbrev pub command_with : Command → List (String Global) → Option Ask
 command_with command words =
     option_and_then (λ found. if found.0.options.help then Some help
-    else if allows command found.0.options then request_of command found.0 found.1
+    else if allows command found.0.options && allows_page command found.0 then request_of command found.0 found.1
     else None) (options_of None nothing_given words)
 
 -- one text

@@ -1,5 +1,6 @@
 -- The commands that take a pattern.
 use Rattle.std.specs.Prelude.{ℕ, Bool, true, false, not, ◌&&◌, ◌||◌, List, Option, Some, None, is_none, is_some, if◌then◌else◌, bytes_eq, codes}
+use Rattle.regex_command.specs.Options.{Given}
 use Rattle.regex_command.specs.declared.command.Command.{Command}
 use Rattle.regex_command.specs.declared.command.Command.TheVariants.{Match, Replace, Split, Parse, Draw, Lint, Explain}
 use Rattle.regex_command.specs.declared.options.Options.{Options}
@@ -52,3 +53,17 @@ allows Parse options = is_plain options.selection && not options.multiline
 allows Draw options = is_plain options.selection && not options.multiline && not options.json
 allows Lint options = is_bare options && not options.multiline
 allows Explain options = is_bare options && not options.multiline
+
+-- no page is asked for, and no text is given
+abbrev pub has_no_page : Given → Bool
+has_no_page given = not given.html && is_none given.text
+
+-- the command writes the page that is asked for; a text is for a page only
+abbrev pub allows_page : Command → Given → Bool
+allows_page Match given = has_no_page given
+allows_page Replace given = has_no_page given
+allows_page Split given = has_no_page given
+allows_page Parse given = has_no_page given
+allows_page Draw given = has_no_page given
+allows_page Lint given = has_no_page given
+allows_page Explain given = given.html || is_none given.text

@@ -13,7 +13,7 @@ use Rattle.regex_command.specs.Source.{Source, in_argument, in_file, source}
 use Rattle.regex_command.specs.declared.options.Given as code
 use Rattle.regex_command.specs.declared.options.Options.{Options}
 use Rattle.regex_command.specs.declared.options.Value.{Value}
-use Rattle.regex_command.specs.declared.options.Value.TheVariants.{Count, Pattern, File}
+use Rattle.regex_command.specs.declared.options.Value.TheVariants.{Count, Pattern, File, Text}
 use Rattle.regex_command.specs.declared.task.Shown.{Shown}
 use Rattle.regex_command.specs.declared.task.Shown.TheVariants as shows
 
@@ -29,17 +29,24 @@ no_options = record {
   small = false;
 }
 
--- the options, and the pattern if an option has it
+-- the options, and the pattern if an option has it; whether a page is asked for, and its text
 pub record Given : Type 0 where
   pub options : Options
   pub pattern : Option Source
+  pub html : Bool
+  pub text : Option (List ℕ)
 
 abbrev pub nothing_given : Given
-nothing_given = record { options = no_options; pattern = None }
+nothing_given = record { options = no_options; pattern = None; html = false; text = None }
 
 -- what the options specify, as the code represents it
 abbrev pub given_by : code.Given → Given
-given_by given = record { options = given.options; pattern = option_map source given.pattern }
+given_by given = record {
+  options = given.options;
+  pattern = option_map source given.pattern;
+  html = given.html;
+  text = option_map (λ text. text.now) given.text;
+}
 
 -- the same, with the arguments after the options
 abbrev pub after_options : code.Given × Bor (List (String Global)) → Given × List (String Global)
@@ -135,6 +142,7 @@ takes word =
     if bytes_eq word (codes "-m") || bytes_eq word (codes "--max-count") then Some Count
     else if bytes_eq word (codes "-e") then Some Pattern
     else if bytes_eq word (codes "-f") then Some File
+    else if bytes_eq word (codes "--text") then Some Text
     else None
 
 -- an option and the argument after it
@@ -142,10 +150,19 @@ abbrev pub with_value : Given → Value → List ℕ → Option Given
 with_value given Count value = option_map (λ options. record given { options = options }) (with_count given.options value)
 with_value given Pattern value = Some (record given { pattern = Some (in_argument value) })
 with_value given File value = Some (record given { pattern = Some (in_file value) })
+with_value given Text value = Some (record given { text = Some value })
+
+-- `--html`, or another option
+abbrev pub with_html : Given → List ℕ → Option Given
+with_html given word =
+    if bytes_eq word (codes "--html") then Some (record given { html = true })
+    else option_map (λ options. record given { options = options }) (with_option given.options word)
 
 -- an option that is one argument
 abbrev pub with_word : Given → List ℕ → Option Given
-with_word given word = option_map (λ options. record given { options = options }) (with_option given.options word)
+with_word given word =
+    if starts_with (λ b c. b == c) word (codes "--text=") then option_map (λ text. record given { text = Some text }) (after_prefix (codes "--text=") word)
+    else with_html given word
 
 -- What the options specify, and the arguments after them. Options end at `--`, or before an argument that is none.
 -- `awaits` is what the first argument is, if it belongs to the option before it.

@@ -13,7 +13,7 @@ use Rattle.regress_display.specs.Request as trees
 use Rattle.regress_display.specs.Shown.{IsFirstOutput}
 use Rattle.regex_command.specs.Asked.{Action, Ask, apply, escape, explain, help, lint, search, show}
 use Rattle.regex_command.specs.Ending.{IsLate}
-use Rattle.regex_command.specs.Explained.{IsExplanation}
+use Rattle.regex_command.specs.Explained.{IsExplanationIn, MayFailToExplain}
 use Rattle.regex_command.specs.Inputs.{WritesInputs, WritesSomeOf, inputs_of}
 use Rattle.regex_command.specs.Job.{Job, matching, replacing, splitting}
 use Rattle.regex_command.specs.Linted.{IsReport}
@@ -78,21 +78,21 @@ module _ (flags : Flags) (text : List ℕ) where
   Does (search job multiline files) input old new found = PrintsAll (unicode_setting flags) text job multiline files input old new found
   Does (show view) input old new found = Took old new (IsAnswer found (view_of view flags text))
   Does lint input old new found = Took old new (IsReport found (unicode_setting flags) (chars text))
-  Does explain input old new found = Took old new (IsExplanation found (unicode_setting flags) (chars text))
+  Does (explain form) input old new found = Took old new (IsExplanationIn form found (unicode_setting flags) (chars text))
 
   -- What may be written before a failure: what a search writes for its first lines, or the first of two trees.
   abbrev pub Begins : Action → (input old new : Option (List ℕ)) → Type 0
   Begins (search job multiline files) input old new = PrintsFirst (unicode_setting flags) text job multiline files input old new
   Begins (show view) input old new = Took old new (IsFirstOutput (view_of view flags text))
   Begins lint input old new = ⊥
-  Begins explain input old new = ⊥
+  Begins (explain form) input old new = ⊥
 
   -- A failure is due: a syntax error only for a search whose pattern is rejected.
   abbrev pub MayFailAt : Action → Failure → Type 0
   MayFailAt (search job multiline files) failure = IsDue (unicode_setting flags) text failure
   MayFailAt (show view) failure = IsShowFailure (view_of view flags text) failure
   MayFailAt lint failure = IsLate failure
-  MayFailAt explain failure = IsLate failure
+  MayFailAt (explain form) failure = MayFailToExplain form failure
 
 -- What is written: the help, an escaped text, or the output for a pattern.
 abbrev pub Prints : (help : List ℕ) → (input old new : Option (List ℕ)) → (found : Bool) → Ask → Type 0
@@ -106,7 +106,7 @@ abbrev pub IsQuietAt : (quiet : Type 0) → Action → Type 0
 IsQuietAt quiet (search job multiline files) = quiet
 IsQuietAt quiet (show view) = IsQuietFor view.format quiet
 IsQuietAt quiet lint = ⊤
-IsQuietAt quiet explain = ⊤
+IsQuietAt quiet (explain form) = ⊤
 
 abbrev pub IsQuiet : (quiet : Type 0) → Ask → Type 0
 IsQuiet quiet help = quiet

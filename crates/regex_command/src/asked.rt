@@ -1,11 +1,13 @@
 //! What the arguments ask for.
 ghost use Rattle.std.specs.Prelude.{◌≡◌, option_map};
-ghost use Rattle.regex_command.specs.Asked.{action, action_of, after_pattern, ask, asked_of, command_with, escape_of, help_of, other_of, printed_format, search_with, selection_of, stage_of, taken_pattern, view_in};
+ghost use Rattle.regex_command.specs.Asked.{action, action_of, after_pattern, ask, asked_of, command_with, escape_of, form_of, help_of, other_of, printed_format, search_with, selection_of, stage_of, taken_pattern, view_in};
+ghost use Rattle.regex_command.specs.Explained.{asked_form};
 ghost use Rattle.regex_command.specs.Job.{job};
+ghost use Rattle.regex_command.specs.Options.{given_by};
 ghost use Rattle.regex_command.specs.Source.{source};
 
-use crate::command::{Command, allows, command_of};
-use crate::options::{Options, read_options};
+use crate::command::{Command, allows, allows_page, command_of};
+use crate::options::{Given, Options, read_options};
 use crate::pattern::PatternSource;
 use crate::task::{Selection, Shown, Task};
 use regress_base::types::Flags;
@@ -38,7 +40,16 @@ pub(crate) enum Action<'a> {
     /// Report where it may match otherwise than in ECMA-262.
     Lint,
     /// Explain it in words.
-    Explain,
+    Explain(Form<'a>),
+}
+
+/// How a pattern is explained.
+#[derive(Clone, Copy)]
+pub(crate) enum Form<'a> {
+    /// As lines of text.
+    Lines,
+    /// As a page, with the matches in a text if one is given.
+    Page(Option<&'a str>),
 }
 
 /// A task for the lines of files, or of standard input if there are none.
@@ -111,11 +122,11 @@ fn read_command(command: Command, args: &[String]) -> Option<Asked<'_>>
     if options.help {
         return Some(Asked::Help);
     }
-    if !allows(command, options) {
+    if !allows(command, options) || !allows_page(command, given) {
         return None;
     }
     let (pattern, rest) = take_pattern(given.pattern, rest)?;
-    let action = read_action(command, options, rest)?;
+    let action = read_action(command, given, rest)?;
     Some(Asked::Apply(Request {
         pattern,
         flags: options.flags,
@@ -138,9 +149,10 @@ pub(crate) fn take_pattern<'a>(
 }
 
 /// Parses what follows the pattern.
-fn read_action(command: Command, options: Options, args: &[String]) -> Option<Action<'_>>
-    ensures { option_map action result ≡ action_of command options args.now }
+fn read_action<'a>(command: Command, given: Given<'a>, args: &'a [String]) -> Option<Action<'a>>
+    ensures { option_map action result ≡ action_of command (given_by given.entry) args.now }
 {
+    let options = given.options;
     match (command, args) {
         (Command::Match, files) => Some(search_for(
             options,
@@ -154,8 +166,19 @@ fn read_action(command: Command, options: Options, args: &[String]) -> Option<Ac
         (Command::Parse, []) => Some(Action::Show(view_in(options, printed_format(options.json)))),
         (Command::Draw, []) => Some(Action::Show(view_in(options, Format::Svg))),
         (Command::Lint, []) => Some(Action::Lint),
-        (Command::Explain, []) => Some(Action::Explain),
+        (Command::Explain, []) => Some(Action::Explain(form_of(given))),
         _ => None,
+    }
+}
+
+/// Returns how to explain a pattern.
+fn form_of(given: Given<'_>) -> Form<'_>
+    ensures { asked_form result ≡ form_of (given_by given.entry) }
+{
+    if given.html {
+        Form::Page(given.text)
+    } else {
+        Form::Lines
     }
 }
 

@@ -1,8 +1,9 @@
 //! The commands that take a pattern.
 ghost use Rattle.std.specs.Prelude.{◌≡◌};
-ghost use Rattle.regex_command.specs.Commands.{allows, allows_json, command_of, is_bare, is_plain, shows_tree};
+ghost use Rattle.regex_command.specs.Commands.{allows, allows_json, allows_page, command_of, is_bare, is_plain, shows_tree};
+ghost use Rattle.regex_command.specs.Options.{given_by};
 
-use crate::options::Options;
+use crate::options::{Given, Options};
 use crate::task::{Selection, Shown};
 
 /// A command that takes a pattern.
@@ -43,6 +44,21 @@ pub(crate) fn allows(command: Command, options: Options) -> bool
         Command::Parse => is_plain(options.selection) && !options.multiline,
         Command::Draw => is_plain(options.selection) && !options.multiline && !options.json,
         Command::Lint | Command::Explain => is_bare(options) && !options.multiline,
+    }
+}
+
+/// Returns whether a command writes the page that is asked for. A text is for a page only.
+pub(crate) fn allows_page(command: Command, given: Given<'_>) -> bool
+    ensures { result ≡ allows_page command (given_by given.entry) }
+{
+    match command {
+        Command::Explain => given.html || given.text.is_none(),
+        Command::Match
+        | Command::Replace
+        | Command::Split
+        | Command::Parse
+        | Command::Draw
+        | Command::Lint => !given.html && given.text.is_none(),
     }
 }
 

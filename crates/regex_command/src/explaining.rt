@@ -1,41 +1,113 @@
 //! `explain`.
-ghost use Rattle.std.specs.Prelude.{◌≡◌, true, Ok, IfOk, IfErr, chars};
+ghost use Rattle.std.specs.Prelude.{◌≡◌, true, Ok, IfOk, IfErr, chars, map, string_bytes};
 ghost use Rattle.regress_arguments.specs.Output.{Took};
-ghost use Rattle.regex_command.specs.Ending.{IsLate, OrOutput};
-ghost use Rattle.regex_command.specs.Explained.{IsExplanation};
 ghost use Rattle.regress.specs.Compiled.{unicode_setting};
+ghost use Rattle.regress.specs.Found.{match_of};
+ghost use Rattle.regex_command.specs.Ending.{OrOutput};
+ghost use Rattle.regex_command.specs.Explained.{AreMatchRanges, HasForm, IsAcceptedPattern, IsExplanationIn, IsPageLine, MayFailToExplain, MayFailToFind, asked_form, range_of};
 
+use crate::asked::Form;
+use crate::compiling::compiled;
 use crate::failure::{Failure, reject};
 use crate::pattern::Pattern;
 use crate::printing::print;
+use regress::Match;
 use regress_base::util::code_points;
-use regress_explain::explain;
+use regress_explain::{Matched, explain, page};
+use regress_parse::SpannedRegex;
 use regress_spans::try_parse_with_spans;
 use regress_ucd::unicode_tables;
-use std::alloc::Global;
+use std::alloc::{AllocError, Global};
 use std::io::Write;
+use std::ops::Range;
 
 /// Writes an explanation of a pattern, or to `err` why it is rejected. Returns whether it is accepted.
 pub(crate) fn print_explanation<'f, W: Write, E: Write>(
     alloc: Global,
     pattern: Pattern<'_>,
+    form: Form<'_>,
     out: &mut W,
     err: &mut E,
 ) -> Result<bool, Failure<'f>>
     ensures explained { IfOk result (λ accepted. Took (W.contents out.old) (W.contents out.new)
-        (IsExplanation accepted (unicode_setting pattern.entry.flags) (chars pattern.entry.text.now))) }
+        (IsExplanationIn (asked_form form.entry) accepted (unicode_setting pattern.entry.flags) (chars pattern.entry.text.now))) }
     ensures quiet { result ≡ Ok true → err.new ≡ err.old }
     ensures first { IfErr result (OrOutput (out.new ≡ out.old)) }
-    ensures late { IfErr result IsLate }
+    ensures due { IfErr result (MayFailToExplain (asked_form form.entry)) }
 {
     let points = code_points(alloc, pattern.text)?;
     let tables = unicode_tables(alloc)?;
     match try_parse_with_spans(alloc, &points, pattern.flags, &tables) {
         Ok(parsed) => {
-            let text = explain(alloc, &points, &parsed)?;
+            let text = explanation(alloc, pattern, form, &points, &parsed)?;
             print(text.as_bytes(), out)?;
             Ok(true)
         }
         Err(fault) => reject(fault, pattern.text, err),
     }
+}
+
+/// Returns an explanation of an accepted pattern: of its code points and its tree.
+fn explanation<'f>(
+    alloc: Global,
+    pattern: Pattern<'_>,
+    form: Form<'_>,
+    points: &[u32],
+    parsed: &SpannedRegex,
+) -> Result<String, Failure<'f>>
+    requires { IsAcceptedPattern (unicode_setting pattern.flags) (chars pattern.text.now) }
+    ensures form { IfOk result (λ text. HasForm (asked_form form.entry) (string_bytes text)) }
+    ensures due { IfErr result (MayFailToExplain (asked_form form.entry)) }
+{
+    match form {
+        Form::Lines => Ok(explain(alloc, points, parsed)?),
+        Form::Page(None) => Ok(page_line(alloc, points, parsed, None)?),
+        Form::Page(Some(text)) => {
+            let ranges = match_ranges(alloc, pattern, text)?;
+            let matched = Matched {
+                text,
+                ranges: &ranges,
+            };
+            Ok(page_line(alloc, points, parsed, Some(matched))?)
+        }
+    }
+}
+
+/// Returns a page and a line feed.
+fn page_line(
+    alloc: Global,
+    points: &[u32],
+    parsed: &SpannedRegex,
+    matched: Option<Matched<'_>>,
+) -> Result<String, AllocError>
+    ensures { IfOk result (λ text. IsPageLine (string_bytes text)) }
+{
+    let mut html = page(alloc, points, parsed, matched)?;
+    html.push_str("\n")?;
+    Ok(html)
+}
+
+/// Returns the ranges of all matches of an accepted pattern in a text.
+fn match_ranges<'f>(
+    alloc: Global,
+    pattern: Pattern<'_>,
+    text: &str,
+) -> Result<Vec<Range<usize>>, Failure<'f>>
+    requires { IsAcceptedPattern (unicode_setting pattern.flags) (chars pattern.text.now) }
+    ensures ranges { IfOk result (λ ranges. AreMatchRanges (unicode_setting pattern.entry.flags) pattern.entry.text.now text.now ranges.items) }
+    ensures due { IfErr result MayFailToFind }
+{
+    let regex = compiled(alloc, pattern)?;
+    let matches = regex.find_all(alloc, text)?;
+    Ok(ranges_of(alloc, &matches)?)
+}
+
+fn ranges_of(alloc: Global, matches: &[Match<'_>]) -> Result<Vec<Range<usize>>, AllocError>
+    ensures { IfOk result (λ ranges. ranges.items ≡ map range_of (map match_of matches.now)) }
+{
+    let mut ranges = Vec::new(alloc);
+    for found in matches {
+        ranges.push(found.range())?;
+    }
+    Ok(ranges)
 }

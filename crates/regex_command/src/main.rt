@@ -215,7 +215,7 @@ fn apply_to<'a, R: Files, I: Read + Drop, W: Write, E: Write>(
         Action::Search(search) => print_search(rt, alloc, pattern, search, input, out),
         Action::Show(view) => print_tree(alloc, view_of(view, pattern), out, err),
         Action::Lint => print_lint(alloc, pattern, out, err),
-        Action::Explain => print_explanation(alloc, pattern, out, err),
+        Action::Explain(form) => print_explanation(alloc, pattern, form, out, err),
     }
 }
 
@@ -338,6 +338,9 @@ Of parse and draw only:
   --parsed     the parsed tree only
   --optimized  the optimized tree only
   --small      with the small table: ASCII and a few more characters
+Of explain only:
+  --html       an HTML page that needs no other file, with a railroad diagram
+  --text TEXT  with --html: TEXT with its matches marked is in the page; also --text=TEXT
 
 exit status:
   0  a line is selected, or the output of replace, split, escape, parse, draw or explain is written, or
@@ -355,5 +358,6 @@ examples:
   regex parse --json '[a-f]+'
   regex draw '\\d{4}-\\d\\d' >date.svg
   regex explain '\\d{4}-\\d\\d'
+  regex explain --html --text 2024-05 '\\d{4}-\\d\\d' >date.html
   regex lint -i '[k]'
 ";

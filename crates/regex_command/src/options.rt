@@ -1,6 +1,6 @@
 //! The options before the pattern.
 ghost use Rattle.std.specs.Prelude.{◌≡◌, None, true, option_map};
-ghost use Rattle.regex_command.specs.Options.{after_options, count_of, given_by, is_option, no_options, nothing_given, options_of, takes, with_count, with_flags, with_letter, with_letters, with_long, with_named_count, with_named_flags, with_option, with_tree, with_value};
+ghost use Rattle.regex_command.specs.Options.{after_options, count_of, given_by, is_option, no_options, nothing_given, options_of, takes, with_count, with_flags, with_html, with_letter, with_letters, with_long, with_named_count, with_named_flags, with_option, with_tree, with_value, with_word};
 
 use crate::pattern::PatternSource;
 use crate::task::{Selection, Shown};
@@ -50,6 +50,10 @@ pub(crate) struct Given<'a> {
     pub(crate) options: Options,
     /// The pattern, if an option has it.
     pub(crate) pattern: Option<PatternSource<'a>>,
+    /// Whether a pattern is explained by a page.
+    pub(crate) html: bool,
+    /// The text of the page.
+    pub(crate) text: Option<&'a str>,
 }
 
 /// The argument that an option has after it.
@@ -58,6 +62,7 @@ pub(crate) enum Value {
     Count,
     Pattern,
     File,
+    Text,
 }
 
 /// Parses the options, and returns what they specify with the arguments after them; `None` if one is unknown.
@@ -67,6 +72,8 @@ pub(crate) fn read_options(args: &[String]) -> Option<(Given<'_>, &[String])>
     let mut given = Given {
         options: NO_OPTIONS,
         pattern: None,
+        html: false,
+        text: None,
     };
     let mut rest = args;
     while let [first, after @ ..] = rest {
@@ -84,7 +91,7 @@ pub(crate) fn read_options(args: &[String]) -> Option<(Given<'_>, &[String])>
             given = with_value(given, value, text.as_str())?;
             rest = after;
         } else {
-            given.options = with_option(given.options, word)?;
+            given = with_word(given, word)?;
             rest = after;
         }
     }
@@ -106,6 +113,7 @@ pub(crate) fn takes(word: &str) -> Option<Value>
         "-m" | "--max-count" => Some(Value::Count),
         "-e" => Some(Value::Pattern),
         "-f" => Some(Value::File),
+        "--text" => Some(Value::Text),
         _ => None,
     }
 }
@@ -125,6 +133,39 @@ fn with_value<'a>(given: Given<'a>, value: Value, text: &'a str) -> Option<Given
         }),
         Value::File => Some(Given {
             pattern: Some(PatternSource::File(text)),
+            ..given
+        }),
+        Value::Text => Some(Given {
+            text: Some(text),
+            ..given
+        }),
+    }
+}
+
+/// Adds an option that is one argument.
+fn with_word<'a>(given: Given<'a>, word: &'a str) -> Option<Given<'a>>
+    ensures { option_map given_by result ≡ with_word (given_by given.entry) word.now }
+{
+    match word.strip_prefix("--text=") {
+        Some(text) => Some(Given {
+            text: Some(text),
+            ..given
+        }),
+        None => with_html(given, word),
+    }
+}
+
+/// Adds the option `--html`, or another one.
+fn with_html<'a>(given: Given<'a>, word: &str) -> Option<Given<'a>>
+    ensures { option_map given_by result ≡ with_html (given_by given.entry) word.now }
+{
+    match word {
+        "--html" => Some(Given {
+            html: true,
+            ..given
+        }),
+        _ => Some(Given {
+            options: with_option(given.options, word)?,
             ..given
         }),
     }

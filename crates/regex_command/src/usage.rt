@@ -1,7 +1,7 @@
 //! The message about invalid arguments.
 
 use crate::asked::take_pattern;
-use crate::command::{Command, allows, command_of, is_plain};
+use crate::command::{Command, allows, allows_page, command_of, is_plain};
 use crate::options::{
     NO_OPTIONS, Options, Value, is_option, read_options, takes, with_count, with_option,
 };
@@ -36,6 +36,8 @@ enum UsageError<'a> {
     OnlyOfMatch(&'a str),
     /// `--json` is given with an option that selects what `match` shows.
     ExcludedByJson,
+    /// `--text` is given without `--html`.
+    TextWithoutPage,
     /// There is an argument more than the command has.
     Unexpected(&'a str),
 }
@@ -50,6 +52,7 @@ pub(crate) fn write_usage_error<E: Write>(args: &[String], err: &mut E) -> io::R
         UsageError::InvalidCount(word) => ("invalid number", word),
         UsageError::OnlyOfMatch(word) => ("only match has the option", word),
         UsageError::ExcludedByJson => ("--json excludes", "-o, -c, -l and -q"),
+        UsageError::TextWithoutPage => ("--text needs", "--html"),
         UsageError::Unexpected(word) => ("unexpected argument", word),
     };
     write!(err, "regex: {text} ")?;
@@ -93,6 +96,7 @@ fn command_error(command: Command, args: &[String]) -> UsageError<'_> {
     }
     match read_options(args) {
         Some((given, _)) if !allows(command, given.options) => UsageError::ExcludedByJson,
+        Some((given, _)) if !allows_page(command, given) => UsageError::TextWithoutPage,
         Some((given, rest)) => rest_error(command, given.pattern, rest),
         None => UsageError::Missing("PATTERN"),
     }
@@ -104,6 +108,9 @@ fn option_error<'a>(
     word: &'a str,
     after: &'a [String],
 ) -> Option<UsageError<'a>> {
+    if is_of_page(word) && !matches!(command, Command::Explain) {
+        return Some(UsageError::UnknownOption(word));
+    }
     let (options, error) = match (takes(word), after) {
         (Some(value), []) => return Some(UsageError::Missing(name_of(value))),
         (Some(Value::Count), [count, ..]) => (
@@ -111,6 +118,7 @@ fn option_error<'a>(
             UsageError::InvalidCount(count.as_str()),
         ),
         (Some(_), _) => return None,
+        (None, _) if is_of_page(word) => return None,
         (None, _) => (with_option(NO_OPTIONS, word), word_error(word)),
     };
     match options {
@@ -125,7 +133,13 @@ fn name_of(value: Value) -> &'static str {
         Value::Count => "NUM",
         Value::Pattern => "PATTERN",
         Value::File => "FILE",
+        Value::Text => "TEXT",
     }
+}
+
+/// Returns whether this is an option of pages.
+fn is_of_page(word: &str) -> bool {
+    word == "--html" || word == "--text" || word.starts_with("--text=")
 }
 
 /// Returns why an option is invalid that is one argument.

@@ -1,6 +1,7 @@
 use Rattle.std.proofs.Common.{◌∙◌}
 use Rattle.regress_unicode.specs.TableOf.{table_of}
 use Rattle.regex_command.proofs.ExplainLemmas.{explained, unexplained}
+use Rattle.regex_command.specs.Explained.{asked_form}
 use Rattle.regex_command.proofs.SettingLemmas.{rejected_by}
 use Rattle.regex_command.proofs.explaining.print_explanation.Goals as goal
 
@@ -8,10 +9,11 @@ pub returns-in-Ok-clause-explained : goal.returns-in-Ok-clause-explained
 returns-in-Ok-clause-explained g c =
     let parsed = c.in-Ok.ensures.spanned in
     explained c.args.pattern.flags c.deref.result.now _ (table_of c.in_ok-tables.tables) (c.deref.ensures.value ∙ c.in_ok-points.ensures.characters)
-    c.in_ok-tables.ensures (g.W.Write.contents c.args.out.now) (g.W.Write.contents c.print.new.out) _ parsed.0 parsed.1 c.in_ok-print-in-Ok.ensures.bytes
+    c.in_ok-tables.ensures (asked_form c.args.form) (g.W.Write.contents c.args.out.now) (g.W.Write.contents c.print.new.out) _ _ parsed.0 parsed.1
+    c.in_ok-text-in-Ok.ensures.form c.as_bytes.ensures.value c.in_ok-print-in-Ok.ensures.bytes
 
 pub returns-clause-explained : goal.returns-clause-explained
 returns-clause-explained g c =
     unexplained c.args.pattern.flags c.deref.result.now _ (table_of c.in_ok-tables.tables) (c.deref.ensures.value ∙ c.in_ok-points.ensures.characters)
-    c.in_ok-tables.ensures (g.W.Write.contents c.args.out.now) _ c.reject.result c.reject.ensures
+    c.in_ok-tables.ensures (asked_form c.args.form) (g.W.Write.contents c.args.out.now) _ c.reject.result c.reject.ensures
     (rejected_by c.try_parse_with_spans.result _ _ c.in-Err.is c.try_parse_with_spans.ensures.rejected)
