@@ -10,10 +10,11 @@ use Rattle.regress.specs.declared.pattern.Regex.{Regex}
 use Rattle.std.specs.Fmt.{decimal}
 use Rattle.regress_display.specs.Fault.{json_text}
 use Rattle.regex_command.specs.Json.{group_json, groups_json, json_front, located_json, match_json, name_json, part_json}
+use Rattle.regex_command.specs.Runs.{Run}
 
 -- the objects of the first i matches
-abbrev pub json_so_far : Regex → (front line : List ℕ) → List Match → ℕ → List ℕ
-json_so_far r front line ms i = flat_map (λ m. front ++ match_json line (groups_of r) m) (map match_of (take i ms))
+abbrev pub json_so_far : Regex → (front : List ℕ) → Run → List Match → ℕ → List ℕ
+json_so_far r front run ms i = flat_map (λ m. front ++ match_json run (groups_of r) m) (map match_of (take i ms))
 
 -- lists, joined from the right and from the left
 four : (a b c d : List ℕ) → a ++ (b ++ (c ++ d)) ≡ a ++ b ++ c ++ d
@@ -35,24 +36,24 @@ pub in_front : (name : List ℕ) (number : ℕ) →
     codes "{\"file\":\"" ++ (json_text name ++ (codes "\",\"line\":" ++ (decimal number ++ codes ","))) ≡ json_front name number
 in_front name number = five (codes "{\"file\":\"") (json_text name) (codes "\",\"line\":") (decimal number) (codes ",")
 
-pub group_of_parts : (line : List ℕ) (name : Option (List ℕ)) (span : Option CaptureSpan) (n p : List ℕ) → n ≡ name_json name → p ≡ part_json line span →
-    codes "{\"name\":" ++ (n ++ (codes "," ++ (p ++ codes "}"))) ≡ group_json line name span
-group_of_parts line name span n p is_name is_part =
+pub group_of_parts : (run : Run) (name : Option (List ℕ)) (span : Option CaptureSpan) (n p : List ℕ) → n ≡ name_json name → p ≡ part_json run span →
+    codes "{\"name\":" ++ (n ++ (codes "," ++ (p ++ codes "}"))) ≡ group_json run name span
+group_of_parts run name span n p is_name is_part =
     five (codes "{\"name\":") n (codes ",") p (codes "}")
     ∙ ap (λ x. codes "{\"name\":" ++ x ++ codes "," ++ p ++ codes "}") is_name
     ∙ ap (λ x. codes "{\"name\":" ++ name_json name ++ codes "," ++ x ++ codes "}") is_part
 
-pub match_of_parts : (line : List ℕ) (r : Regex) (m : matcher.Match) (start end : ℕ) (p g : List ℕ) → start ≡ matcher.start_of m →
-    end ≡ (matcher.state_of m).position → p ≡ part_json line (Some (start, end)) → g ≡ groups_json line m 0 (map (λ c. c.name) (groups_of r)) →
-    p ++ (codes ",\"groups\":[" ++ (g ++ codes "]}\n")) ≡ match_json line (groups_of r) m
-match_of_parts line r m start end p g is_start is_end is_part is_groups =
-    let groups = groups_json line m 0 (map (λ c. c.name) (groups_of r)) in
+pub match_of_parts : (run : Run) (r : Regex) (m : matcher.Match) (start end : ℕ) (p g : List ℕ) → start ≡ matcher.start_of m →
+    end ≡ (matcher.state_of m).position → p ≡ part_json run (Some (start, end)) → g ≡ groups_json run m 0 (map (λ c. c.name) (groups_of r)) →
+    p ++ (codes ",\"groups\":[" ++ (g ++ codes "]}\n")) ≡ match_json run (groups_of r) m
+match_of_parts run r m start end p g is_start is_end is_part is_groups =
+    let groups = groups_json run m 0 (map (λ c. c.name) (groups_of r)) in
     four p (codes ",\"groups\":[") g (codes "]}\n")
-    ∙ ap (λ x. x ++ codes ",\"groups\":[" ++ g ++ codes "]}\n") (is_part ∙ (λ i. part_json line (Some (is_start i, is_end i))))
-    ∙ ap (λ x. part_json line (Some (matcher.start_of m, (matcher.state_of m).position)) ++ codes ",\"groups\":[" ++ x ++ codes "]}\n") is_groups
+    ∙ ap (λ x. x ++ codes ",\"groups\":[" ++ g ++ codes "]}\n") (is_part ∙ (λ i. part_json run (Some (is_start i, is_end i))))
+    ∙ ap (λ x. part_json run (Some (matcher.start_of m, (matcher.state_of m).position)) ++ codes ",\"groups\":[" ++ x ++ codes "]}\n") is_groups
 
-module _ (line : List ℕ) (m : matcher.Match) (all : List (Option (List ℕ))) where
+module _ (run : Run) (m : matcher.Match) (all : List (Option (List ℕ))) where
   -- the groups from this number on have these names, and the others are written
   pub record SoFar (number : ℕ) (left : List (Option (List ℕ))) (json : List ℕ) : Type 0 where
     pub counted : number + length left ≡ length all
-    pub written : json ++ groups_json line m number left ≡ groups_json line m 0 all
+    pub written : json ++ groups_json run m number left ≡ groups_json run m 0 all

@@ -7,6 +7,7 @@ pub mod JsonLemmas
 pub mod LineLemmas
 pub mod LintLemmas
 pub mod ReplyLemmas
+pub mod RunLemmas
 pub mod SearchLemmas
 pub mod SettingLemmas
 pub mod TreeLemmas

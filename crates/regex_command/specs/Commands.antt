@@ -30,7 +30,7 @@ is_lines Nothing = false
 
 -- no option that only `match` has is given
 abbrev pub is_plain : Selection → Bool
-is_plain s = not s.invert && not s.numbers && is_lines s.shown && is_none s.max_count
+is_plain s = not s.invert && not s.numbers && is_lines s.shown && is_none s.max_count && not s.binary
 
 -- an option is given that only commands that show a tree have
 abbrev pub shows_tree : Options → Bool

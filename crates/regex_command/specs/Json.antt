@@ -9,6 +9,7 @@ use Rattle.regress_tree.specs.WellFormed.{Capture}
 use Rattle.regress.specs.Compiled.{groups_of, outcomes_of}
 use Rattle.regress.specs.Found.{group_span}
 use Rattle.regress.specs.declared.pattern.Regex.{Regex}
+use Rattle.regex_command.specs.Runs.{Run}
 
 -- what is in front of the matches of a line: the name of the input, and the number of the line
 abbrev pub json_front : (name : List ℕ) → (number : ℕ) → List ℕ
@@ -19,34 +20,35 @@ abbrev pub located_json : (start end : ℕ) → (text : List ℕ) → List ℕ
 located_json start end text =
     codes "\"span\":[" ++ decimal start ++ codes "," ++ decimal end ++ codes "],\"text\":\"" ++ json_text text ++ codes "\""
 
--- the members for a part of a line: its span in bytes, and its text
-abbrev pub part_json : (line : List ℕ) → Option CaptureSpan → List ℕ
-part_json line None = codes "\"span\":null,\"text\":null"
-part_json line (Some span) = located_json span.0 span.1 (slice_range line span.0 span.1)
+-- the members for a part of a text: its span in bytes of the line, and its text
+abbrev pub part_json : Run → Option CaptureSpan → List ℕ
+part_json run None = codes "\"span\":null,\"text\":null"
+part_json run (Some span) = located_json (run.start + span.0) (run.start + span.1) (slice_range run.text span.0 span.1)
 
 abbrev pub name_json : Option (List ℕ) → List ℕ
 name_json None = codes "null"
 name_json (Some name) = codes "\"" ++ json_text name ++ codes "\""
 
 -- the object of a group
-abbrev pub group_json : (line : List ℕ) → (name : Option (List ℕ)) → Option CaptureSpan → List ℕ
-group_json line name span = codes "{\"name\":" ++ name_json name ++ codes "," ++ part_json line span ++ codes "}"
+abbrev pub group_json : Run → (name : Option (List ℕ)) → Option CaptureSpan → List ℕ
+group_json run name span = codes "{\"name\":" ++ name_json name ++ codes "," ++ part_json run span ++ codes "}"
 
 abbrev pub comma_before : (number : ℕ) → List ℕ
 comma_before number = if number == 0 then [] else codes ","
 
 -- the objects of the groups with these names, the first of which has this number, where they count from 0
-abbrev pub groups_json : (line : List ℕ) → Match → (number : ℕ) → (names : List (Option (List ℕ))) → List ℕ
-groups_json line m number [] = []
-groups_json line m number (name ∷ names) =
-    comma_before number ++ group_json line name (group_span m (number + 1)) ++ groups_json line m (number + 1) names
+abbrev pub groups_json : Run → Match → (number : ℕ) → (names : List (Option (List ℕ))) → List ℕ
+groups_json run m number [] = []
+groups_json run m number (name ∷ names) =
+    comma_before number ++ group_json run name (group_span m (number + 1)) ++ groups_json run m (number + 1) names
 
 -- the members for a match, and for its groups in the order of their numbers, and the end of the object
-abbrev pub match_json : (line : List ℕ) → (groups : List Capture) → Match → List ℕ
-match_json line groups m =
-    part_json line (Some (start_of m, (state_of m).position)) ++ codes ",\"groups\":[" ++ groups_json line m 0 (map (λ c. c.name) groups) ++ codes "]}\n"
+abbrev pub match_json : Run → (groups : List Capture) → Match → List ℕ
+match_json run groups m =
+    part_json run (Some (start_of m, (state_of m).position)) ++ codes ",\"groups\":[" ++ groups_json run m 0 (map (λ c. c.name) groups) ++ codes "]}\n"
 
--- an object for each match, each on a line, after what is in front
-abbrev pub ShowsJson : Regex → (line front bytes : List ℕ) → Type 0
-ShowsJson r line front bytes =
-    (ms : List Match) × AreAllMatches line (outcomes_of r line) ms × (bytes ≡ flat_map (λ m. front ++ match_json line (groups_of r) m) ms)
+-- an object for each match in a text, each on a line with what is in front, after what was written before
+abbrev pub AddsJson : Regex → (front before : List ℕ) → Run → (after : List ℕ) → Type 0
+AddsJson r front before run after =
+    (ms : List Match) × AreAllMatches run.text (outcomes_of r run.text) ms
+    × (after ≡ before ++ flat_map (λ m. front ++ match_json run (groups_of r) m) ms)

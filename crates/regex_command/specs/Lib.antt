@@ -11,6 +11,7 @@ pub mod Options
 pub mod Printed
 pub mod Reading
 pub mod Reply
+pub mod Runs
 pub mod Searched
 pub mod Source
 pub mod Trees

@@ -22,7 +22,7 @@ abbrev pub no_options : Options
 no_options = record {
   help = false;
   flags = no_flags;
-  selection = record { invert = false; numbers = false; shown = shows.Lines; max_count = None };
+  selection = record { invert = false; numbers = false; shown = shows.Lines; max_count = None; binary = false };
   multiline = false;
   json = false;
   stage = None;
@@ -84,6 +84,7 @@ with_letter options c =
     else if c == 99 then Some (with_shown options shows.Count)
     else if c == 108 then Some (with_shown options shows.Names)
     else if c == 113 then Some (with_shown options shows.Nothing)
+    else if c == 97 then Some (record options { selection = record options.selection { binary = true } })
     else if c == 77 then Some (record options { multiline = true })
     else None
 

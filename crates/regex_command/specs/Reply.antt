@@ -1,5 +1,6 @@
 -- What is written for a line.
 use Rattle.std.specs.Prelude.{◌≡◌, ◌↔◌, ℕ, Bool, true, false, not, IsTrue, List, [], ◌++◌, flat_map, length, if◌then◌else◌, ◌==◌, codes}
+use Rattle.std.specs.List.{Any, FoldsTo}
 use Rattle.regress_match.specs.Matched.{Match}
 use Rattle.regress_match.specs.Searched.{AreAllMatches}
 use Rattle.regress_replace.specs.Expansion.{expansion, matched_text}
@@ -10,31 +11,36 @@ use Rattle.regress.specs.declared.pattern.Regex.{Regex}
 use Rattle.regex_command.specs.declared.task.Shown.{Shown}
 use Rattle.regex_command.specs.declared.task.Shown.TheVariants.{Lines, Matches, Json, Count, Names, Nothing}
 use Rattle.regex_command.specs.Job.{Job, matching, replacing, splitting}
-use Rattle.regex_command.specs.Json.{ShowsJson}
+use Rattle.regex_command.specs.Json.{AddsJson}
+use Rattle.regex_command.specs.Runs.{Run, texts_of}
 
 -- the bytes and a line feed
 abbrev pub ended : List ℕ → List ℕ
 ended bytes = bytes ++ codes "\n"
 
 -- a match that is not empty on a line of its own
-abbrev pub shown_match : (front line : List ℕ) → Match → List ℕ
-shown_match front line m = if length (matched_text line m) == 0 then [] else front ++ ended (matched_text line m)
+abbrev pub shown_match : (front text : List ℕ) → Match → List ℕ
+shown_match front text m = if length (matched_text text m) == 0 then [] else front ++ ended (matched_text text m)
 
-module _ (r : Regex) (line : List ℕ) where
-  -- The pattern matches somewhere in the line, or with `invert` nowhere.
-  abbrev pub IsSelected : (invert selected : Bool) → Type 0
-  IsSelected invert selected =
-      (matches : Bool) × (IsTrue matches ↔ MatchesSomewhere line (outcomes_of r line)) × (selected ≡ (if invert then not matches else matches))
+-- a line for each match in a text that is not empty, after what was written before
+abbrev pub AddsMatches : Regex → (front before : List ℕ) → Run → (after : List ℕ) → Type 0
+AddsMatches r front before run after =
+    (ms : List Match) × AreAllMatches run.text (outcomes_of r run.text) ms × (after ≡ before ++ flat_map (shown_match front run.text) ms)
 
-  -- a line for each match that is not empty
-  abbrev pub ShowsMatches : (front bytes : List ℕ) → Type 0
-  ShowsMatches front bytes = (ms : List Match) × AreAllMatches line (outcomes_of r line) ms × (bytes ≡ flat_map (shown_match front line) ms)
+-- The pattern matches somewhere in one of the texts.
+abbrev pub MatchesIn : Regex → List Run → Type 0
+MatchesIn r texts = Any (λ run. MatchesSomewhere run.text (outcomes_of r run.text)) texts
 
-  -- what is written for a selected line, after what is in front
+-- The pattern matches in one of the texts, or with `invert` in none.
+abbrev pub IsSelected : Regex → (texts : List Run) → (invert selected : Bool) → Type 0
+IsSelected r texts invert selected = (matches : Bool) × (IsTrue matches ↔ MatchesIn r texts) × (selected ≡ (if invert then not matches else matches))
+
+module _ (r : Regex) (line : List ℕ) (texts : List Run) where
+  -- what is written for a selected line with these texts, after what is in front
   abbrev pub Shows : Shown → (front bytes : List ℕ) → Type 0
   Shows Lines front bytes = bytes ≡ front ++ ended line
-  Shows Matches front bytes = ShowsMatches front bytes
-  Shows Json front bytes = ShowsJson r line front bytes
+  Shows Matches front bytes = FoldsTo (AddsMatches r front) [] texts bytes
+  Shows Json front bytes = FoldsTo (AddsJson r front) [] texts bytes
   Shows Count front bytes = bytes ≡ []
   Shows Names front bytes = bytes ≡ []
   Shows Nothing front bytes = bytes ≡ []
@@ -44,6 +50,7 @@ module _ (r : Regex) (line : List ℕ) where
   ShowsIf true shown front bytes = Shows shown front bytes
   ShowsIf false shown front bytes = bytes ≡ []
 
+module _ (r : Regex) (line : List ℕ) where
   -- the pieces between the matches, each on a line
   abbrev pub ShowsPieces : (bytes : List ℕ) → Type 0
   ShowsPieces bytes = (pieces : List (List ℕ)) × IsSplit line (outcomes_of r line) pieces × (bytes ≡ flat_map ended pieces)
@@ -55,6 +62,7 @@ module _ (r : Regex) (line : List ℕ) where
 
   -- Whether the line is selected, and what is written for it.
   abbrev pub IsReply : Job → (front : List ℕ) → (selected : Bool) → (bytes : List ℕ) → Type 0
-  IsReply (matching s) front selected bytes = IsSelected s.invert selected × ShowsIf selected s.shown front bytes
+  IsReply (matching s) front selected bytes =
+      IsSelected r (texts_of s.binary line) s.invert selected × ShowsIf r line (texts_of s.binary line) selected s.shown front bytes
   IsReply (replacing template) front selected bytes = (selected ≡ true) × ShowsReplaced template bytes
   IsReply splitting front selected bytes = (selected ≡ true) × ShowsPieces bytes

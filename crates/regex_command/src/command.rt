@@ -86,6 +86,7 @@ pub(crate) fn is_plain(selection: Selection) -> bool
             numbers: false,
             shown: Shown::Lines,
             max_count: None,
+            binary: false,
         } => true,
         _ => false,
     }

@@ -1,47 +1,51 @@
 //! Matches as JSON.
-ghost use Rattle.std.specs.Prelude.{◌≡◌, IfOk, IfSome, None, drop, map, option_map, slice_index_or, string_bytes};
+ghost use Rattle.std.specs.Prelude.{◌≡◌, IfOk, IfSome, None, OnOk, drop, map, option_map, slice_index_or, string_bytes};
 ghost use Rattle.regress_match.specs.Matched.{IsInside};
 ghost use Rattle.regress_tree.specs.Inside.{IsSpanInside};
 ghost use Rattle.regress.specs.Compiled.{groups_of};
 ghost use Rattle.regress.specs.Found.{match_of, span_of};
 ghost use Rattle.regress.specs.Groups.{names_left};
-ghost use Rattle.regex_command.specs.Json.{ShowsJson, comma_before, group_json, groups_json, located_json, match_json, name_json, part_json};
+ghost use Rattle.regex_command.specs.Json.{AddsJson, comma_before, group_json, groups_json, located_json, match_json, name_json, part_json};
+ghost use Rattle.regex_command.specs.Runs.{HasOffsets, run_of};
 
+use crate::runs::Run;
 use regress::{GroupNames, Match, Regex, SearchError};
 use regress_display::JsonText;
 use std::alloc::{AllocError, Global};
 use std::ops::Range;
 
-/// Returns an object for each match, each on a line, with `front` in front.
-pub(crate) fn json_matches(
+/// Adds an object for each match in a text, each on a line, with `front` in front.
+pub(crate) fn add_json(
     alloc: Global,
     regex: &Regex,
     front: &str,
-    line: &str,
-) -> Result<String, SearchError>
-    ensures { IfOk result (λ text. ShowsJson regex.now line.now front.now (string_bytes text)) }
+    run: Run<'_>,
+    to: &mut Vec<u8>,
+) -> Result<(), SearchError>
+    requires { HasOffsets (run_of run) }
+    ensures { OnOk result (AddsJson regex.now front.now to.old.items (run_of run.entry) to.new.items) }
 {
-    let matches = regex.find_all(alloc, line)?;
-    let mut text = String::new(alloc);
+    let matches = regex.find_all(alloc, run.text)?;
     for found in &matches {
-        text.push_str(front)?;
-        text.push_str(&match_json(alloc, regex, line, found)?)?;
+        to.extend_from_slice(front.as_bytes())?;
+        to.extend_from_slice(match_json(alloc, regex, run, found)?.as_bytes())?;
     }
-    Ok(text)
+    Ok(())
 }
 
 /// Returns the members of the object of a match, and its end.
 fn match_json(
     alloc: Global,
     regex: &Regex,
-    line: &str,
+    run: Run<'_>,
     found: &Match<'_>,
 ) -> Result<String, AllocError>
-    requires { IsInside line.now (match_of found.now) }
-    ensures { IfOk result (λ json. string_bytes json ≡ match_json line.now (groups_of regex.now) (match_of found.now)) }
+    requires offsets { HasOffsets (run_of run) }
+    requires inside { IsInside run.text.now (match_of found.now) }
+    ensures { IfOk result (λ json. string_bytes json ≡ match_json (run_of run.entry) (groups_of regex.now) (match_of found.now)) }
 {
-    let part = part_json(alloc, line, Some(found.range()))?;
-    let groups = groups_json(alloc, regex, line, found)?;
+    let part = part_json(alloc, run, Some(found.range()))?;
+    let groups = groups_json(alloc, regex, run, found)?;
     Ok(format!(in alloc; "{part},\"groups\":[{groups}]}}\n")?)
 }
 
@@ -49,19 +53,20 @@ fn match_json(
 fn groups_json(
     alloc: Global,
     regex: &Regex,
-    line: &str,
+    run: Run<'_>,
     found: &Match<'_>,
 ) -> Result<String, AllocError>
-    requires { IsInside line.now (match_of found.now) }
+    requires offsets { HasOffsets (run_of run) }
+    requires inside { IsInside run.text.now (match_of found.now) }
     ensures { IfOk result (λ json. string_bytes json
-        ≡ groups_json line.now (match_of found.now) 0 (map (λ c. c.name) (groups_of regex.now))) }
+        ≡ groups_json (run_of run.entry) (match_of found.now) 0 (map (λ c. c.name) (groups_of regex.now))) }
 {
     let mut names = regex.group_names();
     let mut json = String::new(alloc);
     for number in 0..regex.group_count() {
         let name = next_name(&mut names);
         json.push_str(comma_before(number))?;
-        json.push_str(&group_json(alloc, line, name, found.group(number + 1))?)?;
+        json.push_str(&group_json(alloc, run, name, found.group(number + 1))?)?;
     }
     Ok(json)
 }
@@ -87,15 +92,16 @@ fn comma_before(number: usize) -> &'static str
 /// Returns the object of a group.
 fn group_json(
     alloc: Global,
-    line: &str,
+    run: Run<'_>,
     name: Option<&str>,
     span: Option<Range<usize>>,
 ) -> Result<String, AllocError>
-    requires { IfSome (span_of span) (IsSpanInside line.now) }
-    ensures { IfOk result (λ json. string_bytes json ≡ group_json line.now (option_map (λ name. name.now) name.entry) (span_of span)) }
+    requires offsets { HasOffsets (run_of run) }
+    requires inside { IfSome (span_of span) (IsSpanInside run.text.now) }
+    ensures { IfOk result (λ json. string_bytes json ≡ group_json (run_of run.entry) (option_map (λ name. name.now) name.entry) (span_of span)) }
 {
     let name = name_json(alloc, name)?;
-    let part = part_json(alloc, line, span)?;
+    let part = part_json(alloc, run, span)?;
     Ok(format!(in alloc; "{{\"name\":{name},{part}}}")?)
 }
 
@@ -109,13 +115,19 @@ fn name_json(alloc: Global, name: Option<&str>) -> Result<String, AllocError>
     }
 }
 
-/// Returns the members for a part of a line.
-fn part_json(alloc: Global, line: &str, span: Option<Range<usize>>) -> Result<String, AllocError>
-    requires { IfSome (span_of span) (IsSpanInside line.now) }
-    ensures { IfOk result (λ json. string_bytes json ≡ part_json line.now (span_of span)) }
+/// Returns the members for a part of a text.
+fn part_json(alloc: Global, run: Run<'_>, span: Option<Range<usize>>) -> Result<String, AllocError>
+    requires offsets { HasOffsets (run_of run) }
+    requires inside { IfSome (span_of span) (IsSpanInside run.text.now) }
+    ensures { IfOk result (λ json. string_bytes json ≡ part_json (run_of run.entry) (span_of span)) }
 {
     match span {
-        Some(Range { start, end }) => located_json(alloc, start, end, &line[start..end]),
+        Some(Range { start, end }) => located_json(
+            alloc,
+            run.start + start,
+            run.start + end,
+            &run.text[start..end],
+        ),
         None => String::from_str(alloc, "\"span\":null,\"text\":null"),
     }
 }

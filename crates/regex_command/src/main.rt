@@ -29,6 +29,7 @@ mod place;
 mod printing;
 mod reading;
 mod reply;
+mod runs;
 mod searcher;
 mod searching;
 mod showing;
@@ -325,6 +326,7 @@ syntax, over all of Unicode.
 Of match, replace and split only:
   -M  search a text as one line, without the line feed at its end; also --multiline
 Of match only, and -no is -n -o:
+  -a      search lines that are not UTF-8 too; their bytes that are not match nowhere
   -v      select the lines without a match
   -m NUM  select at most NUM lines of each file, the first ones; also --max-count=NUM
   -n      write the number of each line before it

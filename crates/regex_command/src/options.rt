@@ -37,6 +37,7 @@ pub(crate) const NO_OPTIONS: Options = Options {
         numbers: false,
         shown: Shown::Lines,
         max_count: None,
+        binary: false,
     },
     multiline: false,
     json: false,
@@ -312,6 +313,13 @@ fn with_letter(options: Options, letter: u8) -> Option<Options>
         b'c' => Some(with_shown(options, Shown::Count)),
         b'l' => Some(with_shown(options, Shown::Names)),
         b'q' => Some(with_shown(options, Shown::Nothing)),
+        b'a' => Some(Options {
+            selection: Selection {
+                binary: true,
+                ..selection
+            },
+            ..options
+        }),
         b'M' => Some(with_multiline(options)),
         _ => None,
     }

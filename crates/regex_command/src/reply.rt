@@ -1,64 +1,115 @@
 //! What is written for a line.
-ghost use Rattle.std.specs.Prelude.{◌≡◌, ◌↔◌, ◌++◌, IfOk, IsTrue, string_bytes};
-ghost use Rattle.regress.specs.Compiled.{outcomes_of};
+ghost use Rattle.std.specs.Prelude.{◌≡◌, ◌↔◌, [], ◌++◌, All, IfOk, IsTrue, OnOk, map, string_bytes};
+ghost use Rattle.std.specs.List.{FoldsTo};
 ghost use Rattle.regex_command.specs.Job.{job};
-ghost use Rattle.regex_command.specs.Reply.{IsReply, IsSelected, Shows, ShowsIf, ShowsMatches, ShowsPieces, ShowsReplaced};
+ghost use Rattle.regex_command.specs.Json.{AddsJson};
+ghost use Rattle.regex_command.specs.Reply.{AddsMatches, IsReply, IsSelected, MatchesIn, Shows, ShowsIf, ShowsPieces, ShowsReplaced, ended};
+ghost use Rattle.regex_command.specs.Runs.{HasOffsets, run_of, utf8_runs};
 
-use crate::json::json_matches;
-use crate::searcher::Searcher;
+use crate::json::add_json;
+use crate::runs::{Run, utf8_runs};
 use crate::task::{Selection, Shown, Task};
-use regress::{Match, Regex, SearchError};
-use std::alloc::Global;
+use regress::{Regex, SearchError};
+use std::alloc::{AllocError, Global};
 
 /// Whether a line is selected, and what is written for it.
 #[derive(Drop)]
 pub(crate) struct Reply {
     pub(crate) selected: bool,
-    pub(crate) text: String,
+    pub(crate) bytes: Vec<u8>,
+}
+
+/// A line, and the texts in it.
+#[derive(Clone, Copy)]
+struct Line<'a> {
+    bytes: &'a [u8],
+    texts: &'a [Run<'a>],
 }
 
 /// Returns what a task writes for a line, each line of it with `front` in front where the task selects lines.
 pub(crate) fn reply_to(
     alloc: Global,
-    regex: &Searcher<'_>,
+    regex: &Regex,
     task: Task<'_>,
     front: &str,
     line: &str,
 ) -> Result<Reply, SearchError>
-    ensures { IfOk result (λ reply. IsReply regex.now line.now (job task.entry) front.now reply.selected (string_bytes reply.text)) }
+    ensures { IfOk result (λ reply. IsReply regex.now line.now (job task.entry) front.now reply.selected reply.bytes.items) }
 {
     match task {
-        Task::Match(selection) => selected(alloc, regex, selection, front, line),
+        Task::Match(selection) => {
+            let texts = [Run {
+                start: 0,
+                text: line,
+            }];
+            let line = Line {
+                bytes: line.as_bytes(),
+                texts: &texts,
+            };
+            selected(alloc, regex, selection, front, line)
+        }
         Task::Replace(template) => Ok(Reply {
             selected: true,
-            text: replaced(alloc, regex.regex(), template, line)?,
+            bytes: replaced(alloc, regex, template, line)?.into_bytes(),
         }),
         Task::Split => Ok(Reply {
             selected: true,
-            text: pieces(alloc, regex.regex(), line)?,
+            bytes: pieces(alloc, regex, line)?.into_bytes(),
         }),
     }
+}
+
+/// Returns what `match -a` writes for a line that is not UTF-8.
+pub(crate) fn reply_to_binary(
+    alloc: Global,
+    regex: &Regex,
+    selection: Selection,
+    front: &str,
+    line: &[u8],
+) -> Result<Reply, SearchError>
+    ensures { IfOk result (λ reply. IsSelected regex.now (utf8_runs line.now) selection.invert reply.selected
+        × ShowsIf regex.now line.now (utf8_runs line.now) reply.selected selection.shown front.now reply.bytes.items) }
+{
+    let texts = utf8_runs(alloc, line)?;
+    let line = Line {
+        bytes: line,
+        texts: &texts,
+    };
+    selected(alloc, regex, selection, front, line)
 }
 
 /// Searches a line.
 fn selected(
     alloc: Global,
-    regex: &Searcher<'_>,
+    regex: &Regex,
     selection: Selection,
     front: &str,
-    line: &str,
+    line: Line<'_>,
 ) -> Result<Reply, SearchError>
-    ensures selected { IfOk result (λ reply. IsSelected regex.now line.now selection.invert reply.selected) }
-    ensures shows { IfOk result (λ reply. ShowsIf regex.now line.now reply.selected selection.shown front.now (string_bytes reply.text)) }
+    requires { All (λ r. HasOffsets (run_of r)) line.texts.now }
+    ensures selected { IfOk result (λ reply. IsSelected regex.now (map run_of line.entry.texts.now) selection.invert reply.selected) }
+    ensures shows { IfOk result (λ reply. ShowsIf regex.now line.entry.bytes.now (map run_of line.entry.texts.now) reply.selected selection.shown front.now reply.bytes.items) }
 {
-    let matches = regex.is_match(alloc, line)?;
+    let matches = match_in(alloc, regex, line.texts)?;
     let selected = if selection.invert { !matches } else { matches };
-    let text = if selected {
-        shown(alloc, regex.regex(), selection.shown, front, line)?
+    let bytes = if selected {
+        shown(alloc, regex, selection.shown, front, line)?
     } else {
-        String::new(alloc)
+        Vec::new(alloc)
     };
-    Ok(Reply { selected, text })
+    Ok(Reply { selected, bytes })
+}
+
+/// Returns whether the pattern matches in one of the texts.
+fn match_in(alloc: Global, regex: &Regex, texts: &[Run<'_>]) -> Result<bool, SearchError>
+    ensures { IfOk result (λ matches. IsTrue matches ↔ MatchesIn regex.now (map run_of texts.now)) }
+{
+    for run in texts {
+        if regex.is_match(alloc, run.text)? {
+            return Ok(true);
+        }
+    }
+    Ok(false)
 }
 
 /// Returns what is written for a selected line.
@@ -67,33 +118,89 @@ fn shown(
     regex: &Regex,
     shown: Shown,
     front: &str,
-    line: &str,
-) -> Result<String, SearchError>
-    ensures { IfOk result (λ text. Shows regex.now line.now shown front.now (string_bytes text)) }
+    line: Line<'_>,
+) -> Result<Vec<u8>, SearchError>
+    requires { All (λ r. HasOffsets (run_of r)) line.texts.now }
+    ensures { IfOk result (λ bytes. Shows regex.now line.entry.bytes.now (map run_of line.entry.texts.now) shown front.now bytes.items) }
 {
     match shown {
-        Shown::Lines => Ok(format!(in alloc; "{front}{line}\n")?),
-        Shown::Matches => all_matches(alloc, regex, front, line),
-        Shown::Json => json_matches(alloc, regex, front, line),
-        Shown::Count | Shown::Names | Shown::Nothing => Ok(String::new(alloc)),
+        Shown::Lines => whole_line(alloc, front, line.bytes),
+        Shown::Matches => all_matches(alloc, regex, front, line.texts),
+        Shown::Json => all_json(alloc, regex, front, line.texts),
+        Shown::Count | Shown::Names | Shown::Nothing => Ok(Vec::new(alloc)),
     }
 }
 
-/// Returns a line for each match that is not empty.
-fn all_matches(alloc: Global, regex: &Regex, front: &str, line: &str) -> Result<String, SearchError>
-    ensures { IfOk result (λ text. ShowsMatches regex.now line.now front.now (string_bytes text)) }
+/// Returns the line, with `front` in front.
+fn whole_line(alloc: Global, front: &str, line: &[u8]) -> Result<Vec<u8>, SearchError>
+    ensures { IfOk result (λ bytes. bytes.items ≡ front.now ++ ended line.now) }
 {
-    let matches = regex.find_all(alloc, line)?;
-    let mut text = String::new(alloc);
+    let mut bytes = Vec::new(alloc);
+    add_line(front, line, &mut bytes)?;
+    Ok(bytes)
+}
+
+/// Adds a line, with `front` in front.
+fn add_line(front: &str, line: &[u8], to: &mut Vec<u8>) -> Result<(), AllocError>
+    ensures { OnOk result (to.new.items ≡ to.old.items ++ (front.now ++ ended line.now)) }
+{
+    to.extend_from_slice(front.as_bytes())?;
+    to.extend_from_slice(line)?;
+    to.push(b'\n')?;
+    Ok(())
+}
+
+/// Returns a line for each match that is not empty.
+fn all_matches(
+    alloc: Global,
+    regex: &Regex,
+    front: &str,
+    texts: &[Run<'_>],
+) -> Result<Vec<u8>, SearchError>
+    ensures { IfOk result (λ bytes. FoldsTo (AddsMatches regex.now front.now) [] (map run_of texts.now) bytes.items) }
+{
+    let mut bytes = Vec::new(alloc);
+    for run in texts {
+        add_matches(alloc, regex, front, *run, &mut bytes)?;
+    }
+    Ok(bytes)
+}
+
+/// Adds a line for each match in a text that is not empty.
+fn add_matches(
+    alloc: Global,
+    regex: &Regex,
+    front: &str,
+    run: Run<'_>,
+    to: &mut Vec<u8>,
+) -> Result<(), SearchError>
+    ensures { OnOk result (AddsMatches regex.now front.now to.old.items (run_of run.entry) to.new.items) }
+{
+    let matches = regex.find_all(alloc, run.text)?;
     for found in &matches {
-        let matched = &line[found.start()..found.end()];
+        let matched = &run.text[found.start()..found.end()];
         if !matched.is_empty() {
-            text.push_str(front)?;
-            text.push_str(matched)?;
-            text.push_str("\n")?;
+            add_line(front, matched.as_bytes(), to)?;
         }
     }
-    Ok(text)
+    Ok(())
+}
+
+/// Returns an object of JSON for each match, each on a line.
+fn all_json(
+    alloc: Global,
+    regex: &Regex,
+    front: &str,
+    texts: &[Run<'_>],
+) -> Result<Vec<u8>, SearchError>
+    requires { All (λ r. HasOffsets (run_of r)) texts.now }
+    ensures { IfOk result (λ bytes. FoldsTo (AddsJson regex.now front.now) [] (map run_of texts.now) bytes.items) }
+{
+    let mut bytes = Vec::new(alloc);
+    for run in texts {
+        add_json(alloc, regex, front, *run, &mut bytes)?;
+    }
+    Ok(bytes)
 }
 
 /// Returns the line with its matches replaced.

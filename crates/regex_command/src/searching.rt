@@ -13,9 +13,9 @@ ghost use Rattle.regex_command.specs.declared.failure.Failure.TheVariants.{Outpu
 use crate::failure::{Failure, unread};
 use crate::place::Place;
 use crate::reading::{Next, read_next};
-use crate::reply::{Reply, reply_to};
-use crate::searcher::Searcher;
+use crate::reply::{Reply, reply_to, reply_to_binary};
 use crate::task::{Shown, Task};
+use regress::Regex;
 use regress_display::JsonText;
 use std::alloc::{AllocError, Global};
 use std::io::{BufRead, Write};
@@ -24,7 +24,7 @@ use std::str;
 /// Writes what a task shows of each line of an input until enough are selected, and returns how many are.
 pub(crate) fn search_lines<'a, B: BufRead, W: Write>(
     alloc: Global,
-    regex: &Searcher<'_>,
+    regex: &Regex,
     task: Task<'_>,
     place: Place<'a>,
     reader: &mut B,
@@ -104,7 +104,7 @@ fn next_line<'a, B: BufRead>(
 /// Writes what a task shows of the line with this number, and returns whether it is selected.
 fn write_reply<'a, W: Write>(
     alloc: Global,
-    regex: &Searcher<'_>,
+    regex: &Regex,
     task: Task<'_>,
     place: Place<'a>,
     number: u64,
@@ -116,20 +116,36 @@ fn write_reply<'a, W: Write>(
     ensures late { IfErr result IsLate }
     ensures untouched { IfErr result (OrOutput (out.new ≡ out.old)) }
 {
-    let line = match str::from_utf8(line) {
-        Ok(line) => line,
-        Err(error) => {
-            return Err(Failure::NotUtf8 {
-                name: place.name,
-                line: number,
-                offset: error.valid_up_to(),
-            });
-        }
-    };
-    let front = front(alloc, task, place, number)?;
-    let Reply { selected, text } = reply_to(alloc, regex, task, &front, line)?;
-    out.write_all(text.as_bytes()).map_err(|_| Failure::Output)?;
+    let Reply { selected, bytes } = reply(alloc, regex, task, place, number, line)?;
+    out.write_all(&bytes).map_err(|_| Failure::Output)?;
     Ok(selected)
+}
+
+/// Returns what a task writes for the line with this number.
+fn reply<'a>(
+    alloc: Global,
+    regex: &Regex,
+    task: Task<'_>,
+    place: Place<'a>,
+    number: u64,
+    line: &[u8],
+) -> Result<Reply, Failure<'a>>
+    ensures reply { IfOk result (λ reply. IsReply regex.now line.now (job task.entry)
+        (front_of (job task.entry) (named place.entry) number) reply.selected reply.bytes.items) }
+    ensures late { IfErr result IsLate }
+{
+    let front = front(alloc, task, place, number)?;
+    match (str::from_utf8(line), task) {
+        (Ok(line), _) => Ok(reply_to(alloc, regex, task, &front, line)?),
+        (Err(_), Task::Match(selection)) if selection.binary => {
+            Ok(reply_to_binary(alloc, regex, selection, &front, line)?)
+        }
+        (Err(error), _) => Err(Failure::NotUtf8 {
+            name: place.name,
+            line: number,
+            offset: error.valid_up_to(),
+        }),
+    }
 }
 
 /// Returns what is in front of what is shown of a line.

@@ -21,6 +21,8 @@ pub(crate) struct Selection {
     pub(crate) shown: Shown,
     /// How many lines of an input are selected at most.
     pub(crate) max_count: Option<u64>,
+    /// Whether lines that are not UTF-8 are searched too: bytes that are not match nowhere.
+    pub(crate) binary: bool,
 }
 
 /// What is shown of the selected lines.

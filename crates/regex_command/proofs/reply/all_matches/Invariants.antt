@@ -1,7 +1,9 @@
--- the matches so far
-use Rattle.std.proofs.Common.{◌≡◌, string_bytes}
-use Rattle.regex_command.proofs.ReplyLemmas.{shown_so_far}
+-- the texts so far
+use Rattle.std.proofs.Common.{[], map, take}
+use Rattle.std.specs.List.{FoldsTo}
+use Rattle.regex_command.specs.Runs.{run_of}
+use Rattle.regex_command.specs.Reply.{AddsMatches}
 use Rattle.regex_command.proofs.reply.all_matches.Given as goal
 
-abbrev pub invariant-loop-found : goal.invariant-loop-found
-invariant-loop-found l = string_bytes l.text ≡ shown_so_far l.front l.line l.found-items l.found-index
+abbrev pub invariant-loop-run : goal.invariant-loop-run
+invariant-loop-run l = FoldsTo (AddsMatches l.regex l.front) [] (map run_of (take l.run-index l.texts)) l.bytes.items
