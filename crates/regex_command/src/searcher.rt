@@ -12,7 +12,7 @@ pub(crate) struct Searcher<'r> {
     literal: Option<Finder<'r>>,
 }
 
-impl Model for Searcher<'_> {
+impl<'r> Model for Searcher<'r> {
     ghost use Rattle.std.specs.Prelude.{IfSome};
     ghost use Rattle.regress.specs.Required.{RequiresLiteral};
     ghost use Rattle.regress.specs.declared.pattern.Regex.{Regex};
