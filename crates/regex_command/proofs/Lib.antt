@@ -8,5 +8,6 @@ pub mod LineLemmas
 pub mod LintLemmas
 pub mod ReplyLemmas
 pub mod SearchLemmas
+pub mod SearcherLemmas
 pub mod SettingLemmas
 pub mod TreeLemmas

@@ -25,17 +25,17 @@ pub(crate) fn reply_to(
     front: &str,
     line: &str,
 ) -> Result<Reply, SearchError>
-    ensures { IfOk result (λ reply. IsReply regex.now line.now (job task.entry) front.now reply.selected (string_bytes reply.text)) }
+    ensures { IfOk result (λ reply. IsReply regex.now.regex.now line.now (job task.entry) front.now reply.selected (string_bytes reply.text)) }
 {
     match task {
         Task::Match(selection) => selected(alloc, regex, selection, front, line),
         Task::Replace(template) => Ok(Reply {
             selected: true,
-            text: replaced(alloc, regex.regex(), template, line)?,
+            text: replaced(alloc, regex.regex, template, line)?,
         }),
         Task::Split => Ok(Reply {
             selected: true,
-            text: pieces(alloc, regex.regex(), line)?,
+            text: pieces(alloc, regex.regex, line)?,
         }),
     }
 }
@@ -48,13 +48,13 @@ fn selected(
     front: &str,
     line: &str,
 ) -> Result<Reply, SearchError>
-    ensures selected { IfOk result (λ reply. IsSelected regex.now line.now selection.invert reply.selected) }
-    ensures shows { IfOk result (λ reply. ShowsIf regex.now line.now reply.selected selection.shown front.now (string_bytes reply.text)) }
+    ensures selected { IfOk result (λ reply. IsSelected regex.now.regex.now line.now selection.invert reply.selected) }
+    ensures shows { IfOk result (λ reply. ShowsIf regex.now.regex.now line.now reply.selected selection.shown front.now (string_bytes reply.text)) }
 {
     let matches = regex.is_match(alloc, line)?;
     let selected = if selection.invert { !matches } else { matches };
     let text = if selected {
-        shown(alloc, regex.regex(), selection.shown, front, line)?
+        shown(alloc, regex.regex, selection.shown, front, line)?
     } else {
         String::new(alloc)
     };

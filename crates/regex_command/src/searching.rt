@@ -30,8 +30,8 @@ pub(crate) fn search_lines<'a, B: BufRead, W: Write>(
     reader: &mut B,
     out: &mut W,
 ) -> Result<u64, Failure<'a>>
-    ensures all { IfOk result (SearchesAll regex.now (job task.entry) (named place.entry) (B.Read.remaining reader.old) (W.contents out.old) (W.contents out.new)) }
-    ensures first { IfErr result (OrOutput (SearchesFirst regex.now (job task.entry) (named place.entry) (B.Read.remaining reader.old) (W.contents out.old) (W.contents out.new))) }
+    ensures all { IfOk result (SearchesAll regex.now.regex.now (job task.entry) (named place.entry) (B.Read.remaining reader.old) (W.contents out.old) (W.contents out.new)) }
+    ensures first { IfErr result (OrOutput (SearchesFirst regex.now.regex.now (job task.entry) (named place.entry) (B.Read.remaining reader.old) (W.contents out.old) (W.contents out.new))) }
     ensures late { IfErr result IsLate }
 {
     let mut bytes = Vec::new(alloc);
@@ -112,7 +112,7 @@ fn write_reply<'a, W: Write>(
     out: &mut W,
 ) -> Result<bool, Failure<'a>>
     ensures reply { IfOk result (λ selected. Took (W.contents out.old) (W.contents out.new)
-        (IsReply regex.now line.now (job task.entry) (front_of (job task.entry) (named place.entry) number) selected)) }
+        (IsReply regex.now.regex.now line.now (job task.entry) (front_of (job task.entry) (named place.entry) number) selected)) }
     ensures late { IfErr result IsLate }
     ensures untouched { IfErr result (OrOutput (out.new ≡ out.old)) }
 {
