@@ -9,5 +9,6 @@ pub mod LintLemmas
 pub mod ReplyLemmas
 pub mod RunLemmas
 pub mod SearchLemmas
+pub mod SearcherLemmas
 pub mod SettingLemmas
 pub mod TreeLemmas

@@ -24,9 +24,9 @@ pub(crate) fn search_all<'a, R: Files, I: Read + Drop, W: Write>(
     input: I,
     out: &mut W,
 ) -> Result<bool, Failure<'a>>
-    ensures all { IfOk result (WritesInputs regex.now (job search.entry.task)
+    ensures all { IfOk result (WritesInputs regex.now.regex.now (job search.entry.task)
         (inputs_of search.entry.multiline (map string_bytes search.entry.files.now) (I.remaining input)) (W.contents out.old) (W.contents out.new)) }
-    ensures first { IfErr result (OrOutput (WritesSomeOf regex.now (job search.entry.task)
+    ensures first { IfErr result (OrOutput (WritesSomeOf regex.now.regex.now (job search.entry.task)
         (inputs_of search.entry.multiline (map string_bytes search.entry.files.now) (I.remaining input)) (W.contents out.old) (W.contents out.new))) }
     ensures late { IfErr result IsLate }
 {
@@ -50,9 +50,9 @@ fn search_files<'a, R: Files, W: Write>(
     search: Search<'a>,
     out: &mut W,
 ) -> Result<bool, Failure<'a>>
-    ensures all { IfOk result (WritesInputs regex.now (job search.entry.task)
+    ensures all { IfOk result (WritesInputs regex.now.regex.now (job search.entry.task)
         (named_files search.entry.multiline (map string_bytes search.entry.files.now)) (W.contents out.old) (W.contents out.new)) }
-    ensures first { IfErr result (OrOutput (WritesSomeOf regex.now (job search.entry.task)
+    ensures first { IfErr result (OrOutput (WritesSomeOf regex.now.regex.now (job search.entry.task)
         (named_files search.entry.multiline (map string_bytes search.entry.files.now)) (W.contents out.old) (W.contents out.new))) }
     ensures late { IfErr result IsLate }
 {
@@ -96,8 +96,8 @@ fn search_file<'a, R: Files, W: Write>(
     place: Place<'a>,
     out: &mut W,
 ) -> Result<bool, Failure<'a>>
-    ensures all { IfOk result (WritesInput regex.now (job task.entry) (named place.entry) None (W.contents out.old) (W.contents out.new)) }
-    ensures first { IfErr result (OrOutput (SearchesFirst regex.now (job task.entry) (named place.entry) None (W.contents out.old) (W.contents out.new))) }
+    ensures all { IfOk result (WritesInput regex.now.regex.now (job task.entry) (named place.entry) None (W.contents out.old) (W.contents out.new)) }
+    ensures first { IfErr result (OrOutput (SearchesFirst regex.now.regex.now (job task.entry) (named place.entry) None (W.contents out.old) (W.contents out.new))) }
     ensures late { IfErr result IsLate }
 {
     match File::open(rt, place.name) {
@@ -115,8 +115,8 @@ fn search_input<'a, I: Read + Drop, W: Write>(
     input: I,
     out: &mut W,
 ) -> Result<bool, Failure<'a>>
-    ensures all { IfOk result (WritesInput regex.now (job task.entry) (named place.entry) (I.remaining input) (W.contents out.old) (W.contents out.new)) }
-    ensures first { IfErr result (OrOutput (SearchesFirst regex.now (job task.entry) (named place.entry) (I.remaining input) (W.contents out.old) (W.contents out.new))) }
+    ensures all { IfOk result (WritesInput regex.now.regex.now (job task.entry) (named place.entry) (I.remaining input) (W.contents out.old) (W.contents out.new)) }
+    ensures first { IfErr result (OrOutput (SearchesFirst regex.now.regex.now (job task.entry) (named place.entry) (I.remaining input) (W.contents out.old) (W.contents out.new))) }
     ensures late { IfErr result IsLate }
 {
     match BufReader::new(alloc, input) {
@@ -134,8 +134,8 @@ fn search_reader<'a, B: BufRead, W: Write>(
     reader: &mut B,
     out: &mut W,
 ) -> Result<bool, Failure<'a>>
-    ensures all { IfOk result (WritesInput regex.now (job task.entry) (named place.entry) (B.Read.remaining reader.old) (W.contents out.old) (W.contents out.new)) }
-    ensures first { IfErr result (OrOutput (SearchesFirst regex.now (job task.entry) (named place.entry) (B.Read.remaining reader.old) (W.contents out.old) (W.contents out.new))) }
+    ensures all { IfOk result (WritesInput regex.now.regex.now (job task.entry) (named place.entry) (B.Read.remaining reader.old) (W.contents out.old) (W.contents out.new)) }
+    ensures first { IfErr result (OrOutput (SearchesFirst regex.now.regex.now (job task.entry) (named place.entry) (B.Read.remaining reader.old) (W.contents out.old) (W.contents out.new))) }
     ensures late { IfErr result IsLate }
 {
     let selected = search_lines(alloc, regex, task, place, reader, out)?;

@@ -1,8 +1,11 @@
 //! Lines of an input.
-ghost use Rattle.std.specs.Prelude.{◌≡◌, IfOk, true};
+ghost use Rattle.std.specs.Prelude.{◌≡◌, [], IfOk, MatchBool, true};
+ghost use Rattle.std.specs.Io.KnownBytes.{Keeps};
 ghost use Rattle.regex_command.specs.Reading.{IsRead, IsReadLine};
 ghost use Rattle.regex_command.specs.Source.{without_line_feed};
+ghost use Rattle.regex_command.specs.declared.reading.Next.TheVariants.{Line};
 
+use memchr::memchr;
 use std::io::{self, BufRead, Read};
 
 /// What a reader had next.
@@ -55,6 +58,39 @@ pub(crate) fn remove_line_feed(bytes: &mut Vec<u8>)
 
 /// Reads the next line into `line`, without its line feed.
 fn read_line<B: BufRead>(reader: &mut B, line: &mut Vec<u8>) -> io::Result<Next>
+    ensures { IfOk result (IsReadLine (B.Read.remaining reader.old) (B.Read.remaining reader.new) line.new.items) }
+{
+    line.clear();
+    if take_buffered(reader, line)? {
+        return Ok(Next::Line);
+    }
+    read_further(reader, line)
+}
+
+/// Moves the next line, without its line feed, from the reader's buffer to `line`. Returns whether it did: it changes
+/// nothing if the line feed is not in the buffer, or if the reader fails.
+///
+/// # Preconditions
+/// `line` is empty.
+fn take_buffered<B: BufRead>(reader: &mut B, line: &mut Vec<u8>) -> io::Result<bool>
+    requires { line.old.items ≡ [] }
+    ensures { IfOk result (λ taken. MatchBool taken
+        (IsReadLine (B.Read.remaining reader.old) (B.Read.remaining reader.new) line.new.items Line)
+        (Keeps (B.Read.remaining reader.old) (B.Read.remaining reader.new))) }
+{
+    let Ok(buffered) = reader.fill_buf() else {
+        return Ok(false);
+    };
+    let Some(end) = memchr(b'\n', buffered) else {
+        return Ok(false);
+    };
+    line.extend_from_slice(&buffered[..end])?;
+    reader.consume(end + 1);
+    Ok(true)
+}
+
+/// Reads the next line into `line`, without its line feed, which need not be in the reader's buffer.
+fn read_further<B: BufRead>(reader: &mut B, line: &mut Vec<u8>) -> io::Result<Next>
     ensures { IfOk result (IsReadLine (B.Read.remaining reader.old) (B.Read.remaining reader.new) line.new.items) }
 {
     line.clear();

@@ -8,6 +8,7 @@ ghost use Rattle.regex_command.specs.Runs.{HasOffsets, run_of, utf8_runs};
 
 use crate::json::add_json;
 use crate::runs::{Run, utf8_runs};
+use crate::searcher::Searcher;
 use crate::task::{Selection, Shown, Task};
 use regress::{Regex, SearchError};
 use std::alloc::{AllocError, Global};
@@ -29,12 +30,12 @@ struct Line<'a> {
 /// Returns what a task writes for a line, each line of it with `front` in front where the task selects lines.
 pub(crate) fn reply_to(
     alloc: Global,
-    regex: &Regex,
+    regex: &Searcher<'_>,
     task: Task<'_>,
     front: &str,
     line: &str,
 ) -> Result<Reply, SearchError>
-    ensures { IfOk result (λ reply. IsReply regex.now line.now (job task.entry) front.now reply.selected reply.bytes.items) }
+    ensures { IfOk result (λ reply. IsReply regex.now.regex.now line.now (job task.entry) front.now reply.selected reply.bytes.items) }
 {
     match task {
         Task::Match(selection) => {
@@ -50,11 +51,11 @@ pub(crate) fn reply_to(
         }
         Task::Replace(template) => Ok(Reply {
             selected: true,
-            bytes: replaced(alloc, regex, template, line)?.into_bytes(),
+            bytes: replaced(alloc, regex.regex, template, line)?.into_bytes(),
         }),
         Task::Split => Ok(Reply {
             selected: true,
-            bytes: pieces(alloc, regex, line)?.into_bytes(),
+            bytes: pieces(alloc, regex.regex, line)?.into_bytes(),
         }),
     }
 }
@@ -62,13 +63,13 @@ pub(crate) fn reply_to(
 /// Returns what `match -a` writes for a line that is not UTF-8.
 pub(crate) fn reply_to_binary(
     alloc: Global,
-    regex: &Regex,
+    regex: &Searcher<'_>,
     selection: Selection,
     front: &str,
     line: &[u8],
 ) -> Result<Reply, SearchError>
-    ensures { IfOk result (λ reply. IsSelected regex.now (utf8_runs line.now) selection.invert reply.selected
-        × ShowsIf regex.now line.now (utf8_runs line.now) reply.selected selection.shown front.now reply.bytes.items) }
+    ensures { IfOk result (λ reply. IsSelected regex.now.regex.now (utf8_runs line.now) selection.invert reply.selected
+        × ShowsIf regex.now.regex.now line.now (utf8_runs line.now) reply.selected selection.shown front.now reply.bytes.items) }
 {
     let texts = utf8_runs(alloc, line)?;
     let line = Line {
@@ -81,19 +82,19 @@ pub(crate) fn reply_to_binary(
 /// Searches a line.
 fn selected(
     alloc: Global,
-    regex: &Regex,
+    regex: &Searcher<'_>,
     selection: Selection,
     front: &str,
     line: Line<'_>,
 ) -> Result<Reply, SearchError>
     requires { All (λ r. HasOffsets (run_of r)) line.texts.now }
-    ensures selected { IfOk result (λ reply. IsSelected regex.now (map run_of line.entry.texts.now) selection.invert reply.selected) }
-    ensures shows { IfOk result (λ reply. ShowsIf regex.now line.entry.bytes.now (map run_of line.entry.texts.now) reply.selected selection.shown front.now reply.bytes.items) }
+    ensures selected { IfOk result (λ reply. IsSelected regex.now.regex.now (map run_of line.entry.texts.now) selection.invert reply.selected) }
+    ensures shows { IfOk result (λ reply. ShowsIf regex.now.regex.now line.entry.bytes.now (map run_of line.entry.texts.now) reply.selected selection.shown front.now reply.bytes.items) }
 {
     let matches = match_in(alloc, regex, line.texts)?;
     let selected = if selection.invert { !matches } else { matches };
     let bytes = if selected {
-        shown(alloc, regex, selection.shown, front, line)?
+        shown(alloc, regex.regex, selection.shown, front, line)?
     } else {
         Vec::new(alloc)
     };
@@ -101,8 +102,8 @@ fn selected(
 }
 
 /// Returns whether the pattern matches in one of the texts.
-fn match_in(alloc: Global, regex: &Regex, texts: &[Run<'_>]) -> Result<bool, SearchError>
-    ensures { IfOk result (λ matches. IsTrue matches ↔ MatchesIn regex.now (map run_of texts.now)) }
+fn match_in(alloc: Global, regex: &Searcher<'_>, texts: &[Run<'_>]) -> Result<bool, SearchError>
+    ensures { IfOk result (λ matches. IsTrue matches ↔ MatchesIn regex.now.regex.now (map run_of texts.now)) }
 {
     for run in texts {
         if regex.is_match(alloc, run.text)? {

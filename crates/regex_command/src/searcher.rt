@@ -1,27 +1,18 @@
 //! Searches that look for a literal first.
+ghost use Rattle.std.specs.Prelude.{IfSome};
+ghost use Rattle.std.proofs.Props.{props};
+ghost use Rattle.regress.specs.Required.{RequiresLiteral};
 
 use memchr::memmem::Finder;
 use regress::{Regex, SearchError};
 use std::alloc::Global;
-use std::marker::Model;
 
 /// A regular expression, for searches in many texts, and a literal that each match contains, if one is known.
 #[derive(Drop)]
 pub(crate) struct Searcher<'r> {
-    regex: &'r Regex,
+    pub(crate) regex: &'r Regex,
     literal: Option<Finder<'r>>,
-}
-
-impl Model for Searcher<'_> {
-    ghost use Rattle.std.specs.Prelude.{IfSome};
-    ghost use Rattle.regress.specs.Required.{RequiresLiteral};
-    ghost use Rattle.regress.specs.declared.pattern.Regex.{Regex};
-
-    ghost Value = { Regex };
-
-    ghost view = { λ searcher. searcher.regex.now };
-
-    ghost invariant = { λ searcher. IfSome searcher.literal (RequiresLiteral searcher.regex.now) };
+    ghost required: { IfSome literal (RequiresLiteral regex.now) } by { Prim.hlevel props },
 }
 
 impl<'r> Searcher<'r> {
@@ -31,7 +22,7 @@ impl<'r> Searcher<'r> {
 
     /// Returns a searcher for a regular expression.
     pub(crate) fn new(regex: &'r Regex) -> Searcher<'r>
-        ensures { result ≡ regex.now }
+        ensures { result.regex.now ≡ regex.now }
     {
         Searcher {
             regex,
@@ -42,16 +33,9 @@ impl<'r> Searcher<'r> {
         }
     }
 
-    /// Returns the regular expression.
-    pub(crate) fn regex(&self) -> &'r Regex
-        ensures { result.now ≡ self.now }
-    {
-        self.regex
-    }
-
     /// Returns whether the regular expression matches somewhere in `text`.
     pub(crate) fn is_match(&self, alloc: Global, text: &str) -> Result<bool, SearchError>
-        ensures { IfOk result (λ is. IsTrue is ↔ MatchesSomewhere text.now (outcomes_of self.now text.now)) }
+        ensures { IfOk result (λ is. IsTrue is ↔ MatchesSomewhere text.now (outcomes_of self.now.regex.now text.now)) }
     {
         if self.lacks_literal(text) {
             return Ok(false);
@@ -61,7 +45,7 @@ impl<'r> Searcher<'r> {
 
     /// Returns whether a literal is known that each match contains and that does not occur in `text`.
     fn lacks_literal(&self, text: &str) -> bool
-        ensures { result ≡ true → MatchesSomewhere text.now (outcomes_of self.now text.now) → ⊥ }
+        ensures { result ≡ true → MatchesSomewhere text.now (outcomes_of self.now.regex.now text.now) → ⊥ }
     {
         match &self.literal {
             Some(literal) => literal.find(text.as_bytes()).is_none(),

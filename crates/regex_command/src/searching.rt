@@ -14,8 +14,8 @@ use crate::failure::{Failure, unread};
 use crate::place::Place;
 use crate::reading::{Next, read_next};
 use crate::reply::{Reply, reply_to, reply_to_binary};
+use crate::searcher::Searcher;
 use crate::task::{Shown, Task};
-use regress::Regex;
 use regress_display::JsonText;
 use std::alloc::{AllocError, Global};
 use std::io::{BufRead, Write};
@@ -24,14 +24,14 @@ use std::str;
 /// Writes what a task shows of each line of an input until enough are selected, and returns how many are.
 pub(crate) fn search_lines<'a, B: BufRead, W: Write>(
     alloc: Global,
-    regex: &Regex,
+    regex: &Searcher<'_>,
     task: Task<'_>,
     place: Place<'a>,
     reader: &mut B,
     out: &mut W,
 ) -> Result<u64, Failure<'a>>
-    ensures all { IfOk result (SearchesAll regex.now (job task.entry) (named place.entry) (B.Read.remaining reader.old) (W.contents out.old) (W.contents out.new)) }
-    ensures first { IfErr result (OrOutput (SearchesFirst regex.now (job task.entry) (named place.entry) (B.Read.remaining reader.old) (W.contents out.old) (W.contents out.new))) }
+    ensures all { IfOk result (SearchesAll regex.now.regex.now (job task.entry) (named place.entry) (B.Read.remaining reader.old) (W.contents out.old) (W.contents out.new)) }
+    ensures first { IfErr result (OrOutput (SearchesFirst regex.now.regex.now (job task.entry) (named place.entry) (B.Read.remaining reader.old) (W.contents out.old) (W.contents out.new))) }
     ensures late { IfErr result IsLate }
 {
     let mut bytes = Vec::new(alloc);
@@ -104,7 +104,7 @@ fn next_line<'a, B: BufRead>(
 /// Writes what a task shows of the line with this number, and returns whether it is selected.
 fn write_reply<'a, W: Write>(
     alloc: Global,
-    regex: &Regex,
+    regex: &Searcher<'_>,
     task: Task<'_>,
     place: Place<'a>,
     number: u64,
@@ -112,7 +112,7 @@ fn write_reply<'a, W: Write>(
     out: &mut W,
 ) -> Result<bool, Failure<'a>>
     ensures reply { IfOk result (λ selected. Took (W.contents out.old) (W.contents out.new)
-        (IsReply regex.now line.now (job task.entry) (front_of (job task.entry) (named place.entry) number) selected)) }
+        (IsReply regex.now.regex.now line.now (job task.entry) (front_of (job task.entry) (named place.entry) number) selected)) }
     ensures late { IfErr result IsLate }
     ensures untouched { IfErr result (OrOutput (out.new ≡ out.old)) }
 {
@@ -124,13 +124,13 @@ fn write_reply<'a, W: Write>(
 /// Returns what a task writes for the line with this number.
 fn reply<'a>(
     alloc: Global,
-    regex: &Regex,
+    regex: &Searcher<'_>,
     task: Task<'_>,
     place: Place<'a>,
     number: u64,
     line: &[u8],
 ) -> Result<Reply, Failure<'a>>
-    ensures reply { IfOk result (λ reply. IsReply regex.now line.now (job task.entry)
+    ensures reply { IfOk result (λ reply. IsReply regex.now.regex.now line.now (job task.entry)
         (front_of (job task.entry) (named place.entry) number) reply.selected reply.bytes.items) }
     ensures late { IfErr result IsLate }
 {

@@ -15,7 +15,7 @@ returns-then-is_empty-clause-first g c =
     let input = g.I.Read.remaining c.args.input in
     let old = g.W.Write.contents c.args.out.now in
     let new = g.W.Write.contents c.search_input.new.out in
-    let r = c.args.regex.now in
+    let r = c.args.regex.now.regex.now in
     let task = job c.args.search.task in
     let none : length files ≡ 0 = search rules in
     subst (λ inputs. IfErr c.search_input.result (OrOutput (WritesSomeOf r task inputs old new))) (sym (no_files multiline files input none))

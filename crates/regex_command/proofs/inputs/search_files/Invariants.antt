@@ -8,5 +8,5 @@ use Rattle.regex_command.proofs.inputs.search_files.Given as goal
 
 abbrev pub invariant-loop-file : goal.invariant-loop-file
 invariant-loop-file g l =
-    FirstInputs l.fn.regex (job l.fn.search.task) (named_files l.fn.search.multiline (map string_bytes l.fn.search.files.now)) (g.W.Write.contents l.fn.out) l.file-index l.any
+    FirstInputs l.fn.regex.regex.now (job l.fn.search.task) (named_files l.fn.search.multiline (map string_bytes l.fn.search.files.now)) (g.W.Write.contents l.fn.out) l.file-index l.any
     (g.W.Write.contents l.out)

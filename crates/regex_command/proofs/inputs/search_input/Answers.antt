@@ -5,4 +5,4 @@ use Rattle.regex_command.proofs.inputs.search_input.Goals as goal
 
 pub returns-in-Err-clause-first : goal.returns-in-Err-clause-first
 returns-in-Err-clause-first g c =
-    inr (nothing_first c.args.regex.now (job c.args.task) (named c.args.place) (g.I.Read.remaining c.args.input) (g.W.Write.contents c.args.out.now))
+    inr (nothing_first c.args.regex.now.regex.now (job c.args.task) (named c.args.place) (g.I.Read.remaining c.args.input) (g.W.Write.contents c.args.out.now))

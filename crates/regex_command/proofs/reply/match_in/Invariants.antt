@@ -6,4 +6,4 @@ use Rattle.regress.specs.Found.{MatchesSomewhere}
 use Rattle.regex_command.proofs.reply.match_in.Given as goal
 
 abbrev pub invariant-loop-run : goal.invariant-loop-run
-invariant-loop-run l = All (λ run. ¬ (MatchesSomewhere run.text (outcomes_of l.regex run.text))) (map run_of (take l.run-index l.texts))
+invariant-loop-run l = All (λ run. ¬ (MatchesSomewhere run.text (outcomes_of l.regex.regex.now run.text))) (map run_of (take l.run-index l.texts))

@@ -8,7 +8,7 @@ use Rattle.regex_command.proofs.reply.reply_to.Goals as goal
 
 pub returns-in-Match : goal.returns-in-Match
 returns-in-Match c =
-    let r = c.args.regex.now in
+    let r = c.args.regex.now.regex.now in
     let s = c.in-Match.selection in
     let line = c.args.line.now in
     let selected : IfOk c.selected.result (λ reply. IsSelected r (whole line) s.invert reply.selected) = search rules in

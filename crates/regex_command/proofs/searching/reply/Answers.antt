@@ -6,7 +6,7 @@ use Rattle.regex_command.proofs.searching.reply.Goals as goal
 
 pub returns-in-Err-Match-clause-reply : goal.returns-in-Err-Match-clause-reply
 returns-in-Err-Match-clause-reply c =
-    let r = c.args.regex.now in
+    let r = c.args.regex.now.regex.now in
     let line = c.args.line.now in
     let reply = c.in_ok-reply_to_binary-in-Err-Match.field-0 in
     subst (λ front. IsReply r line (job c.args.task) front reply.selected reply.bytes.items) (c.deref-in-Err-Match.ensures ∙ c.in_ok-front.ensures)

@@ -9,30 +9,30 @@ use Rattle.regex_command.proofs.searching.search_lines.Goals as goal
 
 pub returns-then-is_enough-clause-all : goal.returns-then-is_enough-clause-all
 returns-then-is_enough-clause-all g c =
-    enough c.args.regex.now (job c.args.task) (named c.args.place) (g.B.Read.remaining c.args.reader.now) (g.W.Write.contents c.args.out.now)
+    enough c.args.regex.now.regex.now (job c.args.task) (named c.args.place) (g.B.Read.remaining c.args.reader.now) (g.W.Write.contents c.args.out.now)
     (g.B.Read.remaining c.loop-number.reader) (g.W.Write.contents c.loop-number.out) c.loop-number.number c.loop-number.selected c.loop-number.invariant
     (sym c.is_enough.ensures ∙ c.if-is_enough.true)
 
 pub returns-in_err-next-clause-first : goal.returns-in_err-next-clause-first
 returns-in_err-next-clause-first g c =
-    first_or_output c.args.regex.now (job c.args.task) (named c.args.place) (g.B.Read.remaining c.args.reader.now) (g.W.Write.contents c.args.out.now)
+    first_or_output c.args.regex.now.regex.now (job c.args.task) (named c.args.place) (g.B.Read.remaining c.args.reader.now) (g.W.Write.contents c.args.out.now)
     (g.B.Read.remaining c.loop-number.reader) (g.W.Write.contents c.loop-number.out) c.loop-number.number c.loop-number.selected c.loop-number.invariant _
 
 pub returns-in-End-clause-all : goal.returns-in-End-clause-all
 returns-in-End-clause-all g c =
-    all c.args.regex.now (job c.args.task) (named c.args.place) (g.B.Read.remaining c.args.reader.now) (g.W.Write.contents c.args.out.now)
+    all c.args.regex.now.regex.now (job c.args.task) (named c.args.place) (g.B.Read.remaining c.args.reader.now) (g.W.Write.contents c.args.out.now)
     (g.B.Read.remaining c.loop-number.reader) (g.W.Write.contents c.loop-number.out) c.loop-number.number c.loop-number.selected c.loop-number.invariant
     (is_end c.args.place.multiline (g.B.Read.remaining c.loop-number.reader) (g.B.Read.remaining c.next_line.new.reader) c.next_line.new.line.items
     (rw c.in-End.is at c.in_ok-next.ensures.read))
 
 pub returns-in_err-is_selected-clause-first : goal.returns-in_err-is_selected-clause-first
 returns-in_err-is_selected-clause-first g c =
-    let first_lines = first c.args.regex.now (job c.args.task) (named c.args.place) (g.B.Read.remaining c.args.reader.now) (g.W.Write.contents c.args.out.now)
+    let first_lines = first c.args.regex.now.regex.now (job c.args.task) (named c.args.place) (g.B.Read.remaining c.args.reader.now) (g.W.Write.contents c.args.out.now)
     (g.B.Read.remaining c.loop-number.reader) (g.W.Write.contents c.loop-number.out) c.loop-number.number c.loop-number.selected c.loop-number.invariant in
-    passed_on (OrOutput (SearchesFirst c.args.regex.now (job c.args.task) (named c.args.place) (g.B.Read.remaining c.args.reader.now) (g.W.Write.contents c.args.out.now) (g.W.Write.contents c.write_reply.new.out)))
+    passed_on (OrOutput (SearchesFirst c.args.regex.now.regex.now (job c.args.task) (named c.args.place) (g.B.Read.remaining c.args.reader.now) (g.W.Write.contents c.args.out.now) (g.W.Write.contents c.write_reply.new.out)))
     c.from_residual-in_err-is_selected.result c.in_err-is_selected.field-0.0 c.from_residual-in_err-is_selected.ensures.1
     (or_output (c.write_reply.new.out ≡ c.loop-number.out) _ c.in_err-is_selected.field-0.0 c.in_err-is_selected.ensures.untouched
-    (λ same. subst (SearchesFirst c.args.regex.now (job c.args.task) (named c.args.place) (g.B.Read.remaining c.args.reader.now) (g.W.Write.contents c.args.out.now))
+    (λ same. subst (SearchesFirst c.args.regex.now.regex.now (job c.args.task) (named c.args.place) (g.B.Read.remaining c.args.reader.now) (g.W.Write.contents c.args.out.now))
     (ap g.W.Write.contents (sym same)) first_lines))
 
 pub returns-in-LastLine-clause-all : goal.returns-in-LastLine-clause-all
@@ -41,7 +41,7 @@ returns-in-LastLine-clause-all g c =
     let new = g.B.Read.remaining c.next_line.new.reader in
     let line = c.deref.result.now in
     rw (c.from-selected.ensures, byte_of c.in_ok-is_selected.is_selected)
-    (last c.args.regex.now (job c.args.task) (named c.args.place) (g.B.Read.remaining c.args.reader.now) (g.W.Write.contents c.args.out.now)
+    (last c.args.regex.now.regex.now (job c.args.task) (named c.args.place) (g.B.Read.remaining c.args.reader.now) (g.W.Write.contents c.args.out.now)
     old (g.W.Write.contents c.loop-number.out) (g.W.Write.contents c.write_reply.new.out) c.loop-number.number
     c.loop-number.selected c.loop-number.invariant line c.in_ok-is_selected.is_selected
     (sym c.is_enough.ensures ∙ c.if-is_enough.false) c.in_ok-is_selected.ensures.reply new
@@ -53,7 +53,7 @@ loop-number-preserved g c =
     let new = g.B.Read.remaining c.next_line.new.reader in
     let line = c.deref.result.now in
     rw (c.from-selected.ensures, byte_of c.in_ok-is_selected.is_selected)
-    (another c.args.regex.now (job c.args.task) (named c.args.place) (g.B.Read.remaining c.args.reader.now) (g.W.Write.contents c.args.out.now)
+    (another c.args.regex.now.regex.now (job c.args.task) (named c.args.place) (g.B.Read.remaining c.args.reader.now) (g.W.Write.contents c.args.out.now)
     old (g.W.Write.contents c.loop-number.out) (g.W.Write.contents c.write_reply.new.out) c.loop-number.number
     c.loop-number.selected c.loop-number.invariant line c.in_ok-is_selected.is_selected
     (sym c.is_enough.ensures ∙ c.if-is_enough.false) c.in_ok-is_selected.ensures.reply new
@@ -62,5 +62,5 @@ loop-number-preserved g c =
 
 pub returns-clause-first : goal.returns-clause-first
 returns-clause-first g c =
-    inr (first c.args.regex.now (job c.args.task) (named c.args.place) (g.B.Read.remaining c.args.reader.now) (g.W.Write.contents c.args.out.now)
+    inr (first c.args.regex.now.regex.now (job c.args.task) (named c.args.place) (g.B.Read.remaining c.args.reader.now) (g.W.Write.contents c.args.out.now)
     (g.B.Read.remaining c.loop-number.reader) (g.W.Write.contents c.loop-number.out) c.loop-number.number c.loop-number.selected c.loop-number.invariant)

@@ -6,7 +6,7 @@ use Rattle.regex_command.proofs.searching.search_lines.Given as goal
 
 abbrev pub invariant-loop-number : goal.invariant-loop-number
 invariant-loop-number g l =
-    SoFar l.fn.regex (job l.fn.task) (named l.fn.place) (g.B.Read.remaining l.fn.reader) (g.W.Write.contents l.fn.out)
+    SoFar l.fn.regex.regex.now (job l.fn.task) (named l.fn.place) (g.B.Read.remaining l.fn.reader) (g.W.Write.contents l.fn.out)
     (g.B.Read.remaining l.reader) (g.W.Write.contents l.out) l.number l.selected
 
 abbrev pub decreases-loop-number : goal.decreases-loop-number

@@ -4,7 +4,7 @@ use Rattle.std.specs.Io.KnownBytes.{Consumes}
 use Rattle.std.specs.Io.BufRead.{take_through}
 use Rattle.std.specs.Prelude.{IfSome}
 use Rattle.regex_command.proofs.LineLemmas.{at_end, no_line_feed}
-use Rattle.regex_command.proofs.reading.read_line.Goals as goal
+use Rattle.regex_command.proofs.reading.read_further.Goals as goal
 
 pub returns-in-Some : goal.returns-in-Some
 returns-in-Some g c =
