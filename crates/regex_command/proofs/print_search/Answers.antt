@@ -1,11 +1,11 @@
-use Rattle.std.proofs.Common.{◌≡◌, ◌∙◌, ◌⊎◌, ◌||◌, inr, ap, map, sym}
+use Rattle.std.proofs.Common.{◌≡◌, ◌∙◌, ◌⊎◌, ◌||◌, inr, ap, map, subst, sym}
 use Rattle.std.specs.Prelude.{string_bytes}
 use Rattle.regress_arguments.proofs.lemmas.Output.{appends_kept}
 use Rattle.regex_command.specs.Ending.{OrOutput}
 use Rattle.regex_command.specs.Inputs.{WritesSomeOf, inputs_of}
 use Rattle.regex_command.specs.Job.{job}
 use Rattle.regex_command.specs.Printed.{PrintsFirst, changes}
-use Rattle.regress.specs.Compiled.{unicode_setting}
+use Rattle.regress.specs.Compiled.{IsCompiled, unicode_setting}
 use Rattle.regex_command.proofs.SearchLemmas.{or_output, passed_on}
 use Rattle.regex_command.proofs.print_search.Goals.{then-any, else-any}
 use Rattle.regex_command.proofs.print_search.Goals as goal
@@ -19,12 +19,13 @@ returns-in_err-any-clause-first g c =
     let old = g.W.Write.contents c.args.out.now in
     let between = g.W.Write.contents c.search_all-searched.new.out in
     let new = g.W.Write.contents c.flush.new.self in
-    let r = c.in_ok-regex.regex in
+    let r = c.new-searcher.result.regex.now in
+    let compiled = subst (IsCompiled (unicode_setting c.args.pattern.flags) c.args.pattern.text.now) (sym c.new-searcher.ensures) c.in_ok-regex.ensures.compiled in
     passed_on (OrOutput (c.flush.new.self ≡ c.args.out.now
     ⊎ PrintsFirst (unicode_setting c.args.pattern.flags) c.args.pattern.text.now task multiline files input old new)) c.from_residual-in_err-any.result c.in_err-any.field-0.0
     c.from_residual-in_err-any.ensures.1
     (or_output (WritesSomeOf r task (inputs_of multiline files input) old between) _ c.in_err-any.field-0.0 c.in_err-any.ensures.first
-    (λ some. inr (r, c.in_ok-regex.ensures.compiled, (some.0, some.1, appends_kept old between new some.0 some.2 c.flush.ensures.bytes))))
+    (λ some. inr (r, compiled, (some.0, some.1, appends_kept old between new some.0 some.2 c.flush.ensures.bytes))))
 
 pub returns-clause-all : goal.returns-clause-all
 returns-clause-all g c =
@@ -37,4 +38,6 @@ returns-clause-all g c =
       | then-any w ↦ w.result-is ∙ w.if-any.true ∙ ap (λ b. b || changes task) (sym w.if-any.true)
       | else-any w ↦ w.result-is ∙ w.changes.ensures ∙ ap (λ b. b || changes task) (sym w.if-any.false)
     ] in
-    (c.in_ok-regex.regex, c.in_ok-regex.ensures.compiled, (c.in_ok-any.any, found, (all.0, all.1, appends_kept old between new all.0 all.2 c.flush.ensures.bytes)))
+    let r = c.new-searcher.result.regex.now in
+    let compiled = subst (IsCompiled (unicode_setting c.args.pattern.flags) c.args.pattern.text.now) (sym c.new-searcher.ensures) c.in_ok-regex.ensures.compiled in
+    (r, compiled, (c.in_ok-any.any, found, (all.0, all.1, appends_kept old between new all.0 all.2 c.flush.ensures.bytes)))

@@ -8,14 +8,14 @@ use Rattle.regex_command.proofs.reply.match_in.Goals as goal
 pub returns-then-branch : goal.returns-then-branch
 returns-then-branch c = (
   λ _. one_matches (λ (run : Run). MatchesSomewhere run.text (outcomes_of c.args.regex.now.regex.now run.text)) c.args.texts.now c.loop-run.run-index _ c.loop-run-test.true
-      (c.in_ok-is_match.ensures.is.0 c.if-branch.true),
+      (c.in_ok-is_match.ensures.0 c.if-branch.true),
   λ _. refl,
 )
 
 pub loop-run-preserved : goal.loop-run-preserved
 loop-run-preserved c =
     none_further (λ (run : Run). MatchesSomewhere run.text (outcomes_of c.args.regex.now.regex.now run.text)) c.args.texts.now c.loop-run.run-index _ c.loop-run.invariant c.loop-run-test.true
-    (λ matches. let yes = c.in_ok-is_match.ensures.is.1 matches in let bad : ⊥ = cc (yes, c.if-branch.false) in bad)
+    (λ matches. let yes = c.in_ok-is_match.ensures.1 matches in let bad : ⊥ = cc (yes, c.if-branch.false) in bad)
 
 pub returns : goal.returns
 returns c = (
