@@ -2,6 +2,7 @@
 
 A measurement gives the number of matches and the CPU seconds, or a word: REJECTED if the engine does not accept the
 pattern, LIMIT if it stopped at a limit of its own, LATE if it took longer than the limit of time."""
+import os
 import re
 import resource
 import shutil
@@ -10,19 +11,19 @@ import sys
 from pathlib import Path
 
 HERE = Path(__file__).resolve().parent
+ROOT = HERE.parent.parent
+LIBRARY = ROOT / "crates/regress_c/out/libregress_c.a"
 REJECTED, LIMIT, LATE = "-", "limit", ">"
-# The message of `regex match` for a search that reaches its step limit. Its status is that of any error.
-OUT_OF_STEPS = b"regex: the search takes too many steps\n"
 
 
-def run(command, seconds, text=None, err=subprocess.DEVNULL):
+def run(command, seconds, text=None):
     """Returns the process of a run with its status and output, and its CPU seconds; None after the limit of time."""
 
     def bound():
         resource.setrlimit(resource.RLIMIT_CPU, (seconds, seconds))
 
     before = resource.getrusage(resource.RUSAGE_CHILDREN)
-    ran = subprocess.run(command, stdin=text, stdout=subprocess.PIPE, stderr=err, preexec_fn=bound)
+    ran = subprocess.run(command, stdin=text, stdout=subprocess.PIPE, stderr=subprocess.DEVNULL, preexec_fn=bound)
     after = resource.getrusage(resource.RUSAGE_CHILDREN)
     if ran.returncode < 0:
         return None
@@ -62,26 +63,7 @@ class Kit:
         return (int(ran.stdout), used) if ran.returncode == 0 else REJECTED
 
 
-class Ours:
-    """`regex match -M --json`, which prints an object for each match, on a line. The CPU seconds are those of the whole
-    program, which makes the table of Unicode, too."""
-
-    def __init__(self, program):
-        self.program = program
-
-    def measure(self, pattern, flags, mode, file, seconds):
-        command = [self.program, "match", "-M", "--json", f"--flags={flags}", "-e", pattern]
-        with open(file, "rb") as text:
-            answer = run(command, seconds, text, subprocess.PIPE)
-        if answer is None:
-            return LATE
-        ran, used = answer
-        if ran.returncode in (0, 1):
-            return ran.stdout.count(b"\n"), used
-        return LIMIT if ran.stderr == OUT_OF_STEPS else REJECTED
-
-
-def for_node(pattern, flags):
+def with_flags(pattern, flags):
     return [pattern, flags]
 
 
@@ -101,6 +83,21 @@ def for_kit(pattern, flags):
 
 def skip(name, reason):
     print(f"{name} is skipped: {reason}", file=sys.stderr, flush=True)
+
+
+def ours(folder, library):
+    """The C library of this repository. Exits if no program can be linked with it."""
+    if not Path(library).exists():
+        sys.exit(f"{library} is not built")
+    if not shutil.which("rt"):
+        sys.exit("there is no rt, with whose kit the library is linked")
+    kit = Path(shutil.which("rt")).resolve().parent.parent
+    compiler = shutil.which(os.environ.get("CC", "cc")) or kit / "toolchain/bin/clang"
+    program = Path(folder) / "regress"
+    source = ["-I", ROOT / "include", HERE / "regress.c"]
+    if subprocess.run([compiler, "-O2", "-o", program, *source, library, kit / "c/liblibc_c.a"]).returncode:
+        sys.exit(f"{HERE / 'regress.c'} does not compile")
+    return Timed([str(program)], with_flags)
 
 
 def compiled(folder, name, library, package):
@@ -134,8 +131,8 @@ def others(folder, kit):
     engines = {}
     if shutil.which("node"):
         script = str(HERE / "count.js")
-        engines["V8 interpreter"] = Timed(["node", "--regexp-interpret-all", script], for_node)
-        engines["V8"] = Timed(["node", script], for_node)
+        engines["V8 interpreter"] = Timed(["node", "--regexp-interpret-all", script], with_flags)
+        engines["V8"] = Timed(["node", script], with_flags)
     else:
         skip("V8", "there is no node")
     engines["Python"] = Timed([sys.executable, str(HERE / "count.py")], inline)

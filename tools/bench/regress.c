@@ -1,0 +1,86 @@
+/* regress FILE PATTERN FLAGS all|first: prints the number of matches, and the CPU seconds of the search, by the C
+   library of this repository. FLAGS are letters as in JavaScript. The status is 1 if the pattern is rejected, 2 if the
+   search takes too many steps, and 3 if something else fails. */
+
+#include <stdio.h>
+#include <stdlib.h>
+#include <string.h>
+#include <time.h>
+
+#include <regress.h>
+
+struct text {
+    uint8_t *bytes;
+    size_t length;
+};
+
+/* Returns whether a file was read. */
+static int read_text(const char *path, struct text *text) {
+    FILE *file = fopen(path, "rb");
+    if (!file || fseek(file, 0, SEEK_END)) {
+        return 0;
+    }
+    text->length = (size_t)ftell(file);
+    text->bytes = malloc(text->length + 1);
+    rewind(file);
+    return text->bytes && fread(text->bytes, 1, text->length, file) == text->length;
+}
+
+static uint32_t flags_of(const char *letters) {
+    uint32_t flags = 0;
+    flags |= strchr(letters, 'i') ? REGRESS_ICASE : 0;
+    flags |= strchr(letters, 'm') ? REGRESS_MULTILINE : 0;
+    flags |= strchr(letters, 's') ? REGRESS_DOT_ALL : 0;
+    flags |= strchr(letters, 'u') ? REGRESS_UNICODE : 0;
+    flags |= strchr(letters, 'v') ? REGRESS_UNICODE | REGRESS_UNICODE_SETS : 0;
+    return flags;
+}
+
+static int is_compiled(const char *pattern, uint32_t flags, regress_regex *regex) {
+    regress_limits limits = {0, 0, 0, 0};
+    uint32_t kind;
+    size_t position;
+    return regress_compile((const uint8_t *)pattern, strlen(pattern), flags, &limits, regex, &kind, &position)
+        == REGRESS_OK;
+}
+
+/* Searches for all matches or the first one, and prints their number and the time. Returns the library's status. */
+static uint32_t search(regress_regex *regex, const struct text *text, int all) {
+    uint32_t (*find)(regress_regex *, const uint8_t *, size_t, size_t, size_t *, size_t, size_t *) =
+        all ? regress_find_all : regress_find;
+    size_t width = 2 * (regress_group_count(regex) + 1), needed;
+    /* As many matches as there can be: with too small a buffer the library would have to search again. */
+    size_t room = (text->length + 1) * width;
+    size_t *spans = malloc(room * sizeof *spans);
+    if (!spans) {
+        return REGRESS_MEMORY;
+    }
+    clock_t before = clock();
+    uint32_t status = find(regex, text->bytes, text->length, 0, spans, room, &needed);
+    double used = (double)(clock() - before) / CLOCKS_PER_SEC;
+    if (status == REGRESS_OK || status == REGRESS_NO_MATCH) {
+        printf("%zu %f\n", needed / width, used);
+    }
+    free(spans);
+    return status;
+}
+
+int main(int count, char **arguments) {
+    struct text text;
+    regress_regex regex;
+    if (count != 5 || !read_text(arguments[1], &text)) {
+        return 3;
+    }
+    if (!is_compiled(arguments[2], flags_of(arguments[3]), &regex)) {
+        return 1;
+    }
+    switch (search(&regex, &text, !strcmp(arguments[4], "all"))) {
+    case REGRESS_OK:
+    case REGRESS_NO_MATCH:
+        return 0;
+    case REGRESS_OUT_OF_STEPS:
+        return 2;
+    default:
+        return 3;
+    }
+}
