@@ -92,7 +92,7 @@ fn print_json_fault<'f, W: Write>(
     ensures quiet { result ≢ Ok true }
     ensures failed { IfErr result (λ failure. (failure ≡ Output) × NoneIsAccepted (requested request.entry)) }
 {
-    match write_json_fault(kind, error, position, out) {
+    match write_json_fault(kind, error, request.pattern, position, out) {
         Ok(()) => Ok(false),
         Err(_) => Err(Failure::Output),
     }

@@ -3,6 +3,7 @@ use Rattle.std.specs.Prelude.{◌≡◌, ℕ, ◌/◌, ◌%◌, List, ◌++◌, 
 use Rattle.std.specs.Fmt.{decimal, digits}
 use Rattle.regress_lexer.specs.declared.fault.FaultKind.{FaultKind}
 use Rattle.regress_lexer.specs.FaultKinds.{name_of}
+use Rattle.regress_display.specs.Location.{line_at, column_at}
 use Rattle.regress_display.specs.Accepted.{IsFault, setting_of_request}
 use Rattle.regress_display.specs.Request.{Request}
 
@@ -18,10 +19,11 @@ json_character c =
 abbrev pub json_text : List ℕ → List ℕ
 json_text text = flat_map json_character (chars text)
 
--- `{"fault":"Unbalanced parenthesis","kind":"UnbalancedParenthesis","place":1}`
-abbrev pub fault_json : (kind : FaultKind) → (text : List ℕ) → (position : ℕ) → List ℕ
-fault_json kind text position =
-    codes "{\"fault\":\"" ++ json_text text ++ codes "\",\"kind\":\"" ++ name_of kind ++ codes "\",\"place\":" ++ decimal position ++ codes "}"
+-- `{"fault":"Unbalanced parenthesis","kind":"UnbalancedParenthesis","place":1,"line":1,"column":2}`
+abbrev pub fault_json : (kind : FaultKind) → (text source : List ℕ) → (position : ℕ) → List ℕ
+fault_json kind text source position =
+    codes "{\"fault\":\"" ++ json_text text ++ codes "\",\"kind\":\"" ++ name_of kind ++ codes "\",\"place\":" ++ decimal position
+    ++ codes ",\"line\":" ++ decimal (line_at source position) ++ codes ",\"column\":" ++ decimal (column_at source position) ++ codes "}"
 
 -- an object of JSON and a line feed, for a rejected pattern
 pub record IsFaultOutput (request : Request) (bytes : List ℕ) : Type 0 where
@@ -29,4 +31,4 @@ pub record IsFaultOutput (request : Request) (bytes : List ℕ) : Type 0 where
   pub text : List ℕ
   pub position : ℕ
   pub fault : IsFault (setting_of_request request) request.pattern kind text position
-  pub written : bytes ≡ fault_json kind text position ++ codes "\n"
+  pub written : bytes ≡ fault_json kind text request.pattern position ++ codes "\n"

@@ -1,5 +1,6 @@
 pub mod Request
 pub mod Accepted
+pub mod Location
 pub mod Fault
 pub mod Shown
 pub mod Ending

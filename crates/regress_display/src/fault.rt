@@ -1,9 +1,10 @@
 //! Syntax errors as JSON.
-ghost use Rattle.std.specs.Prelude.{◌≡◌, ◌++◌, OnOk, codes, string_bytes};
+ghost use Rattle.std.specs.Prelude.{◌≡◌, ◌++◌, OnOk, chars, codes, string_bytes};
 ghost use Rattle.std.specs.Fmt.{WritesOnOk};
 ghost use Rattle.std.specs.Io.KnownBytes.{Appends};
 ghost use Rattle.regress_display.specs.Fault.{fault_json, json_character, json_text};
 
+use crate::location::Location;
 use regress_parse::{Error, FaultKind};
 use std::fmt;
 use std::fmt::Formatter;
@@ -16,41 +17,45 @@ use std::io::{self, Write};
 pub fn write_json_fault<W: Write>(
     kind: &FaultKind,
     error: &Error,
+    pattern: &str,
     position: usize,
     out: &mut W,
 ) -> io::Result<()>
     ensures { OnOk result (Appends (W.contents out.old) (W.contents out.new)
-        (fault_json kind.now (string_bytes error.now.text) position ++ codes "\n")) }
+        (fault_json kind.now (string_bytes error.now.text) (chars pattern.now) position ++ codes "\n")) }
 {
     let fault = JsonFault {
         kind,
         error,
+        pattern,
         position,
     };
     writeln!(out, "{fault}")?;
     out.flush()
 }
 
-/// A syntax error that displays as an object of JSON: `{"fault":"..","kind":"..","place":0}`.
+/// A syntax error that displays as an object of JSON: `{"fault":"..","kind":"..","place":0,"line":1,"column":1}`.
 #[derive(Clone, Copy)]
 struct JsonFault<'a> {
     kind: &'a FaultKind,
     error: &'a Error,
+    pattern: &'a str,
     position: usize,
 }
 
 impl fmt::Display for JsonFault<'_> {
-    ghost use Rattle.std.specs.Prelude.{Some, string_bytes};
+    ghost use Rattle.std.specs.Prelude.{Some, chars, string_bytes};
     ghost use Rattle.regress_display.specs.Fault.{fault_json};
 
-    ghost output = { λ fault. Some (fault_json fault.kind.now (string_bytes fault.error.now.text) fault.position) };
+    ghost output = { λ fault. Some (fault_json fault.kind.now (string_bytes fault.error.now.text) (chars fault.pattern.now) fault.position) };
 
     fn fmt<W: fmt::Write>(&self, f: &mut Formatter<W>) -> fmt::Result {
+        let Location { line, column } = Location::at(self.pattern, self.position);
         f.write_str("{\"fault\":\"")?;
         write_json_text(&self.error.text, f)?;
         write!(
             f,
-            "\",\"kind\":\"{}\",\"place\":{}}}",
+            "\",\"kind\":\"{}\",\"place\":{},\"line\":{line},\"column\":{column}}}",
             self.kind.name(),
             self.position
         )

@@ -3,6 +3,7 @@
 
 mod error;
 mod fault;
+mod location;
 mod output;
 mod request;
 mod trees;
