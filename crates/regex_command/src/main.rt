@@ -344,6 +344,7 @@ Of match only, and -no is -n -o:
   -l      write only the names of the files in which a line is selected
   -q      write nothing, and end at the first selected line; also --quiet
   --json  write a JSON object for each match on a line, instead of the lines
+  --color=WHEN  matches in color: always, never, or auto, if the output is a terminal; auto by default
 Of parse and draw only:
   --json       one JSON object, of the parsed tree unless --optimized is given; of parse only
   --parsed     the parsed tree only
