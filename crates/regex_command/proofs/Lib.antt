@@ -6,6 +6,7 @@ pub mod InputLemmas
 pub mod JsonLemmas
 pub mod LineLemmas
 pub mod LintLemmas
+pub mod PaintLemmas
 pub mod ReplyLemmas
 pub mod RunLemmas
 pub mod SearchLemmas

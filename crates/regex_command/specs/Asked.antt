@@ -1,6 +1,6 @@
 -- The request that the arguments make.
 use Rattle.std.specs.Borrow.{Bor}
-use Rattle.std.specs.Prelude.{ℕ, Bool, ◌&&◌, ◌||◌, List, [], ◌∷◌, map, Option, Some, None, option_and_then, option_map, if◌then◌else◌, bytes_eq, codes, String, string_bytes}
+use Rattle.std.specs.Prelude.{ℕ, Bool, true, false, ◌&&◌, ◌||◌, List, [], ◌∷◌, map, Option, Some, None, option_and_then, option_map, if◌then◌else◌, bytes_eq, codes, String, string_bytes}
 use Rattle.std.specs.declared.alloc.Global.{Global}
 use Rattle.regress_base.specs.declared.types.Flags.{Flags}
 use Rattle.regress_display.specs.declared.request.Format.{Format}
@@ -22,6 +22,8 @@ use Rattle.regex_command.specs.declared.asked.Request as code
 use Rattle.regex_command.specs.declared.asked.View.{View}
 use Rattle.regex_command.specs.declared.command.Command.{Command}
 use Rattle.regex_command.specs.declared.command.Command.TheVariants as commands
+use Rattle.regex_command.specs.declared.options.Color.{Color}
+use Rattle.regex_command.specs.declared.options.Color.TheVariants as colors
 use Rattle.regex_command.specs.declared.options.Options.{Options}
 use Rattle.regex_command.specs.declared.pattern.PatternSource.{PatternSource}
 use Rattle.regex_command.specs.declared.task.Selection.{Selection}
@@ -82,9 +84,18 @@ stage_of None Svg = Parsed
 abbrev pub view_in : Options → Format → View
 view_in options format = record { format = format; stage = stage_of options.stage format; small = options.small }
 
+-- whether matches are in color: by default if the output is a terminal
+abbrev pub paints : (terminal : Bool) → Option Color → Bool
+paints terminal None = terminal
+paints terminal (Some colors.Always) = true
+paints terminal (Some colors.Never) = false
+paints terminal (Some colors.Auto) = terminal
+
 -- what to show of which lines
-abbrev pub selection_of : Options → Selection
-selection_of options = if options.json then record options.selection { shown = shows.Json } else options.selection
+abbrev pub selection_of : (terminal : Bool) → Options → Selection
+selection_of terminal options =
+    if options.json then record options.selection { paints = paints terminal options.color; shown = shows.Json }
+    else record options.selection { paints = paints terminal options.color }
 
 -- how to explain a pattern
 abbrev pub form_of : Given → Form
@@ -101,14 +112,14 @@ alone action [] = Some action
 alone action (more ∷ others) = None
 
 -- what a command does with a pattern, with the arguments after the pattern
-abbrev pub action_of : Command → Given → List (String Global) → Option Action
-action_of commands.Match given args = Some (search_with given.options (matching (selection_of given.options)) args)
-action_of commands.Replace given args = replace_of given.options args
-action_of commands.Split given args = Some (search_with given.options splitting args)
-action_of commands.Parse given args = alone (show (view_in given.options (printed_format given.options.json))) args
-action_of commands.Draw given args = alone (show (view_in given.options Svg)) args
-action_of commands.Lint given args = alone lint args
-action_of commands.Explain given args = alone (explain (form_of given)) args
+abbrev pub action_of : (terminal : Bool) → Command → Given → List (String Global) → Option Action
+action_of terminal commands.Match given args = Some (search_with given.options (matching (selection_of terminal given.options)) args)
+action_of terminal commands.Replace given args = replace_of given.options args
+action_of terminal commands.Split given args = Some (search_with given.options splitting args)
+action_of terminal commands.Parse given args = alone (show (view_in given.options (printed_format given.options.json))) args
+action_of terminal commands.Draw given args = alone (show (view_in given.options Svg)) args
+action_of terminal commands.Lint given args = alone lint args
+action_of terminal commands.Explain given args = alone (explain (form_of given)) args
 
 -- the pattern, and the arguments after it, as the code represents them
 abbrev pub after_pattern : PatternSource × Bor (List (String Global)) → Source × List (String Global)
@@ -121,16 +132,16 @@ taken_pattern None [] = None
 taken_pattern None (pattern ∷ args) = Some (in_argument (string_bytes pattern), args)
 
 -- the request of a command, with the arguments after the options
-abbrev pub request_of : Command → Given → List (String Global) → Option Ask
-request_of command given args =
+abbrev pub request_of : (terminal : Bool) → Command → Given → List (String Global) → Option Ask
+request_of terminal command given args =
     option_and_then (λ taken. option_map (λ action. apply (record { pattern = taken.0; flags = given.options.flags; action = action }))
-    (action_of command given taken.1)) (taken_pattern given.pattern args)
+    (action_of terminal command given taken.1)) (taken_pattern given.pattern args)
 
 -- `[OPTION..] PATTERN` and what follows, or the help
-abbrev pub command_with : Command → List (String Global) → Option Ask
-command_with command words =
+abbrev pub command_with : (terminal : Bool) → Command → List (String Global) → Option Ask
+command_with terminal command words =
     option_and_then (λ found. if found.0.options.help then Some help
-    else if allows command found.0.options && allows_page command found.0 then request_of command found.0 found.1
+    else if allows command found.0.options && allows_page command found.0 then request_of terminal command found.0 found.1
     else None) (options_of None nothing_given words)
 
 -- one text
@@ -152,11 +163,11 @@ other_of word args =
     else None
 
 -- the arguments after a word, which may be the name of this command
-abbrev pub asked_after : Option Command → (word : List ℕ) → List (String Global) → Option Ask
-asked_after (Some command) word args = command_with command args
-asked_after None word args = other_of word args
+abbrev pub asked_after : (terminal : Bool) → Option Command → (word : List ℕ) → List (String Global) → Option Ask
+asked_after terminal (Some command) word args = command_with terminal command args
+asked_after terminal None word args = other_of word args
 
--- A command and its arguments.
-abbrev pub asked_of : List (String Global) → Option Ask
-asked_of [] = None
-asked_of (first ∷ rest) = asked_after (command_of (string_bytes first)) (string_bytes first) rest
+-- A command and its arguments. `terminal` states whether the output is a terminal.
+abbrev pub asked_of : (terminal : Bool) → List (String Global) → Option Ask
+asked_of terminal [] = None
+asked_of terminal (first ∷ rest) = asked_after terminal (command_of (string_bytes first)) (string_bytes first) rest

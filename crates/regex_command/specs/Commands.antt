@@ -28,9 +28,13 @@ is_lines Count = false
 is_lines Names = false
 is_lines Nothing = false
 
+-- no option is given that selects lines or what is shown of them
+abbrev pub selects_matching : Selection → Bool
+selects_matching s = not s.invert && not s.numbers && is_lines s.shown && is_none s.max_count && not s.binary
+
 -- no option that only `match` has is given
-abbrev pub is_plain : Selection → Bool
-is_plain s = not s.invert && not s.numbers && is_lines s.shown && is_none s.max_count && not s.binary
+abbrev pub is_plain : Options → Bool
+is_plain options = selects_matching options.selection && is_none options.color
 
 -- an option is given that only commands that show a tree have
 abbrev pub shows_tree : Options → Bool
@@ -38,7 +42,7 @@ shows_tree options = options.small || is_some options.stage
 
 -- no options are given but those for flags and texts
 abbrev pub is_bare : Options → Bool
-is_bare options = is_plain options.selection && not options.json && not (shows_tree options)
+is_bare options = is_plain options && not options.json && not (shows_tree options)
 
 -- no option is given beside `--json` that selects what is shown of lines
 abbrev pub allows_json : Options → Bool
@@ -49,8 +53,8 @@ abbrev pub allows : Command → Options → Bool
 allows Match options = allows_json options && not (shows_tree options)
 allows Replace options = is_bare options
 allows Split options = is_bare options
-allows Parse options = is_plain options.selection && not options.multiline
-allows Draw options = is_plain options.selection && not options.multiline && not options.json
+allows Parse options = is_plain options && not options.multiline
+allows Draw options = is_plain options && not options.multiline && not options.json
 allows Lint options = is_bare options && not options.multiline
 allows Explain options = is_bare options && not options.multiline
 

@@ -8,6 +8,7 @@ pub mod Json
 pub mod Lines
 pub mod Linted
 pub mod Options
+pub mod Painted
 pub mod Printed
 pub mod Reading
 pub mod Reply

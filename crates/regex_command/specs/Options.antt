@@ -10,6 +10,8 @@ use Rattle.regress_arguments.specs.Letters as flags
 use Rattle.regress_base.specs.declared.types.Flags.{Flags}
 use Rattle.regress_display.specs.declared.request.Stage.TheVariants.{Parsed, Optimized}
 use Rattle.regex_command.specs.Source.{Source, in_argument, in_file, source}
+use Rattle.regex_command.specs.declared.options.Color.{Color}
+use Rattle.regex_command.specs.declared.options.Color.TheVariants.{Always, Never, Auto}
 use Rattle.regex_command.specs.declared.options.Given as code
 use Rattle.regex_command.specs.declared.options.Options.{Options}
 use Rattle.regex_command.specs.declared.options.Value.{Value}
@@ -22,9 +24,10 @@ abbrev pub no_options : Options
 no_options = record {
   help = false;
   flags = no_flags;
-  selection = record { invert = false; numbers = false; shown = shows.Lines; max_count = None; binary = false };
+  selection = record { invert = false; numbers = false; shown = shows.Lines; max_count = None; binary = false; paints = false };
   multiline = false;
   json = false;
+  color = None;
   stage = None;
   small = false;
 }
@@ -112,11 +115,28 @@ with_tree options name =
     else if bytes_eq name (codes "small") then Some (record options { small = true })
     else with_named_flags options name
 
+-- when matches are in color, by its name
+abbrev pub color_of : List ℕ → Option Color
+color_of when =
+    if bytes_eq when (codes "always") then Some Always
+    else if bytes_eq when (codes "never") then Some Never
+    else if bytes_eq when (codes "auto") then Some Auto
+    else None
+
+abbrev pub with_color : Options → (when : List ℕ) → Option Options
+with_color options when = option_map (λ color. record options { color = Some color }) (color_of when)
+
+-- the options with `color=WHEN`, or with another one
+abbrev pub with_named_color : Options → List ℕ → Option Options
+with_named_color options name =
+    if starts_with (λ b c. b == c) name (codes "color=") then option_and_then (with_color options) (after_prefix (codes "color=") name)
+    else with_tree options name
+
 -- the options with `max-count=NUM`, or with another one
 abbrev pub with_named_count : Options → List ℕ → Option Options
 with_named_count options name =
     if starts_with (λ b c. b == c) name (codes "max-count=") then option_and_then (with_count options) (after_prefix (codes "max-count=") name)
-    else with_tree options name
+    else with_named_color options name
 
 -- the options with the one that has this name
 abbrev pub with_long : Options → List ℕ → Option Options

@@ -8,24 +8,27 @@ use Rattle.regress.specs.Compiled.{groups_of, outcomes_of}
 use Rattle.regress.specs.Found.{MatchesSomewhere}
 use Rattle.regress.specs.Replaced.{IsSplit, ReplacesAll}
 use Rattle.regress.specs.declared.pattern.Regex.{Regex}
+use Rattle.regex_command.specs.declared.task.Selection.{Selection}
 use Rattle.regex_command.specs.declared.task.Shown.{Shown}
 use Rattle.regex_command.specs.declared.task.Shown.TheVariants.{Lines, Matches, Json, Count, Names, Nothing}
 use Rattle.regex_command.specs.Job.{Job, matching, replacing, splitting}
 use Rattle.regex_command.specs.Json.{AddsJson}
+use Rattle.regex_command.specs.Painted.{PaintsLine, painted_if}
 use Rattle.regex_command.specs.Runs.{Run, texts_of}
 
 -- the bytes and a line feed
 abbrev pub ended : List ℕ → List ℕ
 ended bytes = bytes ++ codes "\n"
 
--- a match that is not empty on a line of its own
-abbrev pub shown_match : (front text : List ℕ) → Match → List ℕ
-shown_match front text m = if length (matched_text text m) == 0 then [] else front ++ ended (matched_text text m)
+-- a match that is not empty on a line of its own, with `paints` in color
+abbrev pub shown_match : (paints : Bool) → (front text : List ℕ) → Match → List ℕ
+shown_match paints front text m =
+    if length (matched_text text m) == 0 then [] else front ++ ended (painted_if paints (matched_text text m))
 
 -- a line for each match in a text that is not empty, after what was written before
-abbrev pub AddsMatches : Regex → (front before : List ℕ) → Run → (after : List ℕ) → Type 0
-AddsMatches r front before run after =
-    (ms : List Match) × AreAllMatches run.text (outcomes_of r run.text) ms × (after ≡ before ++ flat_map (shown_match front run.text) ms)
+abbrev pub AddsMatches : Regex → (paints : Bool) → (front before : List ℕ) → Run → (after : List ℕ) → Type 0
+AddsMatches r paints front before run after =
+    (ms : List Match) × AreAllMatches run.text (outcomes_of r run.text) ms × (after ≡ before ++ flat_map (shown_match paints front run.text) ms)
 
 -- The pattern matches somewhere in one of the texts.
 abbrev pub MatchesIn : Regex → List Run → Type 0
@@ -36,19 +39,24 @@ abbrev pub IsSelected : Regex → (texts : List Run) → (invert selected : Bool
 IsSelected r texts invert selected = (matches : Bool) × (IsTrue matches ↔ MatchesIn r texts) × (selected ≡ (if invert then not matches else matches))
 
 module _ (r : Regex) (line : List ℕ) (texts : List Run) where
+  -- the line with what is in front, with `paints` its matches in color
+  abbrev pub ShowsLine : (paints : Bool) → (front bytes : List ℕ) → Type 0
+  ShowsLine true front bytes = (out : List ℕ) × PaintsLine r line front out × (bytes ≡ ended out)
+  ShowsLine false front bytes = bytes ≡ front ++ ended line
+
   -- what is written for a selected line with these texts, after what is in front
-  abbrev pub Shows : Shown → (front bytes : List ℕ) → Type 0
-  Shows Lines front bytes = bytes ≡ front ++ ended line
-  Shows Matches front bytes = FoldsTo (AddsMatches r front) [] texts bytes
-  Shows Json front bytes = FoldsTo (AddsJson r front) [] texts bytes
-  Shows Count front bytes = bytes ≡ []
-  Shows Names front bytes = bytes ≡ []
-  Shows Nothing front bytes = bytes ≡ []
+  abbrev pub Shows : Shown → (paints : Bool) → (front bytes : List ℕ) → Type 0
+  Shows Lines paints front bytes = ShowsLine paints front bytes
+  Shows Matches paints front bytes = FoldsTo (AddsMatches r paints front) [] texts bytes
+  Shows Json paints front bytes = FoldsTo (AddsJson r front) [] texts bytes
+  Shows Count paints front bytes = bytes ≡ []
+  Shows Names paints front bytes = bytes ≡ []
+  Shows Nothing paints front bytes = bytes ≡ []
 
   -- nothing is written for a line that is not selected
-  abbrev pub ShowsIf : (selected : Bool) → Shown → (front bytes : List ℕ) → Type 0
-  ShowsIf true shown front bytes = Shows shown front bytes
-  ShowsIf false shown front bytes = bytes ≡ []
+  abbrev pub ShowsIf : (selected : Bool) → Selection → (front bytes : List ℕ) → Type 0
+  ShowsIf true s front bytes = Shows s.shown s.paints front bytes
+  ShowsIf false s front bytes = bytes ≡ []
 
 module _ (r : Regex) (line : List ℕ) where
   -- the pieces between the matches, each on a line
@@ -63,6 +71,6 @@ module _ (r : Regex) (line : List ℕ) where
   -- Whether the line is selected, and what is written for it.
   abbrev pub IsReply : Job → (front : List ℕ) → (selected : Bool) → (bytes : List ℕ) → Type 0
   IsReply (matching s) front selected bytes =
-      IsSelected r (texts_of s.binary line) s.invert selected × ShowsIf r line (texts_of s.binary line) selected s.shown front bytes
+      IsSelected r (texts_of s.binary line) s.invert selected × ShowsIf r line (texts_of s.binary line) selected s front bytes
   IsReply (replacing template) front selected bytes = (selected ≡ true) × ShowsReplaced template bytes
   IsReply splitting front selected bytes = (selected ≡ true) × ShowsPieces bytes

@@ -1,13 +1,13 @@
 //! What the arguments ask for.
 ghost use Rattle.std.specs.Prelude.{◌≡◌, option_map};
-ghost use Rattle.regex_command.specs.Asked.{action, action_of, after_pattern, ask, asked_of, command_with, escape_of, form_of, help_of, other_of, printed_format, search_with, selection_of, stage_of, taken_pattern, view_in};
+ghost use Rattle.regex_command.specs.Asked.{action, action_of, after_pattern, ask, asked_of, command_with, escape_of, form_of, help_of, other_of, paints, printed_format, search_with, selection_of, stage_of, taken_pattern, view_in};
 ghost use Rattle.regex_command.specs.Explained.{asked_form};
 ghost use Rattle.regex_command.specs.Job.{job};
 ghost use Rattle.regex_command.specs.Options.{given_by};
 ghost use Rattle.regex_command.specs.Source.{source};
 
 use crate::command::{Command, allows, allows_page, command_of};
-use crate::options::{Given, Options, read_options};
+use crate::options::{Color, Given, Options, read_options};
 use crate::pattern::PatternSource;
 use crate::task::{Selection, Shown, Task};
 use regress_base::types::Flags;
@@ -71,15 +71,17 @@ pub(crate) struct View {
 }
 
 /// Parses a command and its arguments; `None` if they are invalid.
-pub(crate) fn read_asked(args: &[String]) -> Option<Asked<'_>>
-    ensures { option_map ask result ≡ asked_of args.now }
+///
+/// `terminal` states whether the output is a terminal.
+pub(crate) fn read_asked(args: &[String], terminal: bool) -> Option<Asked<'_>>
+    ensures { option_map ask result ≡ asked_of terminal args.now }
 {
     let [first, rest @ ..] = args else {
         return None;
     };
     let word = first.as_str();
     match command_of(word) {
-        Some(command) => read_command(command, rest),
+        Some(command) => read_command(command, rest, terminal),
         None => read_other(word, rest),
     }
 }
@@ -114,8 +116,8 @@ fn read_help(args: &[String]) -> Option<Asked<'_>>
 }
 
 /// Parses the options of a command, its pattern, and what follows them.
-fn read_command(command: Command, args: &[String]) -> Option<Asked<'_>>
-    ensures { option_map ask result ≡ command_with command args.now }
+fn read_command(command: Command, args: &[String], terminal: bool) -> Option<Asked<'_>>
+    ensures { option_map ask result ≡ command_with terminal command args.now }
 {
     let (given, rest) = read_options(args)?;
     let options = given.options;
@@ -126,7 +128,7 @@ fn read_command(command: Command, args: &[String]) -> Option<Asked<'_>>
         return None;
     }
     let (pattern, rest) = take_pattern(given.pattern, rest)?;
-    let action = read_action(command, given, rest)?;
+    let action = read_action(command, given, rest, terminal)?;
     Some(Asked::Apply(Request {
         pattern,
         flags: options.flags,
@@ -149,14 +151,19 @@ pub(crate) fn take_pattern<'a>(
 }
 
 /// Parses what follows the pattern.
-fn read_action<'a>(command: Command, given: Given<'a>, args: &'a [String]) -> Option<Action<'a>>
-    ensures { option_map action result ≡ action_of command (given_by given.entry) args.now }
+fn read_action<'a>(
+    command: Command,
+    given: Given<'a>,
+    args: &'a [String],
+    terminal: bool,
+) -> Option<Action<'a>>
+    ensures { option_map action result ≡ action_of terminal command (given_by given.entry) args.now }
 {
     let options = given.options;
     match (command, args) {
         (Command::Match, files) => Some(search_for(
             options,
-            Task::Match(selection_of(options)),
+            Task::Match(selection_of(options, terminal)),
             files,
         )),
         (Command::Replace, [template, files @ ..]) => {
@@ -183,16 +190,31 @@ fn form_of(given: Given<'_>) -> Form<'_>
 }
 
 /// Returns what to show of which lines.
-fn selection_of(options: Options) -> Selection
-    ensures { result ≡ selection_of options }
+fn selection_of(options: Options, terminal: bool) -> Selection
+    ensures { result ≡ selection_of terminal options }
 {
+    let selection = Selection {
+        paints: paints(options.color, terminal),
+        ..options.selection
+    };
     if options.json {
         Selection {
             shown: Shown::Json,
-            ..options.selection
+            ..selection
         }
     } else {
-        options.selection
+        selection
+    }
+}
+
+/// Returns whether matches are in color.
+fn paints(color: Option<Color>, terminal: bool) -> bool
+    ensures { result ≡ paints terminal color }
+{
+    match color {
+        Some(Color::Always) => true,
+        Some(Color::Never) => false,
+        Some(Color::Auto) | None => terminal,
     }
 }
 

@@ -1,6 +1,6 @@
 //! The commands that take a pattern.
 ghost use Rattle.std.specs.Prelude.{◌≡◌};
-ghost use Rattle.regex_command.specs.Commands.{allows, allows_json, allows_page, command_of, is_bare, is_plain, shows_tree};
+ghost use Rattle.regex_command.specs.Commands.{allows, allows_json, allows_page, command_of, is_bare, is_plain, selects_matching, shows_tree};
 ghost use Rattle.regex_command.specs.Options.{given_by};
 
 use crate::options::{Given, Options};
@@ -41,8 +41,8 @@ pub(crate) fn allows(command: Command, options: Options) -> bool
     match command {
         Command::Match => allows_json(options) && !shows_tree(options),
         Command::Replace | Command::Split => is_bare(options),
-        Command::Parse => is_plain(options.selection) && !options.multiline,
-        Command::Draw => is_plain(options.selection) && !options.multiline && !options.json,
+        Command::Parse => is_plain(options) && !options.multiline,
+        Command::Draw => is_plain(options) && !options.multiline && !options.json,
         Command::Lint | Command::Explain => is_bare(options) && !options.multiline,
     }
 }
@@ -73,12 +73,19 @@ fn allows_json(options: Options) -> bool
 fn is_bare(options: Options) -> bool
     ensures { result ≡ is_bare options }
 {
-    is_plain(options.selection) && !options.json && !shows_tree(options)
+    is_plain(options) && !options.json && !shows_tree(options)
+}
+
+/// Returns whether no option is given that only `match` has.
+pub(crate) fn is_plain(options: Options) -> bool
+    ensures { result ≡ is_plain options }
+{
+    selects_matching(options.selection) && options.color.is_none()
 }
 
 /// Returns whether no option is given that selects lines or what is shown of them.
-pub(crate) fn is_plain(selection: Selection) -> bool
-    ensures { result ≡ is_plain selection }
+fn selects_matching(selection: Selection) -> bool
+    ensures { result ≡ selects_matching selection }
 {
     match selection {
         Selection {
@@ -87,6 +94,7 @@ pub(crate) fn is_plain(selection: Selection) -> bool
             shown: Shown::Lines,
             max_count: None,
             binary: false,
+            paints: _,
         } => true,
         _ => false,
     }

@@ -24,6 +24,7 @@ mod inputs;
 mod json;
 mod linting;
 mod options;
+mod painting;
 mod pattern;
 mod place;
 mod printing;
@@ -52,26 +53,29 @@ use showing::print_tree;
 use std::alloc::Global;
 use std::env::Env;
 use std::fs::Files;
-use std::io::{BufWriter, Read, Write};
+use std::io::{BufWriter, IsTerminal, Read, Write};
 use std::process::ExitCode;
 use task::Task;
 
 fn main(rt: HostRuntime) -> ExitCode {
-    ExitCode::from(run(&rt, rt.stdin(), rt.stdout(), &mut rt.stderr()))
+    let out = rt.stdout();
+    let terminal = out.is_terminal();
+    ExitCode::from(run(&rt, rt.stdin(), out, terminal, &mut rt.stderr()))
 }
 
-/// Runs the program with the arguments of its environment.
+/// Runs the program with the arguments of its environment; `terminal` states whether the output is a terminal.
 fn run<R: Env + Files + AllocGlobal, I: Read + Drop, W: Write + Drop, E: Write>(
     rt: &R,
     input: I,
     out: W,
+    terminal: bool,
     err: &mut E,
 ) -> u8
     ensures known { result ≤ 2 }
 {
     match arguments(rt) {
         Ok(args) => {
-            let (status, _) = run_buffered(rt, rt.alloc(), &args, input, out, err);
+            let (status, _) = run_buffered(rt, rt.alloc(), &args, input, out, terminal, err);
             status
         }
         Err(ArgumentsError::NotUtf8) => report(Failure::Argument, &[], err),
@@ -87,27 +91,30 @@ fn run_buffered<R: Files, I: Read + Drop, W: Write + Drop, E: Write>(
     args: &[String],
     input: I,
     out: W,
+    terminal: bool,
     err: &mut E,
 ) -> (u8, Option<W>)
     ensures known { result.0 ≤ 2 }
-    ensures found { result.0 ≡ 0 → IfSome (asked_of args.now) (λ ask. IfSome result.1 (λ new.
+    ensures found { result.0 ≡ 0 → IfSome (asked_of terminal args.now) (λ ask. IfSome result.1 (λ new.
         Prints HELP.now (I.remaining input) (W.contents out) (W.contents new) true ask)) }
-    ensures none { result.0 ≡ 1 → IfSome (asked_of args.now) (λ ask. IfSome result.1 (λ new.
+    ensures none { result.0 ≡ 1 → IfSome (asked_of terminal args.now) (λ ask. IfSome result.1 (λ new.
         Prints HELP.now (I.remaining input) (W.contents out) (W.contents new) false ask)) }
-    ensures usage { asked_of args.now ≡ None → result.0 ≡ 2 }
+    ensures usage { asked_of terminal args.now ≡ None → result.0 ≡ 2 }
     ensures quiet { result.0 ≡ 0 → err.new ≡ err.old }
-    ensures quiet_none { result.0 ≡ 1 → IfSome (asked_of args.now) (IsQuiet (err.new ≡ err.old)) }
+    ensures quiet_none { result.0 ≡ 1 → IfSome (asked_of terminal args.now) (IsQuiet (err.new ≡ err.old)) }
 {
     match BufWriter::new(alloc, out) {
         Ok(mut buffered) => {
-            let status = run_regex(rt, alloc, args, input, &mut buffered, err);
+            let status = run_regex(rt, alloc, args, input, &mut buffered, terminal, err);
             (status, buffered.into_inner().ok())
         }
         Err(_) => (report(Failure::Memory, args, err), None),
     }
 }
 
-/// Runs the program on its arguments, without its own name, and returns its exit status:
+/// Runs the program on its arguments, without its own name, and returns its exit status. `terminal` states whether the
+/// output is a terminal, where matches are in color by default.
+///
 /// - 0: a line is selected; the output of `replace`, `split`, `escape`, `parse`, `draw`, `explain` or the help is
 ///   written to `out`; or `lint` reports nothing;
 /// - 1: no line is selected; `lint` reports a difference; or `parse`, `draw`, `lint` or `explain` rejects the pattern,
@@ -122,19 +129,20 @@ pub fn run_regex<R: Files, I: Read + Drop, W: Write, E: Write>(
     args: &[String],
     input: I,
     out: &mut W,
+    terminal: bool,
     err: &mut E,
 ) -> u8
     ensures known { result ≤ 2 }
-    ensures found { result ≡ 0 → IfSome (asked_of args.now)
+    ensures found { result ≡ 0 → IfSome (asked_of terminal args.now)
         (Prints HELP.now (I.remaining input) (W.contents out.old) (W.contents out.new) true) }
-    ensures none { result ≡ 1 → IfSome (asked_of args.now)
+    ensures none { result ≡ 1 → IfSome (asked_of terminal args.now)
         (Prints HELP.now (I.remaining input) (W.contents out.old) (W.contents out.new) false) }
-    ensures usage { asked_of args.now ≡ None → result ≡ 2 }
-    ensures untouched { asked_of args.now ≡ None → out.new ≡ out.old }
+    ensures usage { asked_of terminal args.now ≡ None → result ≡ 2 }
+    ensures untouched { asked_of terminal args.now ≡ None → out.new ≡ out.old }
     ensures quiet { result ≡ 0 → err.new ≡ err.old }
-    ensures quiet_none { result ≡ 1 → IfSome (asked_of args.now) (IsQuiet (err.new ≡ err.old)) }
+    ensures quiet_none { result ≡ 1 → IfSome (asked_of terminal args.now) (IsQuiet (err.new ≡ err.old)) }
 {
-    match response(rt, alloc, args, input, out, err) {
+    match response(rt, alloc, args, input, out, terminal, err) {
         Ok(found) => { if found { 0 } else { 1 } }
         Err(failure) => report(failure, args, err),
     }
@@ -148,19 +156,20 @@ fn response<'a, R: Files, I: Read + Drop, W: Write, E: Write>(
     args: &'a [String],
     input: I,
     out: &mut W,
+    terminal: bool,
     err: &mut E,
 ) -> Result<bool, Failure<'a>>
-    ensures usage { asked_of args.now ≡ None → result ≡ Err Usage }
-    ensures untouched { asked_of args.now ≡ None → out.new ≡ out.old }
-    ensures found { IfOk result (λ found. IfSome (asked_of args.now)
+    ensures usage { asked_of terminal args.now ≡ None → result ≡ Err Usage }
+    ensures untouched { asked_of terminal args.now ≡ None → out.new ≡ out.old }
+    ensures found { IfOk result (λ found. IfSome (asked_of terminal args.now)
         (Prints HELP.now (I.remaining input) (W.contents out.old) (W.contents out.new) found)) }
-    ensures first { IfErr result (OrOutput (IfSome (asked_of args.now)
+    ensures first { IfErr result (OrOutput (IfSome (asked_of terminal args.now)
         (PrintsSome (I.remaining input) (W.contents out.old) (W.contents out.new) (out.new ≡ out.old)))) }
-    ensures due { IfErr result (λ failure. IfSome (asked_of args.now) (λ ask. MayFail ask failure)) }
+    ensures due { IfErr result (λ failure. IfSome (asked_of terminal args.now) (λ ask. MayFail ask failure)) }
     ensures quiet { result ≡ Ok true → err.new ≡ err.old }
-    ensures quiet_none { IfSome (asked_of args.now) (IsQuiet (err.new ≡ err.old)) }
+    ensures quiet_none { IfSome (asked_of terminal args.now) (IsQuiet (err.new ≡ err.old)) }
 {
-    match read_asked(args) {
+    match read_asked(args, terminal) {
         None => Err(Failure::Usage),
         Some(Asked::Help) => print_help(out),
         Some(Asked::Escape(text)) => print_escaped(alloc, text, out),
@@ -335,6 +344,7 @@ Of match only, and -no is -n -o:
   -l      write only the names of the files in which a line is selected
   -q      write nothing, and end at the first selected line; also --quiet
   --json  write a JSON object for each match on a line, instead of the lines
+  --color=WHEN  matches in color: always, never, or auto, if the output is a terminal; auto by default
 Of parse and draw only:
   --json       one JSON object, of the parsed tree unless --optimized is given; of parse only
   --parsed     the parsed tree only

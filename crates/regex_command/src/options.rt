@@ -1,12 +1,21 @@
 //! The options before the pattern.
 ghost use Rattle.std.specs.Prelude.{◌≡◌, None, true, option_map};
-ghost use Rattle.regex_command.specs.Options.{after_options, count_of, given_by, is_option, no_options, nothing_given, options_of, takes, with_count, with_flags, with_html, with_letter, with_letters, with_long, with_named_count, with_named_flags, with_option, with_tree, with_value, with_word};
+ghost use Rattle.regex_command.specs.Options.{after_options, color_of, count_of, given_by, is_option, no_options, nothing_given, options_of, takes, with_color, with_count, with_flags, with_html, with_letter, with_letters, with_long, with_named_color, with_named_count, with_named_flags, with_option, with_tree, with_value, with_word};
 
 use crate::pattern::PatternSource;
 use crate::task::{Selection, Shown};
 use regress_arguments::parse_flags;
 use regress_base::types::Flags;
 use regress_display::Stage;
+
+/// When matches are in color.
+#[derive(Clone, Copy)]
+pub(crate) enum Color {
+    Always,
+    Never,
+    /// If the output is a terminal.
+    Auto,
+}
 
 /// The options. The last one of a kind takes effect.
 #[derive(Clone, Copy)]
@@ -17,6 +26,8 @@ pub(crate) struct Options {
     /// Whether a text is searched as one, and not line by line.
     pub(crate) multiline: bool,
     pub(crate) json: bool,
+    /// When matches are in color.
+    pub(crate) color: Option<Color>,
     /// The tree to show.
     pub(crate) stage: Option<Stage>,
     /// Whether to use the small table instead of that of all of Unicode.
@@ -38,9 +49,11 @@ pub(crate) const NO_OPTIONS: Options = Options {
         shown: Shown::Lines,
         max_count: None,
         binary: false,
+        paints: false,
     },
     multiline: false,
     json: false,
+    color: None,
     stage: None,
     small: false,
 };
@@ -207,7 +220,39 @@ fn with_named_count(options: Options, name: &str) -> Option<Options>
 {
     match name.strip_prefix("max-count=") {
         Some(count) => with_count(options, count),
+        None => with_named_color(options, name),
+    }
+}
+
+/// Adds the option `color=WHEN`, or another one.
+fn with_named_color(options: Options, name: &str) -> Option<Options>
+    ensures { result ≡ with_named_color options name.now }
+{
+    match name.strip_prefix("color=") {
+        Some(when) => with_color(options, when),
         None => with_tree(options, name),
+    }
+}
+
+/// Sets when matches are in color.
+fn with_color(options: Options, when: &str) -> Option<Options>
+    ensures { result ≡ with_color options when.now }
+{
+    let color = color_of(when)?;
+    Some(Options {
+        color: Some(color),
+        ..options
+    })
+}
+
+fn color_of(when: &str) -> Option<Color>
+    ensures { result ≡ color_of when.now }
+{
+    match when {
+        "always" => Some(Color::Always),
+        "never" => Some(Color::Never),
+        "auto" => Some(Color::Auto),
+        _ => None,
     }
 }
 

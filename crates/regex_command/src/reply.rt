@@ -1,12 +1,14 @@
 //! What is written for a line.
-ghost use Rattle.std.specs.Prelude.{◌≡◌, ◌↔◌, [], ◌++◌, All, IfOk, IsTrue, OnOk, map, string_bytes};
+ghost use Rattle.std.specs.Prelude.{◌≡◌, ◌↔◌, ℕ, List, [], ◌++◌, All, IfOk, IsTrue, OnOk, map, string_bytes};
 ghost use Rattle.std.specs.List.{FoldsTo};
 ghost use Rattle.regex_command.specs.Job.{job};
 ghost use Rattle.regex_command.specs.Json.{AddsJson};
+ghost use Rattle.regex_command.specs.Painted.{PaintsLine, painted_if};
 ghost use Rattle.regex_command.specs.Reply.{AddsMatches, IsReply, IsSelected, MatchesIn, Shows, ShowsIf, ShowsPieces, ShowsReplaced, ended};
 ghost use Rattle.regex_command.specs.Runs.{HasOffsets, run_of, utf8_runs};
 
 use crate::json::add_json;
+use crate::painting::{add_painted_if, add_painted_line};
 use crate::runs::{Run, utf8_runs};
 use crate::searcher::Searcher;
 use crate::task::{Selection, Shown, Task};
@@ -69,7 +71,7 @@ pub(crate) fn reply_to_binary(
     line: &[u8],
 ) -> Result<Reply, SearchError>
     ensures { IfOk result (λ reply. IsSelected regex.now.regex.now (utf8_runs line.now) selection.invert reply.selected
-        × ShowsIf regex.now.regex.now line.now (utf8_runs line.now) reply.selected selection.shown front.now reply.bytes.items) }
+        × ShowsIf regex.now.regex.now line.now (utf8_runs line.now) reply.selected selection.entry front.now reply.bytes.items) }
 {
     let texts = utf8_runs(alloc, line)?;
     let line = Line {
@@ -89,12 +91,12 @@ fn selected(
 ) -> Result<Reply, SearchError>
     requires { All (λ r. HasOffsets (run_of r)) line.texts.now }
     ensures selected { IfOk result (λ reply. IsSelected regex.now.regex.now (map run_of line.entry.texts.now) selection.invert reply.selected) }
-    ensures shows { IfOk result (λ reply. ShowsIf regex.now.regex.now line.entry.bytes.now (map run_of line.entry.texts.now) reply.selected selection.shown front.now reply.bytes.items) }
+    ensures shows { IfOk result (λ reply. ShowsIf regex.now.regex.now line.entry.bytes.now (map run_of line.entry.texts.now) reply.selected selection.entry front.now reply.bytes.items) }
 {
     let matches = match_in(alloc, regex, line.texts)?;
     let selected = if selection.invert { !matches } else { matches };
     let bytes = if selected {
-        shown(alloc, regex.regex, selection.shown, front, line)?
+        shown(alloc, regex.regex, selection, front, line)?
     } else {
         Vec::new(alloc)
     };
@@ -117,16 +119,17 @@ fn match_in(alloc: Global, regex: &Searcher<'_>, texts: &[Run<'_>]) -> Result<bo
 fn shown(
     alloc: Global,
     regex: &Regex,
-    shown: Shown,
+    selection: Selection,
     front: &str,
     line: Line<'_>,
 ) -> Result<Vec<u8>, SearchError>
     requires { All (λ r. HasOffsets (run_of r)) line.texts.now }
-    ensures { IfOk result (λ bytes. Shows regex.now line.entry.bytes.now (map run_of line.entry.texts.now) shown front.now bytes.items) }
+    ensures { IfOk result (λ bytes. Shows regex.now line.entry.bytes.now (map run_of line.entry.texts.now) selection.shown selection.paints front.now bytes.items) }
 {
-    match shown {
+    match selection.shown {
+        Shown::Lines if selection.paints => painted_line(alloc, regex, front, line.bytes),
         Shown::Lines => whole_line(alloc, front, line.bytes),
-        Shown::Matches => all_matches(alloc, regex, front, line.texts),
+        Shown::Matches => all_matches(alloc, regex, selection.paints, front, line.texts),
         Shown::Json => all_json(alloc, regex, front, line.texts),
         Shown::Count | Shown::Names | Shown::Nothing => Ok(Vec::new(alloc)),
     }
@@ -138,6 +141,22 @@ fn whole_line(alloc: Global, front: &str, line: &[u8]) -> Result<Vec<u8>, Search
 {
     let mut bytes = Vec::new(alloc);
     add_line(front, line, &mut bytes)?;
+    Ok(bytes)
+}
+
+/// Returns the line with its matches in color, with `front` in front.
+fn painted_line(
+    alloc: Global,
+    regex: &Regex,
+    front: &str,
+    line: &[u8],
+) -> Result<Vec<u8>, SearchError>
+    ensures { IfOk result (λ bytes. (out : List ℕ) × PaintsLine regex.now line.now front.now out × (bytes.items ≡ ended out)) }
+{
+    let mut bytes = Vec::new(alloc);
+    bytes.extend_from_slice(front.as_bytes())?;
+    add_painted_line(alloc, regex, line, &mut bytes)?;
+    bytes.push(b'\n')?;
     Ok(bytes)
 }
 
@@ -155,14 +174,15 @@ fn add_line(front: &str, line: &[u8], to: &mut Vec<u8>) -> Result<(), AllocError
 fn all_matches(
     alloc: Global,
     regex: &Regex,
+    paints: bool,
     front: &str,
     texts: &[Run<'_>],
 ) -> Result<Vec<u8>, SearchError>
-    ensures { IfOk result (λ bytes. FoldsTo (AddsMatches regex.now front.now) [] (map run_of texts.now) bytes.items) }
+    ensures { IfOk result (λ bytes. FoldsTo (AddsMatches regex.now paints front.now) [] (map run_of texts.now) bytes.items) }
 {
     let mut bytes = Vec::new(alloc);
     for run in texts {
-        add_matches(alloc, regex, front, *run, &mut bytes)?;
+        add_matches(alloc, regex, paints, front, *run, &mut bytes)?;
     }
     Ok(bytes)
 }
@@ -171,19 +191,30 @@ fn all_matches(
 fn add_matches(
     alloc: Global,
     regex: &Regex,
+    paints: bool,
     front: &str,
     run: Run<'_>,
     to: &mut Vec<u8>,
 ) -> Result<(), SearchError>
-    ensures { OnOk result (AddsMatches regex.now front.now to.old.items (run_of run.entry) to.new.items) }
+    ensures { OnOk result (AddsMatches regex.now paints front.now to.old.items (run_of run.entry) to.new.items) }
 {
     let matches = regex.find_all(alloc, run.text)?;
     for found in &matches {
         let matched = &run.text[found.start()..found.end()];
         if !matched.is_empty() {
-            add_line(front, matched.as_bytes(), to)?;
+            add_match(paints, front, matched, to)?;
         }
     }
+    Ok(())
+}
+
+/// Adds a line with a match, with `front` in front.
+fn add_match(paints: bool, front: &str, text: &str, to: &mut Vec<u8>) -> Result<(), AllocError>
+    ensures { OnOk result (to.new.items ≡ to.old.items ++ (front.now ++ ended (painted_if paints text.now))) }
+{
+    to.extend_from_slice(front.as_bytes())?;
+    add_painted_if(paints, text, to)?;
+    to.push(b'\n')?;
     Ok(())
 }
 

@@ -23,6 +23,8 @@ pub(crate) struct Selection {
     pub(crate) max_count: Option<u64>,
     /// Whether lines that are not UTF-8 are searched too: bytes that are not match nowhere.
     pub(crate) binary: bool,
+    /// Whether matches are in color.
+    pub(crate) paints: bool,
 }
 
 /// What is shown of the selected lines.

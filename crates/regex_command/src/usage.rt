@@ -32,6 +32,8 @@ enum UsageError<'a> {
     InvalidFlags(&'a str),
     /// This is no number of 64 bits, or an option with one that is none.
     InvalidCount(&'a str),
+    /// This option names no time at which matches are in color.
+    InvalidColor(&'a str),
     /// Only `match` has this option.
     OnlyOfMatch(&'a str),
     /// `--json` is given with an option that selects what `match` shows.
@@ -50,6 +52,7 @@ pub(crate) fn write_usage_error<E: Write>(args: &[String], err: &mut E) -> io::R
         UsageError::UnknownOption(word) => ("unknown option", word),
         UsageError::InvalidFlags(word) => ("invalid flags", word),
         UsageError::InvalidCount(word) => ("invalid number", word),
+        UsageError::InvalidColor(word) => ("invalid color", word),
         UsageError::OnlyOfMatch(word) => ("only match has the option", word),
         UsageError::ExcludedByJson => ("--json excludes", "-o, -c, -l and -q"),
         UsageError::TextWithoutPage => ("--text needs", "--html"),
@@ -148,6 +151,8 @@ fn word_error(word: &str) -> UsageError<'_> {
         UsageError::InvalidFlags(word)
     } else if word.starts_with("-m") || word.starts_with("--max-count=") {
         UsageError::InvalidCount(word)
+    } else if word.starts_with("--color=") {
+        UsageError::InvalidColor(word)
     } else {
         UsageError::UnknownOption(word)
     }
@@ -157,7 +162,7 @@ fn word_error(word: &str) -> UsageError<'_> {
 fn disallowed(command: Command, options: Options, word: &str) -> Option<UsageError<'_>> {
     if allows(command, options) {
         None
-    } else if is_plain(options.selection) {
+    } else if is_plain(options) {
         Some(UsageError::UnknownOption(word))
     } else {
         Some(UsageError::OnlyOfMatch(word))

@@ -17,7 +17,7 @@ returns-in-Ok-clause-found g c is =
     let between = writer_contents contents c.run_regex-status.new.out in
     let input = g.I.Read.remaining c.args.input in
     let empty : start ≡ append_known old [] = λ i. append_known (contents (c.in-Ok.ensures.inner i)) (c.in-Ok.ensures.empty i) in
-    IfSome_then (asked_of c.args.args.now) (c.run_regex-status.ensures.found is)
+    IfSome_then (asked_of c.args.terminal c.args.args.now) (c.run_regex-status.ensures.found is)
     (λ ask written. ended contents between c.into_inner.result c.ok.result (λ new. Prints _ input old new _ ask) c.into_inner.ensures.ok
     c.ok.ensures.value (λ new kept. through input old start between new empty kept _ _ ask written))
 
@@ -29,6 +29,6 @@ returns-in-Ok-clause-none g c is =
     let between = writer_contents contents c.run_regex-status.new.out in
     let input = g.I.Read.remaining c.args.input in
     let empty : start ≡ append_known old [] = λ i. append_known (contents (c.in-Ok.ensures.inner i)) (c.in-Ok.ensures.empty i) in
-    IfSome_then (asked_of c.args.args.now) (c.run_regex-status.ensures.none is)
+    IfSome_then (asked_of c.args.terminal c.args.args.now) (c.run_regex-status.ensures.none is)
     (λ ask written. ended contents between c.into_inner.result c.ok.result (λ new. Prints _ input old new _ ask) c.into_inner.ensures.ok
     c.ok.ensures.value (λ new kept. through input old start between new empty kept _ _ ask written))

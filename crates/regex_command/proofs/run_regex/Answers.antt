@@ -7,13 +7,13 @@ use Rattle.regex_command.proofs.run_regex.Goals as goal
 
 pub returns-then-found-clause-found : goal.returns-then-found-clause-found
 returns-then-found-clause-found g c _ =
-    subst (λ found. IfSome (asked_of c.args.args.now)
+    subst (λ found. IfSome (asked_of c.args.terminal c.args.args.now)
     (Prints HELP.now (g.I.Read.remaining c.args.input) (g.W.Write.contents c.args.out.now) (g.W.Write.contents c.response.new.out) found))
     c.if-found.true c.in-Ok.ensures.found
 
 pub returns-else-found-clause-none : goal.returns-else-found-clause-none
 returns-else-found-clause-none g c _ =
-    subst (λ found. IfSome (asked_of c.args.args.now)
+    subst (λ found. IfSome (asked_of c.args.terminal c.args.args.now)
     (Prints HELP.now (g.I.Read.remaining c.args.input) (g.W.Write.contents c.args.out.now) (g.W.Write.contents c.response.new.out) found))
     c.if-found.false c.in-Ok.ensures.found
 

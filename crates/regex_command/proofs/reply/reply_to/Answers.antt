@@ -12,5 +12,5 @@ returns-in-Match c =
     let s = c.in-Match.selection in
     let line = c.args.line.now in
     let selected : IfOk c.selected.result (λ reply. IsSelected r (whole line) s.invert reply.selected) = search rules in
-    let shows : IfOk c.selected.result (λ reply. ShowsIf r line (whole line) reply.selected s.shown c.args.front.now reply.bytes.items) = search rules in
+    let shows : IfOk c.selected.result (λ reply. ShowsIf r line (whole line) reply.selected s c.args.front.now reply.bytes.items) = search rules in
     of_text r s line c.args.front.now (job c.args.task) (ap job c.in-Match.is) c.selected.result c.utf8.line selected shows
