@@ -71,7 +71,7 @@ pub(crate) fn reply_to_binary(
     line: &[u8],
 ) -> Result<Reply, SearchError>
     ensures { IfOk result (λ reply. IsSelected regex.now.regex.now (utf8_runs line.now) selection.invert reply.selected
-        × ShowsIf regex.now.regex.now line.now (utf8_runs line.now) reply.selected selection.entry front.now reply.bytes.items) }
+        × ShowsIf regex.now.regex.now line.now (utf8_runs line.now) reply.selected selection front.now reply.bytes.items) }
 {
     let texts = utf8_runs(alloc, line)?;
     let line = Line {
@@ -91,7 +91,7 @@ fn selected(
 ) -> Result<Reply, SearchError>
     requires { All (λ r. HasOffsets (run_of r)) line.texts.now }
     ensures selected { IfOk result (λ reply. IsSelected regex.now.regex.now (map run_of line.entry.texts.now) selection.invert reply.selected) }
-    ensures shows { IfOk result (λ reply. ShowsIf regex.now.regex.now line.entry.bytes.now (map run_of line.entry.texts.now) reply.selected selection.entry front.now reply.bytes.items) }
+    ensures shows { IfOk result (λ reply. ShowsIf regex.now.regex.now line.entry.bytes.now (map run_of line.entry.texts.now) reply.selected selection front.now reply.bytes.items) }
 {
     let matches = match_in(alloc, regex, line.texts)?;
     let selected = if selection.invert { !matches } else { matches };

@@ -1,6 +1,6 @@
 use Rattle.std.proofs.Common.{◌≤◌, refl, subst, sym}
 use Rattle.std.proofs.lemmas.Str.{IsCharBoundary-start}
-use Rattle.regex_command.proofs.PaintLemmas.{next_end, next_start, none_left, one_painted}
+use Rattle.regex_command.proofs.PaintLemmas.{next_end, next_start, one_painted}
 use Rattle.regex_command.proofs.painting.add_painted_matches.Goals as goal
 
 pub loop-found-init : goal.loop-found-init
