@@ -13,11 +13,11 @@ use Rattle.regress_program.specs.Compiled.{total}
 use Rattle.regress_program.specs.Program.{Out, Routine, Op, outcomes_by, outcomes_at, matcher_of, IsSolution}
 use Rattle.regress_program.specs.declared.evaluate.Input.{Input}
 use Rattle.regress_program.specs.Evaluated.{CanEvaluate, CanFill}
-use Rattle.regress_program.specs.Linear.{is_linear}
+use Rattle.regress_program.specs.Tidy.{has_no_back_reference}
 use Rattle.regress_program.specs.Shape.{Fits, IsProgram}
 use Rattle.regress_program.specs.Views.{program_of}
 use Rattle.regress_program.specs.Table.{has_outcome, Tells, TellsOf, row_of, column, place, index, cell, IsRight, IsNext, SameShape, IsTableOf, IsFull, AreTables, AreRight}
-use Rattle.regress_program.proofs.LinearLemmas.{linear-at}
+use Rattle.regress_program.proofs.LinearLemmas.{no_reference-at}
 use Rattle.regress_program.proofs.TellsLemmas.{column-less}
 
 pub same-index : (t t' : Table) (pc : ℕ) (moved : Bool) (position : ℕ) → SameShape t t' → index t' pc moved position ≡ index t pc moved position
@@ -101,13 +101,13 @@ module _ (input : Input) (r : Routine) (t t' : Table) (pc : ℕ) (moved : Bool) 
     at = same-index t t' pc moved position same ∙ index-more t pc moved position ∙ ap (λ n. n + pc) at ∙ sym more;
   }
 
-  pub can_evaluate : (op : Op) → IsProgram (program_of input.routines.now) → is_linear (program_of input.routines.now) ≡ true → slice_get r.ops pc ≡ Some op → CanEvaluate input t' op moved position
-  can_evaluate op program linear is = record {
+  pub can_evaluate : (op : Op) → IsProgram (program_of input.routines.now) → has_no_back_reference (program_of input.routines.now) ≡ true → slice_get r.ops pc ≡ Some op → CanEvaluate input t' op moved position
+  can_evaluate op program none is = record {
     pc = pc;
     next = is_next;
     fits = subst (λ w. Fits (take (length input.tables.now) (program_of input.routines.now)) w pc op) (sym (same.width ∙ can.of.width))
         ((program _ r can.is).fit pc op (omega arith) lt is);
-    linear = linear-at (program_of input.routines.now) _ r pc op linear can.is is;
+    no_reference = no_reference-at (program_of input.routines.now) _ r pc op none can.is is;
     length = same.length ∙ can.of.text;
     backwards = same.backwards ∙ can.backwards;
   }

@@ -8,10 +8,10 @@ use Rattle.regress_program.specs.declared.slots.Slot.{Slot}
 use Rattle.regress_program.specs.declared.slots.Slot.TheVariants as slots
 use Rattle.regress_program.specs.declared.walker.Walker.{Walker}
 use Rattle.regress_program.specs.Linear.{is_back_reference}
-use Rattle.regress_program.specs.Program.{Op, At, Out, goto, enter}
+use Rattle.regress_program.specs.Program.{Op, At, Out, Routine, goto, enter}
 use Rattle.regress_program.specs.Ranges.{IsIn}
 use Rattle.regress_program.specs.Shape.{Fits}
-use Rattle.regress_program.specs.Slots.{resolved}
+use Rattle.regress_program.specs.Slots.{IsClean, resolved}
 use Rattle.regress_program.specs.Table.{cell, has_outcome}
 use Rattle.regress_program.specs.Views.{program_of}
 
@@ -68,6 +68,13 @@ pub record CanWalk (input : Input) (t : Table) (op : Op) (a : At) : Type 0 where
   pub no_reference : is_back_reference op ≡ false
   pub length : t.length ≡ length input.text.now
   pub backwards : t.backwards ≡ input.rules.backwards
+
+-- A walk of a routine is at this instruction, where the groups that it claims are unset.
+pub record StepsAt (input : Input) (op : Op) (w : Walker) : Type 0 where
+  pub routine : Routine
+  pub is : slice_get (program_of input.routines.now) (length input.tables.now) ≡ Some routine
+  pub here : slice_get routine.ops w.pc ≡ Some op
+  pub clean : IsClean (program_of input.routines.now) routine w.pc w.slots.items
 
 -- The first of the states is the first outcome from b.
 pub record Leads (states : List MatchState) (out : Out) (b : At) : Type 0 where

@@ -3,7 +3,7 @@ ghost use Rattle.std.specs.Prelude.{◌≡◌, ◌≤◌, ◌+◌, ◌*◌, IfOk
 ghost use Rattle.regress_leaves.specs.Subject.{subject};
 ghost use Rattle.regress_program.specs.Compiled.{total};
 ghost use Rattle.regress_program.specs.Filled.{AreFilled};
-ghost use Rattle.regress_program.specs.Linear.{is_linear};
+ghost use Rattle.regress_program.specs.Tidy.{has_no_back_reference};
 ghost use Rattle.regress_program.specs.Shape.{IsProgram};
 ghost use Rattle.regress_program.specs.Views.{program_of};
 
@@ -26,7 +26,7 @@ pub(crate) fn fill_all(
     steps: &mut u64,
 ) -> Result<Vec<Table>, AllocError>
     requires program { IsProgram (program_of routines.now) }
-    requires linear { is_linear (program_of routines.now) ≡ true }
+    requires no_reference { has_no_back_reference (program_of routines.now) ≡ true }
     ensures filled { IfOk result (λ tables. AreFilled (subject rules.entry text.now).setting text.now (program_of routines.now) tables.items) }
     ensures steps { IfOk result (λ _. steps.new ≤ steps.old + 2 * total (program_of routines.now) * (length text.now + 1)) }
 {
