@@ -11,6 +11,7 @@ use Rattle.regress_program.specs.declared.program.Program.{Program}
 use Rattle.regress_program.specs.Compiled.{total}
 use Rattle.regress_program.specs.Found.{no_groups, state_of}
 use Rattle.regress_program.specs.Program.{Routine, Out, matcher_of}
+use Rattle.regress_program.specs.Ranges.{inner_groups}
 use Rattle.regress_program.specs.Views.{program_of}
 
 -- the routines of a program
@@ -29,10 +30,15 @@ groups_of p = p.groups
 abbrev pub instructions_of : Program → ℕ
 instructions_of p = total (routines_of p)
 
+-- An upper bound for the steps for each character, and once more for the end of the text, that it takes to find what
+-- lookarounds have captured: each routine is walked through at most once for each group that they may set.
+abbrev pub capturing_steps : (instructions inner : ℕ) → ℕ
+capturing_steps instructions inner = 2 * instructions * inner
+
 -- An upper bound for the steps of a search for each character, and once more for the end of the text. Each instruction
 -- has two bits at a position, and the walk takes at most as many steps as the table of its routine has bits.
 abbrev pub per_character : Program → ℕ
-per_character p = 4 * instructions_of p + 1
+per_character p = 4 * instructions_of p + 1 + capturing_steps (instructions_of p) (inner_groups (routines_of p))
 
 -- An upper bound for the steps of a search from `origin` with this number of instructions, where the tables are filled:
 -- the positions that are tried, and for each up to the end of the match the steps of the walk.
