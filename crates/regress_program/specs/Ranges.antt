@@ -1,5 +1,6 @@
 -- Which groups the routines of a program change.
 use Rattle.std.specs.Prelude.{◌≡◌, if◌then◌else◌, ℕ, ◌+◌, ◌≤◌, ◌<◌, Bool, true, false, min, max, nat_le, nat_lt, List, [], ◌∷◌, ◌++◌, slice_index_or}
+use Rattle.std.proofs.Props.{props}
 use Rattle.regress_program.specs.declared.ranges.GroupRange.{GroupRange}
 use Rattle.regress_program.specs.Program.{Op, unsets, end_group, look, Routine}
 
@@ -62,3 +63,7 @@ captured_in ranges (r ∷ rs) = max (captured_by_all ranges r.ops) (captured_in 
 -- not negated.
 abbrev pub inner_groups : List Routine → ℕ
 inner_groups program = captured_in (ranges_of program) program
+
+-- The property has at most one proof.
+pub GroupRanges-set : IsSet (List GroupRange)
+GroupRanges-set = hlevel props

@@ -1,5 +1,5 @@
 //! The first outcome of a routine.
-ghost use Rattle.std.specs.Prelude.{◌≡◌, ◌≤◌, ◌<◌, ◌+◌, ◌-◌, ◌*◌, IfOk, IfSome, Some, length, slice_get};
+ghost use Rattle.std.specs.Prelude.{◌≡◌, ◌≤◌, ◌<◌, ◌+◌, ◌-◌, ◌*◌, IfOk, IfSome, None, Some, length, slice_get};
 ghost use Rattle.regress_tree.specs.Reading.{forwards};
 ghost use Rattle.regress_program.specs.Program.{Routine as Code};
 ghost use Rattle.regress_program.specs.Searchable.{IsEnd, IsFirst, IsSearchable, program_in, width_at};
@@ -39,6 +39,7 @@ pub(crate) fn first_outcome(
     ensures first { IfOk result (IsFirst filled.entry index groups position) }
     ensures end { IfOk result (λ first. IfSome first (IsEnd filled.entry index groups)) }
     ensures steps { IfOk result (λ _. steps.new ≤ steps.old + 2 * width_at (program_in filled.entry) index * (length filled.entry.input.text.now + 1)) }
+    ensures none { IfOk result (λ first. first ≡ None → steps.new ≡ steps.old) }
     ensures forwards { IfOk result (λ first. IfSome first (λ o. (r : Code) → slice_get (program_in filled.entry) index ≡ Some r → r.direction ≡ forwards →
         steps.new ≤ steps.old + 2 * length r.ops * (o.end + 1 - position))) }
 {

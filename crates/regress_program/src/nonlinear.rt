@@ -8,7 +8,6 @@ ghost use Rattle.regress_program.specs.Views.{op_of, ops_of, program_of};
 
 use crate::capturing::is_capturing;
 use crate::instruction::{Instruction, Routine};
-use crate::linear::Linear;
 use crate::program::Program;
 use regress_tree::ir::Node;
 
@@ -28,39 +27,11 @@ pub enum Nonlinear {
 }
 
 impl<'n, 't> Program<'n, 't> {
-    /// Returns the program as one that is searched in linear time.
-    ///
-    /// # Complexity
-    /// Linear in the number of instructions, since a routine belongs to one lookaround.
-    ///
-    /// # Errors
-    /// Returns what [`Program::nonlinear`] returns, if it is a reason.
-    ///
-    /// # Examples
-    /// ```
-    /// let tables = Tables::small(alloc)?;
-    /// let points = code_points(alloc, "(a)\\1")?;
-    /// let regex = try_parse(alloc, &points, Flags::default(), &tables)?;
-    /// let program = Program::compile(alloc, &regex, &tables, 1000)?;
-    /// assert!(rt; matches!(program.linear(), Err(Nonlinear::BackReference)));
-    /// ```
-    pub fn linear(self) -> Result<Linear<'n, 't>, Nonlinear>
-        ensures same { IfOk result (λ linear. linear.program ≡ self.entry) }
-        ensures linear { IfOk result (λ _. is_linear (routines_of self.entry) ≡ true) }
-        ensures not { IfErr result (λ _. is_linear (routines_of self.entry) ≡ false) }
-        ensures reason { IfErr result (λ why. reason (routines_of self.entry) ≡ Some why) }
-    {
-        match self.nonlinear() {
-            Some(reason) => Err(reason),
-            None => Ok(Linear { program: self }),
-        }
-    }
-
     /// Returns why a search may take more than linear time: a back reference, or if the pattern has none, a lookaround
     /// that is not negated and sets or resets captures. The result is `None` if the program is linear.
     ///
     /// # Complexity
-    /// As that of [`Program::linear`].
+    /// Linear in the number of instructions, since a routine belongs to one lookaround.
     pub fn nonlinear(&self) -> Option<Nonlinear>
         ensures { result ≡ reason (routines_of self.now) }
     {
