@@ -10,6 +10,7 @@ mod FlowLemmas
 mod KeepLemmas
 mod LinearLemmas
 mod RepeatLemmas
+mod ResolveLemmas
 mod RoutineLemmas
 mod RunLemmas
 mod SearchLemmas
