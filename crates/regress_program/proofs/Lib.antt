@@ -14,6 +14,7 @@ mod RoutineLemmas
 mod RunLemmas
 mod SearchLemmas
 mod SizeLemmas
+mod SlotLemmas
 mod StepLemmas
 mod TellsLemmas
 mod TurnLemmas
