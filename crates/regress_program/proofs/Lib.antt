@@ -2,6 +2,7 @@ pub mod lemmas
 mod AlternativeLemmas
 mod BelowLemmas
 mod BitLemmas
+mod CleanLemmas
 mod CodeLemmas
 mod CompileLemmas
 mod EvaluateLemmas
