@@ -2,6 +2,7 @@ pub mod lemmas
 mod AlternativeLemmas
 mod BelowLemmas
 mod BitLemmas
+mod CleanLemmas
 mod CodeLemmas
 mod CompileLemmas
 mod EvaluateLemmas
@@ -15,6 +16,7 @@ mod RoutineLemmas
 mod RunLemmas
 mod SearchLemmas
 mod SizeLemmas
+mod SlotLemmas
 mod StepLemmas
 mod TellsLemmas
 mod TurnLemmas

@@ -14,7 +14,7 @@ or_false : (a b : Bool) → (a || b) ≡ false → (a ≡ false) × (b ≡ false
 or_false true b is = cc
 or_false false b is = (refl, is)
 
-list_all-get : {X : Type 0} (p : X → Bool) (xs : List X) (i : ℕ) (x : X) → list_all p xs ≡ true → slice_get xs i ≡ Some x → p x ≡ true
+pub list_all-get : {X : Type 0} (p : X → Bool) (xs : List X) (i : ℕ) (x : X) → list_all p xs ≡ true → slice_get xs i ≡ Some x → p x ≡ true
 list_all-get p [] i x all is = cc
 list_all-get p (y ∷ ys) zero x all is = let same : y ≡ x = cc in sym (ap p same) ∙ (and_true (p y) (list_all p ys) all).0
 list_all-get p (y ∷ ys) (suc i) x all is = list_all-get p ys i x (and_true (p y) (list_all p ys) all).1 is

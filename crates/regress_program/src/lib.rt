@@ -26,7 +26,7 @@ mod ranges;
 mod resolve;
 mod routines;
 mod search;
-mod slots;
+pub mod slots;
 mod step;
 mod strings;
 mod table;

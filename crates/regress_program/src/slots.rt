@@ -1,8 +1,8 @@
 //! What a walk knows of captures.
 ghost use Rattle.std.specs.Prelude.{◌≡◌, ◌<◌, ◌^◌, ℕ, IfOk, Option, length, replicate};
 ghost use Rattle.regress_tree.specs.Steps.{CaptureSpan};
-ghost use Rattle.regress_program.specs.Slots.{AreInside, resolved};
-ghost use Rattle.regress_program.specs.declared.slots.Slot.TheVariants.{Unset};
+ghost use Rattle.regress_program.specs.Slots.{AreInside, resolved, value};
+ghost use Rattle.regress_program.specs.declared.slots.Slot.TheVariants.{Inside, Unset};
 
 use std::alloc::{AllocError, Global};
 
@@ -50,10 +50,18 @@ pub(crate) fn captures_of(
 {
     let mut captures = Vec::with_capacity(alloc, slots.len())?;
     for slot in slots {
-        captures.push(match *slot {
-            Slot::Span(from, to) => Some((from, to)),
-            Slot::Unset | Slot::Inside { .. } => None,
-        })?;
+        captures.push(span_of(*slot))?;
     }
     Ok(captures)
+}
+
+/// Returns the capture of a group that no lookaround has set.
+fn span_of(slot: Slot) -> Option<(usize, usize)>
+    ensures { (capture_of : ℕ → ℕ → ℕ → Option CaptureSpan) → (id : ℕ) → ((routine position : ℕ) → slot ≡ Inside routine position → ⊥) →
+        result ≡ value capture_of id slot }
+{
+    match slot {
+        Slot::Span(from, to) => Some((from, to)),
+        Slot::Unset | Slot::Inside { .. } => None,
+    }
 }

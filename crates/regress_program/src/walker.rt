@@ -1,5 +1,5 @@
 //! The state of a walk through the instructions of the first outcome.
-ghost use Rattle.std.specs.Prelude.{◌≡◌, ◌<◌, ◌≤◌, ◌∷◌, ℕ, IfOk, MatchOption, Option, false, true};
+ghost use Rattle.std.specs.Prelude.{◌≡◌, ◌<◌, ◌≤◌, ◌∷◌, ℕ, IfOk, MatchOption, Option, Some, false, slice_set, true};
 ghost use Rattle.regress_tree.specs.Repetition.{unset, unset_from};
 ghost use Rattle.regress_tree.specs.Steps.{CaptureSpan};
 ghost use Rattle.regress_program.specs.Program.{ended, goto, reach};
@@ -104,10 +104,8 @@ impl Walker {
             Some(from) => from,
             None => self.position,
         };
-        let id = usize::from(id);
-        if id < self.slots.len() {
-            self.slots[id] = Slot::Span(from.min(self.position), from.max(self.position));
-        }
+        let to = self.position;
+        set_span(&mut self.slots, usize::from(id), from.min(to), from.max(to));
         self.pc = next;
     }
 
@@ -131,6 +129,16 @@ fn unset(slots: &mut Vec<Slot>, start: usize, end: usize)
     ensures slots { UnsetSlots start end slots.old.items slots.new.items }
 {
     set_slots(slots, GroupRange { start, end }, Slot::Unset);
+}
+
+/// Sets the capture of the group `id`, if there is one.
+fn set_span(slots: &mut Vec<Slot>, id: usize, from: usize, to: usize)
+    ensures resolved { (capture_of : ℕ → ℕ → ℕ → Option CaptureSpan) → resolved capture_of slots.new.items ≡ slice_set (resolved capture_of slots.old.items) id (Some (from, to)) }
+    ensures slots { OneSpan id slots.old.items slots.new.items }
+{
+    if id < slots.len() {
+        slots[id] = Slot::Span(from, to);
+    }
 }
 
 /// Sets the slots of the groups in a range.
