@@ -9,6 +9,7 @@ mod FillLemmas
 mod FlowLemmas
 mod KeepLemmas
 mod LinearLemmas
+mod RangeLemmas
 mod RepeatLemmas
 mod RoutineLemmas
 mod RunLemmas
