@@ -5,6 +5,7 @@
 mod bits;
 mod capturing;
 mod cells;
+mod claims;
 mod compile;
 mod compiler;
 mod contents;
@@ -29,6 +30,7 @@ mod table;
 mod tables;
 mod text;
 mod text_search;
+mod tidy;
 mod walk;
 mod walker;
 mod words;
