@@ -17,6 +17,7 @@ mod SearchLemmas
 mod SizeLemmas
 mod StepLemmas
 mod TellsLemmas
+mod TidyLemmas
 mod TurnLemmas
 mod ViewLemmas
 mod WalkLemmas

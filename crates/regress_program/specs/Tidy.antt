@@ -1,12 +1,12 @@
 -- Tidy programs: a lookaround that captures begins with its groups unset, since each iteration of a loop around it
 -- unsets them.
-use Rattle.std.specs.Prelude.{◌≡◌, if◌then◌else◌, ℕ, ◌+◌, ◌≤◌, ◌<◌, ◌==◌, Bool, true, false, not, ◌&&◌, ◌||◌, min, max, nat_le, nat_lt, List, [], ◌∷◌, slice_index_or}
+use Rattle.std.specs.Prelude.{◌≡◌, if◌then◌else◌, ℕ, ◌+◌, ◌≤◌, ◌<◌, ◌==◌, Bool, true, false, not, ◌&&◌, ◌||◌, min, max, nat_le, nat_lt, List, [], ◌∷◌, slice_index_or, Option, Some, None}
 use Rattle.std.specs.List.{list_all, list_any}
 use Rattle.regress_tree.specs.Reading.{Direction, forwards, backwards}
 use Rattle.regress_program.specs.declared.ranges.GroupRange.{GroupRange}
 use Rattle.regress_program.specs.Linear.{is_back_reference}
 use Rattle.regress_program.specs.Program.{Op, accept, fail, part, split, begin_loop, repeat, end_loop, unsets, begin_group, end_group, look, Routine}
-use Rattle.regress_program.specs.Ranges.{changed_by, is_empty, no_groups, ranges_of}
+use Rattle.regress_program.specs.Ranges.{changed_by, inner_groups, is_empty, no_groups, ranges_of}
 
 -- The claim k at an instruction: forwards, that the groups from k on are unset; backwards, that those before k are.
 abbrev pub IsClaimed : Direction → (k id : ℕ) → Type 0
@@ -132,3 +132,7 @@ has_no_back_reference program = list_all (λ r. list_all (λ op. not (is_back_re
 -- The tables of the program lead to its first outcome: it has no back reference, and is tidy.
 abbrev pub is_tabled : List Routine → Bool
 is_tabled program = has_no_back_reference program && is_tidy program
+
+-- the number of groups that lookarounds may set, if the tables of the program lead to its first outcome
+abbrev pub table_groups : List Routine → Option ℕ
+table_groups program = if is_tabled program then Some (inner_groups program) else None

@@ -104,7 +104,8 @@ fn claim_instruction(
     claims: &mut [usize],
 )
     requires { at < length claims.old }
-    ensures { claims.new ≡ with_instruction ranges.now (direction_if backwards) at (op_of instruction.now) claims.old }
+    ensures value { claims.new ≡ with_instruction ranges.now (direction_if backwards) at (op_of instruction.now) claims.old }
+    ensures length { length claims.new ≡ length claims.old }
 {
     let claim = claim_at(backwards, instruction, claims[at]);
     claims[at] = claim;
