@@ -10,6 +10,7 @@ mod FillLemmas
 mod FlowLemmas
 mod KeepLemmas
 mod LinearLemmas
+mod RangeLemmas
 mod RepeatLemmas
 mod ResolveLemmas
 mod RoutineLemmas
@@ -19,6 +20,7 @@ mod SizeLemmas
 mod SlotLemmas
 mod StepLemmas
 mod TellsLemmas
+mod TidyLemmas
 mod TurnLemmas
 mod ViewLemmas
 mod WalkLemmas

@@ -1,6 +1,7 @@
 pub mod Alternatives
 pub mod Below
 pub mod Bits
+pub mod Claims
 pub mod CodeOf
 pub mod Compiled
 pub mod Evaluated

@@ -5,6 +5,7 @@
 mod bits;
 mod capturing;
 mod cells;
+mod claims;
 mod compile;
 mod compiler;
 mod contents;
@@ -34,6 +35,7 @@ mod tabled;
 mod tables;
 mod text;
 mod text_search;
+mod tidy;
 mod walk;
 mod walker;
 mod words;

@@ -21,7 +21,7 @@ pub(crate) const NO_GROUPS: GroupRange = GroupRange { start: 0, end: 0 };
 impl GroupRange {
     /// Returns the least range with the ids of both.
     pub(crate) fn hull(self, other: GroupRange) -> GroupRange
-        ensures { result ≡ hull self.entry other.entry }
+        ensures { result ≡ hull self other }
     {
         if self.start >= self.end {
             other
