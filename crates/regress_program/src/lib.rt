@@ -20,6 +20,7 @@ mod lookarounds;
 mod loops;
 mod nonlinear;
 mod program;
+mod ranges;
 mod routines;
 mod search;
 mod step;
