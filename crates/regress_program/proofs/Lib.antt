@@ -2,6 +2,8 @@ pub mod lemmas
 mod AlternativeLemmas
 mod BelowLemmas
 mod BitLemmas
+mod CaptureLemmas
+mod ChangedLemmas
 mod CodeLemmas
 mod CompileLemmas
 mod EvaluateLemmas
@@ -9,6 +11,7 @@ mod FillLemmas
 mod FlowLemmas
 mod KeepLemmas
 mod LinearLemmas
+mod LocalLemmas
 mod RepeatLemmas
 mod RoutineLemmas
 mod RunLemmas
