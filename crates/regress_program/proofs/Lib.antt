@@ -1,4 +1,5 @@
 pub mod lemmas
+mod AgreementLemmas
 mod AlternativeLemmas
 mod BelowLemmas
 mod BitLemmas
@@ -12,6 +13,7 @@ mod FlowLemmas
 mod KeepLemmas
 mod LinearLemmas
 mod LocalLemmas
+mod PutLemmas
 mod RepeatLemmas
 mod RoutineLemmas
 mod RunLemmas
