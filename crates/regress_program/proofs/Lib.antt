@@ -1,7 +1,10 @@
 pub mod lemmas
+mod AgreementLemmas
 mod AlternativeLemmas
 mod BelowLemmas
 mod BitLemmas
+mod CaptureLemmas
+mod ChangedLemmas
 mod CleanLemmas
 mod CodeLemmas
 mod CompileLemmas
@@ -10,6 +13,8 @@ mod FillLemmas
 mod FlowLemmas
 mod KeepLemmas
 mod LinearLemmas
+mod LocalLemmas
+mod PutLemmas
 mod RangeLemmas
 mod RepeatLemmas
 mod ResolveLemmas

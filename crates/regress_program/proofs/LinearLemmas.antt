@@ -78,3 +78,15 @@ pub any-at : {X : Type 0} (p : X → Bool) (xs : List X) (i : ℕ) (x : X) → s
 any-at p [] i x is here = cc
 any-at p (y ∷ ys) zero x is here = let same : y ≡ x = cc in ap (λ b. b || list_any p ys) (ap p same ∙ here)
 any-at p (y ∷ ys) (suc i) x is here = true_or (p y) (list_any p ys) (any-at p ys i x is here)
+
+-- ---- programs without back references
+
+not-true : (b : Bool) → not b ≡ true → b ≡ false
+not-true true is = cc
+not-true false is = refl
+
+pub plain-at : (program : List Routine) (i : ℕ) (r : Routine) (pc : ℕ) (op : Op) → has_no_back_reference program ≡ true →
+    slice_get program i ≡ Some r → slice_get r.ops pc ≡ Some op → is_back_reference op ≡ false
+plain-at program i r pc op plain is_r is_op =
+    not-true (is_back_reference op) (list_all-get (λ (o : Op). not (is_back_reference o)) r.ops pc op
+    (list_all-get (λ (q : Routine). list_all (λ o. not (is_back_reference o)) q.ops) program i r plain is_r) is_op)
