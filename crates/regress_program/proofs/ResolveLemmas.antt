@@ -1,5 +1,5 @@
 -- Slots that are replaced by what they stand for.
-use Rattle.std.proofs.Common.{◌≡◌, ℕ, zero, suc, ◌+◌, ◌*◌, ◌≤◌, ◌<◌, List, [], ◌∷◌, length, replicate, slice_get, slice_index_or, Option, Some, None, refl, sym, ap, ap₂, ◌∙◌, subst, inl, inr, arith}
+use Rattle.std.proofs.Common.{◌≡◌, ℕ, zero, suc, ◌+◌, ◌*◌, ◌≤◌, ◌<◌, ◌⊎◌, List, [], ◌∷◌, length, replicate, slice_get, slice_index_or, Option, Some, None, refl, sym, ap, ap₂, ◌∙◌, subst, inl, inr, arith}
 use Rattle.std.proofs.lemmas.Bool.{cases_eq}
 use Rattle.std.proofs.lemmas.Option.{slice_get_within}
 use Rattle.regress_tree.specs.Steps.{CaptureSpan}
@@ -9,7 +9,7 @@ use Rattle.regress_program.specs.declared.slots.Slot.{Slot}
 use Rattle.regress_program.specs.declared.slots.Slot.TheVariants as slots
 use Rattle.regress_program.specs.Isolated.{capture_at, first_captures}
 use Rattle.regress_program.specs.Program.{Out}
-use Rattle.regress_program.specs.Searchable.{AreResolved, AreTaken, IsEnd, IsFirst, Solves, captures_in, outcomes_in}
+use Rattle.regress_program.specs.Searchable.{AreFound, AreResolved, AreTaken, IsEnd, IsFirst, Solves, captures_in, outcomes_in}
 use Rattle.regress_program.specs.Slots.{AreInside, resolved, resolved_from, value}
 
 module _ (capture_of : (routine position id : ℕ) → Option CaptureSpan) where
@@ -31,7 +31,9 @@ module _ (capture_of : (routine position id : ℕ) → Option CaptureSpan) where
   pub resolved-same : (a b : List Slot) → length a ≡ length b →
       ((id : ℕ) (s t : Slot) → slice_get a id ≡ Some s → slice_get b id ≡ Some t → value capture_of id s ≡ value capture_of id t) →
       resolved capture_of a ≡ resolved capture_of b
-  resolved-same a b len same = resolved_from-same 0 a b len same
+  resolved-same a b len same =
+      resolved_from-same 0 a b len
+      (λ id s t is is'. let e : id ≡ 0 + id = omega arith in subst (λ i. value capture_of i s ≡ value capture_of i t) e (same id s t is is'))
 
   capture_from : (k : ℕ) (a : List Slot) (id : ℕ) (s : Slot) → slice_get a id ≡ Some s → capture_at (resolved_from capture_of k a) id ≡ value capture_of (k + id) s
   capture_from k [] id s is = cc
@@ -40,18 +42,12 @@ module _ (capture_of : (routine position id : ℕ) → Option CaptureSpan) where
       let e : (k + 1) + id ≡ k + suc id = omega arith in capture_from (k + 1) a id s is ∙ ap (λ i. value capture_of i s) e
 
   pub capture-resolved : (a : List Slot) (id : ℕ) (s : Slot) → slice_get a id ≡ Some s → capture_at (resolved capture_of a) id ≡ value capture_of id s
-  capture-resolved a id s is = capture_from 0 a id s is
+  capture-resolved a id s is = let e : 0 + id ≡ id = omega arith in capture_from 0 a id s is ∙ ap (λ i. value capture_of i s) e
 
 replicate-get : {X : Type 0} (n : ℕ) (x y : X) (i : ℕ) → slice_get (replicate n x) i ≡ Some y → y ≡ x
 replicate-get zero x y i is = cc
 replicate-get (suc n) x y zero is = cc
 replicate-get (suc n) x y (suc i) is = replicate-get n x y i is
-
--- What a routine has captured from a position.
-pub record AreFound (f : Filled) (routine position : ℕ) (found : List Slot) : Type 0 where
-  pub captures : (outs : ℕ → Out) → Solves f outs → (id : ℕ) (s : Slot) → slice_get found id ≡ Some s →
-      value (captures_in f outs (length found)) id s ≡ captures_in f outs (length found) routine position id
-  pub inside : AreInside routine (length f.input.text.now) f.inner found
 
 pub found_some : (f : Filled) (routine position n : ℕ) (o : FirstOutcome) → IsFirst f routine n position (Some o) → IsEnd f routine n o → AreFound f routine position o.slots.items
 found_some f routine position n o first ends = record {
@@ -140,7 +136,7 @@ pub taken_inside : (f : Filled) (routine position : ℕ) (found before after : L
     AreInside (routine + 1) (length f.input.text.now) f.inner before → AreInside (routine + 1) (length f.input.text.now) f.inner after
 taken_inside f routine position found before after is taken inside id r q at =
     elim (taken_from routine position found before after taken id (slots.Inside r q) at) [
-      | inl here ↦ let i = is.inside id r q here in (omega (arith, i.0), (i.1.0, i.1.1))
+      | inl here ↦ let i = is.inside id r q here in (omega (arith, i.0), i.1, i.2)
       | inr kept ↦ inside id r q kept.0
     ]
 
@@ -166,3 +162,68 @@ product_more id c = grind arith
 
 pub product_form : (w inner m : ℕ) → inner * (2 * w * m) ≡ 2 * w * inner * m
 product_form w inner m = grind arith
+
+-- The captures are those of `start`, and the routine has set no group before `id` any more.
+pub record IsPartly (f : Filled) (routine id : ℕ) (start slots' : List Slot) : Type 0 where
+  pub count : length slots' ≡ length start
+  pub inside : AreInside (routine + 1) (length f.input.text.now) f.inner slots'
+  pub below : (j r q : ℕ) → j < id → slice_get slots' j ≡ Some (slots.Inside r q) → r < routine
+  pub same : (outs : ℕ → Out) → Solves f outs → resolved (captures_in f outs (length start)) slots' ≡ resolved (captures_in f outs (length start)) start
+
+module _ (f : Filled) (routine : ℕ) (start : List Slot) where
+  pub partly_none : AreInside (routine + 1) (length f.input.text.now) f.inner start → IsPartly f routine 0 start start
+  partly_none inside = record {
+    count = refl;
+    inside = inside;
+    below = λ j r q lt is. absurd (omega (arith, lt));
+    same = λ outs solves. refl;
+  }
+
+  pub partly_kept : (id : ℕ) (slots' : List Slot) → IsPartly f routine id start slots' → ((position : ℕ) → slice_get slots' id ≡ Some (slots.Inside routine position) → ⊥) →
+      IsPartly f routine (id + 1) start slots'
+  partly_kept id slots' is none = record {
+    count = is.count;
+    inside = is.inside;
+    below = λ j r q lt at.
+        elim (cases_eq j id) [
+          | inl same ↦
+            let at' : slice_get slots' id ≡ Some (slots.Inside r q) = ap (slice_get slots') (sym same) ∙ at in
+            elim (cases_eq r routine) [
+              | inl same' ↦ absurd (none q (at' ∙ ap (λ x. Some (slots.Inside x q)) same'))
+              | inr other ↦ omega (arith, (is.inside j r q at).0, other)
+            ]
+          | inr other ↦ is.below j r q (omega (arith, lt, other)) at
+        ];
+    same = is.same;
+  }
+
+  pub partly_taken : (id position : ℕ) (found before after : List Slot) → IsPartly f routine id start before → slice_get before id ≡ Some (slots.Inside routine position) →
+      length found ≡ length before → AreFound f routine position found → AreTaken routine position found before after → IsPartly f routine (id + 1) start after
+  partly_taken id position found before after is set count are taken = record {
+    count = taken.count ∙ is.count;
+    inside = taken_inside f routine position found before after are taken is.inside;
+    below = taken_below f routine position id found before after are taken set is.below;
+    same = λ outs solves.
+        subst (λ n. resolved (captures_in f outs n) after ≡ resolved (captures_in f outs n) before) is.count
+        (taken_same f routine position found before after count are taken outs solves)
+        ∙ is.same outs solves;
+  }
+
+  pub partly_all : (slots' : List Slot) → IsPartly f routine f.inner start slots' → AreResolved f routine start slots'
+  partly_all slots' is = record {
+    count = is.count;
+    inside = λ id r q at. let i = is.inside id r q at in (is.below id r q i.2 at, i.1, i.2);
+    same = is.same;
+  }
+
+-- one step after another
+pub resolved-trans : (f : Filled) (r r' : ℕ) (a b c : List Slot) → AreResolved f r a b → AreResolved f r' b c → AreResolved f r' a c
+resolved-trans f r r' a b c one two = record {
+  count = two.count ∙ one.count;
+  inside = two.inside;
+  same = λ outs solves.
+      subst (λ n. resolved (captures_in f outs n) c ≡ resolved (captures_in f outs n) b) one.count (two.same outs solves) ∙ one.same outs solves;
+}
+
+pub resolved-none : (f : Filled) (r : ℕ) (a : List Slot) → AreInside r (length f.input.text.now) f.inner a → AreResolved f r a a
+resolved-none f r a inside = record { count = refl; inside = inside; same = λ outs solves. refl }

@@ -11,7 +11,7 @@ use Rattle.regress_program.specs.Found.{no_groups}
 use Rattle.regress_program.specs.Program.{Out, Routine, IsSolution, matcher_of}
 use Rattle.regress_program.specs.Ranges.{inner_groups, ranges_of}
 use Rattle.regress_program.specs.Shape.{IsProgram}
-use Rattle.regress_program.specs.Slots.{AreInside, capture_in, resolved}
+use Rattle.regress_program.specs.Slots.{AreInside, capture_in, resolved, value}
 use Rattle.regress_program.specs.Tidy.{is_tabled}
 use Rattle.regress_program.specs.Views.{program_of}
 
@@ -72,3 +72,9 @@ pub record AreTaken (routine position : ℕ) (found before after : List Slot) : 
   pub count : length after ≡ length before
   pub taken : (id : ℕ) → slice_get before id ≡ Some (slots.Inside routine position) → slice_get after id ≡ slice_get found id
   pub kept : (id : ℕ) → (slice_get before id ≡ Some (slots.Inside routine position) → ⊥) → slice_get after id ≡ slice_get before id
+
+-- The slots stand for what the routine captures from a position, where no group is set before.
+pub record AreFound (f : Filled) (routine position : ℕ) (found : List Slot) : Type 0 where
+  pub captures : (outs : ℕ → Out) → Solves f outs → (id : ℕ) (s : Slot) → slice_get found id ≡ Some s →
+      value (captures_in f outs (length found)) id s ≡ captures_in f outs (length found) routine position id
+  pub inside : AreInside routine (length f.input.text.now) f.inner found

@@ -1,7 +1,7 @@
 //! The captures that lookarounds set.
 ghost use Rattle.std.specs.Prelude.{◌≡◌, ◌≤◌, ◌<◌, ◌+◌, ◌*◌, ℕ, IfOk, None, Option, Some, length, slice_get, take};
 ghost use Rattle.regress_program.specs.Compiled.{total};
-ghost use Rattle.regress_program.specs.Searchable.{AreResolved, AreTaken, IsSearchable, program_in, width_at};
+ghost use Rattle.regress_program.specs.Searchable.{AreFound, AreResolved, AreTaken, IsSearchable, program_in, width_at};
 ghost use Rattle.regress_program.specs.Slots.{AreInside};
 ghost use Rattle.regress_program.specs.declared.slots.Slot.TheVariants.{Inside};
 
@@ -54,15 +54,36 @@ fn resolve_routine(
 {
     for id in 0..filled.inner {
         if let Some(position) = set_from(slots, id, routine) {
-            let groups = slots.len();
-            let found = match first_outcome(alloc, filled, routine, position, groups, steps)? {
-                Some(first) => first.slots,
-                None => unset_slots(alloc, groups)?,
-            };
+            let found = slots_from(alloc, filled, routine, position, slots.len(), steps)?;
             take_slots(slots, routine, position, &found);
         }
     }
     Ok(())
+}
+
+/// Returns the slots of the groups after the first outcome of a routine from a position, with all groups unset.
+///
+/// # Errors
+/// Returns [`AllocError`] if an allocation fails.
+fn slots_from(
+    alloc: Global,
+    filled: Filled<'_, '_, '_>,
+    routine: usize,
+    position: usize,
+    groups: usize,
+    steps: &mut u64,
+) -> Result<Vec<Slot>, AllocError>
+    requires searchable { IsSearchable filled }
+    requires routine { routine < length (program_in filled) }
+    requires position { position ≤ length filled.input.text.now }
+    ensures count { IfOk result (λ slots. length slots.items ≡ groups) }
+    ensures found { IfOk result (λ slots. AreFound filled.entry routine position slots.items) }
+    ensures steps { IfOk result (λ _. steps.new ≤ steps.old + 2 * width_at (program_in filled.entry) routine * (length filled.entry.input.text.now + 1)) }
+{
+    match first_outcome(alloc, filled, routine, position, groups, steps)? {
+        Some(first) => Ok(first.slots),
+        None => unset_slots(alloc, groups),
+    }
 }
 
 /// Returns the position from which the routine has set a group, or `None` if it has not.
