@@ -73,10 +73,10 @@ quiet-ranges program before (r ∷ rs) quiet linear is =
     let long : length after ≡ length before + 1 = length-append before (range ∷ []) in
     let found : slice_get program (length before) ≡ Some r = ap (slice_get program) (omega arith) ∙ is 0 in
     let last : is_capturing (slice_get program (length before)) ≡ false → range ≡ no_groups =
-        λ none. quiet-ops program before r.ops quiet here.0 (sym (ap is_capturing found) ∙ none) in
+    λ none. quiet-ops program before r.ops quiet here.0 (sym (ap is_capturing found) ∙ none) in
     quiet-ranges program after rs
     (λ j none. get-pushed before range no_groups j (λ lt. quiet j none)
-        (λ e. last (sym (ap (λ n. is_capturing (slice_get program n)) e) ∙ none)))
+    (λ e. last (sym (ap (λ n. is_capturing (slice_get program n)) e) ∙ none)))
     here.1 (λ k. ap (slice_get program) (omega (arith, long)) ∙ is (suc k))
 
 all-quiet : (program : List Routine) → is_linear program ≡ true → AreQuiet program (ranges_of program)
@@ -150,7 +150,7 @@ linear-references : (program : List Routine) → is_linear program ≡ true → 
 linear-references program linear =
     all-weaker (λ (r : Routine). list_all (is_linear_op program) r.ops) (λ (r : Routine). list_all (λ op. not (is_back_reference op)) r.ops) program
     (λ r. all-weaker (is_linear_op program) (λ op. not (is_back_reference op)) r.ops
-        (λ op is. (and_true (not (is_back_reference op)) (not (is_capturing_lookaround program op)) is).0))
+    (λ op is. (and_true (not (is_back_reference op)) (not (is_capturing_lookaround program op)) is).0))
     linear
 
 pub linear-inner : (program : List Routine) → is_linear program ≡ true → inner_groups program ≡ 0
