@@ -107,11 +107,11 @@ module _ (ranges : List GroupRange) (d : Direction) (ops : List Op) where
       let long : at < length claims = omega (arith, now.count) in
       let first : k ≡ claim_at ranges d op (claimed_for ranges d at rest known) = ap (claim_at ranges d op) (now.before at (omega arith)) in
       let all : claims_from ranges d at (drop at ops) ≡ k ∷ known =
-          ap (λ (os : List Op). claims_from ranges d at os) more
-          ∙ subst (λ n. claims_from ranges d at (op ∷ rest) ≡ claim_at ranges d op (claimed_for ranges d at rest (claims_from ranges d n rest)) ∷ claims_from ranges d n rest) (sym one) refl
-          ∙ ap (λ x. x ∷ known) (sym first) in
+      ap (λ (os : List Op). claims_from ranges d at os) more
+      ∙ subst (λ n. claims_from ranges d at (op ∷ rest) ≡ claim_at ranges d op (claimed_for ranges d at rest (claims_from ranges d n rest)) ∷ claims_from ranges d n rest) (sym one) refl
+      ∙ ap (λ x. x ∷ known) (sym first) in
       let before : (j : ℕ) → j < at → get_or noted j 0 ≡ claimed_for ranges d j rest known =
-          λ j lt. get_or-set_other claims at j k 0 (λ e. absurd (omega (arith, e, lt))) ∙ now.before j (omega (arith, lt, one)) in
+      λ j lt. get_or-set_other claims at j k 0 (λ e. absurd (omega (arith, e, lt))) ∙ now.before j (omega (arith, lt, one)) in
       record {
         count = length-with_followers d at after nexts noted ∙ length-set claims at k ∙ now.count;
         done = drop-with_followers d at after nexts at noted (omega arith) ∙ drop-set claims at k long

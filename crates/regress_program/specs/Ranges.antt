@@ -1,5 +1,5 @@
 -- Which groups the routines of a program change.
-use Rattle.std.specs.Prelude.{◌≡◌, if◌then◌else◌, ℕ, ◌+◌, ◌≤◌, ◌<◌, Bool, true, false, min, max, nat_le, nat_lt, List, [], ◌∷◌, ◌++◌, slice_index_or}
+use Rattle.std.specs.Prelude.{if◌then◌else◌, ℕ, ◌+◌, ◌≤◌, ◌<◌, Bool, false, min, max, nat_le, nat_lt, List, [], ◌∷◌, ◌++◌, slice_index_or}
 use Rattle.std.proofs.Props.{props}
 use Rattle.regress_program.specs.declared.ranges.GroupRange.{GroupRange}
 use Rattle.regress_program.specs.Program.{Op, unsets, end_group, look, Routine}

@@ -1,6 +1,6 @@
 -- Tidy programs: a lookaround that captures begins with its groups unset, since each iteration of a loop around it
 -- unsets them.
-use Rattle.std.specs.Prelude.{◌≡◌, if◌then◌else◌, ℕ, ◌+◌, ◌≤◌, ◌<◌, ◌==◌, Bool, true, false, not, ◌&&◌, ◌||◌, min, max, nat_le, nat_lt, List, [], ◌∷◌, slice_index_or, Option, Some, None}
+use Rattle.std.specs.Prelude.{if◌then◌else◌, ℕ, ◌+◌, ◌≤◌, ◌<◌, ◌==◌, Bool, true, false, not, ◌&&◌, ◌||◌, min, max, nat_le, nat_lt, List, [], ◌∷◌, slice_index_or, Option, Some, None}
 use Rattle.std.specs.List.{list_all, list_any}
 use Rattle.regress_tree.specs.Reading.{Direction, forwards, backwards}
 use Rattle.regress_program.specs.declared.ranges.GroupRange.{GroupRange}

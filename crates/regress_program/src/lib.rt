@@ -16,6 +16,7 @@ mod filled;
 mod first;
 pub mod found;
 pub mod groups;
+mod inner;
 pub mod instruction;
 mod leftmost;
 mod linear;

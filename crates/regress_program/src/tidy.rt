@@ -7,7 +7,9 @@ ghost use Rattle.regress_program.specs.Ranges.{ranges_of};
 ghost use Rattle.regress_program.specs.Tidy.{all_kept, begins_unset, claim_after, claim_at, claims_from, followers, includes, is_capturing_look, is_kept, is_tidy, is_tidy_code};
 ghost use Rattle.regress_program.specs.Views.{op_of, ops_of, program_of};
 
-use crate::claims::{before_groups, common, continues, first_claim, includes, is_claimed, with_groups, without};
+use crate::claims::{
+    before_groups, common, continues, first_claim, includes, is_claimed, with_groups, without,
+};
 use crate::instruction::{Instruction, Routine};
 use crate::ranges::{GroupRange, changed_by};
 use std::alloc::{AllocError, Global};

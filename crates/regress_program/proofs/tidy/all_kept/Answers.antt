@@ -1,7 +1,7 @@
-use Rattle.std.proofs.Common.{◌≡◌, ◌+◌, ◌∷◌, drop, get_or, arith, refl, sym, ◌∙◌}
+use Rattle.std.proofs.Common.{◌+◌, get_or, arith, refl, sym, ◌∙◌}
 use Rattle.std.proofs.lemmas.List.{drop_more}
 use Rattle.regress_tree.specs.Reading.{direction_if}
-use Rattle.regress_program.specs.Tidy.{all_kept, is_kept}
+use Rattle.regress_program.specs.Tidy.{all_kept}
 use Rattle.regress_program.specs.Views.{op_of, ops_of}
 use Rattle.regress_program.proofs.RangeLemmas.{drop_map-at}
 use Rattle.regress_program.proofs.TidyLemmas.{kept-now, kept-later}

@@ -1,4 +1,3 @@
-use Rattle.std.proofs.Common.{◌≡◌}
 use Rattle.regress_tree.specs.Reading.{direction_if}
 use Rattle.regress_program.specs.Views.{ops_of}
 use Rattle.regress_program.proofs.TidyLemmas.{Claimed}

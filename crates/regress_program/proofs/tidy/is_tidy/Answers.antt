@@ -1,5 +1,4 @@
-use Rattle.std.proofs.Common.{◌≡◌, ◌+◌, refl, ap, sym, ◌∙◌}
-use Rattle.std.specs.List.{list_all}
+use Rattle.std.proofs.Common.{◌+◌, refl, ap, sym, ◌∙◌}
 use Rattle.regress_tree.specs.Reading.{direction_if}
 use Rattle.regress_program.specs.Tidy.{is_tidy, is_tidy_code, is_tidy_routine}
 use Rattle.regress_program.specs.Views.{ops_of, program_of, routine_of}
