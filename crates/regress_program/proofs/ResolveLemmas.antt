@@ -1,5 +1,5 @@
 -- Slots that are replaced by what they stand for.
-use Rattle.std.proofs.Common.{◌≡◌, ℕ, zero, suc, ◌+◌, ◌*◌, ◌≤◌, ◌<◌, ◌⊎◌, List, [], ◌∷◌, length, replicate, slice_get, slice_index_or, Option, Some, None, refl, sym, ap, ap₂, ◌∙◌, subst, inl, inr, arith}
+use Rattle.std.proofs.Common.{◌≡◌, ℕ, zero, suc, ◌+◌, ◌*◌, ◌≤◌, ◌<◌, ◌⊎◌, List, [], ◌∷◌, length, replicate, slice_get, take, slice_index_or, Option, Some, None, refl, sym, ap, ap₂, ◌∙◌, subst, inl, inr, arith}
 use Rattle.std.proofs.lemmas.Bool.{cases_eq}
 use Rattle.std.proofs.lemmas.Option.{slice_get_within}
 use Rattle.regress_tree.specs.Steps.{CaptureSpan}
@@ -7,10 +7,12 @@ use Rattle.regress_program.specs.declared.first.FirstOutcome.{FirstOutcome}
 use Rattle.regress_program.specs.declared.filled.Filled.{Filled}
 use Rattle.regress_program.specs.declared.slots.Slot.{Slot}
 use Rattle.regress_program.specs.declared.slots.Slot.TheVariants as slots
+use Rattle.regress_program.specs.Compiled.{total}
 use Rattle.regress_program.specs.Isolated.{capture_at, first_captures}
-use Rattle.regress_program.specs.Program.{Out}
-use Rattle.regress_program.specs.Searchable.{AreFound, AreResolved, AreTaken, IsEnd, IsFirst, Solves, captures_in, outcomes_in}
+use Rattle.regress_program.specs.Program.{Out, Routine}
+use Rattle.regress_program.specs.Searchable.{AreFound, AreResolved, AreTaken, IsEnd, IsFirst, Solves, captures_in, outcomes_in, width_at}
 use Rattle.regress_program.specs.Slots.{AreInside, resolved, resolved_from, value}
+use Rattle.regress_program.proofs.FillLemmas.{total-more}
 
 module _ (capture_of : (routine position id : ℕ) → Option CaptureSpan) where
   resolved_from-same : (k : ℕ) (a b : List Slot) → length a ≡ length b →
@@ -227,3 +229,16 @@ resolved-trans f r r' a b c one two = record {
 
 pub resolved-none : (f : Filled) (r : ℕ) (a : List Slot) → AreInside r (length f.input.text.now) f.inner a → AreResolved f r a a
 resolved-none f r a inside = record { count = refl; inside = inside; same = λ outs solves. refl }
+
+-- one routine more
+pub total_next : (program : List Routine) (i : ℕ) → i < length program → total (take (i + 1) program) ≡ total (take i program) + width_at program i
+total_next program i lt =
+    let r = get-some program i lt in
+    total-more program i r.0 r.1 ∙ ap (λ o. total (take i program) + width o) (sym r.1)
+  where
+    width : Option Routine → ℕ
+    width None = 0
+    width (Some r) = length r.ops
+
+pub steps_next : (t w inner m : ℕ) → 2 * (t + w) * inner * m ≡ 2 * t * inner * m + 2 * w * inner * m
+steps_next t w inner m = grind arith
