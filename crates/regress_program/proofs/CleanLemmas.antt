@@ -14,7 +14,7 @@ use Rattle.regress_program.specs.Program.{Op, accept, fail, part, split, begin_l
 use Rattle.regress_program.specs.Ranges.{IsIn, changed_by, is_empty, no_groups, ranges_of, captured_by, captured_by_all, captured_in, inner_groups}
 use Rattle.regress_program.specs.Slots.{AreInside, IsClean, resolved}
 use Rattle.regress_program.specs.Tidy.{IsClaimed, all_kept, begins_unset, claim_after, claims_from, continues, followers, includes, is_capturing_look, is_claimed, is_kept, is_tidy, is_tidy_routine, with_groups, without}
-use Rattle.regress_program.specs.Walked.{SlotsSet, UnsetSlots}
+use Rattle.regress_program.specs.Walked.{OneSpan, SetInside, SlotsSet, UnsetSlots}
 use Rattle.regress_program.proofs.LinearLemmas.{list_all-get, any-at}
 use Rattle.regress_program.proofs.SlotLemmas.{cases_in, resolved-at, value_at}
 
@@ -272,3 +272,24 @@ look-inner program i r pc negate j next id is here within =
       captured-op ranges r.ops pc (look negate j next) here,
       captured-routine ranges program i r is,
     )
+
+pub look-inside : (program : List Routine) (i : ℕ) (r : Routine) (pc routines n inner : ℕ) (negate : Bool) (j next position : ℕ) (before after : List Slot) →
+    slice_get program i ≡ Some r → slice_get r.ops pc ≡ Some (look negate j next) →
+    SetInside (changed_by (ranges_of program) (look negate j next)) j position before after → j < routines → position ≤ n → inner_groups program ≤ inner →
+    AreInside routines n inner before → AreInside routines n inner after
+look-inside program i r pc routines n inner negate j next position before after is here set earlier within most =
+    inside-set routines n inner (changed_by (ranges_of program) (look negate j next)) (slots.Inside j position) before after set
+    (λ id routine p inside same.
+    let e : j ≡ routine = cc in
+    let e' : position ≡ p = cc in
+    (omega (arith, e, earlier), omega (arith, e', within), omega (arith, most, look-inner program i r pc negate j next id is here inside)))
+
+pub unset-inside : (routines n inner start end : ℕ) (before after : List Slot) → UnsetSlots start end before after →
+    AreInside routines n inner before → AreInside routines n inner after
+unset-inside routines n inner start end before after set =
+    inside-set routines n inner (record { start = start; end = end }) slots.Unset before after set (λ id routine p within same. cc)
+
+pub span-inside : (routines n inner id : ℕ) (before after : List Slot) → OneSpan id before after →
+    AreInside routines n inner before → AreInside routines n inner after
+span-inside routines n inner id before after one =
+    inside-set routines n inner (record { start = id; end = id + 1 }) (slots.Span one.from one.to) before after one.set (λ id' routine p within same. cc)

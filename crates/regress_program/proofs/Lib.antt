@@ -11,6 +11,8 @@ mod CompileLemmas
 mod EvaluateLemmas
 mod FillLemmas
 mod FlowLemmas
+mod FollowLemmas
+mod IsolatedGiven
 mod KeepLemmas
 mod LinearLemmas
 mod LocalLemmas

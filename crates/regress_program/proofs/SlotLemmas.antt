@@ -1,5 +1,5 @@
 -- What a walk knows of captures, slot by slot.
-use Rattle.std.proofs.Common.{◌≡◌, ℕ, zero, suc, ◌+◌, ◌≤◌, ◌<◌, ◌⊎◌, inl, inr, min, Bool, true, false, ◌&&◌, List, [], ◌∷◌, ◌++◌, length, take, set, slice_get, Option, Some, None, refl, sym, ap, ap₂, ◌∙◌, arith, nat_le, nat_lt, if◌then◌else◌}
+use Rattle.std.proofs.Common.{◌≡◌, ℕ, zero, suc, ◌+◌, ◌≤◌, ◌<◌, ◌⊎◌, inl, inr, min, Bool, true, false, ◌&&◌, List, [], ◌∷◌, ◌++◌, length, replicate, take, set, slice_get, Option, Some, None, refl, sym, ap, ap₂, ◌∙◌, arith, nat_le, nat_lt, if◌then◌else◌}
 use Rattle.std.proofs.lemmas.Bool.{cases_eq, cases_lt}
 use Rattle.std.proofs.lemmas.List.{ext_get_or, length-set}
 use Rattle.regress_tree.specs.Repetition.{unset_from}
@@ -7,10 +7,10 @@ use Rattle.regress_tree.specs.Steps.{CaptureSpan}
 use Rattle.regress_program.specs.declared.ranges.GroupRange.{GroupRange}
 use Rattle.regress_program.specs.declared.slots.Slot.{Slot}
 use Rattle.regress_program.specs.declared.slots.Slot.TheVariants as slots
-use Rattle.regress_program.specs.Isolated.{Captures, capture_at}
-use Rattle.regress_program.specs.Ranges.{IsIn}
+use Rattle.regress_program.specs.Isolated.{Captures, IsReplaced, capture_at}
+use Rattle.regress_program.specs.Ranges.{IsIn, no_groups}
 use Rattle.regress_program.specs.Slots.{AreInside, value, resolved_from, resolved}
-use Rattle.regress_program.specs.Walked.{SlotsSet, UnsetSlots, OneSpan}
+use Rattle.regress_program.specs.Walked.{OneSpan, SetInside, SlotsSet, UnsetSlots}
 
 -- An id is in a range or not.
 pub cases_in : (range : GroupRange) (id : ℕ) → IsIn range id ⊎ (IsIn range id → ⊥)
@@ -200,3 +200,31 @@ module _ (capture_of : (routine position id : ℕ) → Option CaptureSpan) where
       by id lt (inr out) =
           ap (value_at capture_of id) (set.outside id out) ∙ sym (resolved-at id before)
           ∙ sym (unset-out 0 start end id (resolved capture_of before) (λ is. out (omega (arith, is.0), omega (arith, is.1))))
+
+  -- no group set
+  pub resolved-same : (before after : List Slot) {slot : Slot} → SlotsSet no_groups slot before after → resolved capture_of after ≡ resolved capture_of before
+  resolved-same before after set =
+      same_captures (resolved capture_of after) (resolved capture_of before)
+      (length-resolved after ∙ set.count ∙ sym (length-resolved before))
+      (λ id lt. resolved-at id after ∙ ap (value_at capture_of id) (set.outside id (λ is. omega (arith, is.1))) ∙ sym (resolved-at id before))
+
+  -- The captures that a routine sets, from a position, are those that its first outcome has.
+  pub resolved-replaced : (range : GroupRange) (first : Captures) (routine position : ℕ) (before after : List Slot) (captures : Captures) →
+      IsReplaced range first (resolved capture_of before) captures → SetInside range routine position before after →
+      ((id : ℕ) → capture_at first id ≡ capture_of routine position id) → captures ≡ resolved capture_of after
+  resolved-replaced range first routine position before after captures replaced set is =
+      same_captures captures (resolved capture_of after)
+      (replaced.count ∙ length-resolved before ∙ sym set.count ∙ sym (length-resolved after))
+      (λ id lt. by id (omega (arith, lt, replaced.count, length-resolved before)) (cases_in range id) ∙ sym (resolved-at id after))
+    where
+      by : (id : ℕ) → id < length before → IsIn range id ⊎ (IsIn range id → ⊥) → capture_at captures id ≡ value_at capture_of id (slice_get after id)
+      by id lt (inl within) = replaced.inside id within ∙ is id ∙ sym (ap (value_at capture_of id) (set.inside id lt within))
+      by id lt (inr out) = replaced.outside id out ∙ resolved-at id before ∙ ap (value_at capture_of id) (sym (set.outside id out))
+
+  none_from : (k n : ℕ) → resolved_from capture_of k (replicate n slots.Unset) ≡ replicate n None
+  none_from k zero = refl
+  none_from k (suc n) = ap (λ xs. None ∷ xs) (none_from (k + 1) n)
+
+  -- every group unset
+  pub resolved-none : (n : ℕ) → resolved capture_of (replicate n slots.Unset) ≡ replicate n None
+  resolved-none n = none_from 0 n

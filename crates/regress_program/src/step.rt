@@ -14,7 +14,7 @@ ghost use Rattle.regress_program.specs.Walked.{CanWalk, Leads, StepsAt, at_of, p
 
 use crate::evaluate::{Input, leaf_end};
 use crate::instruction::Instruction;
-use crate::ranges::{GroupRange, NO_GROUPS};
+use crate::ranges::{GroupRange, changed_by};
 use crate::table::Table;
 use crate::walker::Walker;
 use regress_leaves::leaves::all_of;
@@ -88,12 +88,8 @@ pub(crate) fn step(
         Instruction::BeginGroup { next } => walker.begin_group(next)?,
         Instruction::EndGroup { id, next } => walker.end_group(id, next),
         // It holds: otherwise there would be no outcome.
-        Instruction::Look {
-            negate,
-            routine,
-            next,
-        } => {
-            let range = if negate { NO_GROUPS } else { ranges[routine] };
+        Instruction::Look { routine, next, .. } => {
+            let range = changed_by(ranges, &instruction);
             walker.pass(routine, range, next);
         }
     }

@@ -1,6 +1,6 @@
 use Rattle.std.proofs.Common.{◌≡◌, ◌++◌, [], ◌∷◌, get_or, slice_get, Some, ap, ap₂, sym, ◌∙◌, arith}
 use Rattle.std.proofs.lemmas.Option.{slice_get-get_or}
-use Rattle.regress_program.specs.declared.slots.Slot.TheVariants.{Inside, Unset}
+use Rattle.regress_program.specs.declared.slots.Slot.TheVariants.{Unset}
 use Rattle.regress_program.specs.Slots.{value}
 use Rattle.regress_program.proofs.SlotLemmas.{resolved-more}
 use Rattle.regress_program.proofs.slots.captures_of.Goals as goal
