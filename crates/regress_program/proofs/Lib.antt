@@ -10,6 +10,7 @@ mod CodeLemmas
 mod CompileLemmas
 mod EvaluateLemmas
 mod FillLemmas
+mod FirstLemmas
 mod FlowLemmas
 mod KeepLemmas
 mod LinearLemmas

@@ -1,5 +1,5 @@
 -- What a walk knows of captures, slot by slot.
-use Rattle.std.proofs.Common.{◌≡◌, ℕ, zero, suc, ◌+◌, ◌≤◌, ◌<◌, ◌⊎◌, inl, inr, min, Bool, true, false, ◌&&◌, List, [], ◌∷◌, ◌++◌, length, take, set, slice_get, Option, Some, None, refl, sym, ap, ap₂, ◌∙◌, arith, nat_le, nat_lt, if◌then◌else◌}
+use Rattle.std.proofs.Common.{◌≡◌, ℕ, zero, suc, ◌+◌, ◌≤◌, ◌<◌, ◌⊎◌, inl, inr, min, Bool, true, false, ◌&&◌, List, [], ◌∷◌, ◌++◌, length, replicate, take, set, slice_get, Option, Some, None, refl, sym, ap, ap₂, ◌∙◌, arith, nat_le, nat_lt, if◌then◌else◌}
 use Rattle.std.proofs.lemmas.Bool.{cases_eq, cases_lt}
 use Rattle.std.proofs.lemmas.List.{ext_get_or, length-set}
 use Rattle.regress_tree.specs.Repetition.{unset_from}
@@ -200,3 +200,11 @@ module _ (capture_of : (routine position id : ℕ) → Option CaptureSpan) where
       by id lt (inr out) =
           ap (value_at capture_of id) (set.outside id out) ∙ sym (resolved-at id before)
           ∙ sym (unset-out 0 start end id (resolved capture_of before) (λ is. out (omega (arith, is.0), omega (arith, is.1))))
+
+  none_from : (k n : ℕ) → resolved_from capture_of k (replicate n slots.Unset) ≡ replicate n None
+  none_from k zero = refl
+  none_from k (suc n) = ap (λ xs. None ∷ xs) (none_from (k + 1) n)
+
+  -- every group unset
+  pub resolved-none : (n : ℕ) → resolved capture_of (replicate n slots.Unset) ≡ replicate n None
+  resolved-none n = none_from 0 n

@@ -8,11 +8,12 @@ use Rattle.regress_tree.specs.Lookaround.{looked, lookaround_matcher}
 use Rattle.regress_tree.specs.Matching.{steps}
 use Rattle.regress_tree.specs.Reading.{Direction, direction_if}
 use Rattle.regress_tree.specs.Setting.{Setting}
-use Rattle.regress_tree.specs.Steps.{MatchState}
+use Rattle.regress_tree.specs.Steps.{CaptureSpan, MatchState}
 use Rattle.regress_tree.specs.Tree.{Tree}
 use Rattle.regress_leaves.specs.Leaves.{put}
 use Rattle.regress_program.specs.declared.table.Table.{Table}
 use Rattle.regress_program.specs.declared.evaluate.Input.{Input}
+use Rattle.regress_program.specs.declared.slots.Slot.TheVariants as slots
 use Rattle.regress_program.specs.Evaluated.{CanFill}
 use Rattle.regress_program.specs.declared.walker.Walker.{Walker}
 use Rattle.regress_program.specs.Found.{no_groups, NoneBefore}
@@ -20,13 +21,16 @@ use Rattle.regress_program.specs.Below.{Below}
 use Rattle.regress_program.specs.Program.{Out, At, Routine, Op, accept, look, goto, enter, reach, either, ended, outcomes_by, outcomes_at, matcher_of, start, IsSolution}
 use Rattle.regress_program.specs.Linear.{is_linear, is_linear_op}
 use Rattle.regress_program.specs.Shape.{Fits, IsProgram}
+use Rattle.regress_program.specs.Slots.{resolved}
 use Rattle.regress_program.specs.Stays.{IsOnward}
 use Rattle.regress_program.specs.Table.{has_outcome, cell, IsFull, IsRight}
 use Rattle.regress_program.specs.declared.instruction.Instruction.{Instruction}
 use Rattle.regress_program.specs.declared.instruction.Instruction.TheVariants as insts
+use Rattle.regress_program.specs.Tidy.{has_no_back_reference}
 use Rattle.regress_program.specs.Views.{op_of, program_of}
 use Rattle.regress_program.specs.Walked.{iterates, chosen, alternative, at_of, CanWalk, Leads}
-use Rattle.regress_program.proofs.LinearLemmas.{linear-at, linear-look}
+use Rattle.regress_program.proofs.LinearLemmas.{linear-look, no_reference-at}
+use Rattle.regress_program.proofs.SlotLemmas.{resolved-none}
 use Rattle.regress_program.proofs.lemmas.Onward.{Stays-tree}
 use Rattle.regress_program.proofs.BelowLemmas.{below-here, below-enter, below-again, below-reach, reach-moved}
 use Rattle.regress_program.proofs.KeepLemmas.{look-keeps}
@@ -82,6 +86,16 @@ module _ (t : Table) (a : At) (pc_in : a.pc < t.width) (within : a.state.positio
 has-none : (xs : List MatchState) → has_outcome xs ≡ false → xs ≡ []
 has-none [] is = refl
 has-none (x ∷ xs) is = cc
+
+-- the same place, part by part
+at-same : (a b : At) → a.pc ≡ b.pc → a.moved ≡ b.moved → a.state.position ≡ b.state.position → a.state.captures ≡ b.state.captures →
+    a.begins ≡ b.begins → a ≡ b
+at-same a b pc moved position captures begins =
+    ap (λ x. record { pc = x; moved = a.moved; state = a.state; begins = a.begins }) pc
+    ∙ ap (λ x. record { pc = b.pc; moved = x; state = a.state; begins = a.begins }) moved
+    ∙ ap (λ x. record { pc = b.pc; moved = b.moved; state = record { position = x; captures = a.state.captures }; begins = a.begins }) position
+    ∙ ap (λ x. record { pc = b.pc; moved = b.moved; state = record { position = b.state.position; captures = x }; begins = a.begins }) captures
+    ∙ ap (λ x. record { pc = b.pc; moved = b.moved; state = b.state; begins = x }) begins
 
 module _ (out : Out) where
   pub lead-one : (states : List MatchState) (b : At) → states ≡ out b → has_outcome states ≡ true → Leads states out b
@@ -189,30 +203,28 @@ solved-by setting bytes program outs i r op d a solution is_r is_op lt is_d with
     solution i r is_r a (omega arith) lt within
     ∙ ap₂ (λ x o. outcomes_at setting bytes x (matcher_of setting bytes program outs) (outs i) o a) is_d is_op
 
-pub can_walk : (input : Input) (r : Routine) (t : Table) (op : Op) (a : At) → IsProgram (program_of input.routines.now) → is_linear (program_of input.routines.now) ≡ true →
-    CanFill input r t → a.pc < t.width →
+pub can_walk : (input : Input) (r : Routine) (t : Table) (op : Op) (a : At) → IsProgram (program_of input.routines.now) →
+    has_no_back_reference (program_of input.routines.now) ≡ true → CanFill input r t → a.pc < t.width →
     a.state.position ≤ t.length → slice_get r.ops a.pc ≡ Some op → CanWalk input t op a
-can_walk input r t op a program linear can pc_in within is = record {
+can_walk input r t op a program none can pc_in within is = record {
   pc = pc_in;
   position = within;
   fits = subst (λ w. Fits (take (length input.tables.now) (program_of input.routines.now)) w a.pc op) (sym can.of.width)
       ((program _ r can.is).fit a.pc op (omega arith) (omega (arith, pc_in, can.of.width)) is);
-  linear = linear-at (program_of input.routines.now) _ r a.pc op linear can.is is;
+  no_reference = no_reference-at (program_of input.routines.now) _ r a.pc op none can.is is;
   length = can.of.text;
   backwards = can.backwards;
 }
 
 -- a walk begins at the entry of its routine, with every group unset
-pub walk-begins : (setting : Setting) (bytes : List ℕ) (program : List Routine) (outs : ℕ → Out) (i n p : ℕ) (r : Routine) (w : Walker) →
-    slice_get program i ≡ Some r → w.pc ≡ r.entry → w.moved ≡ true → w.position ≡ p → w.captures.items ≡ replicate n None → w.begins.items ≡ [] →
-    matcher_of setting bytes program outs i (no_groups n p) ≡ outs i (at_of w)
-walk-begins setting bytes program outs i n p r w is pc moved position captures begins =
+pub walk-begins : (setting : Setting) (bytes : List ℕ) (program : List Routine) (outs : ℕ → Out) (i n p : ℕ) (r : Routine) (w : Walker)
+    (capture_of : (routine position id : ℕ) → Option CaptureSpan) → slice_get program i ≡ Some r → w.pc ≡ r.entry → w.moved ≡ true → w.position ≡ p →
+    w.slots.items ≡ replicate n slots.Unset → w.begins.items ≡ [] → matcher_of setting bytes program outs i (no_groups n p) ≡ outs i (at_of capture_of w)
+walk-begins setting bytes program outs i n p r w capture_of is pc moved position unset begins =
     ap (λ o. outs i (start setting bytes o (no_groups n p))) is
-    ∙ sym (ap (λ x. outs i (record { pc = x; moved = w.moved; state = (at_of w).state; begins = (at_of w).begins })) pc
-    ∙ ap (λ x. outs i (record { pc = r.entry; moved = x; state = (at_of w).state; begins = (at_of w).begins })) moved
-    ∙ ap (λ x. outs i (record { pc = r.entry; moved = true; state = record { position = x; captures = w.captures.items }; begins = (at_of w).begins })) position
-    ∙ ap (λ x. outs i (record { pc = r.entry; moved = true; state = record { position = p; captures = x }; begins = (at_of w).begins })) captures
-    ∙ ap (λ x. outs i (record { pc = r.entry; moved = true; state = no_groups n p; begins = reverse x })) begins)
+    ∙ ap (outs i)
+    (at-same (start setting bytes (Some r) (no_groups n p)) (at_of capture_of w) (sym pc) (sym moved) (sym position)
+    (sym (resolved-none capture_of n) ∙ ap (resolved capture_of) (sym unset)) (ap reverse (sym begins)))
 
 -- A position whose bit is not set has no outcome.
 pub entry-none : (setting : Setting) (bytes : List ℕ) (program : List Routine) (outs : ℕ → Out) (i n p : ℕ) (r : Routine) (t : Table) →
