@@ -10,9 +10,9 @@ mod CodeLemmas
 mod CompileLemmas
 mod EvaluateLemmas
 mod FillLemmas
+mod FirstLemmas
 mod FlowLemmas
 mod FollowLemmas
-mod IsolatedGiven
 mod KeepLemmas
 mod LinearLemmas
 mod LocalLemmas

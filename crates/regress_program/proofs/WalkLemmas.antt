@@ -32,10 +32,10 @@ use Rattle.regress_program.specs.Stays.{IsOnward}
 use Rattle.regress_program.specs.Table.{has_outcome, cell, IsFull, IsRight}
 use Rattle.regress_program.specs.declared.instruction.Instruction.{Instruction}
 use Rattle.regress_program.specs.declared.instruction.Instruction.TheVariants as insts
-use Rattle.regress_program.specs.Views.{op_of, program_of}
 use Rattle.regress_program.specs.Tidy.{has_no_back_reference}
+use Rattle.regress_program.specs.Views.{op_of, program_of}
 use Rattle.regress_program.specs.Walked.{iterates, chosen, alternative, at_of, CanWalk, Leads, SetInside}
-use Rattle.regress_program.proofs.IsolatedGiven.{isolated}
+use Rattle.regress_program.proofs.AgreementLemmas.{isolated}
 use Rattle.regress_program.proofs.LinearLemmas.{no_reference-at}
 use Rattle.regress_program.proofs.SlotLemmas.{length-resolved, resolved-none, resolved-replaced, resolved-same}
 use Rattle.regress_program.proofs.lemmas.Onward.{Stays-tree}
@@ -118,6 +118,16 @@ at-same a b pc moved position captures begins =
 has-none : (xs : List MatchState) → has_outcome xs ≡ false → xs ≡ []
 has-none [] is = refl
 has-none (x ∷ xs) is = cc
+
+-- the same place, part by part
+at-same : (a b : At) → a.pc ≡ b.pc → a.moved ≡ b.moved → a.state.position ≡ b.state.position → a.state.captures ≡ b.state.captures →
+    a.begins ≡ b.begins → a ≡ b
+at-same a b pc moved position captures begins =
+    ap (λ x. record { pc = x; moved = a.moved; state = a.state; begins = a.begins }) pc
+    ∙ ap (λ x. record { pc = b.pc; moved = x; state = a.state; begins = a.begins }) moved
+    ∙ ap (λ x. record { pc = b.pc; moved = b.moved; state = record { position = x; captures = a.state.captures }; begins = a.begins }) position
+    ∙ ap (λ x. record { pc = b.pc; moved = b.moved; state = record { position = b.state.position; captures = x }; begins = a.begins }) captures
+    ∙ ap (λ x. record { pc = b.pc; moved = b.moved; state = b.state; begins = x }) begins
 
 module _ (out : Out) where
   pub lead-one : (states : List MatchState) (b : At) → states ≡ out b → has_outcome states ≡ true → Leads states out b
