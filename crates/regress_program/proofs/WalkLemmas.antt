@@ -119,16 +119,6 @@ has-none : (xs : List MatchState) → has_outcome xs ≡ false → xs ≡ []
 has-none [] is = refl
 has-none (x ∷ xs) is = cc
 
--- the same place, part by part
-at-same : (a b : At) → a.pc ≡ b.pc → a.moved ≡ b.moved → a.state.position ≡ b.state.position → a.state.captures ≡ b.state.captures →
-    a.begins ≡ b.begins → a ≡ b
-at-same a b pc moved position captures begins =
-    ap (λ x. record { pc = x; moved = a.moved; state = a.state; begins = a.begins }) pc
-    ∙ ap (λ x. record { pc = b.pc; moved = x; state = a.state; begins = a.begins }) moved
-    ∙ ap (λ x. record { pc = b.pc; moved = b.moved; state = record { position = x; captures = a.state.captures }; begins = a.begins }) position
-    ∙ ap (λ x. record { pc = b.pc; moved = b.moved; state = record { position = b.state.position; captures = x }; begins = a.begins }) captures
-    ∙ ap (λ x. record { pc = b.pc; moved = b.moved; state = b.state; begins = x }) begins
-
 module _ (out : Out) where
   pub lead-one : (states : List MatchState) (b : At) → states ≡ out b → has_outcome states ≡ true → Leads states out b
   lead-one states b is some = record { rest = []; first = is ∙ sym (append-nil (out b)); some = ap has_outcome (sym is) ∙ some }
