@@ -1,5 +1,6 @@
 -- Slots that are replaced by what they stand for.
-use Rattle.std.proofs.Common.{◌≡◌, ℕ, zero, suc, ◌+◌, ◌*◌, ◌≤◌, ◌<◌, ◌⊎◌, List, [], ◌∷◌, length, replicate, slice_get, take, slice_index_or, Option, Some, None, refl, sym, ap, ap₂, ◌∙◌, subst, inl, inr, arith}
+use Rattle.std.proofs.Common.{◌≡◌, ℕ, zero, suc, ◌+◌, ◌-◌, ◌*◌, ◌≤◌, ◌<◌, ◌⊎◌, List, [], ◌∷◌, length, replicate, slice_get, take, slice_index_or, Option, Some, None, refl, sym, ap, ap₂, ◌∙◌, subst, inl, inr, arith}
+use Rattle.std.proofs.Math.Nat.{mul-le-mul, mul-le-mul_right}
 use Rattle.std.proofs.lemmas.Bool.{cases_eq}
 use Rattle.std.proofs.lemmas.Option.{slice_get_within}
 use Rattle.regress_tree.specs.Steps.{CaptureSpan}
@@ -95,7 +96,7 @@ is-inside (slots.Inside r' q') r q =
     position_in (slots.Span a b) = 0
     position_in (slots.Inside r q) = q
 
-get-some : {X : Type 0} (xs : List X) (i : ℕ) → i < length xs → (x : X) × (slice_get xs i ≡ Some x)
+pub get-some : {X : Type 0} (xs : List X) (i : ℕ) → i < length xs → (x : X) × (slice_get xs i ≡ Some x)
 get-some [] i lt = absurd (omega (arith, lt))
 get-some (x ∷ xs) zero lt = (x, refl)
 get-some (x ∷ xs) (suc i) lt = get-some xs i (omega (arith, lt))
@@ -242,3 +243,22 @@ total_next program i lt =
 
 pub steps_next : (t w inner m : ℕ) → 2 * (t + w) * inner * m ≡ 2 * t * inner * m + 2 * w * inner * m
 steps_next t w inner m = grind arith
+
+-- The first routines have at most as many instructions as all.
+pub total_part : (program : List Routine) (i : ℕ) → total (take i program) ≤ total program
+total_part [] zero = omega arith
+total_part [] (suc i) = omega arith
+total_part (r ∷ rs) zero = omega arith
+total_part (r ∷ rs) (suc i) = omega (arith, total_part rs i)
+
+-- the positions that are tried, the walk, and the steps of finding what lookarounds capture
+pub leftmost_steps : (w whole part inner m start' end from s t u end' : ℕ) → w ≤ whole → part ≤ whole → start' ≤ end → from ≤ start' → s ≤ start' - from →
+    t ≤ s + 1 + 2 * w * (end + 1 - start') → u ≤ t + 2 * part * inner * m → end' ≡ end →
+    u ≤ (2 * whole + 1) * (end' + 1 - from) + 2 * whole * inner * m
+leftmost_steps w whole part inner m start' end from s t u end' few fewer on low before walk more same =
+    let d = end + 1 - start' in
+    let all = end' + 1 - from in
+    let walk' : 2 * w * d ≤ 2 * whole * all = mul-le-mul (let h : 2 * w ≤ 2 * whole = omega (arith, few) in h) (let h : d ≤ all = omega (arith, on, low, same) in h) in
+    let more' : 2 * part * inner * m ≤ 2 * whole * inner * m = mul-le-mul_right m (mul-le-mul_right inner (let h : 2 * part ≤ 2 * whole = omega (arith, fewer) in h)) in
+    let one : (2 * whole + 1) * all ≡ 2 * whole * all + all = grind arith in
+    omega (arith, walk, walk', more, more', one, before, on, low, same)

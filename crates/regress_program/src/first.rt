@@ -41,7 +41,7 @@ pub(crate) fn first_outcome(
     ensures steps { IfOk result (λ _. steps.new ≤ steps.old + 2 * width_at (program_in filled.entry) index * (length filled.entry.input.text.now + 1)) }
     ensures none { IfOk result (λ first. first ≡ None → steps.new ≡ steps.old) }
     ensures forwards { IfOk result (λ first. IfSome first (λ o. (r : Code) → slice_get (program_in filled.entry) index ≡ Some r → r.direction ≡ forwards →
-        steps.new ≤ steps.old + 2 * length r.ops * (o.end + 1 - position))) }
+        (position ≤ o.end) × (steps.new ≤ steps.old + 2 * length r.ops * (o.end + 1 - position)))) }
 {
     let routine = &filled.input.routines[index];
     let table = &filled.input.tables[index];
