@@ -234,10 +234,10 @@ first-steps f index r t at position last s s' within more =
 pub first-forwards : (f : Filled) (index : ℕ) (r r' : Routine) (t : Table) → TableAt f index r t → slice_get (program_in f) index ≡ Some r' →
     r'.direction ≡ forwards → (position pc : ℕ) (moved : Bool) (end s s' : ℕ) → position ≤ length f.input.text.now → end ≤ t.length →
     index_of t pc moved end ≤ index_of t r.entry true position → s' + index_of t pc moved end ≤ s + index_of t r.entry true position + 1 →
-    s' ≤ s + 2 * length r'.ops * (end + 1 - position)
+    (position ≤ end) × (s' ≤ s + 2 * length r'.ops * (end + 1 - position))
 first-forwards f index r r' t at is forward position pc moved end s s' within inside falls more =
     let same : r ≡ r' = same_Some r r' (sym at.is ∙ is) in
     let way : t.backwards ≡ false = not_backwards t.backwards (at.of.direction ∙ ap (λ (x : Routine). x.direction) same ∙ forward) in
     let width : t.width ≡ length r'.ops = at.of.width ∙ ap (λ (x : Routine). length x.ops) same in
-    subst (λ w. s' ≤ s + 2 * w * (end + 1 - position)) width
-    (walk_steps t way r.entry pc moved position end s s' at.entry (omega (arith, within, at.of.text)) inside falls more)
+    let all = walk_steps t way r.entry pc moved position end s s' at.entry (omega (arith, within, at.of.text)) inside falls more in
+    (all.0, subst (λ w. s' ≤ s + 2 * w * (end + 1 - position)) width all.1)

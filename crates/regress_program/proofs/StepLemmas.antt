@@ -44,12 +44,12 @@ module _ (t : Table) (is : t.backwards ≡ false) where
   -- the steps of the walk
   pub walk_steps : (pc pc' : ℕ) (moved' : Bool) (start end s s' : ℕ) → pc < t.width → start ≤ t.length → end ≤ t.length →
       index t pc' moved' end ≤ index t pc true start → s' + index t pc' moved' end ≤ s + index t pc true start + 1 →
-      s' ≤ s + 2 * t.width * (end + 1 - start)
+      (start ≤ end) × (s' ≤ s + 2 * t.width * (end + 1 - start))
   walk_steps pc pc' moved' start end s s' lt in_start in_end falls more =
       let first = forward_place pc true start in
       let last = forward_place pc' moved' end in
       let on = onward t.width t.length pc pc' moved' start end lt in_start in_end (omega (arith, falls, first, last)) in
-      sum t.width t.length pc pc' moved' start end lt in_start in_end s s' on (omega (arith, more, first, last))
+      (on, sum t.width t.length pc pc' moved' start end lt in_start in_end s s' on (omega (arith, more, first, last)))
 
 -- A part has at most as many instructions as the whole.
 pub steps_of_part : (part whole : ℕ) (text : List ℕ) (origin : ℕ) (found : Option Match) → part ≤ whole →
@@ -57,14 +57,14 @@ pub steps_of_part : (part whole : ℕ) (text : List ℕ) (origin : ℕ) (found :
 steps_of_part part whole text origin None le = omega arith
 steps_of_part part whole text origin (Some m) le = mul-le-mul_right _ (let h : 2 * part + 1 ≤ 2 * whole + 1 = omega (arith, le) in h)
 
--- the steps of filling the tables and of one search
-pub fill_and_find : (instructions : ℕ) (text : List ℕ) (origin : ℕ) (found : Option Match) (fill find : ℕ) →
-    fill ≤ 2 * instructions * (length text + 1) → find ≤ steps_up_to instructions text origin found →
-    IfSome found (λ m. (state_of m).position ≤ length text) → find + fill ≤ (4 * instructions + 1) * (length text + 1)
-fill_and_find instructions text origin None fill find filled searched inside =
-    let sum : find + fill ≤ 2 * instructions * (length text + 1) + (length text + 1) = omega (arith, filled, searched) in
+-- the steps of filling the tables and of one search, which takes `more` for each character to find what lookarounds capture
+pub fill_and_find : (instructions more : ℕ) (text : List ℕ) (origin : ℕ) (found : Option Match) (fill find : ℕ) →
+    fill ≤ 2 * instructions * (length text + 1) → find ≤ steps_up_to instructions text origin found + more * (length text + 1) →
+    IfSome found (λ m. (state_of m).position ≤ length text) → find + fill ≤ (4 * instructions + 1 + more) * (length text + 1)
+fill_and_find instructions more text origin None fill find filled searched inside =
+    let sum : find + fill ≤ 2 * instructions * (length text + 1) + (length text + 1) + more * (length text + 1) = omega (arith, filled, searched) in
     omega (arith, sum)
-fill_and_find instructions text origin (Some m) fill find filled searched inside =
+fill_and_find instructions more text origin (Some m) fill find filled searched inside =
     let most = mul-le-mul_left (2 * instructions + 1) (let h : (state_of m).position + 1 - origin ≤ length text + 1 = omega (arith, inside) in h) in
     omega (arith, most, filled, searched)
 
