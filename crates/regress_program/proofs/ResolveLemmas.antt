@@ -1,5 +1,5 @@
 -- Slots that are replaced by what they stand for.
-use Rattle.std.proofs.Common.{◌≡◌, ℕ, zero, suc, ◌+◌, ◌-◌, ◌*◌, ◌≤◌, ◌<◌, ◌⊎◌, List, [], ◌∷◌, length, replicate, slice_get, take, slice_index_or, Option, Some, None, refl, sym, ap, ap₂, ◌∙◌, subst, inl, inr, arith}
+use Rattle.std.proofs.Common.{◌≡◌, ℕ, zero, suc, ◌+◌, ◌-◌, ◌*◌, ◌≤◌, ◌<◌, ◌⊎◌, List, [], ◌∷◌, length, replicate, slice_get, take, Option, Some, None, refl, sym, ap, ap₂, ◌∙◌, subst, inl, inr, arith}
 use Rattle.std.proofs.Math.Nat.{mul-le-mul, mul-le-mul_right}
 use Rattle.std.proofs.lemmas.Bool.{cases_eq}
 use Rattle.std.proofs.lemmas.Option.{slice_get_within}
@@ -11,7 +11,7 @@ use Rattle.regress_program.specs.declared.slots.Slot.TheVariants as slots
 use Rattle.regress_program.specs.Compiled.{total}
 use Rattle.regress_program.specs.Isolated.{capture_at, first_captures}
 use Rattle.regress_program.specs.Program.{Out, Routine}
-use Rattle.regress_program.specs.Searchable.{AreFound, AreResolved, AreTaken, IsEnd, IsFirst, Solves, captures_in, outcomes_in, width_at}
+use Rattle.regress_program.specs.Searchable.{AreFound, AreResolved, AreTaken, IsEnd, IsFirst, Solves, captures_in, width_at}
 use Rattle.regress_program.specs.Slots.{AreInside, resolved, resolved_from, value}
 use Rattle.regress_program.proofs.FillLemmas.{total-more}
 
@@ -115,12 +115,12 @@ taken_same f routine position found before after count is taken outs solves =
     by id s t at was =
         elim (is-inside t routine position) [
           | inl same ↦
-            let here = taken.taken id (was ∙ ap Some same) in
-            let value' = subst (λ m. value (captures_in f outs m) id s ≡ captures_in f outs m routine position id) count (is.captures outs solves id s (sym here ∙ at)) in
-            value' ∙ sym (ap (value of id) same)
+              let here = taken.taken id (was ∙ ap Some same) in
+              let value' = subst (λ m. value (captures_in f outs m) id s ≡ captures_in f outs m routine position id) count (is.captures outs solves id s (sym here ∙ at)) in
+              value' ∙ sym (ap (value of id) same)
           | inr other ↦
-            let kept = taken.kept id (λ e. let e' : Some t ≡ Some (slots.Inside routine position) = sym was ∙ e in let e'' : t ≡ slots.Inside routine position = cc in other e'') in
-            let s_t : Some s ≡ Some t = sym at ∙ kept ∙ was in let same : s ≡ t = cc in ap (value of id) same
+              let kept = taken.kept id (λ e. let e' : Some t ≡ Some (slots.Inside routine position) = sym was ∙ e in let e'' : t ≡ slots.Inside routine position = cc in other e'') in
+              let s_t : Some s ≡ Some t = sym at ∙ kept ∙ was in let same : s ≡ t = cc in ap (value of id) same
         ]
 
 -- Where the slots come from.
@@ -131,8 +131,8 @@ taken_from routine position found before after taken id s at =
     elim (is-inside was.0 routine position) [
       | inl same ↦ inl (sym (taken.taken id (was.1 ∙ ap Some same)) ∙ at)
       | inr other ↦
-        let kept = taken.kept id (λ e. let e' : Some was.0 ≡ Some (slots.Inside routine position) = sym was.1 ∙ e in let e'' : was.0 ≡ slots.Inside routine position = cc in other e'') in
-        inr (sym kept ∙ at, λ e. let e' : Some was.0 ≡ Some s = sym was.1 ∙ sym kept ∙ at in let e'' : was.0 ≡ slots.Inside routine position = let e3 : was.0 ≡ s = cc in e3 ∙ e in other e'')
+          let kept = taken.kept id (λ e. let e' : Some was.0 ≡ Some (slots.Inside routine position) = sym was.1 ∙ e in let e'' : was.0 ≡ slots.Inside routine position = cc in other e'') in
+          inr (sym kept ∙ at, λ e. let e' : Some was.0 ≡ Some s = sym was.1 ∙ sym kept ∙ at in let e'' : was.0 ≡ slots.Inside routine position = let e3 : was.0 ≡ s = cc in e3 ∙ e in other e'')
     ]
 
 pub taken_inside : (f : Filled) (routine position : ℕ) (found before after : List Slot) → AreFound f routine position found → AreTaken routine position found before after →
@@ -153,9 +153,9 @@ taken_below f routine position id found before after is taken set below j r q lt
       | inl here ↦ (is.inside j r q here).0
       | inr kept ↦ elim (cases_eq j id) [
         | inl same ↦
-          let e : Some (slots.Inside r q) ≡ Some (slots.Inside routine position) = sym kept.0 ∙ ap (slice_get before) same ∙ set in
-          let e' : slots.Inside r q ≡ slots.Inside routine position = cc in
-          absurd (kept.1 e')
+            let e : Some (slots.Inside r q) ≡ Some (slots.Inside routine position) = sym kept.0 ∙ ap (slice_get before) same ∙ set in
+            let e' : slots.Inside r q ≡ slots.Inside routine position = cc in
+            absurd (kept.1 e')
         | inr other ↦ below j r q (omega (arith, lt, other)) kept.0
       ]
     ]
@@ -190,11 +190,11 @@ module _ (f : Filled) (routine : ℕ) (start : List Slot) where
     below = λ j r q lt at.
         elim (cases_eq j id) [
           | inl same ↦
-            let at' : slice_get slots' id ≡ Some (slots.Inside r q) = ap (slice_get slots') (sym same) ∙ at in
-            elim (cases_eq r routine) [
-              | inl same' ↦ absurd (none q (at' ∙ ap (λ x. Some (slots.Inside x q)) same'))
-              | inr other ↦ omega (arith, (is.inside j r q at).0, other)
-            ]
+              let at' : slice_get slots' id ≡ Some (slots.Inside r q) = ap (slice_get slots') (sym same) ∙ at in
+              elim (cases_eq r routine) [
+                | inl same' ↦ absurd (none q (at' ∙ ap (λ x. Some (slots.Inside x q)) same'))
+                | inr other ↦ omega (arith, (is.inside j r q at).0, other)
+              ]
           | inr other ↦ is.below j r q (omega (arith, lt, other)) at
         ];
     same = is.same;

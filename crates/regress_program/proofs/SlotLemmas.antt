@@ -9,7 +9,7 @@ use Rattle.regress_program.specs.declared.slots.Slot.{Slot}
 use Rattle.regress_program.specs.declared.slots.Slot.TheVariants as slots
 use Rattle.regress_program.specs.Isolated.{Captures, IsReplaced, capture_at}
 use Rattle.regress_program.specs.Ranges.{IsIn, no_groups}
-use Rattle.regress_program.specs.Slots.{AreInside, value, resolved_from, resolved}
+use Rattle.regress_program.specs.Slots.{value, resolved_from, resolved}
 use Rattle.regress_program.specs.Walked.{OneSpan, SetInside, SlotsSet, UnsetSlots}
 
 -- An id is in a range or not.

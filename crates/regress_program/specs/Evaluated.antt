@@ -1,5 +1,5 @@
 -- What evaluating an instruction needs.
-use Rattle.std.specs.Prelude.{◌≡◌, ℕ, ◌==◌, Bool, false, true, not, ◌||◌, length, take, slice_get, Option, Some, None}
+use Rattle.std.specs.Prelude.{◌≡◌, ℕ, ◌==◌, Bool, false, not, ◌||◌, length, take, slice_get, Option, Some, None}
 use Rattle.regress_leaves.specs.Subject.{subject}
 use Rattle.regress_program.specs.declared.evaluate.Input.{Input}
 use Rattle.regress_program.specs.declared.table.Table.{Table}

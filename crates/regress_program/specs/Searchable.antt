@@ -1,5 +1,5 @@
 -- Searching by tables.
-use Rattle.std.specs.Prelude.{◌≡◌, ℕ, ◌+◌, ◌*◌, ◌≤◌, ◌<◌, true, List, [], ◌∷◌, length, slice_get, Option, Some, None}
+use Rattle.std.specs.Prelude.{◌≡◌, ℕ, ◌≤◌, true, List, [], ◌∷◌, length, slice_get, Option, Some, None}
 use Rattle.regress_leaves.specs.Subject.{Subject, subject}
 use Rattle.regress_tree.specs.Steps.{CaptureSpan, MatchState}
 use Rattle.regress_program.specs.declared.filled.Filled.{Filled}

@@ -38,8 +38,9 @@ pub(crate) fn find_leftmost(
     for start in from..filled.input.text.len() + 1 {
         steps += 1;
         if filled.input.text.is_char_boundary(start) {
-            if let Some(mut first) = first_outcome(alloc, filled, last, start, groups, &mut steps)?
-            {
+            if let Some(mut first) = first_outcome(
+                alloc, filled, last, start, groups, &mut steps,
+            )? {
                 resolve(alloc, filled, last, &mut first.slots, &mut steps)?;
                 let captures = captures_of(alloc, &first.slots)?;
                 return Ok(Search {

@@ -1,5 +1,5 @@
-//! Patterns compiled into instructions, and matched in time linear in the length of the text if no back reference and
-//! no capture in a lookaround prevents it.
+//! Patterns compiled into instructions, and matched in time linear in the length of the text if no back reference
+//! prevents it.
 #![tactic(auto)]
 
 mod bits;
@@ -28,7 +28,7 @@ mod ranges;
 mod resolve;
 mod routines;
 mod search;
-pub mod slots;
+mod slots;
 mod step;
 mod strings;
 mod table;

@@ -26,8 +26,8 @@ pub struct Linear<'n, 't> {
 impl<'n, 't> Program<'n, 't> {
     /// Returns the program as one that is searched by tables, each time in linear time.
     ///
-    /// The result is `None` if tables do not lead to its matches: if it has a back reference, or if a lookaround can begin
-    /// where its groups are set. No pattern that is parsed has such a lookaround.
+    /// The result is `None` if tables do not lead to its matches: if it has a back reference, or if a lookaround that
+    /// captures may begin where its groups are set. Programs of parsed patterns have no such lookaround, which is tested.
     ///
     /// # Complexity
     /// Linear in the number of instructions.

@@ -11,7 +11,7 @@ use crate::instruction::{Instruction, Routine};
 use crate::program::Program;
 use regress_tree::ir::Node;
 
-/// Why a search may take more than linear time.
+/// Why a search for all matches may take more than linear time.
 ///
 /// A search in linear time is by tables, which have a bit for each instruction and position: whether there is an outcome
 /// from there. They know nothing of captures.
@@ -20,15 +20,16 @@ pub enum Nonlinear {
     /// The pattern has a back reference, and what it matches depends on the captures.
     #[error("the pattern has a back reference")]
     BackReference,
-    /// A lookaround that is not negated contains a capture group, or a loop that resets one. So the captures after it
-    /// are those of an outcome of its body, of which a table has only that there is one.
+    /// A lookaround that is not negated contains a capture group, or a loop that resets one. A table has only that its
+    /// body has an outcome. What it captures is found by running the body once more for each match: each match takes
+    /// linear time, all of them together may take more.
     #[error("a lookaround contains a capture group")]
     CapturingLookaround,
 }
 
 impl<'n, 't> Program<'n, 't> {
-    /// Returns why a search may take more than linear time: a back reference, or if the pattern has none, a lookaround
-    /// that is not negated and sets or resets captures. The result is `None` if the program is linear.
+    /// Returns why a search for all matches may take more than linear time: a back reference, or if the pattern has none,
+    /// a lookaround that is not negated and sets or resets captures. The result is `None` if the program is linear.
     ///
     /// # Complexity
     /// Linear in the number of instructions, since a routine belongs to one lookaround.

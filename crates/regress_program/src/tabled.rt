@@ -14,9 +14,9 @@ use crate::tidy::is_tidy;
 use std::alloc::{AllocError, Global};
 
 impl Program<'_, '_> {
-    /// Returns the number of groups that lookarounds may set, if the tables of the program lead to its first outcome: if
-    /// it has no back reference, and each lookaround that captures begins with its groups unset. Otherwise the result is
-    /// `None`.
+    /// Returns an upper bound for the number of groups that lookarounds set, if the tables of the program lead to its
+    /// first outcome: if it has no back reference, and each lookaround that captures begins with its groups unset.
+    /// Otherwise the result is `None`.
     ///
     /// # Complexity
     /// Linear in the number of instructions. It allocates only if a lookaround that is not negated sets or resets

@@ -1,10 +1,10 @@
-use Rattle.std.proofs.Common.{◌≡◌, true, [], ◌∷◌, ap, subst, arith, false}
+use Rattle.std.proofs.Common.{◌≡◌, [], ◌∷◌, ap, subst, arith, false}
 use Rattle.regress_leaves.specs.Subject.{subject}
 use Rattle.regress_tree.specs.Matching.{steps}
 use Rattle.regress_tree.specs.Reading.{direction_if}
 use Rattle.regress_tree.specs.Tree.{tree, leaf, string_set}
 use Rattle.regress_program.specs.Linear.{is_back_reference}
-use Rattle.regress_program.specs.Program.{matcher_of, part}
+use Rattle.regress_program.specs.Program.{matcher_of}
 use Rattle.regress_program.specs.Shape.{Fits}
 use Rattle.regress_program.specs.Views.{op_of, program_of}
 use Rattle.regress_program.proofs.EvaluateLemmas.{part_yields, split_yields, begin_yields, repeat_yields, end_yields, unsets_yields, begin_group_yields, end_group_yields, look_yields, reached-within, one_string, look-earlier}

@@ -1,4 +1,4 @@
-use Rattle.std.proofs.Common.{rules, ◌≡◌, ◌+◌, ◌-◌, ◌*◌, ◌≤◌, ◌<◌, ◌∷◌, ℕ, List, length, min, take, slice_get, None, Some, IfSome, refl, sym, ap, ◌∙◌, subst, arith}
+use Rattle.std.proofs.Common.{rules, ◌≡◌, ◌+◌, ◌-◌, ◌*◌, ◌≤◌, ◌∷◌, ℕ, length, take, slice_get, Some, IfSome, refl, sym, ap, ◌∙◌, subst, arith}
 use Rattle.std.proofs.lemmas.List.{length-map}
 use Rattle.std.specs.Str.{IsCharBoundary}
 use Rattle.regress_tree.specs.Steps.{MatchState}
@@ -38,8 +38,8 @@ returns-in-Some-clause-solved c = λ outs solves.
     let first = (subst (IsFirst f last n start) c.in-Some.is c.in_ok-first.ensures.first) outs solves in
     let ends = subst (λ x. IfSome x (IsEnd f last n)) c.in-Some.is c.in_ok-first.ensures.end in
     let captures = c.in_ok-captures.ensures (captures_in f outs n)
-        ∙ ap (resolved (captures_in f outs n)) c.deref.ensures.value
-        ∙ subst (λ k. resolved (captures_in f outs k) c.resolve.new.slots.items ≡ resolved (captures_in f outs k) o.slots.items) ends.count (c.in_ok-resolve.ensures.resolved.same outs solves) in
+    ∙ ap (resolved (captures_in f outs n)) c.deref.ensures.value
+    ∙ subst (λ k. resolved (captures_in f outs k) c.resolve.new.slots.items ≡ resolved (captures_in f outs k) o.slots.items) ends.count (c.in_ok-resolve.ensures.resolved.same outs solves) in
     let on : IsCharBoundary f.input.text.now start = search rules in
     leftmost_by f.input.text.now (outcomes_in f outs (length (program_in f) - 1) n) c.args.from start (state_of m) m c.new.ensures.start refl
     c.loop-start.auto.start on first.0
@@ -57,7 +57,7 @@ returns-in-Some-clause-steps c =
     let index : length P - 1 ≡ last = omega (arith, length-map f.input.routines.now routine_of) in
     let r = get-some P (length P - 1) (omega (arith, c.requires.some)) in
     let forward = (subst (λ x. IfSome x (λ (y : FirstOutcome). (q : Routine) → slice_get P last ≡ Some q → q.direction ≡ forwards → (start ≤ y.end) × (c.first_outcome.new.steps ≤ c.loop-start.steps + 1 + 2 * length q.ops * (y.end + 1 - start)))) c.in-Some.is c.in_ok-first.ensures.forwards)
-        r.0 (ap (slice_get P) (sym index) ∙ r.1) (c.requires.forwards r.0 r.1) in
+    r.0 (ap (slice_get P) (sym index) ∙ r.1) (c.requires.forwards r.0 r.1) in
     let end_is : c.new.result.end ≡ o.end = ap (λ s. s.position) c.new.ensures.state in
     leftmost_steps (length r.0.ops) (total P) (total (take last P)) f.inner (length f.input.text.now + 1) start o.end c.args.from c.loop-start.steps c.first_outcome.new.steps c.resolve.new.steps c.new.result.end
     (routine_size P (length P - 1) r.0 r.1) (total_part P last) forward.0 c.loop-start.auto.start (omega (arith, c.loop-start.invariant.steps, c.loop-start-test.true)) forward.1 c.in_ok-resolve.ensures.steps end_is
@@ -72,19 +72,19 @@ loop-start-preserved c =
     let index : length (program_in f) - 1 ≡ last = omega (arith, length-map f.input.routines.now routine_of) in
     elim c.if-is_char_boundary.branch [
       | then-is_char_boundary+in_ok-first+in_default w ↦
-        record {
-          steps = omega (arith, w.steps-is, w.in_ok-first.ensures.none w.in_default.is, c.loop-start.invariant.steps, c.loop-start-test.true, c.loop-start.auto.start);
-          none = λ outs solves.
-              none-more f.input.text.now (at outs) c.args.from start (c.loop-start.invariant.none outs solves)
-              (λ on. ap (λ k. outcomes_in f outs k n start) index ∙ (subst (IsFirst f last n start) w.in_default.is w.in_ok-first.ensures.first) outs solves);
-        }
+          record {
+            steps = omega (arith, w.steps-is, w.in_ok-first.ensures.none w.in_default.is, c.loop-start.invariant.steps, c.loop-start-test.true, c.loop-start.auto.start);
+            none = λ outs solves.
+                none-more f.input.text.now (at outs) c.args.from start (c.loop-start.invariant.none outs solves)
+                (λ on. ap (λ k. outcomes_in f outs k n start) index ∙ (subst (IsFirst f last n start) w.in_default.is w.in_ok-first.ensures.first) outs solves);
+          }
       | else-is_char_boundary w ↦
-        record {
-          steps = omega (arith, w.steps-is, c.loop-start.invariant.steps, c.loop-start-test.true, c.loop-start.auto.start);
-          none = λ outs solves.
-              none-more f.input.text.now (at outs) c.args.from start (c.loop-start.invariant.none outs solves)
-              (λ on. absurd (not-true c.is_char_boundary.result w.if-is_char_boundary.false (c.is_char_boundary.ensures.test.1 on)));
-        }
+          record {
+            steps = omega (arith, w.steps-is, c.loop-start.invariant.steps, c.loop-start-test.true, c.loop-start.auto.start);
+            none = λ outs solves.
+                none-more f.input.text.now (at outs) c.args.from start (c.loop-start.invariant.none outs solves)
+                (λ on. absurd (not-true c.is_char_boundary.result w.if-is_char_boundary.false (c.is_char_boundary.ensures.test.1 on)));
+          }
     ]
 
 pub returns-clause-solved : goal.returns-clause-solved

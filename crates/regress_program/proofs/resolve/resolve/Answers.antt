@@ -1,4 +1,4 @@
-use Rattle.std.proofs.Common.{◌≡◌, ◌+◌, ◌-◌, ◌*◌, ◌≤◌, ◌<◌, List, length, take, refl, sym, ap, ◌∙◌, subst, arith}
+use Rattle.std.proofs.Common.{◌≡◌, ◌+◌, ◌-◌, ◌*◌, length, take, ap, ◌∙◌, subst, arith}
 use Rattle.regress_program.specs.Compiled.{total}
 use Rattle.regress_program.specs.Searchable.{AreResolved, program_in, width_at}
 use Rattle.regress_program.specs.Slots.{AreInside}

@@ -1,6 +1,6 @@
-use Rattle.std.proofs.Common.{IfSome, IfOk, length, replicate, None, Some, refl, sym, ap, ◌∙◌, subst}
+use Rattle.std.proofs.Common.{IfSome, length, ap, ◌∙◌, subst}
 use Rattle.std.proofs.lemmas.List.{length-replicate}
-use Rattle.regress_program.specs.Searchable.{AreFound, IsEnd, IsFirst}
+use Rattle.regress_program.specs.Searchable.{IsEnd, IsFirst}
 use Rattle.regress_program.specs.declared.slots.Slot.TheVariants.{Unset}
 use Rattle.regress_program.proofs.ResolveLemmas.{found_some, found_none}
 use Rattle.regress_program.proofs.SearchLemmas.{ok_map}

@@ -1,4 +1,4 @@
-use Rattle.std.proofs.Common.{◌≡◌, ◌<◌, ◌≤◌, Bool, true, [], ◌∷◌, List, length, flat_map, slice_get, Some, if◌then◌else◌, refl, sym, ap, ◌∙◌, subst, arith}
+use Rattle.std.proofs.Common.{◌≡◌, Bool, true, [], ◌∷◌, List, length, flat_map, Some, if◌then◌else◌, refl, sym, ap, ◌∙◌, subst, arith}
 use Rattle.std.proofs.lemmas.Bool.{and_parts}
 use Rattle.regress_leaves.specs.Subject.{subject}
 use Rattle.regress_tree.specs.Reading.{direction_if}
@@ -7,7 +7,7 @@ use Rattle.regress_tree.specs.Tree.{tree, leaf, string_set}
 use Rattle.regress_program.specs.Below.{Below}
 use Rattle.regress_program.specs.Program.{At, Op, part, split, begin_loop, repeat, end_loop, begin_group, look, goto, enter, reach, either, matcher_of, outcomes_by}
 use Rattle.regress_program.specs.declared.instruction.Instruction.TheVariants as insts
-use Rattle.regress_program.specs.Ranges.{changed_by, ranges_of}
+use Rattle.regress_program.specs.Ranges.{changed_by}
 use Rattle.regress_program.specs.Slots.{capture_in}
 use Rattle.regress_program.specs.Table.{cell, has_outcome}
 use Rattle.regress_program.specs.Shape.{Fits}

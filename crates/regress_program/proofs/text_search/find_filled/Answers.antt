@@ -1,4 +1,4 @@
-use Rattle.std.proofs.Common.{◌≡◌, ℕ, ◌+◌, ◌-◌, ◌*◌, ◌≤◌, ◌<◌, List, length, true, sym, ap, ◌∙◌, subst, IfOk, arith}
+use Rattle.std.proofs.Common.{◌≡◌, ℕ, ◌+◌, ◌-◌, ◌*◌, ◌≤◌, ◌<◌, List, length, true, sym, ◌∙◌, subst, IfOk, arith}
 use Rattle.std.proofs.lemmas.List.{length-map}
 use Rattle.regress_program.specs.declared.instruction.Routine.{Routine}
 use Rattle.regress_program.specs.Compiled.{total}
