@@ -6,7 +6,7 @@ use regress_front::types::Flags;
 use regress_front::unicode::Tables;
 use regress_front::util::code_points;
 use regress_match::{Limits, Match, Matcher, Outcome};
-use regress_program::{Nonlinear, Program};
+use regress_program::Program;
 use std::test::Fail;
 
 #[test]
@@ -18,8 +18,11 @@ fn the_example_of_a_program_holds(rt: HostRuntime) -> Result<(), Fail> {
         let points = code_points(alloc, "(a*)*b")?;
         let regex = try_parse(alloc, &points, Flags::default(), &tables)?;
         let program = Program::compile(alloc, &regex, &tables, 1000)?;
-        let search = program.linear()?.find(alloc, "xaaab", 0)?;
-        match &search.found {
+        let Some(linear) = program.linear(alloc)? else {
+            assert!(rt; false, "it has no back reference");
+            return Ok(());
+        };
+        match linear.find(alloc, "xaaab", 0)?.found {
             Some(found) => {
                 assert_eq!(rt; found.start(), 1);
                 assert_eq!(rt; found.end(), 5);
@@ -28,13 +31,13 @@ fn the_example_of_a_program_holds(rt: HostRuntime) -> Result<(), Fail> {
             None => assert!(rt; false, "it matches"),
         }
     }
-    // a program is not linear
+    // a program is not searched by tables
     {
         let tables = Tables::small(alloc)?;
         let points = code_points(alloc, "(a)\\1")?;
         let regex = try_parse(alloc, &points, Flags::default(), &tables)?;
         let program = Program::compile(alloc, &regex, &tables, 1000)?;
-        assert!(rt; matches!(program.linear(), Err(Nonlinear::BackReference)));
+        assert!(rt; program.linear(alloc)?.is_none());
     }
     Ok(())
 }
