@@ -193,7 +193,12 @@ fn a_lookahead_captures_in_linear_time(rt: HostRuntime) -> Result<(), Fail> {
     let backtracking = with_few_steps(alloc, pattern, 0)?;
     assert!(rt; !backtracking.is_find_linear());
     assert!(rt; backtracking.find_steps_per_character().is_none());
-    assert!(rt; matches!(backtracking.find(alloc, &ended), Err(SearchError::OutOfSteps)));
+    assert!(rt;
+        matches!(
+            backtracking.find(alloc, &ended),
+            Err(SearchError::OutOfSteps)
+        )
+    );
     let regex = with_few_steps(alloc, pattern, 1000)?;
     assert!(rt; regex.is_find_linear());
     assert!(rt; regex.find_steps_per_character().is_some());
@@ -217,7 +222,12 @@ fn a_lookbehind_captures_in_linear_time(rt: HostRuntime) -> Result<(), Fail> {
     let text = "a".repeat(alloc, 3000)?;
     let ended = format!(in alloc; "{text}b")?;
     let backtracking = with_few_steps(alloc, pattern, 0)?;
-    assert!(rt; matches!(backtracking.find(alloc, &ended), Err(SearchError::OutOfSteps)));
+    assert!(rt;
+        matches!(
+            backtracking.find(alloc, &ended),
+            Err(SearchError::OutOfSteps)
+        )
+    );
     let regex = with_few_steps(alloc, pattern, 1000)?;
     assert!(rt; regex.is_find_linear());
     assert!(rt; !regex.is_match(alloc, &text)?);

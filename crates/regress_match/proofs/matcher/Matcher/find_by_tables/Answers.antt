@@ -1,11 +1,9 @@
 use Rattle.std.proofs.Common.{IfSome, subst, sym, ap, ◌∙◌}
 use Rattle.std.specs.Prelude.{◌≡◌, ◌+◌, ◌*◌, ◌≤◌, length}
-use Rattle.std.specs.Str.{IsUtf8}
-use Rattle.regress_tree.specs.WellFormed.{IsWellFormed}
 use Rattle.regress_program.specs.Search.{routines_of}
 use Rattle.regress_backtrack.specs.Code.{code_routines}
-use Rattle.regress_match.specs.Matched.{Finds, IfMatched, IfOutOfSteps, IsInside}
-use Rattle.regress_match.specs.Matcher.{find_factor_of, matcher_outcomes, matcher_setting, matcher_tree, outcome_if}
+use Rattle.regress_match.specs.Matched.{Finds, IfOutOfSteps}
+use Rattle.regress_match.specs.Matcher.{find_factor_of, matcher_outcomes, matcher_setting, matcher_tree}
 use Rattle.regress_match.proofs.MatcherLemmas.{found_inside}
 use Rattle.regress_match.proofs.OneMatchLemmas.{searched_bounded, tables_find}
 use Rattle.regress_match.proofs.matcher.Matcher.find_by_tables.Goals as goal
