@@ -100,18 +100,16 @@ impl Linear<'_, '_> {
     /// let points = code_points(alloc, "(a*)*b")?;
     /// let regex = try_parse(alloc, &points, Flags::default(), &tables)?;
     /// let program = Program::compile(alloc, &regex, &tables, 1000)?;
-    /// let Some(linear) = program.linear(alloc)? else {
-    ///     assert!(rt; false, "it has no back reference");
-    ///     return Ok(());
-    /// };
-    /// match linear.find(alloc, "xaaab", 0)?.found {
-    ///     Some(found) => {
+    /// let mut end = 0;
+    /// if let Some(linear) = program.linear(alloc)? {
+    ///     let search = linear.find(alloc, "xaaab", 0)?;
+    ///     if let Some(found) = &search.found {
     ///         assert_eq!(rt; found.start(), 1);
-    ///         assert_eq!(rt; found.end(), 5);
     ///         assert_eq!(rt; found.group(0), Some((1, 4)));
+    ///         end = found.end();
     ///     }
-    ///     None => assert!(rt; false, "it matches"),
     /// }
+    /// assert_eq!(rt; end, 5);
     /// ```
     pub fn find(&self, alloc: Global, text: &str, from: usize) -> Result<Search, AllocError>
         ensures solved { IfOk result (λ search. (outs : ℕ → Out) → IsSolution (setting_of self.now.program) text.now (routines_of self.now.program) outs →
