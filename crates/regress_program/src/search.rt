@@ -119,6 +119,7 @@ impl Linear<'_, '_> {
         ensures finds { IfOk result (λ search. (t : Tree) → IsPattern (routines_of self.now.program) t →
             Finds text.now (tree_outcomes_from self.now.program text.now t) from search.found) }
         ensures steps { IfOk result (λ search. search.steps ≤ per_character self.now.program * (length text.now + 1)) }
+        ensures counted { IfOk result (λ search. min (2 * instructions_of self.now.program * (length text.now + 1)) u64.MAX ≤ search.steps) }
     {
         let mut steps = 0;
         let tables = fill_tables(alloc, &self.program, text, &mut steps)?;
@@ -154,7 +155,7 @@ impl<'p> Linear<'p, 'p> {
     }
 }
 
-/// Returns the tables of a text, and adds the number of their bits to `steps`.
+/// Returns the tables of a text, and adds the number of their bits to `steps`, up to `u64::MAX`.
 ///
 /// # Preconditions
 /// The program has no back reference.
@@ -169,7 +170,7 @@ fn fill_tables(
 ) -> Result<Vec<Table>, AllocError>
     requires { has_no_back_reference (routines_of program.now) ≡ true }
     ensures filled { IfOk result (λ tables. AreFilled (setting_of program.now) text.now (routines_of program.now) tables.items) }
-    ensures steps { IfOk result (λ _. steps.new ≤ steps.old + 2 * instructions_of program.now * (length text.now + 1)) }
+    ensures counted { IfOk result (λ _. steps.new ≡ min (steps.old + 2 * instructions_of program.now * (length text.now + 1)) u64.MAX) }
 {
     let rules = MatchContext {
         flags: program.flags,

@@ -1,5 +1,5 @@
 //! Searching a text whose tables are filled.
-ghost use Rattle.std.specs.Prelude.{◌≡◌, ◌≤◌, ◌+◌, ◌*◌, ℕ, IfOk, IfSome, length};
+ghost use Rattle.std.specs.Prelude.{◌≡◌, ◌≤◌, ◌+◌, ◌*◌, ℕ, IfOk, IfSome, length, min};
 ghost use Rattle.regress_tree.specs.Tree.{Tree};
 ghost use Rattle.regress_program.specs.Compiled.{IsPattern};
 ghost use Rattle.regress_program.specs.Filled.{AreFilled};
@@ -44,9 +44,11 @@ impl<'p> TextSearch<'p> {
         find_filled(alloc, &self.linear, self.text, &self.tables, from)
     }
 
-    /// Returns the number of steps that it took to prepare the search: of states that were evaluated.
+    /// Returns the number of steps that it took to prepare the search, at most `u64::MAX`: of states that were evaluated,
+    /// two for each instruction at each byte of the text, and once more.
     pub fn steps(&self) -> u64
-        ensures { result ≤ 2 * instructions_of (searched_program self.now) * (length (searched_text self.now) + 1) }
+        ensures counted { result ≡ min (2 * instructions_of (searched_program self.now) * (length (searched_text self.now) + 1)) u64.MAX }
+        ensures within { result ≤ 2 * instructions_of (searched_program self.now) * (length (searched_text self.now) + 1) }
     {
         self.steps
     }
