@@ -6,7 +6,7 @@ ghost use Rattle.regress_program.specs.Filled.{AreFilled};
 ghost use Rattle.regress_program.specs.Found.{Finds, state_of};
 ghost use Rattle.regress_program.specs.Program.{IsSolution, Out};
 ghost use Rattle.regress_program.specs.Ranges.{inner_groups};
-ghost use Rattle.regress_program.specs.Search.{capturing_steps, instructions_of, outcomes_from, routines_of, setting_of, steps_up_to, tree_outcomes_from};
+ghost use Rattle.regress_program.specs.Search.{capturing_steps, instructions_of, outcomes_from, positions_tried, routines_of, setting_of, steps_up_to, tree_outcomes_from};
 ghost use Rattle.regress_program.specs.TextSearch.{searched_program, searched_text};
 
 use crate::evaluate::Input;
@@ -40,6 +40,7 @@ impl<'p> TextSearch<'p> {
         ensures steps { IfOk result (λ search. (let p = searched_program self.now in let text = searched_text self.now in
             search.steps ≤ steps_up_to (instructions_of p) text from search.found
             + capturing_steps (instructions_of p) (inner_groups (routines_of p)) * (length text + 1))) }
+        ensures tried { IfOk result (λ search. positions_tried (searched_text self.now) from search.found ≤ search.steps) }
     {
         find_filled(alloc, &self.linear, self.text, &self.tables, from)
     }
@@ -76,6 +77,7 @@ pub(crate) fn find_filled(
     ensures inside { IfOk result (λ search. IfSome search.found (λ m. (state_of m).position ≤ length text.now)) }
     ensures steps { IfOk result (λ search. search.steps ≤ steps_up_to (instructions_of linear.now.program) text.now from search.found
         + capturing_steps (instructions_of linear.now.program) (inner_groups (routines_of linear.now.program)) * (length text.now + 1)) }
+    ensures tried { IfOk result (λ search. positions_tried text.now from search.found ≤ search.steps) }
 {
     let program = &linear.program;
     let input = Input {
