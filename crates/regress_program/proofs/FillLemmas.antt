@@ -1,5 +1,5 @@
 -- A table stays right where bits are added in order.
-use Rattle.std.proofs.Common.{zero, suc, ◌≡◌, ℕ, ◌+◌, ◌*◌, ◌≤◌, ◌<◌, ◌⊎◌, Bool, true, false, List, [], ◌∷◌, ◌++◌, length, get_or, slice_get, take, Option, Some, refl, sym, ap, ap₂, ◌∙◌, subst, inl, inr, arith, length-append}
+use Rattle.std.proofs.Common.{zero, suc, ◌≡◌, ℕ, ◌+◌, ◌*◌, ◌≤◌, ◌<◌, ◌⊎◌, Bool, true, false, List, [], ◌∷◌, ◌++◌, length, min, get_or, slice_get, take, Option, Some, refl, sym, ap, ap₂, ◌∙◌, subst, inl, inr, arith, length-append}
 use Rattle.std.proofs.lemmas.Bool.{cases_eq}
 use Rattle.std.proofs.Math.ListN.{get_or-append}
 use Rattle.std.proofs.lemmas.List.{get_or_push}
@@ -173,10 +173,11 @@ module _ (tables : List Table) (t : Table) where
       ]
 
 -- the bits of one more table
-pub more_bits : (n w a a' l s s' s0 : ℕ) → a' ≡ a + w → l ≡ (n + 1) * (2 * w) → s ≤ s0 + (n + 1) * (2 * a) → s' ≤ s + l → s' ≤ s0 + (n + 1) * (2 * a')
-more_bits n w a a' l s s' s0 ea el le le' =
-    let both : s' ≤ s0 + (n + 1) * (2 * (a + w)) = omega (arith, el, le, le') in
-    subst (λ x. s' ≤ s0 + (n + 1) * (2 * x)) (sym ea) both
+pub more_bits : (n w a a' l s s' : ℕ) → a' ≡ a + w → l ≡ (n + 1) * (2 * w) → s ≡ min ((n + 1) * (2 * a)) 18446744073709551615 →
+    s' ≡ min (s + l) 18446744073709551615 → s' ≡ min ((n + 1) * (2 * a')) 18446744073709551615
+more_bits n w a a' l s s' ea el so_far next =
+    let both : s' ≡ min ((n + 1) * (2 * (a + w))) 18446744073709551615 = omega (arith, el, so_far, next) in
+    subst (λ x. s' ≡ min ((n + 1) * (2 * x)) 18446744073709551615) (sym ea) both
 
 total-suc : (program : List Routine) (i : ℕ) (r : Routine) → slice_get program i ≡ Some r → total (take (suc i) program) ≡ total (take i program) + length r.ops
 total-suc [] i r is = cc

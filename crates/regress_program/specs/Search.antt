@@ -9,7 +9,7 @@ use Rattle.regress_unicode.specs.TableOf.{table_of}
 use Rattle.regress_program.specs.declared.found.Match.{Match}
 use Rattle.regress_program.specs.declared.program.Program.{Program}
 use Rattle.regress_program.specs.Compiled.{total}
-use Rattle.regress_program.specs.Found.{no_groups, state_of}
+use Rattle.regress_program.specs.Found.{no_groups, start_of, state_of}
 use Rattle.regress_program.specs.Program.{Routine, Out, matcher_of}
 use Rattle.regress_program.specs.Ranges.{inner_groups}
 use Rattle.regress_program.specs.Views.{program_of}
@@ -45,6 +45,12 @@ per_character p = 4 * instructions_of p + 1 + capturing_steps (instructions_of p
 abbrev pub steps_up_to : (instructions : ℕ) (text : List ℕ) (origin : ℕ) → Option Match → ℕ
 steps_up_to instructions text origin (Some m) = (2 * instructions + 1) * ((state_of m).position + 1 - origin)
 steps_up_to instructions text origin None = length text + 1 - origin
+
+-- The positions that a search tries, at least: those from `origin` up to the start of the match, or up to the end of
+-- the text.
+abbrev pub positions_tried : (text : List ℕ) (origin : ℕ) → Option Match → ℕ
+positions_tried text origin (Some m) = start_of m + 1 - origin
+positions_tried text origin None = length text + 1 - origin
 
 -- the outcomes of a program from a position with every group unset, by the outcomes in each routine
 abbrev pub outcomes_from : Program → (text : List ℕ) → (ℕ → Out) → (position : ℕ) → List MatchState

@@ -3,7 +3,7 @@ ghost use Rattle.std.specs.Prelude.{◌≡◌, ◌≤◌, ◌<◌, ◌+◌, ◌-
 ghost use Rattle.regress_program.specs.Compiled.{total};
 ghost use Rattle.regress_program.specs.Found.{Finds, state_of};
 ghost use Rattle.regress_program.specs.Program.{Out};
-ghost use Rattle.regress_program.specs.Search.{steps_up_to};
+ghost use Rattle.regress_program.specs.Search.{positions_tried, steps_up_to};
 ghost use Rattle.regress_program.specs.Searchable.{IsSearchable, Solves, outcomes_in, program_in};
 ghost use Rattle.regress_program.specs.Shape.{IsForwards};
 
@@ -32,23 +32,33 @@ pub(crate) fn find_leftmost(
     ensures inside { IfOk result (λ search. IfSome search.found (λ m. (state_of m).position ≤ length filled.entry.input.text.now)) }
     ensures steps { IfOk result (λ search. search.steps ≤ steps_up_to (total (program_in filled.entry)) filled.entry.input.text.now from search.found
         + 2 * total (program_in filled.entry) * filled.entry.inner * (length filled.entry.input.text.now + 1)) }
+    ensures tried { IfOk result (λ search. positions_tried filled.entry.input.text.now from search.found ≤ search.steps) }
 {
     let last = filled.input.routines.len() - 1;
-    let mut steps = 0;
+    let mut tried: u64 = 0;
+    let mut walked = 0;
     for start in from..filled.input.text.len() + 1 {
-        steps += 1;
+        tried += 1;
         if filled.input.text.is_char_boundary(start) {
             if let Some(mut first) = first_outcome(
-                alloc, filled, last, start, groups, &mut steps,
+                alloc,
+                filled,
+                last,
+                start,
+                groups,
+                &mut walked,
             )? {
-                resolve(alloc, filled, last, &mut first.slots, &mut steps)?;
+                resolve(alloc, filled, last, &mut first.slots, &mut walked)?;
                 let captures = captures_of(alloc, &first.slots)?;
                 return Ok(Search {
                     found: Some(Match::new(start, first.end, captures)),
-                    steps,
+                    steps: tried.saturating_add(walked),
                 });
             }
         }
     }
-    Ok(Search { found: None, steps })
+    Ok(Search {
+        found: None,
+        steps: tried,
+    })
 }

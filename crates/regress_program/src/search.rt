@@ -7,7 +7,7 @@ ghost use Rattle.regress_program.specs.Filled.{AreFilled};
 ghost use Rattle.regress_program.specs.Found.{Finds};
 ghost use Rattle.regress_program.specs.Ranges.{inner_groups};
 ghost use Rattle.regress_program.specs.Program.{IsSolution, Out};
-ghost use Rattle.regress_program.specs.Search.{groups_of, instructions_of, outcomes_from, per_character, routines_of, setting_of, tree_outcomes_from};
+ghost use Rattle.regress_program.specs.Search.{groups_of, instructions_of, outcomes_from, per_character, positions_tried, routines_of, setting_of, tree_outcomes_from};
 ghost use Rattle.regress_program.specs.Shape.{IsForwards, IsProgram};
 ghost use Rattle.regress_program.specs.Tidy.{has_no_back_reference};
 ghost use Rattle.regress_program.specs.TextSearch.{searched_program, searched_text};
@@ -100,18 +100,16 @@ impl Linear<'_, '_> {
     /// let points = code_points(alloc, "(a*)*b")?;
     /// let regex = try_parse(alloc, &points, Flags::default(), &tables)?;
     /// let program = Program::compile(alloc, &regex, &tables, 1000)?;
-    /// let Some(linear) = program.linear(alloc)? else {
-    ///     assert!(rt; false, "it has no back reference");
-    ///     return Ok(());
-    /// };
-    /// match linear.find(alloc, "xaaab", 0)?.found {
-    ///     Some(found) => {
+    /// let mut end = 0;
+    /// if let Some(linear) = program.linear(alloc)? {
+    ///     let search = linear.find(alloc, "xaaab", 0)?;
+    ///     if let Some(found) = &search.found {
     ///         assert_eq!(rt; found.start(), 1);
-    ///         assert_eq!(rt; found.end(), 5);
     ///         assert_eq!(rt; found.group(0), Some((1, 4)));
+    ///         end = found.end();
     ///     }
-    ///     None => assert!(rt; false, "it matches"),
     /// }
+    /// assert_eq!(rt; end, 5);
     /// ```
     pub fn find(&self, alloc: Global, text: &str, from: usize) -> Result<Search, AllocError>
         ensures solved { IfOk result (λ search. (outs : ℕ → Out) → IsSolution (setting_of self.now.program) text.now (routines_of self.now.program) outs →
@@ -119,6 +117,8 @@ impl Linear<'_, '_> {
         ensures finds { IfOk result (λ search. (t : Tree) → IsPattern (routines_of self.now.program) t →
             Finds text.now (tree_outcomes_from self.now.program text.now t) from search.found) }
         ensures steps { IfOk result (λ search. search.steps ≤ per_character self.now.program * (length text.now + 1)) }
+        ensures counted { IfOk result (λ search. min (2 * instructions_of self.now.program * (length text.now + 1)) u64.MAX ≤ search.steps) }
+        ensures tried { IfOk result (λ search. positions_tried text.now from search.found ≤ search.steps) }
     {
         let mut steps = 0;
         let tables = fill_tables(alloc, &self.program, text, &mut steps)?;
@@ -154,7 +154,7 @@ impl<'p> Linear<'p, 'p> {
     }
 }
 
-/// Returns the tables of a text, and adds the number of their bits to `steps`.
+/// Returns the tables of a text, and adds the number of their bits to `steps`, up to `u64::MAX`.
 ///
 /// # Preconditions
 /// The program has no back reference.
@@ -169,7 +169,7 @@ fn fill_tables(
 ) -> Result<Vec<Table>, AllocError>
     requires { has_no_back_reference (routines_of program.now) ≡ true }
     ensures filled { IfOk result (λ tables. AreFilled (setting_of program.now) text.now (routines_of program.now) tables.items) }
-    ensures steps { IfOk result (λ _. steps.new ≤ steps.old + 2 * instructions_of program.now * (length text.now + 1)) }
+    ensures counted { IfOk result (λ _. steps.new ≡ min (steps.old + 2 * instructions_of program.now * (length text.now + 1)) u64.MAX) }
 {
     let rules = MatchContext {
         flags: program.flags,

@@ -1,12 +1,12 @@
 //! Searching a text whose tables are filled.
-ghost use Rattle.std.specs.Prelude.{◌≡◌, ◌≤◌, ◌+◌, ◌*◌, ℕ, IfOk, IfSome, length};
+ghost use Rattle.std.specs.Prelude.{◌≡◌, ◌≤◌, ◌+◌, ◌*◌, ℕ, IfOk, IfSome, length, min};
 ghost use Rattle.regress_tree.specs.Tree.{Tree};
 ghost use Rattle.regress_program.specs.Compiled.{IsPattern};
 ghost use Rattle.regress_program.specs.Filled.{AreFilled};
 ghost use Rattle.regress_program.specs.Found.{Finds, state_of};
 ghost use Rattle.regress_program.specs.Program.{IsSolution, Out};
 ghost use Rattle.regress_program.specs.Ranges.{inner_groups};
-ghost use Rattle.regress_program.specs.Search.{capturing_steps, instructions_of, outcomes_from, routines_of, setting_of, steps_up_to, tree_outcomes_from};
+ghost use Rattle.regress_program.specs.Search.{capturing_steps, instructions_of, outcomes_from, positions_tried, routines_of, setting_of, steps_up_to, tree_outcomes_from};
 ghost use Rattle.regress_program.specs.TextSearch.{searched_program, searched_text};
 
 use crate::evaluate::Input;
@@ -40,13 +40,16 @@ impl<'p> TextSearch<'p> {
         ensures steps { IfOk result (λ search. (let p = searched_program self.now in let text = searched_text self.now in
             search.steps ≤ steps_up_to (instructions_of p) text from search.found
             + capturing_steps (instructions_of p) (inner_groups (routines_of p)) * (length text + 1))) }
+        ensures tried { IfOk result (λ search. positions_tried (searched_text self.now) from search.found ≤ search.steps) }
     {
         find_filled(alloc, &self.linear, self.text, &self.tables, from)
     }
 
-    /// Returns the number of steps that it took to prepare the search: of states that were evaluated.
+    /// Returns the number of steps that it took to prepare the search, at most `u64::MAX`: of states that were evaluated,
+    /// two for each instruction at each byte of the text, and once more.
     pub fn steps(&self) -> u64
-        ensures { result ≤ 2 * instructions_of (searched_program self.now) * (length (searched_text self.now) + 1) }
+        ensures counted { result ≡ min (2 * instructions_of (searched_program self.now) * (length (searched_text self.now) + 1)) u64.MAX }
+        ensures within { result ≤ 2 * instructions_of (searched_program self.now) * (length (searched_text self.now) + 1) }
     {
         self.steps
     }
@@ -74,6 +77,7 @@ pub(crate) fn find_filled(
     ensures inside { IfOk result (λ search. IfSome search.found (λ m. (state_of m).position ≤ length text.now)) }
     ensures steps { IfOk result (λ search. search.steps ≤ steps_up_to (instructions_of linear.now.program) text.now from search.found
         + capturing_steps (instructions_of linear.now.program) (inner_groups (routines_of linear.now.program)) * (length text.now + 1)) }
+    ensures tried { IfOk result (λ search. positions_tried text.now from search.found ≤ search.steps) }
 {
     let program = &linear.program;
     let input = Input {

@@ -56,11 +56,14 @@ returns-in-Some-clause-steps c =
     let o = c.in-Some.first in
     let index : length P - 1 ≡ last = omega (arith, length-map f.input.routines.now routine_of) in
     let r = get-some P (length P - 1) (omega (arith, c.requires.some)) in
-    let forward = (subst (λ x. IfSome x (λ (y : FirstOutcome). (q : Routine) → slice_get P last ≡ Some q → q.direction ≡ forwards → (start ≤ y.end) × (c.first_outcome.new.steps ≤ c.loop-start.steps + 1 + 2 * length q.ops * (y.end + 1 - start)))) c.in-Some.is c.in_ok-first.ensures.forwards)
+    let forward = (subst (λ x. IfSome x (λ (y : FirstOutcome). (q : Routine) → slice_get P last ≡ Some q → q.direction ≡ forwards → (start ≤ y.end) × (c.first_outcome.new.steps ≤ c.loop-start.walked + 2 * length q.ops * (y.end + 1 - start)))) c.in-Some.is c.in_ok-first.ensures.forwards)
     r.0 (ap (slice_get P) (sym index) ∙ r.1) (c.requires.forwards r.0 r.1) in
     let end_is : c.new.result.end ≡ o.end = ap (λ s. s.position) c.new.ensures.state in
-    leftmost_steps (length r.0.ops) (total P) (total (take last P)) f.inner (length f.input.text.now + 1) start o.end c.args.from c.loop-start.steps c.first_outcome.new.steps c.resolve.new.steps c.new.result.end
-    (routine_size P (length P - 1) r.0 r.1) (total_part P last) forward.0 c.loop-start.auto.start (omega (arith, c.loop-start.invariant.steps, c.loop-start-test.true)) forward.1 c.in_ok-resolve.ensures.steps end_is
+    let bound = leftmost_steps (length r.0.ops) (total P) (total (take last P)) f.inner (length f.input.text.now + 1) start o.end c.args.from c.loop-start.tried
+    (c.loop-start.tried + 1 + c.first_outcome.new.steps) (c.loop-start.tried + 1 + c.resolve.new.steps) c.new.result.end
+    (routine_size P (length P - 1) r.0 r.1) (total_part P last) forward.0 c.loop-start.auto.start (omega (arith, c.loop-start.invariant.tried, c.loop-start-test.true))
+    (omega (arith, forward.1, c.loop-start.invariant.walked)) (omega (arith, c.in_ok-resolve.ensures.steps)) end_is in
+    omega (arith, bound)
 
 pub loop-start-preserved : goal.loop-start-preserved
 loop-start-preserved c =
@@ -73,14 +76,16 @@ loop-start-preserved c =
     elim c.if-is_char_boundary.branch [
       | then-is_char_boundary+in_ok-first+in_default w ↦
           record {
-            steps = omega (arith, w.steps-is, w.in_ok-first.ensures.none w.in_default.is, c.loop-start.invariant.steps, c.loop-start-test.true, c.loop-start.auto.start);
+            tried = omega (arith, c.loop-start.invariant.tried, c.loop-start-test.true, c.loop-start.auto.start);
+            walked = w.walked-is ∙ w.in_ok-first.ensures.none w.in_default.is ∙ c.loop-start.invariant.walked;
             none = λ outs solves.
                 none-more f.input.text.now (at outs) c.args.from start (c.loop-start.invariant.none outs solves)
                 (λ on. ap (λ k. outcomes_in f outs k n start) index ∙ (subst (IsFirst f last n start) w.in_default.is w.in_ok-first.ensures.first) outs solves);
           }
       | else-is_char_boundary w ↦
           record {
-            steps = omega (arith, w.steps-is, c.loop-start.invariant.steps, c.loop-start-test.true, c.loop-start.auto.start);
+            tried = omega (arith, c.loop-start.invariant.tried, c.loop-start-test.true, c.loop-start.auto.start);
+            walked = w.walked-is ∙ c.loop-start.invariant.walked;
             none = λ outs solves.
                 none-more f.input.text.now (at outs) c.args.from start (c.loop-start.invariant.none outs solves)
                 (λ on. absurd (not-true c.is_char_boundary.result w.if-is_char_boundary.false (c.is_char_boundary.ensures.test.1 on)));

@@ -17,7 +17,7 @@ invariant_of-self c =
       runs = s.runs;
       kept = tables_kept s.matcher.now s.text.now s.from c.steps-self.result c.deref.result.now c.in_ok-program.program c.in_ok-search.search
           (sym c.is_linear.ensures ∙ c.if-is_linear.true) c.deref.ensures s.matcher.now.compiled made.routines made.groups made.setting
-          (c.in_ok-search.ensures.program ∙ same) c.in_ok-search.ensures.text c.steps-self.ensures;
+          (c.in_ok-search.ensures.program ∙ same) c.in_ok-search.ensures.text c.steps-self.ensures.within;
     }
 
 pub returns-in_default-clause-made : goal.returns-in_default-clause-made
