@@ -52,7 +52,7 @@ pub record Knows (input : Input) (t : Table) (outs : ℕ → Out) : Type 0 where
   pub full : IsFull t
   pub right : IsRight (outs (length input.tables.now)) t
 
--- A walk that began at one place has come to another, on the way to the first outcome.
+-- A walk that began at one place is at another now, on the way to the first outcome.
 abbrev pub IsOnWay : Input → Table → (first w : Walker) → Type 0
 IsOnWay input t first w = (outs : ℕ → Out) → Knows input t outs →
     has_outcome (outs (length input.tables.now) (place_in input outs (length first.slots.items) first)) ≡ true →

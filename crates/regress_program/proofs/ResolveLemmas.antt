@@ -1,4 +1,4 @@
--- Slots that are replaced by what they stand for.
+-- Slots that are replaced by what they mean.
 use Rattle.std.proofs.Common.{◌≡◌, ℕ, zero, suc, ◌+◌, ◌-◌, ◌*◌, ◌≤◌, ◌<◌, ◌⊎◌, List, [], ◌∷◌, length, replicate, slice_get, take, Option, Some, None, refl, sym, ap, ap₂, ◌∙◌, subst, inl, inr, arith}
 use Rattle.std.proofs.Math.Nat.{mul-le-mul, mul-le-mul_right}
 use Rattle.std.proofs.lemmas.Bool.{cases_eq}
@@ -30,7 +30,7 @@ module _ (capture_of : (routine position id : ℕ) → Option CaptureSpan) where
       let e' : suc id ≡ id + 1 = omega arith in
       subst (λ i. value capture_of i s' ≡ value capture_of i t') e (subst (λ j. value capture_of (k + j) s' ≡ value capture_of (k + j) t') e' (same (suc id) s' t' is is'))))
 
-  -- Slots that stand for the same captures.
+  -- Slots with the same captures.
   pub resolved-same : (a b : List Slot) → length a ≡ length b →
       ((id : ℕ) (s t : Slot) → slice_get a id ≡ Some s → slice_get b id ≡ Some t → value capture_of id s ≡ value capture_of id t) →
       resolved capture_of a ≡ resolved capture_of b

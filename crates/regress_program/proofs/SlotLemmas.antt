@@ -86,7 +86,7 @@ no-span id ss le = record {
   };
 }
 
--- ---- what slots stand for
+-- ---- what slots mean
 
 -- the capture of a slot, none if there is no such slot
 abbrev pub value_at : (capture_of : (routine position id : ℕ) → Option CaptureSpan) (id : ℕ) → Option Slot → Option CaptureSpan

@@ -73,7 +73,7 @@ pub record AreTaken (routine position : ℕ) (found before after : List Slot) : 
   pub taken : (id : ℕ) → slice_get before id ≡ Some (slots.Inside routine position) → slice_get after id ≡ slice_get found id
   pub kept : (id : ℕ) → (slice_get before id ≡ Some (slots.Inside routine position) → ⊥) → slice_get after id ≡ slice_get before id
 
--- The slots stand for what the routine captures from a position, where no group is set before.
+-- The slots mean what the routine captures from a position, where no group is set before.
 pub record AreFound (f : Filled) (routine position : ℕ) (found : List Slot) : Type 0 where
   pub captures : (outs : ℕ → Out) → Solves f outs → (id : ℕ) (s : Slot) → slice_get found id ≡ Some s →
       value (captures_in f outs (length found)) id s ≡ captures_in f outs (length found) routine position id
