@@ -85,9 +85,9 @@ uint32_t regress_abi_version(void);
 uint32_t regress_compile(const uint8_t *pattern, size_t length, uint32_t flags, const regress_limits *limits,
                          regress_regex *handle, uint32_t *kind, size_t *position);
 
-/* Returns 1 if searches take linear time, which limits.steps does not apply to, else 0. They do if the pattern has
-   neither a back reference nor a capture group in a lookaround that is not negated, and if it has at most limits.tables
-   instructions. */
+/* Returns 1 if searches take linear time, also those for all matches, which limits.steps does not apply to, else 0. They
+   do if the pattern has neither a back reference nor a capture group in a lookaround that is not negated, and if it has
+   at most limits.tables instructions. */
 uint32_t regress_is_linear(regress_regex *handle);
 
 /* Why searches are not linear. The numbers never change; a later version may have more of them. */
@@ -102,6 +102,11 @@ uint32_t regress_nonlinear(regress_regex *handle);
 /* Returns an upper bound for the steps of a search for each byte of a text, and once more; at most UINT64_MAX. The
    result is 0 if searches are not linear. */
 uint64_t regress_steps_per_character(regress_regex *handle);
+
+/* Returns an upper bound for the steps of regress_find and regress_is_match for each byte of a text, and once more; at
+   most UINT64_MAX. Then they take linear time, and limits.steps does not apply to them. The result is 0 if that is not
+   known: if the pattern has a back reference, or more than limits.tables instructions. */
+uint64_t regress_find_steps_per_character(regress_regex *handle);
 
 /* Searches for the leftmost match that starts at the byte offset `from` or later.
 

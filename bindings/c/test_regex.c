@@ -358,6 +358,7 @@ static void limits(void) {
     /* a program that is too long for tables is searched within the step limit */
     CHECK(compiled_within(&tables, "(a*)*b", &regex) == REGRESS_OK);
     CHECK(regress_is_linear(&regex) == 0 && regress_steps_per_character(&regex) == 0);
+    CHECK(regress_find_steps_per_character(&regex) == 0);
     CHECK(regress_nonlinear(&regex) == REGRESS_NONLINEAR_TOO_MANY_INSTRUCTIONS);
     CHECK(found(&regex, "aaaaaaaaaaaaaaaaaaaaaaaaaaaaaaaa", 0, ROOM) == REGRESS_OUT_OF_STEPS);
     regress_free(&regex);
@@ -369,6 +370,9 @@ static void limits(void) {
     CHECK(compiled("(?=(a))b", SMALL, &regex) == REGRESS_OK);
     CHECK(regress_is_linear(&regex) == 0 && regress_steps_per_character(&regex) == 0);
     CHECK(regress_nonlinear(&regex) == REGRESS_NONLINEAR_CAPTURING_LOOKAROUND);
+    CHECK(regress_find_steps_per_character(&regex) > 0);
+    regress_free(&regex);
+    CHECK(compiled("(?=(a))\\1", SMALL, &regex) == REGRESS_OK && regress_find_steps_per_character(&regex) == 0);
     regress_free(&regex);
     /* of several reasons the first */
     CHECK(compiled_within(&tables, "(?=(a))\\1", &regex) == REGRESS_OK);
@@ -403,6 +407,7 @@ static void refuse(const char *pattern, const char *text) {
             CHECK(message(kind ? kind : 1, ROOM) == REGRESS_OK);
             CHECK((regress_is_linear(&regex) == 1) == (regress_steps_per_character(&regex) > 0));
             CHECK((regress_is_linear(&regex) == 1) == (regress_nonlinear(&regex) == 0));
+            CHECK(regress_is_linear(&regex) == 0 || regress_find_steps_per_character(&regex) > 0);
             CHECK(requests == 0);
             refused = -1;
             CHECK(found_all(&regex, text, ROOM) == REGRESS_OK && memcmp(spans, expected, sizeof expected) == 0);

@@ -28,11 +28,11 @@ A pattern is a str or, in UTF-8, bytes, and searches for matches in texts of the
 a str or bytes of a bytes. A lone surrogate in a str raises UnicodeEncodeError, bytes that are not UTF-8 raise
 UnicodeDecodeError.
 
-A search takes linear time, unless the pattern has a back reference, a group in a lookaround that is not negated, or
-more than a thousand instructions (Pattern.nonlinear). Then it backtracks within a limit of steps, so that it also ends
-for untrusted patterns and texts: at the limit it raises the exception error of the kind 'OutOfSteps'. Ctrl-C takes
-effect when the search has ended. Threads may search with a pattern at the same time; it is compiled once more for each
-search that begins while all others are being made.
+A search takes linear time, unless the pattern has a back reference or more than a thousand instructions, or a group in
+a lookaround that is not negated, for a search for all matches (Pattern.nonlinear, Pattern.is_find_linear). Then it
+backtracks within a limit of steps, so that it also ends for untrusted patterns and texts: at the limit it raises the
+exception error of the kind 'OutOfSteps'. Ctrl-C takes effect when the search has ended. Threads may search with a
+pattern at the same time; it is compiled once more for each search that begins while all others are being made.
 
 The module calls the shared library libregress.so in its folder, or the file that the environment variable
 REGRESS_LIBRARY names. The searches of the library are proved to be right; this module is tested.
@@ -195,6 +195,7 @@ class Pattern:
             these that holds; None if they do
         steps_per_character: an upper bound for the steps of a search for each byte of the text in UTF-8, and once more,
             or None if searches are not linear
+        is_find_linear: whether a search for one match takes linear time: also where a lookaround has a group
         groups: the number of its groups
         groupindex: a dict from the names of groups to their numbers; if groups share a name, that of the first
     """
@@ -210,6 +211,7 @@ class Pattern:
         self.steps_per_character = self._program.steps_per_character or None
         self.nonlinear = self._program.nonlinear
         self.is_linear = self.nonlinear is None
+        self.is_find_linear = self._program.find_steps_per_character > 0
         self.groups = self._program.groups
         self.groupindex = {}
         for number, name in enumerate(self._names, 1):
@@ -505,10 +507,11 @@ class _Handle:
         self.groups = _library.regress_group_count(ctypes.byref(self._regex))
 
     def about(self):
-        """Returns what does not differ from handle to handle: the number of groups, the bound for steps, and the number of
+        """Returns what does not differ from handle to handle: the number of groups, the bounds for steps, and the number of
         the reason why searches are not linear."""
         regex = ctypes.byref(self._regex)
-        return self.groups, _library.regress_steps_per_character(regex), _library.regress_nonlinear(regex)
+        bounds = _library.regress_steps_per_character(regex), _library.regress_find_steps_per_character(regex)
+        return self.groups, *bounds, _library.regress_nonlinear(regex)
 
     def __del__(self):
         if self._regex.inside:
@@ -568,7 +571,7 @@ class _Program:
         self.offset = offset
         # The handles that no call uses. Threads may take from a list and append to it at the same time.
         self._idle = []
-        self.groups, self.steps_per_character, number = self.use(_Handle.about)
+        self.groups, self.steps_per_character, self.find_steps_per_character, number = self.use(_Handle.about)
         self.nonlinear = _NONLINEAR[number] if number < len(_NONLINEAR) else 'other'
 
     def use(self, call):
@@ -813,6 +816,7 @@ def _load():
         'regress_replace_all': replacing,
         'regress_group_count': (size, handle),
         'regress_steps_per_character': (wide, handle),
+        'regress_find_steps_per_character': (wide, handle),
         'regress_nonlinear': (number, handle),
         'regress_escape': (number, data, size, octets, size, sizes),
         'regress_free': (None, handle),

@@ -263,6 +263,13 @@ class Calls(unittest.TestCase):
             self.assertFalse(pattern.is_linear)
             self.assertIsNone(pattern.steps_per_character)
             self.assertEqual(pattern.nonlinear, nonlinear)
+            self.assertEqual(pattern.is_find_linear, nonlinear == 'capturing-lookaround')
+
+    def test_a_match_is_found_in_linear_time_also_where_lookarounds_capture(self):
+        pattern = regress.compile('(?:(?=(a*))a)*b', steps=1)
+        # At the last a that is consumed, a* consumes that one.
+        self.assertEqual(pattern.search('a' * 1000 + 'b').span(1), (999, 1000))
+        self.assertIsNone(pattern.search('a' * 1000))
 
     def test_node_bound(self):
         # 3, one for each code point, and one more for the bar.

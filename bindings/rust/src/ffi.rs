@@ -119,6 +119,7 @@ extern "C" {
     fn regress_nonlinear(handle: *mut RegressRegex) -> u32;
 
     fn regress_steps_per_character(handle: *mut RegressRegex) -> u64;
+    fn regress_find_steps_per_character(handle: *mut RegressRegex) -> u64;
 
     fn regress_escape(
         text: *const u8,
@@ -340,6 +341,12 @@ impl Handle {
     pub(crate) fn steps_per_character(&mut self) -> u64 {
         // SAFETY: the handle is alive.
         unsafe { regress_steps_per_character(&mut self.0) }
+    }
+
+    /// Returns the bound for the steps of a search for one match for each byte of a text, 0 if there is none.
+    pub(crate) fn find_steps_per_character(&mut self) -> u64 {
+        // SAFETY: the handle is alive.
+        unsafe { regress_find_steps_per_character(&mut self.0) }
     }
 }
 

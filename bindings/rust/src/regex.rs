@@ -59,6 +59,8 @@ struct Compiled {
     nonlinear: Option<Nonlinear>,
     /// The bound for the steps of a search for each byte of a text, if they are linear.
     steps_per_character: u64,
+    /// The bound for the steps of a search for one match, 0 if there is none.
+    find_steps_per_character: u64,
     /// The name of each group, in order.
     names: Vec<Option<String>>,
 }
@@ -66,8 +68,9 @@ struct Compiled {
 /// The limits of a regular expression, 0 for the default of each, and its table of Unicode.
 #[derive(Clone, Copy, Debug, PartialEq, Eq)]
 pub struct Options {
-    /// The number of steps that one search may take if it does not take linear time ([`Regex::is_linear`]). By default
-    /// a billion, which takes about a minute at most. A call that is about all matches is one search.
+    /// The number of steps that one search may take if it does not take linear time ([`Regex::is_linear`],
+    /// [`Regex::is_find_linear`]). By default a billion, which takes about a minute at most. A call that is about all
+    /// matches is one search.
     pub steps: u64,
     /// The number of nodes that the tree of the pattern may have, as [`node_bound`](crate::node_bound) bounds it. By
     /// default a million.
@@ -131,13 +134,16 @@ impl Regex {
         let failed = |status| compile_error(status, pattern, recipe.bits);
         let asked = recipe.with_handle(|handle| {
             let steps_per_character = handle.steps_per_character();
+            let find_steps_per_character = handle.find_steps_per_character();
             (
                 handle.group_count(),
                 handle.nonlinear(),
                 steps_per_character,
+                find_steps_per_character,
             )
         });
-        let (count, number, steps_per_character) = asked.map_err(failed)?;
+        let (count, number, steps_per_character, find_steps_per_character) =
+            asked.map_err(failed)?;
         let nonlinear = match number {
             0 => None,
             _ => Some(Nonlinear::from_number(number).ok_or(Error::Library)?),
@@ -153,6 +159,7 @@ impl Regex {
                 flags,
                 nonlinear,
                 steps_per_character,
+                find_steps_per_character,
                 names,
             }),
         })
@@ -321,8 +328,8 @@ impl Regex {
         self.compiled.flags
     }
 
-    /// Returns whether searches take time linear in the length of the text, so that [`Options::steps`] does not apply
-    /// to them.
+    /// Returns whether searches, also those for all matches, take time linear in the length of the text, so that
+    /// [`Options::steps`] does not apply to them.
     ///
     /// They do if the pattern has neither a back reference nor a capture group in a lookaround that is not negated, and
     /// if its program has at most [`Options::tables`] instructions.
@@ -348,6 +355,28 @@ impl Regex {
     /// result is `None` if searches are not linear.
     pub fn steps_per_character(&self) -> Option<u64> {
         Some(self.compiled.steps_per_character).filter(|_| self.is_linear())
+    }
+
+    /// Returns whether a search for one match ([`Regex::find`], [`Regex::is_match`] and the like) takes time linear in
+    /// the length of the text, so that [`Options::steps`] does not apply to it.
+    ///
+    /// It does if the pattern has no back reference, and if its program has at most [`Options::tables`] instructions.
+    ///
+    /// ```
+    /// use regress_front::Regex;
+    ///
+    /// let regex = Regex::new("(?=(a*))b")?;
+    /// assert!(regex.is_find_linear() && !regex.is_linear());
+    /// # Ok::<(), regress_front::Error>(())
+    /// ```
+    pub fn is_find_linear(&self) -> bool {
+        self.find_steps_per_character().is_some()
+    }
+
+    /// Returns an upper bound for the steps of a search for one match for each byte of a text, and once more; at most
+    /// `u64::MAX`. The result is `None` if such a search is not known to take linear time.
+    pub fn find_steps_per_character(&self) -> Option<u64> {
+        Some(self.compiled.find_steps_per_character).filter(|&steps| steps > 0)
     }
 
     /// Returns the number of capture groups, without the whole match.

@@ -274,7 +274,26 @@ fn linear_searches_have_no_step_limit() {
     assert!(!regex.is_linear());
     assert_eq!(regex.steps_per_character(), None);
     assert_eq!(regex.is_match(&text), Err(SearchError::OutOfSteps));
-    assert!(!Regex::new(r"(a)\1").unwrap().is_linear());
+    let regex = Regex::new(r"(a)\1").unwrap();
+    assert!(!regex.is_linear() && !regex.is_find_linear());
+    assert_eq!(regex.find_steps_per_character(), None);
+}
+
+#[test]
+fn a_match_is_found_in_linear_time_also_where_lookarounds_capture() {
+    let steps = Options {
+        steps: 1,
+        ..Options::default()
+    };
+    let regex = Regex::with_options("(?:(?=(a*))a)*b", Flags::default(), steps).unwrap();
+    assert!(regex.is_find_linear() && !regex.is_linear());
+    assert!(regex.find_steps_per_character().is_some_and(|steps| steps > 0));
+    // At the last `a` that is consumed, `a*` consumes that one.
+    let text = format!("{}b", "a".repeat(1000));
+    let found = regex.find(&text).unwrap().unwrap();
+    assert_eq!(found.range(), 0..1001);
+    assert_eq!(found.group(1), Some(999..1000));
+    assert_eq!(regex.find(&text[..1000]), Ok(None));
 }
 
 #[test]

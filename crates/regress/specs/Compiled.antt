@@ -37,16 +37,20 @@ groups_of r = map capture_of r.groups.items
 abbrev pub outcomes_of : Regex → (text : List ℕ) → (position : ℕ) → List MatchState
 outcomes_of r text = outcomes_at (setting_of r) text (tree_of r)
 
--- an upper bound for the steps of a search for each byte of a text, and once more; none if searches are not known to take
--- linear time
+-- an upper bound for the steps of a search for all matches for each byte of a text, and once more; none if such searches
+-- are not known to take linear time
 abbrev pub factor_of : Regex → Option ℕ
 factor_of r = matcher.factor_of r.matcher
+
+-- the same for a search for one match
+abbrev pub find_factor_of : Regex → Option ℕ
+find_factor_of r = matcher.find_factor_of r.matcher
 
 -- the step limit of a search if they are not known to
 abbrev pub limit_of : Regex → ℕ
 limit_of r = r.steps
 
--- why searches are not known to take linear time; none if they do
+-- why searches for all matches are not known to take linear time; none if they do
 abbrev pub nonlinear_of : Regex → Option Nonlinear
 nonlinear_of r = matcher.nonlinear_of r.matcher
 

@@ -3,7 +3,7 @@
 /// The limits of a regular expression.
 #[derive(Clone, Copy, Debug, PartialEq, Eq)]
 pub struct Options {
-    /// The number of steps that one search may take if searches are not linear, counted as in `Code::find` of
+    /// The number of steps that one search may take if it is not linear, counted as in `Code::find` of
     /// `regress_backtrack`. All matches that an iterator returns are one search. A billion by default, which takes about a
     /// minute at most.
     pub steps: u64,
@@ -13,7 +13,7 @@ pub struct Options {
     /// The number of instructions that the program of the pattern may have, where the body of a loop `{n,m}` counts m
     /// times. 250,000 by default: up to some 100 MiB.
     pub instructions: usize,
-    /// The number of instructions up to which a program is searched in linear time, if it is linear. The tables that this
+    /// The number of instructions up to which a program is searched in linear time, where it can be. The tables that this
     /// needs take up to two bits for each instruction and byte of the text. A thousand by default, so at most 250 times
     /// the length of the text.
     pub tables: usize,

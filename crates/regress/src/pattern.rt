@@ -23,8 +23,9 @@ use std::sync::Arc;
 /// A compiled regular expression (ECMA-262, RegExp), for any number of searches.
 ///
 /// It keeps its source, its tree in normal form, its program, and its share of the tables. If [`Regex::is_linear`], a
-/// search takes time linear in the length of the text. Any other search backtracks within a step limit. So searches end
-/// also for untrusted patterns and texts ([`Options`]).
+/// search for all matches takes time linear in the length of the text, and if [`Regex::is_find_linear`], a search for one
+/// match does. Any other search backtracks within a step limit. So searches end also for untrusted patterns and texts
+/// ([`Options`]).
 ///
 /// # Examples
 /// ```
@@ -45,7 +46,7 @@ pub struct Regex {
     matcher: Matcher,
     /// The capture groups in the order of their ids.
     pub(crate) groups: Vec<Group>,
-    /// The number of steps that a search may take if searches are not linear.
+    /// The number of steps that a search may take if it is not linear.
     steps: u64,
     ghost well_formed: { ∥ IsWellFormed (matcher_tree matcher) ∥₁ },
 }
@@ -57,12 +58,12 @@ impl Regex {
     ghost use Rattle.regress_front.specs.SettingOf.{setting_of as setting_under};
     ghost use Rattle.regress_front.specs.Source.{IsCodePoint};
     ghost use Rattle.regress_match.specs.Matched.{IsInside};
-    ghost use Rattle.regress_match.specs.Matcher.{IsFactorOf, IsNonlinearOf};
+    ghost use Rattle.regress_match.specs.Matcher.{IsFactorOf, IsFindFactorOf, IsNonlinearOf};
     ghost use Rattle.regress_match.specs.Searched.{AreAllMatches};
     ghost use Rattle.regress_program.specs.Found.{Finds};
     ghost use Rattle.regress_program.specs.Size.{program_size};
     ghost use Rattle.regress_replace.specs.Order.{AreInOrder};
-    ghost use Rattle.regress.specs.Compiled.{IsCompiled, IsCompiledFrom, factor_of, groups_of, limit_of, nonlinear_of, outcomes_of, setting_of, source_of, text_of, tree_of, unicode_setting};
+    ghost use Rattle.regress.specs.Compiled.{IsCompiled, IsCompiledFrom, factor_of, find_factor_of, groups_of, limit_of, nonlinear_of, outcomes_of, setting_of, source_of, text_of, tree_of, unicode_setting};
     ghost use Rattle.regress.specs.Failures.{IsDue, IsDueWithLetters};
     ghost use Rattle.regress.specs.Found.{MatchesSomewhere, groups_in, match_of};
     ghost use Rattle.regress.specs.Groups.{names_left};
@@ -135,6 +136,7 @@ impl Regex {
         ensures within { IfOk result (λ regex. program_size (tree_of regex) ≤ options.instructions) }
         ensures limit { IfOk result (λ regex. limit_of regex ≡ options.steps) }
         ensures linear { IfOk result (λ regex. IsFactorOf options.tables (tree_of regex) (factor_of regex)) }
+        ensures find_linear { IfOk result (λ regex. IsFindFactorOf options.tables (tree_of regex) (find_factor_of regex)) }
         ensures nonlinear { IfOk result (λ regex. IsNonlinearOf options.tables (tree_of regex) (nonlinear_of regex)) }
     {
         let points = code_points(alloc, pattern)?;
@@ -166,6 +168,7 @@ impl Regex {
         ensures within { IfOk result (λ regex. program_size (tree_of regex) ≤ options.instructions) }
         ensures limit { IfOk result (λ regex. limit_of regex ≡ options.steps) }
         ensures linear { IfOk result (λ regex. IsFactorOf options.tables (tree_of regex) (factor_of regex)) }
+        ensures find_linear { IfOk result (λ regex. IsFindFactorOf options.tables (tree_of regex) (find_factor_of regex)) }
         ensures nonlinear { IfOk result (λ regex. IsNonlinearOf options.tables (tree_of regex) (nonlinear_of regex)) }
     {
         let bound = node_bound(pattern, flags);
@@ -223,6 +226,7 @@ impl Regex {
     pub fn is_match(&self, alloc: Global, text: &str) -> Result<bool, SearchError>
         ensures is { IfOk result (λ is. IsTrue is ↔ MatchesSomewhere text.now (outcomes_of self.now text.now)) }
         ensures linear { IfErr result (λ error. error ≡ OutOfSteps → factor_of self.now ≡ None) }
+        ensures bounded { IfErr result (λ error. error ≡ OutOfSteps → find_factor_of self.now ≡ None) }
     {
         let found = self.find(alloc, text)?;
         Ok(found.is_some())
@@ -237,6 +241,7 @@ impl Regex {
         ensures inside { IfOk result (λ found. IfSome found (λ m. IsInside text.now (match_of m))) }
         ensures groups { IfOk result (λ found. IfSome found (λ m. groups_in m ≡ groups_of self.now)) }
         ensures linear { IfErr result (λ error. error ≡ OutOfSteps → factor_of self.now ≡ None) }
+        ensures bounded { IfErr result (λ error. error ≡ OutOfSteps → find_factor_of self.now ≡ None) }
     {
         self.find_at(alloc, text, 0)
     }
@@ -250,14 +255,15 @@ impl Regex {
     ///
     /// # Errors
     /// - [`SearchError::OutOfSteps`] if the search takes more than `steps` of [`Options`], and never if
-    ///   [`Regex::is_linear`].
+    ///   [`Regex::is_find_linear`].
     /// - [`SearchError::Memory`] if an allocation fails.
     ///
     /// # Complexity
-    /// If [`Regex::is_linear`], the steps are at most [`Regex::steps_per_character`] for each byte of the text, and once
-    /// more; a step takes constant time, but for literals, sets, the groups that an iteration unsets, and the alternatives
-    /// that it passes over because the next byte excludes them. Else the time is at most the step limit and the length of
-    /// `text` together, times a factor that depends only on the pattern and the tables.
+    /// If [`Regex::is_find_linear`], the steps are at most [`Regex::find_steps_per_character`] for each byte of the text,
+    /// and once more; a step takes constant time, but for literals, sets, the groups that an iteration unsets or a
+    /// lookaround sets, and the alternatives that it passes over because the next byte excludes them. Else the time is at
+    /// most the step limit and the length of `text` together, times a factor that depends only on the pattern and the
+    /// tables.
     pub fn find_at(
         &self,
         alloc: Global,
@@ -268,6 +274,7 @@ impl Regex {
         ensures inside { IfOk result (λ found. IfSome found (λ m. IsInside text.now (match_of m))) }
         ensures groups { IfOk result (λ found. IfSome found (λ m. groups_in m ≡ groups_of self.now)) }
         ensures linear { IfErr result (λ error. error ≡ OutOfSteps → factor_of self.now ≡ None) }
+        ensures bounded { IfErr result (λ error. error ≡ OutOfSteps → find_factor_of self.now ≡ None) }
     {
         let found = search::find(alloc, &self.matcher, text, start, self.steps)?;
         match found {
@@ -365,9 +372,9 @@ impl Regex {
         self.matcher.regex().flags
     }
 
-    /// Returns whether searches are known to take time linear in the length of the text.
+    /// Returns whether a search for all matches is known to take time linear in the length of the text.
     ///
-    /// They are if the pattern has neither a back reference nor a capture group in a lookaround that is not negated, and
+    /// It is if the pattern has neither a back reference nor a capture group in a lookaround that is not negated, and
     /// if its program has at most `tables` of [`Options`] instructions.
     ///
     /// # Examples
@@ -380,8 +387,25 @@ impl Regex {
         self.matcher.is_linear()
     }
 
-    /// Returns why searches are not known to take linear time, and `None` if they do. If several reasons hold, it is the
-    /// first in the order of [`Nonlinear`].
+    /// Returns whether a search for one match is known to take time linear in the length of the text: also where
+    /// lookarounds contain capture groups. It is if [`Regex::is_linear`].
+    ///
+    /// A back reference rules it out, and so does a program of more than `tables` of [`Options`] instructions.
+    ///
+    /// # Examples
+    /// ```
+    /// let regex = Regex::new(alloc, "(?=(a*))a*b")?;
+    /// assert!(rt; regex.is_find_linear());
+    /// assert!(rt; !regex.is_linear());
+    /// ```
+    pub fn is_find_linear(&self) -> bool
+        ensures { result ≡ is_some (find_factor_of self.now) }
+    {
+        self.matcher.is_find_linear()
+    }
+
+    /// Returns why searches for all matches are not known to take linear time, and `None` if they do. If several reasons
+    /// hold, it is the first in the order of [`Nonlinear`].
     ///
     /// # Examples
     /// ```
@@ -395,13 +419,20 @@ impl Regex {
         self.matcher.nonlinear()
     }
 
-    /// Returns an upper bound for the steps of a search for each byte of a text, counting its end as one more; at most
-    /// `u64::MAX`. All matches that an iterator returns are one search. The result is `None` if searches are not known to
-    /// take linear time.
+    /// Returns an upper bound for the steps of a search for all matches for each byte of a text, counting its end as one
+    /// more; at most `u64::MAX`. All matches that an iterator returns are one search. The result is `None` if such searches
+    /// are not known to take linear time.
     pub fn steps_per_character(&self) -> Option<u64>
         ensures { result ≡ option_map (λ n. min n u64.MAX) (factor_of self.now) }
     {
         self.matcher.steps_per_character()
+    }
+
+    /// Returns the same for a search for one match.
+    pub fn find_steps_per_character(&self) -> Option<u64>
+        ensures { result ≡ option_map (λ n. min n u64.MAX) (find_factor_of self.now) }
+    {
+        self.matcher.find_steps_per_character()
     }
 
     /// Returns the number of capture groups, without the whole match.

@@ -3,7 +3,7 @@ ghost use Rattle.std.specs.Prelude.{◌≡◌, All, IfErr, IfOk, IfSome, None};
 ghost use Rattle.regress_front.specs.WellFormed.{IsWellFormed};
 ghost use Rattle.regress_match.specs.Iterated.{iterated_matcher};
 ghost use Rattle.regress_match.specs.Matched.{IsInside};
-ghost use Rattle.regress_match.specs.Matcher.{factor_of, matcher_outcomes, matcher_tree};
+ghost use Rattle.regress_match.specs.Matcher.{factor_of, find_factor_of, matcher_outcomes, matcher_tree};
 ghost use Rattle.regress_match.specs.Searched.{AreAllMatches};
 ghost use Rattle.regress_program.specs.Found.{Finds};
 ghost use Rattle.regress_replace.specs.Order.{AreInOrder};
@@ -25,6 +25,7 @@ pub(crate) fn find(
     ensures finds { IfOk result (λ found. Finds text.now (matcher_outcomes matcher.now text.now) from found) }
     ensures inside { IsWellFormed (matcher_tree matcher.now) → IfOk result (λ found. IfSome found (IsInside text.now)) }
     ensures linear { IfErr result (λ error. error ≡ OutOfSteps → factor_of matcher.now ≡ None) }
+    ensures bounded { IfErr result (λ error. error ≡ OutOfSteps → find_factor_of matcher.now ≡ None) }
 {
     let found = matcher.find(alloc, text, from, steps)?;
     match found.outcome {

@@ -3,6 +3,7 @@ ghost use Rattle.std.specs.Prelude.{◌≡◌, ◌<◌, length, min};
 ghost use Rattle.regress_program.specs.Compiled.{total};
 ghost use Rattle.regress_program.specs.Linear.{reason};
 ghost use Rattle.regress_program.specs.Shape.{IsForwards, IsProgram};
+ghost use Rattle.regress_program.specs.Tidy.{table_groups as groups_by_tables};
 ghost use Rattle.regress_program.specs.Unique.{forwards-prop, program-prop};
 ghost use Rattle.regress_backtrack.specs.Candidates.{BeginsAt, BeginsAt-prop};
 ghost use Rattle.regress_backtrack.specs.Fronts.{HaveFronts, HaveFronts-prop};
@@ -29,8 +30,10 @@ pub struct Code {
     pub(crate) groups: usize,
     /// The number of instructions, at most `usize::MAX`.
     pub(crate) instructions: usize,
-    /// Why it cannot be searched in linear time, by tables.
+    /// Why searches for all matches may take more than linear time.
     pub(crate) nonlinear: Option<Nonlinear>,
+    /// The number of groups that lookarounds may set, if it is searched by tables.
+    pub(crate) table_groups: Option<usize>,
     /// Where matches can begin.
     pub(crate) candidates: Candidates,
     ghost some: { 0 < length routines.items },
@@ -41,6 +44,7 @@ pub struct Code {
     ghost fronted: { HaveFronts tests.items routines.items } by { HaveFronts-prop tests.items routines.items },
     ghost passing: { HavePasses routines.items } by { HavePasses-prop routines.items },
     ghost linear_unless: { nonlinear ≡ reason (program_in tests.items routines.items) },
+    ghost tabled: { table_groups ≡ groups_by_tables (program_in tests.items routines.items) },
 }
 
 impl Code {
@@ -60,11 +64,21 @@ impl Code {
         self.groups
     }
 
-    /// Returns why the program cannot be searched in linear time, by tables: a back reference, or if it has none, a
-    /// lookaround that sets captures. The result is `None` if it can be.
+    /// Returns why searches for all matches may take more than linear time: a back reference, or if it has none, a
+    /// lookaround that sets captures. The result is `None` if they take linear time, by tables.
     pub fn nonlinear(&self) -> Option<Nonlinear>
         ensures { result ≡ reason (code_routines self.now) }
     {
         self.nonlinear
+    }
+
+    /// Returns the number of groups that lookarounds may set, if the program is searched by tables; otherwise `None`.
+    ///
+    /// Tables lead to the matches also of a program whose lookarounds capture, if each begins with its groups unset. A
+    /// back reference rules them out.
+    pub fn table_groups(&self) -> Option<usize>
+        ensures { result ≡ groups_by_tables (code_routines self.now) }
+    {
+        self.table_groups
     }
 }

@@ -76,6 +76,7 @@ fn own(alloc: Global, program: &Program<'_, '_>, candidates: Candidates) -> Resu
 {
     let mut tests = Vec::new(alloc);
     let routines = own_routines(alloc, program.routines(), &mut tests)?;
+    let table_groups = program.table_groups(alloc)?;
     Ok(Code {
         tests,
         routines,
@@ -83,6 +84,7 @@ fn own(alloc: Global, program: &Program<'_, '_>, candidates: Candidates) -> Resu
         groups: program.groups(),
         instructions: program.instructions(),
         nonlinear: program.nonlinear(),
+        table_groups,
         candidates,
     })
 }

@@ -1,6 +1,6 @@
 //! The functions that C calls to compile a pattern, and to search for it. include/regress.h documents them.
 ghost use Rattle.std.specs.Prelude.{◌≡◌, if◌then◌else◌, IfSome, IsUtf8, None, is_some, length, min, option_map, unwrap_or};
-ghost use Rattle.regress.specs.Compiled.{factor_of, groups_of, nonlinear_of, outcomes_of};
+ghost use Rattle.regress.specs.Compiled.{factor_of, find_factor_of, groups_of, nonlinear_of, outcomes_of};
 ghost use Rattle.regress.specs.Found.{MatchesSomewhere};
 ghost use Rattle.regress_c.specs.CompileResults.{CompileResult, limits_of};
 ghost use Rattle.regress_c.specs.Reasons.{reason_number};
@@ -181,6 +181,23 @@ pub extern "C" fn regress_steps_per_character(alloc: Global, handle: &mut Handle
 {
     let regex = handle.take(alloc);
     let steps = regex.steps_per_character();
+    *handle = Handle::of(regex);
+    steps.unwrap_or(0)
+}
+
+/// Returns an upper bound for the steps of a search for one match for each byte of a text, counting its end as one more;
+/// at most `u64::MAX`. The result is 0 if such a search is not known to take linear time.
+///
+/// # Preconditions
+/// The handle is one of a compiled pattern.
+#[unsafe(no_mangle)]
+pub extern "C" fn regress_find_steps_per_character(alloc: Global, handle: &mut Handle) -> u64
+    requires { handle.old.value ≡ None → ⊥ }
+    ensures same { handle.new.value ≡ handle.old.value }
+    ensures steps { IfSome handle.old.value (λ regex. result ≡ unwrap_or (option_map (λ n. min n u64.MAX) (find_factor_of regex)) 0) }
+{
+    let regex = handle.take(alloc);
+    let steps = regex.find_steps_per_character();
     *handle = Handle::of(regex);
     steps.unwrap_or(0)
 }

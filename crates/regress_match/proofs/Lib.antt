@@ -2,4 +2,5 @@ pub mod lemmas
 pub mod IterationLemmas
 pub mod NamesLemmas
 pub mod MatcherLemmas
+pub mod OneMatchLemmas
 pub mod RequiredLemmas

@@ -21,8 +21,10 @@ use Rattle.regress_program.specs.Linear.{is_linear, reason}
 use Rattle.regress_program.specs.Program.{IsSolution, Out, Routine, matcher_of}
 use Rattle.regress_program.specs.declared.fault.CompileFault.{CompileFault}
 use Rattle.regress_program.specs.Search as program
-use Rattle.regress_program.specs.Search.{groups_of, instructions_of, routines_of, setting_of, steps_up_to}
+use Rattle.regress_program.specs.Ranges.{inner_groups}
+use Rattle.regress_program.specs.Search.{capturing_steps, groups_of, instructions_of, routines_of, setting_of, steps_up_to}
 use Rattle.regress_program.specs.TextSearch.{searched_program, searched_text}
+use Rattle.regress_program.specs.Tidy.{is_tabled}
 use Rattle.regress_program.specs.declared.found.Match.{Match}
 use Rattle.regress_program.specs.declared.found.Search.{Search}
 use Rattle.regress_program.specs.declared.program.Program.{Program}
@@ -31,6 +33,7 @@ use Rattle.regress_program.specs.declared.nonlinear.Nonlinear.{Nonlinear as Reas
 use Rattle.regress_program.specs.declared.nonlinear.Nonlinear.TheVariants as reasons
 use Rattle.regress_program.proofs.lemmas.Reasons.{linear-reason}
 use Rattle.regress_program.proofs.lemmas.Solutions.{finds_by, solution}
+use Rattle.regress_program.proofs.lemmas.Strict.{linear-inner, linear-tabled}
 use Rattle.regress_backtrack.specs.Backtracker.{AreOutcomes, SameRuns, run_code, run_tables, run_text}
 use Rattle.regress_backtrack.specs.Backtracker as runs
 use Rattle.regress_backtrack.specs.Code.{code_flags, code_groups, code_routines, outcomes_from, setting_with}
@@ -68,19 +71,29 @@ result_means t tables flags groups (Ok c) pattern same counted all =
 result_means t tables flags groups (Err e) pattern same counted all = tt
 
 -- So does a program with the same routines.
-pub program_means : (setting : Setting) (t : Tree) (tables : Tables) (c : Code) (p : Program) → IsCodeOf setting t tables c →
-    routines_of p ≡ code_routines c → groups_of p ≡ code_groups c → setting_of p ≡ setting_with c tables →
-    is_linear (code_routines c) ≡ true → IsProgramOf setting t p
-program_means setting t tables c p is routines groups same linear =
+pub record HasOutcomesOf (setting : Setting) (t : Tree) (p : Program) : Type 0 where
+  pub means : (text : List ℕ) (outs : ℕ → Out) → IsSolution (setting_of p) text (routines_of p) outs → (k : ℕ) → k ≤ length text →
+      program.outcomes_from p text outs k ≡ all_outcomes setting t text k
+
+pub program_outcomes : (setting : Setting) (t : Tree) (tables : Tables) (c : Code) (p : Program) → IsCodeOf setting t tables c →
+    routines_of p ≡ code_routines c → groups_of p ≡ code_groups c → setting_of p ≡ setting_with c tables → HasOutcomesOf setting t p
+program_outcomes setting t tables c p is routines groups same =
     let Means : Setting → List Routine → ℕ → Type 0 =
     λ s rs n. (text : List ℕ) (outs : ℕ → Out) → IsSolution s text rs outs → (k : ℕ) → k ≤ length text →
     matcher_of s text rs outs (length rs - 1) (no_groups n k) ≡ all_outcomes setting t text k in
     record {
-      linear = subst (λ rs. is_linear rs ≡ true) (sym routines) linear;
       means = subst (λ s. Means s (routines_of p) (groups_of p)) (sym same)
           (subst (λ rs. Means (setting_with c tables) rs (groups_of p)) (sym routines)
           (subst (λ n. Means (setting_with c tables) (code_routines c) n) (sym groups) is.means));
     }
+
+pub program_means : (setting : Setting) (t : Tree) (tables : Tables) (c : Code) (p : Program) → IsCodeOf setting t tables c →
+    routines_of p ≡ code_routines c → groups_of p ≡ code_groups c → setting_of p ≡ setting_with c tables →
+    is_linear (code_routines c) ≡ true → IsProgramOf setting t p
+program_means setting t tables c p is routines groups same linear = record {
+  linear = subst (λ rs. is_linear rs ≡ true) (sym routines) linear;
+  means = (program_outcomes setting t tables c p is routines groups same).means;
+}
 
 -- Removing repetitions keeps the first outcome.
 distinct_first : (states rest : List MatchState) (s : MatchState) → states ≡ s ∷ rest →
@@ -128,7 +141,7 @@ finds_distinct text at origin (outcomes.Matched m) is = record {
 }
 
 -- what a search finds by tables
-pub table_finds : (setting : Setting) (t : Tree) (p : Program) (text : List ℕ) (origin : ℕ) (found : Option Match) → IsProgramOf setting t p →
+pub table_finds : (setting : Setting) (t : Tree) (p : Program) (text : List ℕ) (origin : ℕ) (found : Option Match) → HasOutcomesOf setting t p →
     ((outs : ℕ → Out) → IsSolution (setting_of p) text (routines_of p) outs → searches.Finds text (program.outcomes_from p text outs) origin found) →
     Finds text (outcomes_at setting text t) origin (outcome_if found)
 table_finds setting t p text origin found is solved =
@@ -230,6 +243,14 @@ bound_linear routines true some = by (is_linear routines) some
     by false is = absurd (cc)
 bound_linear routines false some = absurd (cc)
 
+-- Tables lead to the matches of a linear program.
+pub linear_has_tables : (routines : List Routine) (within : Bool) → is_some (factor_with routines within) ≡ true → is_tabled routines ≡ false → ⊥
+linear_has_tables routines within some none = by (is_tabled routines) (linear-tabled routines (bound_linear routines within some).0) none
+  where
+    by : (b : Bool) → (if b then Some (inner_groups routines) else None) ≡ Some 0 → b ≡ false → ⊥
+    by true is none = cc
+    by false is none = cc
+
 -- There is a bound exactly if there is no reason against it.
 pub linear-unless : (routines : List Routine) (within : Bool) → is_none (nonlinear_with routines within) ≡ is_some (factor_with routines within)
 linear-unless routines within =
@@ -279,14 +300,21 @@ kept_none m text from from' taken (Some s) none kept = cc
 
 -- ---- one search in the tables
 
+-- Where no lookaround captures, no steps come on top.
+no_captures : (i inner d most steps : ℕ) → inner ≡ 0 → steps ≤ most + capturing_steps i inner * d → steps ≤ most
+no_captures i inner d most steps none is =
+    let small : steps ≤ most + 2 * i * 0 * d = subst (λ k. steps ≤ most + 2 * i * k * d) none is in
+    omega (arith, small)
+
 module _ (m : Matcher) (text : List ℕ) (from taken : ℕ) (s : TextSearch) (kept : IsKept m text from taken s) (search : Search)
     (solved : (outs : ℕ → Out) → IsSolution (setting_of (searched_program s)) (searched_text s) (routines_of (searched_program s)) outs →
     searches.Finds (searched_text s) (program.outcomes_from (searched_program s) (searched_text s) outs) from search.found)
     (inside : IfSome search.found (λ x. (state_of x).position ≤ length (searched_text s)))
-    (steps : search.steps ≤ steps_up_to (instructions_of (searched_program s)) (searched_text s) from search.found) where
+    (steps : search.steps ≤ steps_up_to (instructions_of (searched_program s)) (searched_text s) from search.found
+    + capturing_steps (instructions_of (searched_program s)) (inner_groups (routines_of (searched_program s))) * (length (searched_text s) + 1)) where
   pub kept_finds : Finds text (matcher_outcomes m text) from (outcome_if search.found)
   kept_finds =
-      table_finds (matcher_setting m) (matcher_tree m) (searched_program s) text from search.found kept.program
+      table_finds (matcher_setting m) (matcher_tree m) (searched_program s) text from search.found (record { means = kept.program.means })
       (subst (λ (t : List ℕ). (outs : ℕ → Out) → IsSolution (setting_of (searched_program s)) t (routines_of (searched_program s)) outs →
       searches.Finds t (program.outcomes_from (searched_program s) t outs) from search.found) kept.same_text solved)
 
@@ -296,6 +324,12 @@ module _ (m : Matcher) (text : List ℕ) (from taken : ℕ) (s : TextSearch) (ke
   pub kept_inside : IsUtf8 text → IsWellFormed (matcher_tree m) → IfMatched (outcome_if search.found) (IsInside text)
   kept_inside utf8 = found_inside (matcher_setting m) text utf8 (matcher_tree m) from (outcome_if search.found) kept_finds
 
+  -- in a linear program no lookaround captures
+  kept_steps : search.steps ≤ steps_up_to (instructions_of (searched_program s)) (searched_text s) from search.found
+  kept_steps =
+      no_captures (instructions_of (searched_program s)) (inner_groups (routines_of (searched_program s))) (length (searched_text s) + 1) _ search.steps
+      (linear-inner (routines_of (searched_program s)) kept.program.linear) steps
+
   pub kept_more : (from' taken' : ℕ) → taken' ≤ taken + search.steps → from' ≡ offset_after text from (outcome_if search.found) → IsKept m text from' taken' s
   kept_more from' taken' sum is = record {
     program = kept.program;
@@ -304,7 +338,7 @@ module _ (m : Matcher) (text : List ℕ) (from taken : ℕ) (s : TextSearch) (ke
     steps = subst (λ k. taken' ≤ 2 * instructions_of (searched_program s) * (length text + 1) + 2 * (2 * instructions_of (searched_program s) + 1) * min k (length text + 1))
         (sym is)
         (more_steps (instructions_of (searched_program s)) text from taken search.steps taken' (matcher_outcomes m text) search.found kept.steps
-        (subst (λ t. search.steps ≤ steps_up_to (instructions_of (searched_program s)) t from search.found) kept.same_text steps) sum kept_finds
+        (subst (λ t. search.steps ≤ steps_up_to (instructions_of (searched_program s)) t from search.found) kept.same_text kept_steps) sum kept_finds
         (subst (λ t. IfSome search.found (λ x. (state_of x).position ≤ length t)) kept.same_text inside));
   }
 

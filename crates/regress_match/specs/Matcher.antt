@@ -1,5 +1,5 @@
 -- Searches with a pattern that is compiled into a program.
-use Rattle.std.specs.Prelude.{◌≡◌, if◌then◌else◌, ℕ, ◌+◌, ◌*◌, ◌≤◌, Bool, ◌&&◌, nat_le, List, length, Option, Some, None}
+use Rattle.std.specs.Prelude.{◌≡◌, if◌then◌else◌, ℕ, ◌+◌, ◌*◌, ◌≤◌, Bool, ◌&&◌, nat_le, List, length, Option, Some, None, option_map}
 use Rattle.std.specs.Arc.{arc_value}
 use Rattle.regress_tree.specs.Setting.{Setting}
 use Rattle.regress_tree.specs.Steps.{MatchState}
@@ -8,7 +8,9 @@ use Rattle.regress_unicode.specs.TableOf.{table_of}
 use Rattle.regress_program.specs.Compiled.{IsPattern, total}
 use Rattle.regress_program.specs.Linear.{is_linear, reason}
 use Rattle.regress_program.specs.Program.{Routine}
+use Rattle.regress_program.specs.Search.{capturing_steps}
 use Rattle.regress_program.specs.Size.{program_size}
+use Rattle.regress_program.specs.Tidy.{table_groups}
 use Rattle.regress_program.specs.declared.found.Match.{Match}
 use Rattle.regress_program.specs.declared.nonlinear.Nonlinear.{Nonlinear as Reason}
 use Rattle.regress_program.specs.declared.nonlinear.Nonlinear.TheVariants as reasons
@@ -41,6 +43,16 @@ factor instructions = 64 + 2 * instructions + 2 * (2 * instructions + 1)
 abbrev pub factor_with : List Routine → (within : Bool) → Option ℕ
 factor_with routines within = if within && is_linear routines then Some (factor (total routines)) else None
 
+-- An upper bound for those of a search for one match, where lookarounds may set `inner` groups: those that find what they
+-- have captured come on top.
+abbrev pub find_factor : (instructions inner : ℕ) → ℕ
+find_factor instructions inner = factor instructions + capturing_steps instructions inner
+
+-- the bound for a program that is searched for one match in linear time: if tables lead to its matches, and it is within
+-- the limit on tables; else none
+abbrev pub find_factor_with : List Routine → (within : Bool) → Option ℕ
+find_factor_with routines within = if within then option_map (find_factor (total routines)) (table_groups routines) else None
+
 -- The bound is that of a program that matches the tree, with as many instructions as the size of the tree. It is searched
 -- in linear time exactly if it is linear and within the limit.
 pub record IsFactorOf (limit : ℕ) (t : Tree) (bound : Option ℕ) : Type 0 where
@@ -48,6 +60,14 @@ pub record IsFactorOf (limit : ℕ) (t : Tree) (bound : Option ℕ) : Type 0 whe
   pub pattern : IsPattern routines t
   pub size : total routines ≡ program_size t
   pub is : bound ≡ factor_with routines (nat_le (total routines) limit)
+
+-- The same for a search for one match: it takes linear time exactly if tables lead to the matches of the program, and it
+-- is within the limit.
+pub record IsFindFactorOf (limit : ℕ) (t : Tree) (bound : Option ℕ) : Type 0 where
+  pub routines : List Routine
+  pub pattern : IsPattern routines t
+  pub size : total routines ≡ program_size t
+  pub is : bound ≡ find_factor_with routines (nat_le (total routines) limit)
 
 -- why a program is not searched in linear time: by its instructions, or else because it is not within the limit on tables;
 -- none if it is searched in linear time
@@ -67,9 +87,13 @@ pub record IsNonlinearOf (limit : ℕ) (t : Tree) (why : Option Nonlinear) : Typ
   pub size : total routines ≡ program_size t
   pub is : why ≡ nonlinear_with routines (nat_le (total routines) limit)
 
--- that of a matcher; none if its searches are not known to take linear time
+-- that of a matcher; none if its searches for all matches are not known to take linear time
 abbrev pub factor_of : Matcher → Option ℕ
 factor_of m = factor_with (code_routines m.code) m.within
+
+-- the same for a search for one match
+abbrev pub find_factor_of : Matcher → Option ℕ
+find_factor_of m = find_factor_with (code_routines m.code) m.within
 
 -- why its searches are not known to take linear time
 abbrev pub nonlinear_of : Matcher → Option Nonlinear

@@ -9,7 +9,7 @@ ghost use Rattle.regress_program.specs.Size.{program_size};
 ghost use Rattle.regress_program.specs.declared.fault.CompileFault.TheVariants.{TooLong};
 ghost use Rattle.regress_backtrack.specs.Code.{code_routines};
 ghost use Rattle.regress_match.specs.Compiled.{IsCodeOf};
-ghost use Rattle.regress_match.specs.Matcher.{IsFactorOf, IsNonlinearOf, factor, factor_of, matcher_setting, matcher_tree, nonlinear_of};
+ghost use Rattle.regress_match.specs.Matcher.{IsFactorOf, IsFindFactorOf, IsNonlinearOf, factor, factor_of, find_factor, find_factor_of, matcher_setting, matcher_tree, nonlinear_of};
 
 use crate::limits::Limits;
 use crate::matcher::Matcher;
@@ -24,7 +24,8 @@ use std::sync::Arc;
 impl Matcher {
     /// Compiles a pattern into a program of at most `limits.instructions` instructions.
     ///
-    /// Searches take linear time if the program is linear and has at most `limits.tables` instructions.
+    /// Searches take linear time if the program is linear and has at most `limits.tables` instructions; searches for one
+    /// match also where lookarounds capture.
     ///
     /// # Errors
     /// - [`CompileFault::TooLong`] if the program would have more instructions than the limit.
@@ -41,6 +42,7 @@ impl Matcher {
         ensures setting { IfOk result (λ m. matcher_setting m ≡ record { flags = regex.flags; table = table_of (arc_value tables.now) }) }
         ensures tree { IfOk result (λ m. matcher_tree m ≡ tree regex.node) }
         ensures linear { IfOk result (λ m. IsFactorOf limits.tables (tree regex.node) (factor_of m)) }
+        ensures find_linear { IfOk result (λ m. IsFindFactorOf limits.tables (tree regex.node) (find_factor_of m)) }
         ensures nonlinear { IfOk result (λ m. IsNonlinearOf limits.tables (tree regex.node) (nonlinear_of m)) }
         ensures within { IfOk result (λ _. program_size (tree regex.node) ≤ limits.instructions) }
         ensures too_long { result ≡ Err TooLong → length (captures (tree regex.node)) < usize.MAX → limits.instructions < program_size (tree regex.node) }
@@ -64,15 +66,24 @@ impl Matcher {
         &self.regex
     }
 
-    /// Returns whether searches take linear time: whether the program is linear, and within the limit on tables.
+    /// Returns whether a search for all matches takes linear time: whether the program is linear, and within the limit on
+    /// tables.
     pub fn is_linear(&self) -> bool
         ensures { result ≡ is_some (factor_of self.now) }
     {
         self.nonlinear().is_none()
     }
 
-    /// Returns an upper bound for the steps of a search for each byte of a text, counting its end as one more; at most
-    /// `u64::MAX`. The result is `None` if searches are not known to take linear time.
+    /// Returns whether a search for one match takes linear time: also where lookarounds contain capture groups. It does
+    /// if [`Matcher::is_linear`].
+    pub fn is_find_linear(&self) -> bool
+        ensures { result ≡ is_some (find_factor_of self.now) }
+    {
+        self.within && self.code.table_groups().is_some()
+    }
+
+    /// Returns an upper bound for the steps of a search for all matches for each byte of a text, counting its end as one
+    /// more; at most `u64::MAX`. The result is `None` if such searches are not known to take linear time.
     pub fn steps_per_character(&self) -> Option<u64>
         ensures { result ≡ option_map (λ n. min n u64.MAX) (factor_of self.now) }
     {
@@ -80,6 +91,19 @@ impl Matcher {
             Some(factor(&self.code))
         } else {
             None
+        }
+    }
+
+    /// Returns the same for a search for one match.
+    pub fn find_steps_per_character(&self) -> Option<u64>
+        ensures { result ≡ option_map (λ n. min n u64.MAX) (find_factor_of self.now) }
+    {
+        if !self.within {
+            return None;
+        }
+        match self.code.table_groups() {
+            Some(inner) => Some(find_factor(&self.code, inner)),
+            None => None,
         }
     }
 }
@@ -117,4 +141,14 @@ fn factor(code: &Code) -> u64
     (code.instructions() as u64)
         .saturating_mul(6)
         .saturating_add(66)
+}
+
+/// Returns the same for a search for one match, where lookarounds may set `inner` groups.
+fn find_factor(code: &Code, inner: usize) -> u64
+    ensures { result ≡ min (find_factor (total (code_routines code.now)) inner) u64.MAX }
+{
+    let capturing = (code.instructions() as u64)
+        .saturating_mul(2)
+        .saturating_mul(inner as u64);
+    factor(code).saturating_add(capturing)
 }

@@ -143,7 +143,7 @@ impl<'m> MatcherMatches<'m> {
         Ok(outcome)
     }
 
-    /// Makes the tables of the text, if searches take linear time.
+    /// Makes the tables of the text, if searches for all matches take linear time.
     fn make_tables(&mut self, alloc: Global) -> Result<(), AllocError>
         requires { IsNone self.old.search }
         ensures from { iterated_from self.new ≡ iterated_from self.old }
@@ -154,7 +154,7 @@ impl<'m> MatcherMatches<'m> {
         let matcher = self.matcher;
         if matcher.is_linear() {
             let program = matcher.code.program(alloc, &matcher.tables)?;
-            if let Ok(linear) = program.linear() {
+            if let Some(linear) = program.linear(alloc)? {
                 let search = linear.search(alloc, self.text)?;
                 self.searched = search.steps();
                 self.search = Some(search);
@@ -218,7 +218,7 @@ fn runs_of<'m>(
 }
 
 /// Returns the result of a search by tables.
-fn outcome_of(found: Option<Match>) -> Outcome
+pub(crate) fn outcome_of(found: Option<Match>) -> Outcome
     ensures { result ≡ outcome_if found }
 {
     match found {

@@ -1,5 +1,5 @@
 //! Searches with a pattern that is compiled into a program: by backtracking, and in linear time by tables where the
-//! program is linear.
+//! program is linear, or for one match where its lookarounds capture.
 #![tactic(auto)]
 
 mod compiling;
@@ -9,6 +9,7 @@ mod matcher;
 mod matcher_matches;
 pub mod names;
 mod nonlinear;
+mod one_match;
 mod required;
 mod searches;
 

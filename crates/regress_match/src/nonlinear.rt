@@ -1,17 +1,18 @@
-//! Why searches may take more than linear time.
+//! Why searches for all matches may take more than linear time.
 ghost use Rattle.std.specs.Prelude.{◌≡◌, is_none, is_some};
 ghost use Rattle.regress_match.specs.Matcher.{factor_of, nonlinear_by, nonlinear_of};
 
 use crate::matcher::Matcher;
 use regress_program::Nonlinear as Reason;
 
-/// Why searches are not known to take linear time. [`Matcher::nonlinear`] returns it.
+/// Why searches for all matches are not known to take linear time. [`Matcher::nonlinear`] returns it.
 #[derive(Clone, Copy, Debug, PartialEq, Eq, thiserror::Error)]
 pub enum Nonlinear {
     /// The pattern has a back reference.
     #[error("the pattern has a back reference")]
     BackReference,
-    /// A lookaround that is not negated contains a capture group, or a loop around one.
+    /// A lookaround that is not negated contains a capture group, or a loop around one. Each match is then found in linear
+    /// time if [`Matcher::is_find_linear`], all together are not.
     #[error("a lookaround contains a capture group")]
     CapturingLookaround,
     /// The program has more instructions than the limit on tables.
@@ -20,8 +21,8 @@ pub enum Nonlinear {
 }
 
 impl Matcher {
-    /// Returns why searches are not known to take linear time, and `None` if they do. If several reasons hold, it is the
-    /// first in the order of [`Nonlinear`].
+    /// Returns why searches for all matches are not known to take linear time, and `None` if they do. If several reasons
+    /// hold, it is the first in the order of [`Nonlinear`].
     pub fn nonlinear(&self) -> Option<Nonlinear>
         ensures reason { result ≡ nonlinear_of self.now }
         ensures linear { is_none result ≡ is_some (factor_of self.now) }

@@ -3,7 +3,7 @@ ghost use Rattle.std.specs.Prelude.{◌≡◌, ◌+◌, ◌*◌, ◌≤◌, Ok, 
 ghost use Rattle.regress_tree.specs.WellFormed.{IsWellFormed};
 ghost use Rattle.regress_match.specs.Iterated.{iterated_from, iterated_matcher, iterated_text, step_limit};
 ghost use Rattle.regress_match.specs.Matched.{Finds, IfMatched, IsFirst, IsInside};
-ghost use Rattle.regress_match.specs.Matcher.{IsLimited, IsLinear, factor_of, matcher_outcomes, matcher_tree};
+ghost use Rattle.regress_match.specs.Matcher.{IsLimited, IsLinear, factor_of, find_factor_of, matcher_outcomes, matcher_tree};
 ghost use Rattle.regress_match.specs.Searched.{AreAllMatches, CalledOnMatches};
 
 use crate::matcher::Matcher;
@@ -24,8 +24,8 @@ impl Matcher {
     /// boundaries, so that `text` may be sliced by them.
     ///
     /// # Complexity
-    /// If [`Matcher::is_linear`], the result is never [`Outcome::OutOfSteps`], and the steps are at most
-    /// [`Matcher::steps_per_character`] for each byte of the text, and once more. The search first backtracks within
+    /// If [`Matcher::is_find_linear`], the result is never [`Outcome::OutOfSteps`], and the steps are at most
+    /// [`Matcher::find_steps_per_character`] for each byte of the text, and once more. The search first backtracks within
     /// some steps for each byte; once they are used up it makes tables, whose memory is proportional to the number of
     /// instructions and the length of the text.
     ///
@@ -60,6 +60,27 @@ impl Matcher {
         ensures finds { IfOk result (λ found. Finds text.now (matcher_outcomes self.now text.now) from found.outcome) }
         ensures inside { IfOk result (λ found. IsWellFormed (matcher_tree self.now) → IfMatched found.outcome (IsInside text.now)) }
         ensures linear { IfOk result (λ found. IfSome (factor_of self.now) (λ n. IsLinear n text.now found.outcome found.steps)) }
+        ensures bounded { IfOk result (λ found. IfSome (find_factor_of self.now) (λ n. IsLinear n text.now found.outcome found.steps)) }
+        ensures limited { IfOk result (λ found. IfNone (find_factor_of self.now) (IsLimited steps found.outcome found.steps)) }
+    {
+        if self.is_linear_for_one() {
+            self.find_one(alloc, text, from)
+        } else {
+            self.find_first(alloc, text, from, steps)
+        }
+    }
+
+    /// Returns the first match of a search for all.
+    pub(crate) fn find_first(
+        &self,
+        alloc: Global,
+        text: &str,
+        from: usize,
+        steps: u64,
+    ) -> Result<Found, AllocError>
+        ensures finds { IfOk result (λ found. Finds text.now (matcher_outcomes self.now text.now) from found.outcome) }
+        ensures inside { IfOk result (λ found. IsWellFormed (matcher_tree self.now) → IfMatched found.outcome (IsInside text.now)) }
+        ensures linear { IfOk result (λ found. IfSome (factor_of self.now) (λ n. IsLinear n text.now found.outcome found.steps)) }
         ensures limited { IfOk result (λ found. IfNone (factor_of self.now) (IsLimited steps found.outcome found.steps)) }
     {
         let mut matches = self.find_iter(text, from, steps);
@@ -73,7 +94,7 @@ impl Matcher {
     /// Matches at exactly the byte offset `position`, with every group unset at first, within `steps` steps.
     ///
     /// # Complexity
-    /// It backtracks, also if [`Matcher::is_linear`]. The steps are counted as in
+    /// It backtracks, also if [`Matcher::is_find_linear`]. The steps are counted as in
     /// [`Code::find`](regress_backtrack::Code::find).
     ///
     /// # Preconditions
@@ -231,9 +252,16 @@ impl Matcher {
         ensures limited { IfNone (factor_of self.now) (result ≡ steps) }
     {
         if self.is_linear() {
-            (text.len() as u64 + 1).saturating_mul(BACKTRACKING_STEPS)
+            steps_before_tables(text)
         } else {
             steps
         }
     }
+}
+
+/// Returns the number of steps of backtracking after which tables are made.
+pub(crate) fn steps_before_tables(text: &str) -> u64
+    ensures { result ≤ 64 * (length text.now + 1) }
+{
+    (text.len() as u64 + 1).saturating_mul(BACKTRACKING_STEPS)
 }

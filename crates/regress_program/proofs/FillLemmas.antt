@@ -1,5 +1,5 @@
 -- A table stays right where bits are added in order.
-use Rattle.std.proofs.Common.{zero, suc, ◌≡◌, ℕ, ◌+◌, ◌*◌, ◌≤◌, ◌<◌, ◌⊎◌, Bool, true, false, List, [], ◌∷◌, ◌++◌, length, get_or, slice_get, take, Option, Some, refl, sym, ap, ap₂, ◌∙◌, subst, inl, inr, arith, length-append}
+use Rattle.std.proofs.Common.{zero, suc, ◌≡◌, ℕ, ◌+◌, ◌*◌, ◌≤◌, ◌<◌, ◌⊎◌, Bool, true, false, List, [], ◌∷◌, ◌++◌, length, min, get_or, slice_get, take, Option, Some, refl, sym, ap, ap₂, ◌∙◌, subst, inl, inr, arith, length-append}
 use Rattle.std.proofs.lemmas.Bool.{cases_eq}
 use Rattle.std.proofs.Math.ListN.{get_or-append}
 use Rattle.std.proofs.lemmas.List.{get_or_push}
@@ -13,11 +13,11 @@ use Rattle.regress_program.specs.Compiled.{total}
 use Rattle.regress_program.specs.Program.{Out, Routine, Op, outcomes_by, outcomes_at, matcher_of, IsSolution}
 use Rattle.regress_program.specs.declared.evaluate.Input.{Input}
 use Rattle.regress_program.specs.Evaluated.{CanEvaluate, CanFill}
-use Rattle.regress_program.specs.Linear.{is_linear}
+use Rattle.regress_program.specs.Tidy.{has_no_back_reference}
 use Rattle.regress_program.specs.Shape.{Fits, IsProgram}
 use Rattle.regress_program.specs.Views.{program_of}
 use Rattle.regress_program.specs.Table.{has_outcome, Tells, TellsOf, row_of, column, place, index, cell, IsRight, IsNext, SameShape, IsTableOf, IsFull, AreTables, AreRight}
-use Rattle.regress_program.proofs.LinearLemmas.{linear-at}
+use Rattle.regress_program.proofs.LinearLemmas.{no_reference-at}
 use Rattle.regress_program.proofs.TellsLemmas.{column-less}
 
 pub same-index : (t t' : Table) (pc : ℕ) (moved : Bool) (position : ℕ) → SameShape t t' → index t' pc moved position ≡ index t pc moved position
@@ -101,13 +101,13 @@ module _ (input : Input) (r : Routine) (t t' : Table) (pc : ℕ) (moved : Bool) 
     at = same-index t t' pc moved position same ∙ index-more t pc moved position ∙ ap (λ n. n + pc) at ∙ sym more;
   }
 
-  pub can_evaluate : (op : Op) → IsProgram (program_of input.routines.now) → is_linear (program_of input.routines.now) ≡ true → slice_get r.ops pc ≡ Some op → CanEvaluate input t' op moved position
-  can_evaluate op program linear is = record {
+  pub can_evaluate : (op : Op) → IsProgram (program_of input.routines.now) → has_no_back_reference (program_of input.routines.now) ≡ true → slice_get r.ops pc ≡ Some op → CanEvaluate input t' op moved position
+  can_evaluate op program none is = record {
     pc = pc;
     next = is_next;
     fits = subst (λ w. Fits (take (length input.tables.now) (program_of input.routines.now)) w pc op) (sym (same.width ∙ can.of.width))
         ((program _ r can.is).fit pc op (omega arith) lt is);
-    linear = linear-at (program_of input.routines.now) _ r pc op linear can.is is;
+    no_reference = no_reference-at (program_of input.routines.now) _ r pc op none can.is is;
     length = same.length ∙ can.of.text;
     backwards = same.backwards ∙ can.backwards;
   }
@@ -173,10 +173,11 @@ module _ (tables : List Table) (t : Table) where
       ]
 
 -- the bits of one more table
-pub more_bits : (n w a a' l s s' s0 : ℕ) → a' ≡ a + w → l ≡ (n + 1) * (2 * w) → s ≤ s0 + (n + 1) * (2 * a) → s' ≤ s + l → s' ≤ s0 + (n + 1) * (2 * a')
-more_bits n w a a' l s s' s0 ea el le le' =
-    let both : s' ≤ s0 + (n + 1) * (2 * (a + w)) = omega (arith, el, le, le') in
-    subst (λ x. s' ≤ s0 + (n + 1) * (2 * x)) (sym ea) both
+pub more_bits : (n w a a' l s s' : ℕ) → a' ≡ a + w → l ≡ (n + 1) * (2 * w) → s ≡ min ((n + 1) * (2 * a)) 18446744073709551615 →
+    s' ≡ min (s + l) 18446744073709551615 → s' ≡ min ((n + 1) * (2 * a')) 18446744073709551615
+more_bits n w a a' l s s' ea el so_far next =
+    let both : s' ≡ min ((n + 1) * (2 * (a + w))) 18446744073709551615 = omega (arith, el, so_far, next) in
+    subst (λ x. s' ≡ min ((n + 1) * (2 * x)) 18446744073709551615) (sym ea) both
 
 total-suc : (program : List Routine) (i : ℕ) (r : Routine) → slice_get program i ≡ Some r → total (take (suc i) program) ≡ total (take i program) + length r.ops
 total-suc [] i r is = cc

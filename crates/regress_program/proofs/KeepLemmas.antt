@@ -38,7 +38,7 @@ if_has : (cs : List (Option CaptureSpan)) (b : Bool) (t : MatchState) → t.capt
 if_has cs true t is = one_has cs t is
 if_has cs false t is = All-nil (Has cs)
 
-flat_map-all : {A B : Type 0} (P P' : A → Type 0) (Q : B → Type 0) (f : A → List B) (xs : List A) → All P xs → All P' xs →
+pub flat_map-all : {A B : Type 0} (P P' : A → Type 0) (Q : B → Type 0) (f : A → List B) (xs : List A) → All P xs → All P' xs →
     ((x : A) → P x → P' x → All Q (f x)) → All Q (flat_map f xs)
 flat_map-all P P' Q f [] all all' each = All-nil Q
 flat_map-all P P' Q f (x ∷ xs) all all' each =
@@ -86,7 +86,7 @@ any_one-keeps d r same string s =
     (subst (All (Has s.captures)) (sym (any-nil d r same s)) (All-nil (Has s.captures))))
 
 module _ (setting : Setting) (bytes : List ℕ) (d : Direction) where
-  part-keeps : (t : Tree) → IsPart t → Keeps (steps setting bytes d t)
+  pub part-keeps : (t : Tree) → IsPart t → Keeps (steps setting bytes d t)
   part-keeps (leaf empty) is s = one_has s.captures s refl
   part-keeps (leaf goal) is s = one_has s.captures s refl
   part-keeps (leaf (char c)) is s = one_character-keeps d (of_bytes bytes) _ s

@@ -2,8 +2,9 @@
 use Rattle.std.proofs.Common.{◌≡◌, ℕ, zero, suc, Bool, true, false, not, ◌&&◌, ◌||◌, List, [], ◌∷◌, ◌+◌, take, slice_get, Some, refl, sym, ap, subst, ◌∙◌, arith}
 use Rattle.std.specs.List.{list_all, list_any}
 use Rattle.regress_tree.specs.Tree.{Tree}
-use Rattle.regress_program.specs.Linear.{is_back_ref, is_capturing, is_linear_op, is_linear}
+use Rattle.regress_program.specs.Linear.{is_back_ref, is_back_reference, is_capturing, is_linear_op, is_linear}
 use Rattle.regress_program.specs.Program.{Op, part, look, Routine}
+use Rattle.regress_program.specs.Tidy.{has_no_back_reference}
 
 and_true : (a b : Bool) → (a && b) ≡ true → (a ≡ true) × (b ≡ true)
 and_true true b is = (refl, is)
@@ -13,7 +14,7 @@ or_false : (a b : Bool) → (a || b) ≡ false → (a ≡ false) × (b ≡ false
 or_false true b is = cc
 or_false false b is = (refl, is)
 
-list_all-get : {X : Type 0} (p : X → Bool) (xs : List X) (i : ℕ) (x : X) → list_all p xs ≡ true → slice_get xs i ≡ Some x → p x ≡ true
+pub list_all-get : {X : Type 0} (p : X → Bool) (xs : List X) (i : ℕ) (x : X) → list_all p xs ≡ true → slice_get xs i ≡ Some x → p x ≡ true
 list_all-get p [] i x all is = cc
 list_all-get p (y ∷ ys) zero x all is = let same : y ≡ x = cc in sym (ap p same) ∙ (and_true (p y) (list_all p ys) all).0
 list_all-get p (y ∷ ys) (suc i) x all is = list_all-get p ys i x (and_true (p y) (list_all p ys) all).1 is
@@ -27,6 +28,17 @@ pub linear-at : (program : List Routine) (i : ℕ) (r : Routine) (pc : ℕ) (op 
     slice_get r.ops pc ≡ Some op → is_linear_op program op ≡ true
 linear-at program i r pc op linear is_r is_op =
     list_all-get (is_linear_op program) r.ops pc op (list_all-get (λ (q : Routine). list_all (is_linear_op program) q.ops) program i r linear is_r) is_op
+
+not_false : (b : Bool) → not b ≡ true → b ≡ false
+not_false true is = cc
+not_false false is = refl
+
+-- No instruction of such a program is a back reference.
+pub no_reference-at : (program : List Routine) (i : ℕ) (r : Routine) (pc : ℕ) (op : Op) → has_no_back_reference program ≡ true → slice_get program i ≡ Some r →
+    slice_get r.ops pc ≡ Some op → is_back_reference op ≡ false
+no_reference-at program i r pc op none is_r is_op =
+    not_false (is_back_reference op)
+    (list_all-get (λ o. not (is_back_reference o)) r.ops pc op (list_all-get (λ (q : Routine). list_all (λ o. not (is_back_reference o)) q.ops) program i r none is_r) is_op)
 
 pub linear-part : (program : List Routine) (t : Tree) (next : ℕ) → is_linear_op program (part t next) ≡ true → is_back_ref t ≡ false
 linear-part program t next linear = by (is_back_ref t) linear
@@ -66,3 +78,15 @@ pub any-at : {X : Type 0} (p : X → Bool) (xs : List X) (i : ℕ) (x : X) → s
 any-at p [] i x is here = cc
 any-at p (y ∷ ys) zero x is here = let same : y ≡ x = cc in ap (λ b. b || list_any p ys) (ap p same ∙ here)
 any-at p (y ∷ ys) (suc i) x is here = true_or (p y) (list_any p ys) (any-at p ys i x is here)
+
+-- ---- programs without back references
+
+not-true : (b : Bool) → not b ≡ true → b ≡ false
+not-true true is = cc
+not-true false is = refl
+
+pub plain-at : (program : List Routine) (i : ℕ) (r : Routine) (pc : ℕ) (op : Op) → has_no_back_reference program ≡ true →
+    slice_get program i ≡ Some r → slice_get r.ops pc ≡ Some op → is_back_reference op ≡ false
+plain-at program i r pc op plain is_r is_op =
+    not-true (is_back_reference op) (list_all-get (λ (o : Op). not (is_back_reference o)) r.ops pc op
+    (list_all-get (λ (q : Routine). list_all (λ o. not (is_back_reference o)) q.ops) program i r plain is_r) is_op)

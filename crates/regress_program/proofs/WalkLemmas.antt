@@ -1,16 +1,21 @@
 -- A walk goes on to the first outcome.
-use Rattle.std.proofs.Common.{inl, inr, reverse, replicate, ◌≡◌, ℕ, ◌+◌, ◌≤◌, ◌<◌, Bool, true, false, not, List, [], ◌∷◌, ◌++◌, flat_map, length, take, Option, Some, None, MatchOption, All, if◌then◌else◌, refl, sym, ap, ap₂, ◌∙◌, subst, append-nil, append_assoc, slice_get, arith}
+use Rattle.std.proofs.Common.{inl, inr, ◌==◌, ◌||◌, reverse, replicate, ◌≡◌, ℕ, ◌+◌, ◌≤◌, ◌<◌, Bool, true, false, not, List, [], ◌∷◌, ◌++◌, flat_map, length, take, Option, Some, None, MatchOption, if◌then◌else◌, refl, sym, ap, ap₂, ◌∙◌, subst, append-nil, append_assoc, slice_get, arith}
 use Rattle.std.specs.Bool.{IsTrue}
+use Rattle.std.specs.Prelude.{slice_index_or}
 use Rattle.std.specs.Str.{IsCharBoundary}
 use Rattle.std.proofs.lemmas.Bool.{cases_eq}
-use Rattle.std.proofs.lemmas.List.Elements.{All-head}
+use Rattle.std.proofs.lemmas.List.{length-take}
+use Rattle.std.proofs.lemmas.Option.{slice_get_cases}
 use Rattle.regress_tree.specs.Lookaround.{looked, lookaround_matcher}
 use Rattle.regress_tree.specs.Matching.{steps}
 use Rattle.regress_tree.specs.Reading.{Direction, direction_if}
 use Rattle.regress_tree.specs.Setting.{Setting}
-use Rattle.regress_tree.specs.Steps.{MatchState}
+use Rattle.regress_tree.specs.Steps.{CaptureSpan, MatchState}
 use Rattle.regress_tree.specs.Tree.{Tree}
 use Rattle.regress_leaves.specs.Leaves.{put}
+use Rattle.regress_program.specs.declared.ranges.GroupRange.{GroupRange}
+use Rattle.regress_program.specs.declared.slots.Slot.{Slot}
+use Rattle.regress_program.specs.declared.slots.Slot.TheVariants as slots
 use Rattle.regress_program.specs.declared.table.Table.{Table}
 use Rattle.regress_program.specs.declared.evaluate.Input.{Input}
 use Rattle.regress_program.specs.Evaluated.{CanFill}
@@ -18,19 +23,28 @@ use Rattle.regress_program.specs.declared.walker.Walker.{Walker}
 use Rattle.regress_program.specs.Found.{no_groups, NoneBefore}
 use Rattle.regress_program.specs.Below.{Below}
 use Rattle.regress_program.specs.Program.{Out, At, Routine, Op, accept, look, goto, enter, reach, either, ended, outcomes_by, outcomes_at, matcher_of, start, IsSolution}
-use Rattle.regress_program.specs.Linear.{is_linear, is_linear_op}
+use Rattle.regress_program.specs.Isolated.{Captures, AreUnset, capture_at, captures_from}
+use Rattle.regress_program.specs.Ranges as ranges
+use Rattle.regress_program.specs.Ranges.{changed_by, ranges_of}
 use Rattle.regress_program.specs.Shape.{Fits, IsProgram}
+use Rattle.regress_program.specs.Slots.{capture_in, resolved}
 use Rattle.regress_program.specs.Stays.{IsOnward}
 use Rattle.regress_program.specs.Table.{has_outcome, cell, IsFull, IsRight}
 use Rattle.regress_program.specs.declared.instruction.Instruction.{Instruction}
 use Rattle.regress_program.specs.declared.instruction.Instruction.TheVariants as insts
+use Rattle.regress_program.specs.Tidy.{has_no_back_reference}
 use Rattle.regress_program.specs.Views.{op_of, program_of}
-use Rattle.regress_program.specs.Walked.{iterates, chosen, alternative, at_of, CanWalk, Leads}
-use Rattle.regress_program.proofs.LinearLemmas.{linear-at, linear-look}
+use Rattle.regress_program.specs.Walked.{iterates, chosen, alternative, at_of, CanWalk, Leads, SetInside}
+use Rattle.regress_program.proofs.AgreementLemmas.{isolated}
+use Rattle.regress_program.proofs.LinearLemmas.{no_reference-at}
+use Rattle.regress_program.proofs.SlotLemmas.{length-resolved, resolved-none, resolved-replaced, resolved-same}
 use Rattle.regress_program.proofs.lemmas.Onward.{Stays-tree}
-use Rattle.regress_program.proofs.BelowLemmas.{below-here, below-enter, below-again, below-reach, reach-moved}
-use Rattle.regress_program.proofs.KeepLemmas.{look-keeps}
+use Rattle.regress_program.proofs.BelowLemmas.{below-here, below-enter, below-again, below-reach}
 use Rattle.regress_program.proofs.EvaluateLemmas.{reached-one, full_tells}
+
+-- what lookarounds capture, where it does not matter
+abbrev pub unknown : (routine position id : ℕ) → Option CaptureSpan
+unknown routine position id = None
 
 -- what the code says of a part that ends at a position
 abbrev pub Reaches : (next : ℕ) (a b : At) (goes : Bool) → Option ℕ → Type 0
@@ -79,6 +93,28 @@ module _ (t : Table) (a : At) (pc_in : a.pc < t.width) (within : a.state.positio
       (below-reach t.width t.length (direction_if t.backwards) a pc_in within next _ lt (omega (arith, reached.0, len))
       (subst (λ e. IsOnward e a.state.position q) (sym dir) reached.1))
 
+-- a walker that has passed a lookaround
+pub record Passed (ranges : List GroupRange) (negate : Bool) (j next : ℕ) (w v : Walker) : Type 0 where
+  pub pc : v.pc ≡ next
+  pub moved : v.moved ≡ w.moved
+  pub position : v.position ≡ w.position
+  pub begins : v.begins.items ≡ w.begins.items
+  pub slots : SetInside (changed_by ranges (look negate j next)) j w.position w.slots.items v.slots.items
+
+-- A state that stays where it is has not advanced.
+still : (moved : Bool) (k : ℕ) → (moved || not (k == k)) ≡ moved
+still moved k = grind arith
+
+-- the same place, part by part
+at-same : (a b : At) → a.pc ≡ b.pc → a.moved ≡ b.moved → a.state.position ≡ b.state.position → a.state.captures ≡ b.state.captures →
+    a.begins ≡ b.begins → a ≡ b
+at-same a b pc moved position captures begins =
+    ap (λ x. record { pc = x; moved = a.moved; state = a.state; begins = a.begins }) pc
+    ∙ ap (λ x. record { pc = b.pc; moved = x; state = a.state; begins = a.begins }) moved
+    ∙ ap (λ x. record { pc = b.pc; moved = b.moved; state = record { position = x; captures = a.state.captures }; begins = a.begins }) position
+    ∙ ap (λ x. record { pc = b.pc; moved = b.moved; state = record { position = b.state.position; captures = x }; begins = a.begins }) captures
+    ∙ ap (λ x. record { pc = b.pc; moved = b.moved; state = b.state; begins = x }) begins
+
 has-none : (xs : List MatchState) → has_outcome xs ≡ false → xs ≡ []
 has-none [] is = refl
 has-none (x ∷ xs) is = cc
@@ -98,40 +134,73 @@ module _ (out : Out) where
   part-leads states next (Some q) goes a b is reaches some =
       (reaches.0, subst (Leads states out) (sym reaches.1) (lead-one states _ (is ∙ append-nil _) some))
 
-  -- a lookaround stays where it is
-  pub look-leads : (negate : Bool) (next : ℕ) (a : At) (found : List MatchState) → (reach next a a.state).moved ≡ a.moved →
-      (negate ≡ false → All (λ s. s.captures ≡ a.state.captures) found) →
+  -- On from a lookaround that holds: it stays where it is, and if it is not negated, it sets the captures of the first
+  -- outcome of its body.
+  look-leads : (negate : Bool) (next : ℕ) (a b : At) (found : List MatchState) → b.pc ≡ next → b.moved ≡ a.moved → b.state.position ≡ a.state.position →
+      b.begins ≡ a.begins → (negate ≡ true → b.state.captures ≡ a.state.captures) →
+      (negate ≡ false → (o : MatchState) (later : List MatchState) → found ≡ o ∷ later → o.captures ≡ b.state.captures) →
       has_outcome (flat_map (λ s. out (reach next a s)) (looked negate a.state found)) ≡ true →
-      Leads (flat_map (λ s. out (reach next a s)) (looked negate a.state found)) out (goto next a)
-  look-leads negate next a found moved keeps some = by negate found keeps some
+      Leads (flat_map (λ s. out (reach next a s)) (looked negate a.state found)) out b
+  look-leads negate next a b found pc moved position begins keeps sets some = by negate found keeps sets some
     where
-      goes : out (reach next a a.state) ≡ out (goto next a)
-      goes = ap (λ m. out (record { pc = next; moved = m; state = a.state; begins = a.begins })) moved
+      goes : (captures : Captures) → captures ≡ b.state.captures → out (reach next a (record { position = a.state.position; captures = captures })) ≡ out b
+      goes captures same =
+          ap out
+          (at-same (reach next a (record { position = a.state.position; captures = captures })) b (sym pc)
+          (still a.moved a.state.position ∙ sym moved) (sym position) same (sym begins))
 
-      by : (n : Bool) (states : List MatchState) → (n ≡ false → All (λ s. s.captures ≡ a.state.captures) states) →
+      by : (n : Bool) (states : List MatchState) → (n ≡ true → b.state.captures ≡ a.state.captures) →
+          (n ≡ false → (o : MatchState) (later : List MatchState) → states ≡ o ∷ later → o.captures ≡ b.state.captures) →
           has_outcome (flat_map (λ s. out (reach next a s)) (looked n a.state states)) ≡ true →
-          Leads (flat_map (λ s. out (reach next a s)) (looked n a.state states)) out (goto next a)
-      by true [] all some' = lead-one _ (goto next a) (append-nil _ ∙ goes) some'
-      by true (s ∷ ss) all some' = cc
-      by false [] all some' = cc
-      by false (s ∷ ss) all some' =
-          lead-one _ (goto next a)
-          (append-nil _ ∙ ap (λ cs. out (reach next a (record { position = a.state.position; captures = cs })))
-          (All-head (λ s. s.captures ≡ a.state.captures) s ss (all refl)) ∙ goes)
-          some'
+          Leads (flat_map (λ s. out (reach next a s)) (looked n a.state states)) out b
+      by true [] keep set some' = lead-one _ b (append-nil _ ∙ goes a.state.captures (sym (keep refl))) some'
+      by true (s ∷ ss) keep set some' = cc
+      by false [] keep set some' = cc
+      by false (s ∷ ss) keep set some' = lead-one _ b (append-nil _ ∙ goes s.captures (set refl s ss refl)) some'
 
-  pub look-goes : (setting : Setting) (bytes : List ℕ) (program : List Routine) (outs : ℕ → Out) (d : Direction) (n width length' : ℕ) (negate : Bool) (j next : ℕ)
-      (a : At) → IsProgram program → is_linear program ≡ true → IsSolution setting bytes program outs → j < length (take n program) →
-      is_linear_op program (look negate j next) ≡ true → a.pc < width → a.state.position ≤ length' →
-      length' ≡ length bytes →
-      has_outcome (outcomes_by setting bytes d (matcher_of setting bytes program outs) out (look negate j next) a) ≡ true →
-      Leads (outcomes_by setting bytes d (matcher_of setting bytes program outs) out (look negate j next) a) out (goto next a)
-  unfolding lookaround_matcher
-  look-goes setting bytes program outs d n width length' negate j next a is_program linear solution earlier linear-here pc_in within len some =
-      look-leads negate next a (matcher_of setting bytes program outs j a.state) (reach-moved width length' d a pc_in within next a.state refl)
-      (λ is. look-keeps setting bytes program is_program linear outs solution n j a.state earlier (linear-look program negate j next linear-here is)
-      (omega (arith, within, len)))
-      some
+  module _ (setting : Setting) (bytes : List ℕ) (program : List Routine) (outs : ℕ → Out) (is_program : IsProgram program)
+      (none : has_no_back_reference program ≡ true) (solution : IsSolution setting bytes program outs) where
+    -- The captures that the body of a lookaround sets from where its groups are unset.
+    look-captures : (j : ℕ) (r : Routine) (before after : List Slot) (position : ℕ) → slice_get program j ≡ Some r → position ≤ length bytes →
+        AreUnset (slice_index_or (ranges_of program) j ranges.no_groups) (resolved (capture_in setting bytes program outs (length before)) before) →
+        SetInside (slice_index_or (ranges_of program) j ranges.no_groups) j position before after → (o : MatchState) (later : List MatchState) →
+        matcher_of setting bytes program outs j (record { position = position; captures = resolved (capture_in setting bytes program outs (length before)) before })
+        ≡ o ∷ later →
+        o.captures ≡ resolved (capture_in setting bytes program outs (length before)) after
+    look-captures j r before after position is within unset set o later first =
+        let capture_of = capture_in setting bytes program outs (length before) in
+        let s : MatchState = record { position = position; captures = resolved capture_of before } in
+        resolved-replaced capture_of (slice_index_or (ranges_of program) j ranges.no_groups)
+        (captures_from setting bytes program outs (length s.captures) j position) j position before after o.captures
+        (isolated setting bytes program is_program none outs solution j r is s within unset o later first) set
+        (λ id. ap (λ n. capture_at (captures_from setting bytes program outs n j position) id) (length-resolved capture_of before))
+
+    -- A walk goes on after a lookaround that holds.
+    pub look-goes : (d : Direction) (n : ℕ) (negate : Bool) (j next : ℕ) (w v : Walker) → j < length (take n program) → w.position ≤ length bytes →
+        (negate ≡ false → AreUnset (slice_index_or (ranges_of program) j ranges.no_groups)
+        (resolved (capture_in setting bytes program outs (length w.slots.items)) w.slots.items)) → Passed (ranges_of program) negate j next w v →
+        has_outcome
+        (outcomes_by setting bytes d (matcher_of setting bytes program outs) out (look negate j next)
+        (at_of (capture_in setting bytes program outs (length w.slots.items)) w))
+        ≡ true →
+        Leads
+        (outcomes_by setting bytes d (matcher_of setting bytes program outs) out (look negate j next)
+        (at_of (capture_in setting bytes program outs (length w.slots.items)) w))
+        out (at_of (capture_in setting bytes program outs (length w.slots.items)) v)
+    unfolding lookaround_matcher
+    look-goes d n negate j next w v earlier within unset passed some =
+        let capture_of = capture_in setting bytes program outs (length w.slots.items) in
+        elim ((slice_get_cases program j).1) [
+          | inl found ↦
+              look-leads negate next (at_of capture_of w) (at_of capture_of v) (matcher_of setting bytes program outs j (at_of capture_of w).state) passed.pc
+              passed.moved passed.position (ap reverse passed.begins)
+              (λ is. resolved-same capture_of w.slots.items v.slots.items
+              (subst (λ b. SetInside (changed_by (ranges_of program) (look b j next)) j w.position w.slots.items v.slots.items) is passed.slots))
+              (λ is. look-captures j found.0 w.slots.items v.slots.items w.position found.2 within (unset is)
+              (subst (λ b. SetInside (changed_by (ranges_of program) (look b j next)) j w.position w.slots.items v.slots.items) is passed.slots))
+              some
+          | inr past ↦ absurd (omega (arith, past.0, earlier, length-take n program))
+        ]
 
 module _ (out : Out) (t : Table) (full : IsFull t) (right : IsRight out t) (a : At) (pc_in : a.pc < t.width) (within : a.state.position ≤ t.length) where
   tells : (b : At) → b.pc < t.width → b.state.position ≤ t.length → has_outcome (out b) ≡ cell t b.pc b.moved b.state.position
@@ -189,30 +258,28 @@ solved-by setting bytes program outs i r op d a solution is_r is_op lt is_d with
     solution i r is_r a (omega arith) lt within
     ∙ ap₂ (λ x o. outcomes_at setting bytes x (matcher_of setting bytes program outs) (outs i) o a) is_d is_op
 
-pub can_walk : (input : Input) (r : Routine) (t : Table) (op : Op) (a : At) → IsProgram (program_of input.routines.now) → is_linear (program_of input.routines.now) ≡ true →
-    CanFill input r t → a.pc < t.width →
+pub can_walk : (input : Input) (r : Routine) (t : Table) (op : Op) (a : At) → IsProgram (program_of input.routines.now) →
+    has_no_back_reference (program_of input.routines.now) ≡ true → CanFill input r t → a.pc < t.width →
     a.state.position ≤ t.length → slice_get r.ops a.pc ≡ Some op → CanWalk input t op a
-can_walk input r t op a program linear can pc_in within is = record {
+can_walk input r t op a program none can pc_in within is = record {
   pc = pc_in;
   position = within;
   fits = subst (λ w. Fits (take (length input.tables.now) (program_of input.routines.now)) w a.pc op) (sym can.of.width)
       ((program _ r can.is).fit a.pc op (omega arith) (omega (arith, pc_in, can.of.width)) is);
-  linear = linear-at (program_of input.routines.now) _ r a.pc op linear can.is is;
+  no_reference = no_reference-at (program_of input.routines.now) _ r a.pc op none can.is is;
   length = can.of.text;
   backwards = can.backwards;
 }
 
 -- a walk begins at the entry of its routine, with every group unset
-pub walk-begins : (setting : Setting) (bytes : List ℕ) (program : List Routine) (outs : ℕ → Out) (i n p : ℕ) (r : Routine) (w : Walker) →
-    slice_get program i ≡ Some r → w.pc ≡ r.entry → w.moved ≡ true → w.position ≡ p → w.captures.items ≡ replicate n None → w.begins.items ≡ [] →
-    matcher_of setting bytes program outs i (no_groups n p) ≡ outs i (at_of w)
-walk-begins setting bytes program outs i n p r w is pc moved position captures begins =
+pub walk-begins : (setting : Setting) (bytes : List ℕ) (program : List Routine) (outs : ℕ → Out) (i n p : ℕ) (r : Routine) (w : Walker)
+    (capture_of : (routine position id : ℕ) → Option CaptureSpan) → slice_get program i ≡ Some r → w.pc ≡ r.entry → w.moved ≡ true → w.position ≡ p →
+    w.slots.items ≡ replicate n slots.Unset → w.begins.items ≡ [] → matcher_of setting bytes program outs i (no_groups n p) ≡ outs i (at_of capture_of w)
+walk-begins setting bytes program outs i n p r w capture_of is pc moved position unset begins =
     ap (λ o. outs i (start setting bytes o (no_groups n p))) is
-    ∙ sym (ap (λ x. outs i (record { pc = x; moved = w.moved; state = (at_of w).state; begins = (at_of w).begins })) pc
-    ∙ ap (λ x. outs i (record { pc = r.entry; moved = x; state = (at_of w).state; begins = (at_of w).begins })) moved
-    ∙ ap (λ x. outs i (record { pc = r.entry; moved = true; state = record { position = x; captures = w.captures.items }; begins = (at_of w).begins })) position
-    ∙ ap (λ x. outs i (record { pc = r.entry; moved = true; state = record { position = p; captures = x }; begins = (at_of w).begins })) captures
-    ∙ ap (λ x. outs i (record { pc = r.entry; moved = true; state = no_groups n p; begins = reverse x })) begins)
+    ∙ ap (outs i)
+    (at-same (start setting bytes (Some r) (no_groups n p)) (at_of capture_of w) (sym pc) (sym moved) (sym position)
+    (sym (resolved-none capture_of n) ∙ ap (resolved capture_of) (sym unset)) (ap reverse (sym begins)))
 
 -- A position whose bit is not set has no outcome.
 pub entry-none : (setting : Setting) (bytes : List ℕ) (program : List Routine) (outs : ℕ → Out) (i n p : ℕ) (r : Routine) (t : Table) →

@@ -2,4 +2,5 @@
 pub mod Onward
 pub mod Reasons
 pub mod Solutions
+pub mod Strict
 pub mod Unset

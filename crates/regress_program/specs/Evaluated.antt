@@ -1,9 +1,9 @@
 -- What evaluating an instruction needs.
-use Rattle.std.specs.Prelude.{◌≡◌, ℕ, ◌==◌, Bool, false, true, not, ◌||◌, length, take, slice_get, Option, Some, None}
+use Rattle.std.specs.Prelude.{◌≡◌, ℕ, ◌==◌, Bool, false, not, ◌||◌, length, take, slice_get, Option, Some, None}
 use Rattle.regress_leaves.specs.Subject.{subject}
 use Rattle.regress_program.specs.declared.evaluate.Input.{Input}
 use Rattle.regress_program.specs.declared.table.Table.{Table}
-use Rattle.regress_program.specs.Linear.{is_linear_op}
+use Rattle.regress_program.specs.Linear.{is_back_reference}
 use Rattle.regress_program.specs.Program.{Op, Routine, Out, IsSolution}
 use Rattle.regress_program.specs.Shape.{Fits}
 use Rattle.regress_program.specs.Table.{cell, IsNext, IsTableOf, AreRight, IsRight}
@@ -14,13 +14,13 @@ abbrev pub reached_cell : Table → (next : ℕ) (moved : Bool) (position : ℕ)
 reached_cell t next moved position None = false
 reached_cell t next moved position (Some q) = cell t next (moved || not (q == position)) q
 
--- The bit that is evaluated next is that of this instruction. The instruction is linear, and refers to earlier ones, and
--- to routines whose tables are full.
+-- The bit that is evaluated next is that of this instruction. It is no back reference, and refers to earlier instructions
+-- and to routines whose tables are full.
 pub record CanEvaluate (input : Input) (t : Table) (op : Op) (moved : Bool) (position : ℕ) : Type 0 where
   pub pc : ℕ
   pub next : IsNext t pc moved position
   pub fits : Fits (take (length input.tables.now) (program_of input.routines.now)) t.width pc op
-  pub linear : is_linear_op (program_of input.routines.now) op ≡ true
+  pub no_reference : is_back_reference op ≡ false
   pub length : t.length ≡ length input.text.now
   pub backwards : t.backwards ≡ input.rules.backwards
 

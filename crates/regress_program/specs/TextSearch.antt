@@ -5,7 +5,7 @@ use Rattle.regress_program.specs.declared.text.TextSearch.{TextSearch}
 
 -- the program with which a text is searched
 abbrev pub searched_program : TextSearch → Program
-searched_program s = s.program
+searched_program s = s.linear.program
 
 -- the text that is searched
 abbrev pub searched_text : TextSearch → List ℕ

@@ -2,7 +2,7 @@
 ghost use Rattle.std.specs.Prelude.{◌≡◌, ◌≤◌, ◌+◌, ◌^◌, ◌<◌, IfOk, Some, length, slice_get, true};
 ghost use Rattle.regress_program.specs.Bits.{bits_of};
 ghost use Rattle.regress_program.specs.Evaluated.{CanFill, IsFilled};
-ghost use Rattle.regress_program.specs.Linear.{is_linear};
+ghost use Rattle.regress_program.specs.Tidy.{has_no_back_reference};
 ghost use Rattle.regress_program.specs.Shape.{IsProgram};
 ghost use Rattle.regress_program.specs.Table.{AreTables, IsFull, IsTableOf, SameShape, index};
 ghost use Rattle.regress_program.specs.Views.{program_of, routine_of};
@@ -24,7 +24,7 @@ pub(crate) fn fill(
     routine: &Routine<'_>,
 ) -> Result<Table, AllocError>
     requires program { IsProgram (program_of input.routines.now) }
-    requires linear { is_linear (program_of input.routines.now) ≡ true }
+    requires no_reference { has_no_back_reference (program_of input.routines.now) ≡ true }
     requires tables { AreTables input.text.now (program_of input.routines.now) input.tables.now }
     requires routine { slice_get (program_of input.routines.now) (length input.tables.now) ≡ Some (routine_of routine.now) }
     ensures of { IfOk result (IsTableOf input.entry.text.now (routine_of routine.now)) }
@@ -57,7 +57,7 @@ fn fill_half(
     position: usize,
 )
     requires program { IsProgram (program_of input.routines.now) }
-    requires linear { is_linear (program_of input.routines.now) ≡ true }
+    requires no_reference { has_no_back_reference (program_of input.routines.now) ≡ true }
     requires tables { AreTables input.text.now (program_of input.routines.now) input.tables.now }
     requires can { CanFill input (routine_of routine.now) table.old }
     requires position { position ≤ table.old.length }

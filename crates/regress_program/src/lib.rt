@@ -1,18 +1,22 @@
-//! Patterns compiled into instructions, and matched in time linear in the length of the text if no back reference and
-//! no capture in a lookaround prevents it.
+//! Patterns compiled into instructions, and matched in time linear in the length of the text if no back reference
+//! prevents it.
 #![tactic(auto)]
 
 mod bits;
 mod capturing;
 mod cells;
+mod claims;
 mod compile;
 mod compiler;
 mod contents;
 mod evaluate;
 mod fault;
 mod fill;
+mod filled;
+mod first;
 pub mod found;
 pub mod groups;
+mod inner;
 pub mod instruction;
 mod leftmost;
 mod linear;
@@ -20,14 +24,19 @@ mod lookarounds;
 mod loops;
 mod nonlinear;
 mod program;
+mod ranges;
+mod resolve;
 mod routines;
 mod search;
+mod slots;
 mod step;
 mod strings;
 mod table;
+mod tabled;
 mod tables;
 mod text;
 mod text_search;
+mod tidy;
 mod walk;
 mod walker;
 mod words;

@@ -8,11 +8,10 @@ ghost use Rattle.regress_program.specs.Views.{op_of, ops_of, program_of};
 
 use crate::capturing::is_capturing;
 use crate::instruction::{Instruction, Routine};
-use crate::linear::Linear;
 use crate::program::Program;
 use regress_tree::ir::Node;
 
-/// Why a search may take more than linear time.
+/// Why a search for all matches may take more than linear time.
 ///
 /// A search in linear time is by tables, which have a bit for each instruction and position: whether there is an outcome
 /// from there. They know nothing of captures.
@@ -21,46 +20,19 @@ pub enum Nonlinear {
     /// The pattern has a back reference, and what it matches depends on the captures.
     #[error("the pattern has a back reference")]
     BackReference,
-    /// A lookaround that is not negated contains a capture group, or a loop that resets one. So the captures after it
-    /// are those of an outcome of its body, of which a table has only that there is one.
+    /// A lookaround that is not negated contains a capture group, or a loop that resets one. A table has only that its
+    /// body has an outcome. What it captures is found by running the body once more for each match: each match takes
+    /// linear time, all of them together may take more.
     #[error("a lookaround contains a capture group")]
     CapturingLookaround,
 }
 
 impl<'n, 't> Program<'n, 't> {
-    /// Returns the program as one that is searched in linear time.
+    /// Returns why a search for all matches may take more than linear time: a back reference, or if the pattern has none,
+    /// a lookaround that is not negated and sets or resets captures. The result is `None` if the program is linear.
     ///
     /// # Complexity
     /// Linear in the number of instructions, since a routine belongs to one lookaround.
-    ///
-    /// # Errors
-    /// Returns what [`Program::nonlinear`] returns, if it is a reason.
-    ///
-    /// # Examples
-    /// ```
-    /// let tables = Tables::small(alloc)?;
-    /// let points = code_points(alloc, "(a)\\1")?;
-    /// let regex = try_parse(alloc, &points, Flags::default(), &tables)?;
-    /// let program = Program::compile(alloc, &regex, &tables, 1000)?;
-    /// assert!(rt; matches!(program.linear(), Err(Nonlinear::BackReference)));
-    /// ```
-    pub fn linear(self) -> Result<Linear<'n, 't>, Nonlinear>
-        ensures same { IfOk result (λ linear. linear.program ≡ self.entry) }
-        ensures linear { IfOk result (λ _. is_linear (routines_of self.entry) ≡ true) }
-        ensures not { IfErr result (λ _. is_linear (routines_of self.entry) ≡ false) }
-        ensures reason { IfErr result (λ why. reason (routines_of self.entry) ≡ Some why) }
-    {
-        match self.nonlinear() {
-            Some(reason) => Err(reason),
-            None => Ok(Linear { program: self }),
-        }
-    }
-
-    /// Returns why a search may take more than linear time: a back reference, or if the pattern has none, a lookaround
-    /// that is not negated and sets or resets captures. The result is `None` if the program is linear.
-    ///
-    /// # Complexity
-    /// As that of [`Program::linear`].
     pub fn nonlinear(&self) -> Option<Nonlinear>
         ensures { result ≡ reason (routines_of self.now) }
     {

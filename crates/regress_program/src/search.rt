@@ -5,10 +5,11 @@ ghost use Rattle.regress_unicode.specs.TableOf.{table_of};
 ghost use Rattle.regress_program.specs.Compiled.{IsPattern};
 ghost use Rattle.regress_program.specs.Filled.{AreFilled};
 ghost use Rattle.regress_program.specs.Found.{Finds};
-ghost use Rattle.regress_program.specs.Linear.{is_linear};
+ghost use Rattle.regress_program.specs.Ranges.{inner_groups};
 ghost use Rattle.regress_program.specs.Program.{IsSolution, Out};
-ghost use Rattle.regress_program.specs.Search.{groups_of, instructions_of, outcomes_from, per_character, routines_of, setting_of, tree_outcomes_from};
+ghost use Rattle.regress_program.specs.Search.{groups_of, instructions_of, outcomes_from, per_character, positions_tried, routines_of, setting_of, tree_outcomes_from};
 ghost use Rattle.regress_program.specs.Shape.{IsForwards, IsProgram};
+ghost use Rattle.regress_program.specs.Tidy.{has_no_back_reference};
 ghost use Rattle.regress_program.specs.TextSearch.{searched_program, searched_text};
 ghost use Rattle.regress_program.specs.Views.{program_of};
 
@@ -75,17 +76,20 @@ impl Linear<'_, '_> {
     pub fn steps_per_character(&self) -> u64
         ensures { result ≡ min (per_character self.now.program) u64.MAX }
     {
-        (self.program.instructions() as u64)
+        let instructions = self.program.instructions() as u64;
+        let groups = self.inner as u64;
+        instructions
             .saturating_mul(4)
             .saturating_add(1)
+            .saturating_add(instructions.saturating_mul(2).saturating_mul(groups))
     }
 
     /// Returns the leftmost match in `text` that starts at the byte offset `from` or later, on a character boundary.
     ///
     /// # Complexity
     /// The steps are at most [`Linear::steps_per_character`] for each byte of the text, and once more. A step takes
-    /// constant time, but for literals, sets and the groups that an iteration unsets. The memory is proportional to the
-    /// number of instructions and the length of the text.
+    /// constant time, but for literals, sets, and the groups that an iteration unsets or a lookaround sets. The memory is
+    /// proportional to the number of instructions and the length of the text.
     ///
     /// # Errors
     /// Returns [`AllocError`] if an allocation fails.
@@ -96,15 +100,16 @@ impl Linear<'_, '_> {
     /// let points = code_points(alloc, "(a*)*b")?;
     /// let regex = try_parse(alloc, &points, Flags::default(), &tables)?;
     /// let program = Program::compile(alloc, &regex, &tables, 1000)?;
-    /// let search = program.linear()?.find(alloc, "xaaab", 0)?;
-    /// match &search.found {
-    ///     Some(found) => {
+    /// let mut end = 0;
+    /// if let Some(linear) = program.linear(alloc)? {
+    ///     let search = linear.find(alloc, "xaaab", 0)?;
+    ///     if let Some(found) = &search.found {
     ///         assert_eq!(rt; found.start(), 1);
-    ///         assert_eq!(rt; found.end(), 5);
     ///         assert_eq!(rt; found.group(0), Some((1, 4)));
+    ///         end = found.end();
     ///     }
-    ///     None => assert!(rt; false, "it matches"),
     /// }
+    /// assert_eq!(rt; end, 5);
     /// ```
     pub fn find(&self, alloc: Global, text: &str, from: usize) -> Result<Search, AllocError>
         ensures solved { IfOk result (λ search. (outs : ℕ → Out) → IsSolution (setting_of self.now.program) text.now (routines_of self.now.program) outs →
@@ -112,11 +117,12 @@ impl Linear<'_, '_> {
         ensures finds { IfOk result (λ search. (t : Tree) → IsPattern (routines_of self.now.program) t →
             Finds text.now (tree_outcomes_from self.now.program text.now t) from search.found) }
         ensures steps { IfOk result (λ search. search.steps ≤ per_character self.now.program * (length text.now + 1)) }
+        ensures counted { IfOk result (λ search. min (2 * instructions_of self.now.program * (length text.now + 1)) u64.MAX ≤ search.steps) }
+        ensures tried { IfOk result (λ search. positions_tried text.now from search.found ≤ search.steps) }
     {
-        let program = &self.program;
         let mut steps = 0;
-        let tables = fill_tables(alloc, program, text, &mut steps)?;
-        let search = find_filled(alloc, program, text, &tables, from)?;
+        let tables = fill_tables(alloc, &self.program, text, &mut steps)?;
+        let search = find_filled(alloc, self, text, &tables, from)?;
         Ok(Search {
             found: search.found,
             steps: search.steps.saturating_add(steps),
@@ -140,7 +146,7 @@ impl<'p> Linear<'p, 'p> {
         let mut steps = 0;
         let tables = fill_tables(alloc, &self.program, text, &mut steps)?;
         Ok(TextSearch {
-            program: self.program,
+            linear: self,
             text,
             tables,
             steps,
@@ -148,10 +154,10 @@ impl<'p> Linear<'p, 'p> {
     }
 }
 
-/// Returns the tables of a text, and adds the number of their bits to `steps`.
+/// Returns the tables of a text, and adds the number of their bits to `steps`, up to `u64::MAX`.
 ///
 /// # Preconditions
-/// The program is linear.
+/// The program has no back reference.
 ///
 /// # Errors
 /// Returns [`AllocError`] if an allocation fails.
@@ -161,9 +167,9 @@ fn fill_tables(
     text: &str,
     steps: &mut u64,
 ) -> Result<Vec<Table>, AllocError>
-    requires { is_linear (routines_of program.now) ≡ true }
+    requires { has_no_back_reference (routines_of program.now) ≡ true }
     ensures filled { IfOk result (λ tables. AreFilled (setting_of program.now) text.now (routines_of program.now) tables.items) }
-    ensures steps { IfOk result (λ _. steps.new ≤ steps.old + 2 * instructions_of program.now * (length text.now + 1)) }
+    ensures counted { IfOk result (λ _. steps.new ≡ min (steps.old + 2 * instructions_of program.now * (length text.now + 1)) u64.MAX) }
 {
     let rules = MatchContext {
         flags: program.flags,

@@ -1,24 +1,22 @@
 //! A text, prepared for searches with a program.
-ghost use Rattle.std.specs.Prelude.{◌≡◌, ◌≤◌, ◌+◌, ◌*◌, length, true};
+ghost use Rattle.std.specs.Prelude.{◌≡◌, ◌+◌, ◌*◌, length, min};
 ghost use Rattle.regress_program.specs.Filled.{AreFilled, AreFilled-prop};
-ghost use Rattle.regress_program.specs.Linear.{is_linear};
 ghost use Rattle.regress_program.specs.Search.{instructions_of, routines_of, setting_of};
 
-use crate::program::Program;
+use crate::linear::Linear;
 use crate::table::Table;
 
 /// A text that is searched with a program: for each state whether there is an outcome.
 #[derive(Drop)]
 pub struct TextSearch<'p> {
     /// The program.
-    pub(crate) program: Program<'p, 'p>,
+    pub(crate) linear: Linear<'p, 'p>,
     /// The text.
     pub(crate) text: &'p str,
     /// The table of each routine.
     pub(crate) tables: Vec<Table>,
-    /// The number of bits of all tables.
+    /// The number of bits of all tables, at most `u64::MAX`.
     pub(crate) steps: u64,
-    ghost linear: { is_linear (routines_of program) ≡ true },
-    ghost filled: { AreFilled (setting_of program) text.now (routines_of program) tables.items } by { AreFilled-prop (setting_of program) text.now (routines_of program) tables.items },
-    ghost counted: { steps ≤ 2 * instructions_of program * (length text.now + 1) },
+    ghost filled: { AreFilled (setting_of linear.program) text.now (routines_of linear.program) tables.items } by { AreFilled-prop (setting_of linear.program) text.now (routines_of linear.program) tables.items },
+    ghost counted: { steps ≡ min (2 * instructions_of linear.program * (length text.now + 1)) 18446744073709551615 },
 }

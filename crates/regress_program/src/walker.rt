@@ -1,9 +1,13 @@
 //! The state of a walk through the instructions of the first outcome.
-ghost use Rattle.std.specs.Prelude.{◌≡◌, ◌<◌, ◌≤◌, ◌∷◌, IfOk, MatchOption, false, true};
+ghost use Rattle.std.specs.Prelude.{◌≡◌, ◌<◌, ◌≤◌, ◌∷◌, ℕ, IfOk, MatchOption, Option, Some, false, slice_set, true};
 ghost use Rattle.regress_tree.specs.Repetition.{unset, unset_from};
+ghost use Rattle.regress_tree.specs.Steps.{CaptureSpan};
 ghost use Rattle.regress_program.specs.Program.{ended, goto, reach};
-ghost use Rattle.regress_program.specs.Walked.{alternative, at_of, chosen};
+ghost use Rattle.regress_program.specs.Slots.{resolved};
+ghost use Rattle.regress_program.specs.Walked.{OneSpan, SetInside, SlotsSet, UnsetSlots, alternative, at_of, chosen};
 
+use crate::ranges::GroupRange;
+use crate::slots::Slot;
 use crate::table::Table;
 use std::alloc::AllocError;
 
@@ -16,8 +20,8 @@ pub struct Walker {
     pub moved: bool,
     /// The position.
     pub position: usize,
-    /// The capture of each group by its id.
-    pub captures: Vec<Option<(usize, usize)>>,
+    /// What is known of the capture of each group by its id.
+    pub slots: Vec<Slot>,
     /// Where the open groups began, the innermost last.
     pub begins: Vec<usize>,
 }
@@ -25,8 +29,9 @@ pub struct Walker {
 impl Walker {
     /// Goes on from where a part ends. Returns false if it fails.
     pub(crate) fn reach(&mut self, next: usize, to: Option<usize>) -> bool
-        ensures { MatchOption to (result ≡ false)
-            (λ q. (result ≡ true) × (let a = at_of self.old in at_of self.new ≡ reach next a (record { position = q; captures = a.state.captures }))) }
+        ensures at { (capture_of : ℕ → ℕ → ℕ → Option CaptureSpan) → MatchOption to (result ≡ false)
+            (λ q. (result ≡ true) × (let a = at_of capture_of self.old in at_of capture_of self.new ≡ reach next a (record { position = q; captures = a.state.captures }))) }
+        ensures slots { self.new.slots.items ≡ self.old.slots.items }
     {
         match to {
             None => false,
@@ -44,7 +49,8 @@ impl Walker {
         requires body { body < table.now.width }
         requires next { next < table.now.width }
         requires position { self.old.position ≤ table.now.length }
-        ensures { at_of self.new ≡ chosen table.now greedy body next (at_of self.old) }
+        ensures at { (capture_of : ℕ → ℕ → ℕ → Option CaptureSpan) → at_of capture_of self.new ≡ chosen table.now greedy body next (at_of capture_of self.old) }
+        ensures slots { self.new.slots.items ≡ self.old.slots.items }
     {
         let iterates = if greedy {
             table.cell(body, false, self.position)
@@ -63,7 +69,8 @@ impl Walker {
     pub(crate) fn split(&mut self, table: &Table, first: usize, second: usize)
         requires first { first < table.now.width }
         requires position { self.old.position ≤ table.now.length }
-        ensures { let a = at_of self.old in at_of self.new ≡ goto (alternative table.now first second a) a }
+        ensures at { (capture_of : ℕ → ℕ → ℕ → Option CaptureSpan) → (let a = at_of capture_of self.old in at_of capture_of self.new ≡ goto (alternative table.now first second a) a) }
+        ensures slots { self.new.slots.items ≡ self.old.slots.items }
     {
         let holds = table.cell(first, self.moved, self.position);
         self.pc = if holds { first } else { second };
@@ -71,15 +78,17 @@ impl Walker {
 
     /// Begins an iteration, which unsets the groups `start` to `end - 1`.
     pub(crate) fn begin_iteration(&mut self, start: usize, end: usize, next: usize)
-        ensures { let a = at_of self.old in at_of self.new ≡ record a { pc = next; state = unset start end a.state } }
+        ensures at { (capture_of : ℕ → ℕ → ℕ → Option CaptureSpan) → (let a = at_of capture_of self.old in at_of capture_of self.new ≡ record a { pc = next; state = unset start end a.state }) }
+        ensures slots { UnsetSlots start end self.old.slots.items self.new.slots.items }
     {
-        unset(&mut self.captures, start, end);
+        unset(&mut self.slots, start, end);
         self.pc = next;
     }
 
     /// Begins a capture group.
     pub(crate) fn begin_group(&mut self, next: usize) -> Result<(), AllocError>
-        ensures { IfOk result (λ _. let a = at_of self.old in at_of self.new ≡ record a { pc = next; begins = a.state.position ∷ a.begins }) }
+        ensures at { IfOk result (λ _. (capture_of : ℕ → ℕ → ℕ → Option CaptureSpan) → (let a = at_of capture_of self.old in at_of capture_of self.new ≡ record a { pc = next; begins = a.state.position ∷ a.begins })) }
+        ensures slots { self.new.slots.items ≡ self.old.slots.items }
     {
         self.begins.push(self.position)?;
         self.pc = next;
@@ -88,26 +97,56 @@ impl Walker {
 
     /// Ends the innermost open group, and sets the capture of the group `id`.
     pub(crate) fn end_group(&mut self, id: u16, next: usize)
-        ensures { let a = at_of self.old in at_of self.new ≡ ended id next a a.begins }
+        ensures at { (capture_of : ℕ → ℕ → ℕ → Option CaptureSpan) → (let a = at_of capture_of self.old in at_of capture_of self.new ≡ ended id next a a.begins) }
+        ensures slots { OneSpan id self.old.slots.items self.new.slots.items }
     {
         let from = match self.begins.pop() {
             Some(from) => from,
             None => self.position,
         };
-        let id = usize::from(id);
-        if id < self.captures.len() {
-            self.captures[id] = Some((from.min(self.position), from.max(self.position)));
-        }
+        let to = self.position;
+        set_span(&mut self.slots, usize::from(id), from.min(to), from.max(to));
+        self.pc = next;
+    }
+
+    /// Goes on after a lookaround that holds, whose body is this routine and changes these groups.
+    pub(crate) fn pass(&mut self, routine: usize, range: GroupRange, next: usize)
+        ensures pc { self.new.pc ≡ next }
+        ensures moved { self.new.moved ≡ self.old.moved }
+        ensures position { self.new.position ≡ self.old.position }
+        ensures begins { self.new.begins ≡ self.old.begins }
+        ensures slots { SetInside range routine self.old.position self.old.slots.items self.new.slots.items }
+    {
+        let position = self.position;
+        set_slots(&mut self.slots, range, Slot::Inside { routine, position });
         self.pc = next;
     }
 }
 
 /// Unsets the groups `start` to `end - 1`.
-fn unset(captures: &mut Vec<Option<(usize, usize)>>, start: usize, end: usize)
-    ensures { captures.new.items ≡ unset_from 0 start end captures.old.items }
+fn unset(slots: &mut Vec<Slot>, start: usize, end: usize)
+    ensures resolved { (capture_of : ℕ → ℕ → ℕ → Option CaptureSpan) → resolved capture_of slots.new.items ≡ unset_from 0 start end (resolved capture_of slots.old.items) }
+    ensures slots { UnsetSlots start end slots.old.items slots.new.items }
 {
-    let after = end.min(captures.len());
-    for group in start..after {
-        captures[group] = None;
+    set_slots(slots, GroupRange { start, end }, Slot::Unset);
+}
+
+/// Sets the capture of the group `id`, if there is one.
+fn set_span(slots: &mut Vec<Slot>, id: usize, from: usize, to: usize)
+    ensures resolved { (capture_of : ℕ → ℕ → ℕ → Option CaptureSpan) → resolved capture_of slots.new.items ≡ slice_set (resolved capture_of slots.old.items) id (Some (from, to)) }
+    ensures slots { OneSpan id slots.old.items slots.new.items }
+{
+    if id < slots.len() {
+        slots[id] = Slot::Span(from, to);
+    }
+}
+
+/// Sets the slots of the groups in a range.
+fn set_slots(slots: &mut Vec<Slot>, range: GroupRange, slot: Slot)
+    ensures { SlotsSet range slot slots.old.items slots.new.items }
+{
+    let after = range.end.min(slots.len());
+    for id in range.start..after {
+        slots[id] = slot;
     }
 }

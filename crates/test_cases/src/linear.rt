@@ -1,7 +1,7 @@
-//! Searches by a program, for patterns whose program is linear.
+//! Searches by the tables of a program, for patterns without a back reference.
 
 use crate::outcome::{Question, report_spans};
-use regress_program::{CompileFault, Program, TextSearch};
+use regress_program::{CompileFault, Nonlinear, Program, TextSearch};
 use regress_tree::ir::Regex;
 use regress_unicode::Tables;
 use test_notation::{Call, Fault};
@@ -14,8 +14,9 @@ pub(crate) fn instruction_limit(text: &str) -> usize {
     MOST / text.len().saturating_add(1)
 }
 
-/// Appends the outcome of a search by a program, as `response_question` does. Returns false if the pattern has no
-/// program that is short and linear, or if the question asks for no search.
+/// Appends the outcome of a search by the tables of a program, as `response_question` does. Returns false if the pattern
+/// has no program that is short and without a back reference, or if the question asks for no search. Any other program
+/// of a parsed pattern has tables.
 pub(crate) fn response_linear(
     call: &mut Call,
     question: Question,
@@ -38,11 +39,15 @@ pub(crate) fn response_linear(
         }
         Err(CompileFault::TooLong) => return false,
     };
-    let Ok(linear) = program.linear() else {
+    if program.nonlinear() == Some(Nonlinear::BackReference) {
         return false;
-    };
-    match linear.search(alloc, text) {
-        Ok(search) => report_matches(call, &search, text, most),
+    }
+    match program.linear(alloc) {
+        Ok(Some(linear)) => match linear.search(alloc, text) {
+            Ok(search) => report_matches(call, &search, text, most),
+            Err(_) => call.fail(Fault::Memory),
+        },
+        Ok(None) => call.say("no tables"),
         Err(_) => call.fail(Fault::Memory),
     }
     true

@@ -16,12 +16,12 @@ enum Way {
     Backtracking,
     /// By a matcher of the optimized tree, which goes on with tables if its program is linear.
     Matcher,
-    /// By the tables of the program of the parsed tree, if it is linear.
+    /// By the tables of the program of the parsed tree, if it has no back reference.
     Tables,
 }
 
 /// Returns the first result that is not the expected one: by backtracking, unless the question is `linear`; by a matcher
-/// of the optimized tree; or by tables if the program is linear.
+/// of the optimized tree; or by tables if the program has no back reference.
 pub(crate) fn match_difference(
     alloc: Global,
     line: &str,

@@ -6,7 +6,7 @@ use regress_front::types::Flags;
 use regress_front::unicode::Tables;
 use regress_front::util::code_points;
 use regress_match::{Limits, Match, Matcher, Outcome};
-use regress_program::{Nonlinear, Program};
+use regress_program::Program;
 use std::test::Fail;
 
 #[test]
@@ -18,23 +18,24 @@ fn the_example_of_a_program_holds(rt: HostRuntime) -> Result<(), Fail> {
         let points = code_points(alloc, "(a*)*b")?;
         let regex = try_parse(alloc, &points, Flags::default(), &tables)?;
         let program = Program::compile(alloc, &regex, &tables, 1000)?;
-        let search = program.linear()?.find(alloc, "xaaab", 0)?;
-        match &search.found {
-            Some(found) => {
+        let mut end = 0;
+        if let Some(linear) = program.linear(alloc)? {
+            let search = linear.find(alloc, "xaaab", 0)?;
+            if let Some(found) = &search.found {
                 assert_eq!(rt; found.start(), 1);
-                assert_eq!(rt; found.end(), 5);
                 assert_eq!(rt; found.group(0), Some((1, 4)));
+                end = found.end();
             }
-            None => assert!(rt; false, "it matches"),
         }
+        assert_eq!(rt; end, 5);
     }
-    // a program is not linear
+    // a program has a back reference
     {
         let tables = Tables::small(alloc)?;
         let points = code_points(alloc, "(a)\\1")?;
         let regex = try_parse(alloc, &points, Flags::default(), &tables)?;
         let program = Program::compile(alloc, &regex, &tables, 1000)?;
-        assert!(rt; matches!(program.linear(), Err(Nonlinear::BackReference)));
+        assert!(rt; program.linear(alloc)?.is_none());
     }
     Ok(())
 }

@@ -40,7 +40,13 @@ fn the_examples_of_regular_expressions_hold(rt: HostRuntime) -> Result<(), Fail>
     {
         assert!(rt; Regex::new(alloc, "(?:a|a)*b")?.is_linear());
     }
-    // a pattern with a back reference is not
+    // a search for one match is linear where a lookahead captures
+    {
+        let regex = Regex::new(alloc, "(?=(a*))a*b")?;
+        assert!(rt; regex.is_find_linear());
+        assert!(rt; !regex.is_linear());
+    }
+    // a pattern with a back reference is not linear
     {
         let regex = Regex::new(alloc, "(a)\\1")?;
         assert_eq!(rt; regex.nonlinear(), Some(Nonlinear::BackReference));

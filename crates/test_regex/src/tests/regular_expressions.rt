@@ -3,6 +3,7 @@
 use regress::{
     Error, Flags, FlagsError, Nonlinear, Options, Regex, SearchError, Tables, escape, parse_flags,
 };
+use std::alloc::Global;
 use std::sync::Arc;
 use std::test::Fail;
 
@@ -172,11 +173,84 @@ fn a_linear_search_has_no_step_limit(rt: HostRuntime) -> Result<(), Fail> {
     assert!(rt; with_reference.steps_per_character().is_none());
     let looking = Regex::new(alloc, "(?=(a))")?;
     assert_eq!(rt; looking.nonlinear(), Some(Nonlinear::CapturingLookaround));
+    assert!(rt; looking.is_find_linear());
+    assert!(rt; !with_reference.is_find_linear());
     match with_reference.find(alloc, "aaaaaaaaaaaaaaaaaaaaaa") {
         Err(SearchError::OutOfSteps) => {}
         _ => assert!(rt; false, "it takes too many steps"),
     }
     Ok(())
+}
+
+// In each of 3,000 iterations the lookahead matches all a's after it, some 4.5 million steps of backtracking. An iteration
+// unsets the group (RepeatMatcher, 22.2.2.3.1 of ECMA-262), so it has what the last one captures: the last a.
+#[test]
+fn a_lookahead_captures_in_linear_time(rt: HostRuntime) -> Result<(), Fail> {
+    let alloc = rt.alloc();
+    let pattern = "(?:(?=(a*))a)*b";
+    let text = "a".repeat(alloc, 3000)?;
+    let ended = format!(in alloc; "{text}b")?;
+    let backtracking = with_few_steps(alloc, pattern, 0)?;
+    assert!(rt; !backtracking.is_find_linear());
+    assert!(rt; backtracking.find_steps_per_character().is_none());
+    assert!(rt;
+        matches!(
+            backtracking.find(alloc, &ended),
+            Err(SearchError::OutOfSteps)
+        )
+    );
+    let regex = with_few_steps(alloc, pattern, 1000)?;
+    assert!(rt; regex.is_find_linear());
+    assert!(rt; regex.find_steps_per_character().is_some());
+    assert!(rt; !regex.is_match(alloc, &text)?);
+    match regex.find(alloc, &ended)? {
+        Some(found) => {
+            assert_eq!(rt; found.range(), 0..3001);
+            assert_eq!(rt; found.group(1), Some(2999..3000));
+        }
+        None => assert!(rt; false, "it matches"),
+    }
+    Ok(())
+}
+
+// In each of 3,000 iterations the lookbehind matches all a's before it, from right to left. In the last one it captures
+// all of them.
+#[test]
+fn a_lookbehind_captures_in_linear_time(rt: HostRuntime) -> Result<(), Fail> {
+    let alloc = rt.alloc();
+    let pattern = "(?:a(?<=(a*)))*b";
+    let text = "a".repeat(alloc, 3000)?;
+    let ended = format!(in alloc; "{text}b")?;
+    let backtracking = with_few_steps(alloc, pattern, 0)?;
+    assert!(rt;
+        matches!(
+            backtracking.find(alloc, &ended),
+            Err(SearchError::OutOfSteps)
+        )
+    );
+    let regex = with_few_steps(alloc, pattern, 1000)?;
+    assert!(rt; regex.is_find_linear());
+    assert!(rt; !regex.is_match(alloc, &text)?);
+    match regex.find(alloc, &ended)? {
+        Some(found) => {
+            assert_eq!(rt; found.range(), 0..3001);
+            assert_eq!(rt; found.group(1), Some(0..3000));
+        }
+        None => assert!(rt; false, "it matches"),
+    }
+    Ok(())
+}
+
+/// Compiles a pattern for searches of at most a million steps if they are not linear, with tables for programs of at most
+/// `tables` instructions.
+fn with_few_steps(alloc: Global, pattern: &str, tables: usize) -> Result<Regex, Fail> {
+    let options = Options {
+        steps: 1_000_000,
+        tables,
+        ..Options::default()
+    };
+    let small = Arc::new(alloc, Tables::small(alloc)?)?;
+    Ok(Regex::with_options(alloc, pattern, Flags::default(), options, &small)?)
 }
 
 #[test]

@@ -1,7 +1,11 @@
-use Rattle.regress_match.specs.Matcher.{factor_of}
+use Rattle.regress_match.specs.Matcher.{factor_of, find_factor_of}
 use Rattle.regress.proofs.FoundLemmas.{never_out}
 use Rattle.regress.proofs.search.find.Goals as goal
 
 pub returns-in-OutOfSteps-clause-linear : goal.returns-in-OutOfSteps-clause-linear
 returns-in-OutOfSteps-clause-linear c = λ _.
     never_out (factor_of c.args.matcher.now) c.args.text.now _ c.in_ok-found.found.steps c.in_ok-found.ensures.linear c.in-OutOfSteps.is
+
+pub returns-in-OutOfSteps-clause-bounded : goal.returns-in-OutOfSteps-clause-bounded
+returns-in-OutOfSteps-clause-bounded c = λ _.
+    never_out (find_factor_of c.args.matcher.now) c.args.text.now _ c.in_ok-found.found.steps c.in_ok-found.ensures.bounded c.in-OutOfSteps.is

@@ -2,6 +2,7 @@ use Rattle.std.proofs.Common.{[], min, sym, ap, ◌∙◌, subst}
 use Rattle.regress_program.specs.Compiled.{total}
 use Rattle.regress_program.specs.Linear.{reason}
 use Rattle.regress_program.specs.Shape.{IsForwards, IsProgram}
+use Rattle.regress_program.specs.Tidy.{table_groups}
 use Rattle.regress_backtrack.specs.Candidates.{BeginsAt}
 use Rattle.regress_backtrack.proofs.owned.own.Goals as goal
 
@@ -19,6 +20,9 @@ invariant_of-result-clause-counted c = c.instructions.ensures ∙ ap (λ program
 
 pub invariant_of-result-clause-linear_unless : goal.invariant_of-result-clause-linear_unless
 invariant_of-result-clause-linear_unless c = c.nonlinear.ensures ∙ ap reason (sym (c.in_ok-routines.ensures.program ∙ c.routines.ensures.routines))
+
+pub invariant_of-result-clause-tabled : goal.invariant_of-result-clause-tabled
+invariant_of-result-clause-tabled c = c.in_ok-table_groups.ensures ∙ ap table_groups (sym (c.in_ok-routines.ensures.program ∙ c.routines.ensures.routines))
 
 pub returns-clause-flags : goal.returns-clause-flags
 returns-clause-flags c = ap (λ u. u.setting.flags) (c.rules.ensures [])

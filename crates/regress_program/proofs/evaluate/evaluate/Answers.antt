@@ -1,14 +1,13 @@
-use Rattle.std.proofs.Common.{◌≡◌, true, [], ◌∷◌, ap, subst, arith}
+use Rattle.std.proofs.Common.{◌≡◌, [], ◌∷◌, ap, subst, arith, false}
 use Rattle.regress_leaves.specs.Subject.{subject}
 use Rattle.regress_tree.specs.Matching.{steps}
 use Rattle.regress_tree.specs.Reading.{direction_if}
 use Rattle.regress_tree.specs.Tree.{tree, leaf, string_set}
-use Rattle.regress_program.specs.Linear.{is_linear_op}
-use Rattle.regress_program.specs.Program.{matcher_of, part}
+use Rattle.regress_program.specs.Linear.{is_back_reference}
+use Rattle.regress_program.specs.Program.{matcher_of}
 use Rattle.regress_program.specs.Shape.{Fits}
 use Rattle.regress_program.specs.Views.{op_of, program_of}
 use Rattle.regress_program.proofs.EvaluateLemmas.{part_yields, split_yields, begin_yields, repeat_yields, end_yields, unsets_yields, begin_group_yields, end_group_yields, look_yields, reached-within, one_string, look-earlier}
-use Rattle.regress_program.proofs.LinearLemmas.{linear-part}
 use Rattle.regress_program.proofs.lemmas.Onward.{Stays-tree}
 use Rattle.regress_program.proofs.evaluate.evaluate.Goals as goal
 
@@ -33,9 +32,7 @@ leaf_end-to-requires c =
     let can = c.requires.can in
     let program = program_of c.args.input.routines.now in
     let fits = subst (Fits _ _ can.pc) (ap op_of c.in-Leaf.is) can.fits in
-    let linear : is_linear_op program (part (tree c.in-Leaf.node.now) c.in-Leaf.next) ≡ true =
-    subst (λ op. is_linear_op program op ≡ true) (ap op_of c.in-Leaf.is) can.linear in
-    record { part = fits.0; captures = linear-part program (tree c.in-Leaf.node.now) c.in-Leaf.next linear }
+    record { part = fits.0; captures = subst (λ op. is_back_reference op ≡ false) (ap op_of c.in-Leaf.is) can.no_reference }
 
 pub looks-requires-clause-earlier : goal.looks-requires-clause-earlier
 looks-requires-clause-earlier c =

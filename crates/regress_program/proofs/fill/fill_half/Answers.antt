@@ -18,7 +18,7 @@ evaluate-bit-requires-clause-can c =
     let is_op : slice_get (ops_of items) pc ≡ Some (op_of c.index.result.now) =
     slice_get-map op_of items pc ∙ ap (option_map op_of) (slice_get_read items _ pc _ refl (omega arith) c.index.ensures) in
     can_evaluate c.args.input (routine_of c.args.routine.now) c.args.table.now c.loop-pc.table pc c.args.moved c.args.position c.requires.can
-    c.requires.position c.requires.at so_far.shape so_far.more (omega (arith, length-map items op_of)) (op_of c.index.result.now) c.requires.program c.requires.linear is_op
+    c.requires.position c.requires.at so_far.shape so_far.more (omega (arith, length-map items op_of)) (op_of c.index.result.now) c.requires.program c.requires.no_reference is_op
 
 pub push-requires : goal.push-requires
 push-requires c =

@@ -1,121 +1,98 @@
-use Rattle.std.proofs.Common.{rules, ◌≡◌, ℕ, ◌+◌, ◌-◌, ◌*◌, ◌<◌, ◌≤◌, [], ◌∷◌, true, List, length, refl, sym, ap, ◌∙◌, arith}
+use Rattle.std.proofs.Common.{rules, ◌≡◌, ◌+◌, ◌-◌, ◌*◌, ◌≤◌, ◌∷◌, ℕ, length, take, slice_get, Some, IfSome, refl, sym, ap, ◌∙◌, subst, arith}
+use Rattle.std.proofs.lemmas.List.{length-map}
 use Rattle.std.specs.Str.{IsCharBoundary}
-use Rattle.regress_leaves.specs.Subject.{subject}
 use Rattle.regress_tree.specs.Steps.{MatchState}
-use Rattle.regress_program.specs.declared.walker.Walker.{Walker}
-use Rattle.regress_program.specs.Found.{no_groups, state_of}
-use Rattle.regress_program.specs.Program.{Out, matcher_of}
-use Rattle.regress_program.specs.Table.{has_outcome}
-use Rattle.regress_program.specs.Views.{program_of, routine_of}
-use Rattle.regress_program.specs.Walked.{at_of}
-use Rattle.regress_program.proofs.EvaluateLemmas.{full_tells}
-use Rattle.regress_program.proofs.RunLemmas.{outcomes, outcomes-solve}
+use Rattle.regress_program.specs.Compiled.{total}
+use Rattle.regress_program.specs.Found.{state_of}
+use Rattle.regress_program.specs.Searchable.{IsEnd, IsFirst, captures_in, outcomes_in, program_in}
+use Rattle.regress_program.specs.Slots.{AreInside, resolved}
+use Rattle.regress_program.specs.Views.{routine_of}
+use Rattle.regress_program.specs.Isolated.{Captures}
+use Rattle.regress_program.specs.Program.{Out, Routine}
+use Rattle.regress_program.specs.declared.first.FirstOutcome.{FirstOutcome}
+use Rattle.regress_tree.specs.Reading.{forwards}
+use Rattle.regress_program.proofs.ResolveLemmas.{get-some, leftmost_steps, total_part}
+use Rattle.regress_program.proofs.StepLemmas.{routine_size}
 use Rattle.regress_program.proofs.SearchLemmas.{leftmost_by}
-use Rattle.regress_program.proofs.StepLemmas.{walk_steps}
-use Rattle.regress_program.proofs.WalkLemmas.{walk-begins, entry-none, none-more, not-true}
+use Rattle.regress_program.proofs.WalkLemmas.{none-more, not-true}
 use Rattle.regress_program.proofs.leftmost.find_leftmost.Goals as goal
-use Rattle.regress_program.proofs.leftmost.find_leftmost.Goals.{else-is_char_boundary-via-then-is_char_boundary+else-cell, else-is_char_boundary-via-else-is_char_boundary}
+use Rattle.regress_program.proofs.leftmost.find_leftmost.Goals.{then-is_char_boundary+in_ok-first+in_default, else-is_char_boundary}
 
-pub cell-requires-clause-pc : goal.cell-requires-clause-pc
-cell-requires-clause-pc c =
-    let can = c.requires.can in
-    omega (arith, (c.requires.program _ (routine_of c.args.routine.now) can.is).entry, can.of.width)
+pub captures_of-requires : goal.captures_of-requires
+captures_of-requires c =
+    let f = c.args.filled in (
+      length f.input.text.now,
+      f.inner,
+      subst (AreInside 0 (length f.input.text.now) f.inner) (sym c.deref.ensures.value) c.in_ok-resolve.ensures.resolved.inside,
+    )
 
-pub walk-requires-clause-pc : goal.walk-requires-clause-pc
-walk-requires-clause-pc c =
-    let can = c.requires.can in
-    omega (arith, (c.requires.program _ (routine_of c.args.routine.now) can.is).entry, can.of.width)
-
-pub returns-then-cell-clause-solved : goal.returns-then-cell-clause-solved
-returns-then-cell-clause-solved c = λ outs solution.
-    let right = c.requires.right outs solution in
-    let u = subject c.args.input.rules c.args.input.text.now in
-    let program = program_of c.args.input.routines.now in
-    let i = length c.args.input.tables.now in
-    let r = routine_of c.args.routine.now in
-    let t = c.args.table.now in
-    let start = c.loop-start.start in
+pub returns-in-Some-clause-solved : goal.returns-in-Some-clause-solved
+returns-in-Some-clause-solved c = λ outs solves.
+    let f = c.args.filled in
     let n = c.args.groups in
-    let can = c.requires.can in
-    let lt : r.entry < t.width = omega (arith, (c.requires.program i r can.is).entry, can.of.width) in
-    let le : start ≤ t.length = omega (arith, can.of.text) in
-    let w : Walker = record { pc = r.entry; moved = true; position = start; captures = c.in_ok-unset_groups.field-0; begins = c.new.result } in
-    let begins = walk-begins u.setting u.bytes program outs i n start r w can.is refl refl refl c.in_ok-unset_groups.ensures.items c.new.ensures.items in
-    let some : has_outcome (outs i (at_of w)) ≡ true =
-    full_tells (outs i) t r.entry true start c.requires.full right lt le (at_of w) refl refl refl ∙ sym c.if-cell.ensures in
-    let ends = c.in_ok-walk.ensures.ends outs solution c.requires.full right some in
-    let on : IsCharBoundary c.args.input.text.now start = search rules in
-    let m = c.new-found.result in
-    leftmost_by u.bytes (λ p. matcher_of u.setting u.bytes program outs i (no_groups n p)) c.args.from start (state_of m) m c.new-found.ensures.start refl
-    c.loop-start.auto.start on ends.1.0 (begins ∙ ends.1.1 ∙ ap (λ s. s ∷ ends.1.0) (sym c.new-found.ensures.state)) (c.loop-start.invariant.none outs solution)
-
--- Every program has outcomes, so the walk ends at one.
-pub returns-then-cell-clause-inside : goal.returns-then-cell-clause-inside
-returns-then-cell-clause-inside c =
-    let u = subject c.args.input.rules c.args.input.text.now in
-    let outs : ℕ → Out = outcomes u.setting u.bytes (program_of c.args.input.routines.now) c.requires.program in
-    let solution = outcomes-solve u.setting u.bytes (program_of c.args.input.routines.now) c.requires.program in
-    let r = routine_of c.args.routine.now in
-    let t = c.args.table.now in
-    let can = c.requires.can in
-    let lt : r.entry < t.width = omega (arith, (c.requires.program _ r can.is).entry, can.of.width) in
-    let w : Walker = record { pc = r.entry; moved = true; position = c.loop-start.start; captures = c.in_ok-unset_groups.field-0; begins = c.new.result } in
-    let right = c.requires.right outs solution in
-    let some : has_outcome (outs (length c.args.input.tables.now) (at_of w)) ≡ true =
-    full_tells (outs (length c.args.input.tables.now)) t r.entry true c.loop-start.start c.requires.full right lt (omega (arith, can.of.text)) (at_of w) refl refl refl
-    ∙ sym c.if-cell.ensures in
-    let ends = c.in_ok-walk.ensures.ends outs solution c.requires.full right some in
-    omega (arith, c.in_ok-walk.ensures.inside ends.0, can.of.text, ap (λ s. s.position) c.new-found.ensures.state)
-
-pub returns-then-cell-clause-steps : goal.returns-then-cell-clause-steps
-returns-then-cell-clause-steps c =
-    let u = subject c.args.input.rules c.args.input.text.now in
-    let outs : ℕ → Out = outcomes u.setting u.bytes (program_of c.args.input.routines.now) c.requires.program in
-    let solution = outcomes-solve u.setting u.bytes (program_of c.args.input.routines.now) c.requires.program in
-    let r = routine_of c.args.routine.now in
-    let t = c.args.table.now in
-    let can = c.requires.can in
-    let lt : r.entry < t.width = omega (arith, (c.requires.program _ r can.is).entry, can.of.width) in
     let start = c.loop-start.start in
-    let w : Walker = record { pc = r.entry; moved = true; position = start; captures = c.in_ok-unset_groups.field-0; begins = c.new.result } in
-    let right = c.requires.right outs solution in
-    let some : has_outcome (outs (length c.args.input.tables.now) (at_of w)) ≡ true =
-    full_tells (outs (length c.args.input.tables.now)) t r.entry true start c.requires.full right lt (omega (arith, can.of.text)) (at_of w) refl refl refl
-    ∙ sym c.if-cell.ensures in
-    let ends = c.in_ok-walk.ensures.ends outs solution c.requires.full right some in
-    let v = c.walk.new.walker in
-    let all = walk_steps t c.requires.forwards r.entry v.pc v.moved start v.position c.args.from (c.loop-start.steps + 1) c.walk.new.steps
-    lt (omega (arith, can.of.text)) (c.in_ok-walk.ensures.inside ends.0) c.loop-start.auto.start (omega (arith, c.loop-start.invariant.steps))
-    (c.in_ok-walk.ensures.falls ends.0) (c.in_ok-walk.ensures.steps ends.0) in
-    omega (arith, all, ap (λ k. (2 * t.width + 1) * (k + 1 - c.args.from)) (ap (λ s. s.position) c.new-found.ensures.state))
+    let last = length f.input.routines.now - 1 in
+    let o = c.in-Some.first in
+    let m = c.new.result in
+    let index : length (program_in f) - 1 ≡ last = omega (arith, length-map f.input.routines.now routine_of) in
+    let first = (subst (IsFirst f last n start) c.in-Some.is c.in_ok-first.ensures.first) outs solves in
+    let ends = subst (λ x. IfSome x (IsEnd f last n)) c.in-Some.is c.in_ok-first.ensures.end in
+    let captures = c.in_ok-captures.ensures (captures_in f outs n)
+    ∙ ap (resolved (captures_in f outs n)) c.deref.ensures.value
+    ∙ subst (λ k. resolved (captures_in f outs k) c.resolve.new.slots.items ≡ resolved (captures_in f outs k) o.slots.items) ends.count (c.in_ok-resolve.ensures.resolved.same outs solves) in
+    let on : IsCharBoundary f.input.text.now start = search rules in
+    leftmost_by f.input.text.now (outcomes_in f outs (length (program_in f) - 1) n) c.args.from start (state_of m) m c.new.ensures.start refl
+    c.loop-start.auto.start on first.0
+    (ap (λ k. outcomes_in f outs k n start) index ∙ first.1 ∙ ap (λ (cs : Captures). let s : MatchState = record { position = o.end; captures = cs } in s ∷ first.0) (sym captures)
+    ∙ ap (λ s. s ∷ first.0) (sym c.new.ensures.state))
+    (c.loop-start.invariant.none outs solves)
+
+pub returns-in-Some-clause-steps : goal.returns-in-Some-clause-steps
+returns-in-Some-clause-steps c =
+    let f = c.args.filled in
+    let P = program_in f in
+    let start = c.loop-start.start in
+    let last = length f.input.routines.now - 1 in
+    let o = c.in-Some.first in
+    let index : length P - 1 ≡ last = omega (arith, length-map f.input.routines.now routine_of) in
+    let r = get-some P (length P - 1) (omega (arith, c.requires.some)) in
+    let forward = (subst (λ x. IfSome x (λ (y : FirstOutcome). (q : Routine) → slice_get P last ≡ Some q → q.direction ≡ forwards → (start ≤ y.end) × (c.first_outcome.new.steps ≤ c.loop-start.walked + 2 * length q.ops * (y.end + 1 - start)))) c.in-Some.is c.in_ok-first.ensures.forwards)
+    r.0 (ap (slice_get P) (sym index) ∙ r.1) (c.requires.forwards r.0 r.1) in
+    let end_is : c.new.result.end ≡ o.end = ap (λ s. s.position) c.new.ensures.state in
+    let bound = leftmost_steps (length r.0.ops) (total P) (total (take last P)) f.inner (length f.input.text.now + 1) start o.end c.args.from c.loop-start.tried
+    (c.loop-start.tried + 1 + c.first_outcome.new.steps) (c.loop-start.tried + 1 + c.resolve.new.steps) c.new.result.end
+    (routine_size P (length P - 1) r.0 r.1) (total_part P last) forward.0 c.loop-start.auto.start (omega (arith, c.loop-start.invariant.tried, c.loop-start-test.true))
+    (omega (arith, forward.1, c.loop-start.invariant.walked)) (omega (arith, c.in_ok-resolve.ensures.steps)) end_is in
+    omega (arith, bound)
 
 pub loop-start-preserved : goal.loop-start-preserved
 loop-start-preserved c =
-    let text = c.args.input.text.now in
-    let u = subject c.args.input.rules text in
-    let program = program_of c.args.input.routines.now in
-    let i = length c.args.input.tables.now in
-    let r = routine_of c.args.routine.now in
-    let t = c.args.table.now in
-    let start = c.loop-start.start in
+    let f = c.args.filled in
     let n = c.args.groups in
-    let can = c.requires.can in
-    let lt : r.entry < t.width = omega (arith, (c.requires.program i r can.is).entry, can.of.width) in
-    let le : start ≤ t.length = omega (arith, can.of.text) in
-    record {
-      steps = omega (arith, c.loop-start.invariant.steps);
-      none = λ outs solution.
-          let right = c.requires.right outs solution in
-          let at : ℕ → List MatchState = λ p. matcher_of u.setting u.bytes program outs i (no_groups n p) in
-          let here : IsCharBoundary text start → at start ≡ [] =
-          λ on. elim c.else-is_char_boundary.branch [
-            | else-is_char_boundary-via-then-is_char_boundary+else-cell w ↦
-                entry-none u.setting u.bytes program outs i n start r t can.is right c.requires.full lt le (sym w.cell.ensures ∙ w.if-cell.false)
-            | else-is_char_boundary-via-else-is_char_boundary w ↦ absurd (not-true c.is_char_boundary.result w.if-is_char_boundary.false (c.is_char_boundary.ensures.test.1 on))
-          ] in
-          none-more text at c.args.from start (c.loop-start.invariant.none outs solution) here;
-    }
+    let start = c.loop-start.start in
+    let last = length f.input.routines.now - 1 in
+    let at = λ (outs : ℕ → Out). outcomes_in f outs (length (program_in f) - 1) n in
+    let index : length (program_in f) - 1 ≡ last = omega (arith, length-map f.input.routines.now routine_of) in
+    elim c.if-is_char_boundary.branch [
+      | then-is_char_boundary+in_ok-first+in_default w ↦
+          record {
+            tried = omega (arith, c.loop-start.invariant.tried, c.loop-start-test.true, c.loop-start.auto.start);
+            walked = w.walked-is ∙ w.in_ok-first.ensures.none w.in_default.is ∙ c.loop-start.invariant.walked;
+            none = λ outs solves.
+                none-more f.input.text.now (at outs) c.args.from start (c.loop-start.invariant.none outs solves)
+                (λ on. ap (λ k. outcomes_in f outs k n start) index ∙ (subst (IsFirst f last n start) w.in_default.is w.in_ok-first.ensures.first) outs solves);
+          }
+      | else-is_char_boundary w ↦
+          record {
+            tried = omega (arith, c.loop-start.invariant.tried, c.loop-start-test.true, c.loop-start.auto.start);
+            walked = w.walked-is ∙ c.loop-start.invariant.walked;
+            none = λ outs solves.
+                none-more f.input.text.now (at outs) c.args.from start (c.loop-start.invariant.none outs solves)
+                (λ on. absurd (not-true c.is_char_boundary.result w.if-is_char_boundary.false (c.is_char_boundary.ensures.test.1 on)));
+          }
+    ]
 
 pub returns-clause-solved : goal.returns-clause-solved
-returns-clause-solved c = λ outs solution p low on.
-    c.loop-start.invariant.none outs solution p low (omega (arith, on.0, c.loop-start-test.false)) on
+returns-clause-solved c = λ outs solves p low on.
+    let text = c.args.filled.input.text.now in
+    c.loop-start.invariant.none outs solves p low (omega (arith, on.0, c.loop-start-test.false)) on

@@ -1,17 +1,15 @@
--- No character boundary before the current position has an outcome.
-use Rattle.std.proofs.Common.{length, ℕ, ◌+◌, ◌-◌, ◌≤◌, min}
-use Rattle.regress_leaves.specs.Subject.{subject}
-use Rattle.regress_program.specs.Found.{NoneBefore, no_groups}
-use Rattle.regress_program.specs.Program.{IsSolution, Out, matcher_of}
-use Rattle.regress_program.specs.Views.{program_of}
+-- No character boundary before the current position has an outcome. Each position before it is counted, and no step of a
+-- walk is.
+use Rattle.std.proofs.Common.{◌≡◌, length, ℕ, ◌+◌, ◌-◌, min}
+use Rattle.regress_program.specs.Found.{NoneBefore}
+use Rattle.regress_program.specs.Program.{Out}
+use Rattle.regress_program.specs.Searchable.{Solves, outcomes_in, program_in}
 use Rattle.regress_program.proofs.leftmost.find_leftmost.Given as goal
 
 abbrev pub invariant-loop-start : goal.invariant-loop-start
 invariant-loop-start l = record {
-  steps : l.steps ≤ min l.start (length l.input.text.now + 1) - l.from;
-  none : (outs : ℕ → Out) → IsSolution (subject l.input.rules l.input.text.now).setting l.input.text.now (program_of l.input.routines.now) outs →
-      NoneBefore l.input.text.now
-      (λ p. matcher_of (subject l.input.rules l.input.text.now).setting l.input.text.now (program_of l.input.routines.now) outs (length l.input.tables.now)
-      (no_groups l.groups p))
-      l.from l.start;
+  tried : l.tried ≡ min l.start (length l.filled.input.text.now + 1) - l.from;
+  walked : l.walked ≡ 0;
+  none : (outs : ℕ → Out) → Solves l.filled outs →
+      NoneBefore l.filled.input.text.now (outcomes_in l.filled outs (length (program_in l.filled) - 1) l.groups) l.from l.start;
 }

@@ -34,11 +34,11 @@ loop-routine-preserved c =
           (push_are_right tables t outs (so_far.right outs solution)
           (subst (λ (xs : List Table). IsRight (outs (length xs)) t) c.deref.ensures.value
           (c.in_ok-table.ensures.filled outs solution (subst (AreRight outs) (sym c.deref.ensures.value) (so_far.right outs solution)))));
-      steps = more_bits n (length r.ops) (total (take i program)) (total (take (i + 1) program)) (length (bits_of t.bits)) c.loop-routine.steps
-          c.saturating_add.result c.args.steps.now
+      counted = more_bits n (length r.ops) (total (take i program)) (total (take (i + 1) program)) (length (bits_of t.bits)) c.loop-routine.bits
+          c.saturating_add-bits.result
           (total-more program i r is)
           (c.in_ok-table.ensures.full ∙ ap (λ k. (k + 1) * (2 * t.width)) of.text ∙ ap (λ w. (n + 1) * (2 * w)) of.width)
-          so_far.steps (omega arith);
+          so_far.counted (omega arith);
     }
 
 pub returns : goal.returns
@@ -50,5 +50,5 @@ returns c =
     let sum : total (take c.loop-routine.routine-index program) ≡ total program = ap (λ k. total (take k program)) all ∙ ap total (take-length program) in
     record {
       filled = record { are = so_far.tables; all = so_far.count ∙ all; right = so_far.right };
-      steps = omega (arith, so_far.steps, ap (λ k. (length c.args.text.now + 1) * (2 * k)) sum);
+      counted = omega (arith, so_far.counted, ap (λ k. (length c.args.text.now + 1) * (2 * k)) sum);
     }

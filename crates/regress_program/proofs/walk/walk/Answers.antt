@@ -1,78 +1,60 @@
-use Rattle.std.proofs.Common.{◌≡◌, ◌<◌, ◌++◌, true, false, List, length, slice_get, Some, option_map, refl, sym, ap, ◌∙◌, arith}
-use Rattle.std.proofs.lemmas.List.{length-map}
-use Rattle.std.proofs.lemmas.Option.{slice_get-map, slice_get_read}
-use Rattle.regress_leaves.specs.Subject.{subject}
-use Rattle.regress_tree.specs.Reading.{direction_if}
-use Rattle.regress_tree.specs.Steps.{MatchState}
-use Rattle.regress_program.specs.Program.{Op, matcher_of, outcomes_by}
-use Rattle.regress_program.specs.Table.{has_outcome}
-use Rattle.regress_program.specs.Views.{op_of, ops_of, program_of, routine_of}
-use Rattle.regress_program.specs.Walked.{at_of}
-use Rattle.regress_program.proofs.WalkLemmas.{Leads-trans, accepts-only, solved-by, can_walk}
+use Rattle.std.proofs.Common.{◌≡◌, true, false, slice_get, Some, refl, sym, ap, ◌∙◌, arith}
+use Rattle.std.proofs.lemmas.Bool.{and_parts}
+use Rattle.regress_program.specs.Tidy.{has_no_back_reference, is_tidy}
+use Rattle.regress_program.specs.Views.{op_of, program_of, routine_of}
+use Rattle.regress_program.specs.Walked.{place_of}
+use Rattle.regress_program.proofs.FirstLemmas.{op-here, way-ends, way-goes}
+use Rattle.regress_program.proofs.WalkLemmas.{accepts-only, can_walk}
 use Rattle.regress_program.proofs.walk.walk.Goals as goal
 
 pub returns-in-Accept-clause-ends : goal.returns-in-Accept-clause-ends
 returns-in-Accept-clause-ends c = λ outs solution full right some.
-    let u = subject c.args.input.rules c.args.input.text.now in
-    let program = program_of c.args.input.routines.now in
-    let i = length c.args.input.tables.now in
-    let items = c.args.routine.now.instructions.items in
     let r = routine_of c.args.routine.now in
-    let a = at_of c.walk.walker in
     let can = c.requires.can in
-    let op = op_of c.index-instruction.result.now in
-    let lt : a.pc < length r.ops = omega (arith, c.walk.invariant.pc, can.of.width) in
-    let is_op : slice_get (ops_of items) a.pc ≡ Some op =
-    slice_get-map op_of items a.pc
-    ∙ ap (option_map op_of) (slice_get_read items _ a.pc _ refl (omega (arith, lt, length-map items op_of)) c.index-instruction.ensures) in
-    let outcomes : Op → List MatchState = λ o. outcomes_by u.setting u.bytes u.direction (matcher_of u.setting u.bytes program outs) (outs i) o a in
-    let solved : outs i a ≡ outcomes op =
-    solved-by u.setting u.bytes program outs i r op u.direction a solution can.is is_op lt (sym can.of.direction ∙ ap direction_if can.backwards)
-    (omega (arith, c.walk.invariant.position, can.of.text)) in
-    let so_far = c.walk.invariant.leads outs solution full right some in
-    (refl, (so_far.rest, so_far.first ∙ ap (λ xs. xs ++ so_far.rest) (solved ∙ ap (λ x. outcomes (op_of x)) c.in-Accept.is)))
+    let w = c.walk.walker in
+    let i = c.index-instruction.result.now in
+    let here : slice_get r.ops w.pc ≡ Some (op_of i) =
+    op-here c.args.routine.now.instructions.items w.pc i (omega (arith, c.walk.invariant.pc, can.of.width)) c.index-instruction.ensures in (
+      refl,
+      way-ends c.args.input r c.args.table.now (op_of i) c.args.walker.now w can here c.walk.invariant.pc c.walk.invariant.position c.walk.invariant.leads
+          outs (record { solution = solution; full = full; right = right }) some (ap op_of c.in-Accept.is),
+    )
 
 pub step-requires : goal.step-requires
 step-requires c =
-    let items = c.args.routine.now.instructions.items in
+    let program = program_of c.args.input.routines.now in
     let r = routine_of c.args.routine.now in
-    let a = at_of c.walk.walker in
     let can = c.requires.can in
-    let op = op_of c.index-instruction.result.now in
-    let lt : a.pc < length r.ops = omega (arith, c.walk.invariant.pc, can.of.width) in
-    let is_op : slice_get (ops_of items) a.pc ≡ Some op =
-    slice_get-map op_of items a.pc
-    ∙ ap (option_map op_of) (slice_get_read items _ a.pc _ refl (omega (arith, lt, length-map items op_of)) c.index-instruction.ensures) in
+    let w = c.walk.walker in
+    let i = c.index-instruction.result.now in
+    let here : slice_get r.ops w.pc ≡ Some (op_of i) =
+    op-here c.args.routine.now.instructions.items w.pc i (omega (arith, c.walk.invariant.pc, can.of.width)) c.index-instruction.ensures in
     record {
       program = c.requires.program;
-      linear = c.requires.linear;
-      can = can_walk c.args.input r c.args.table.now op a c.requires.program c.requires.linear can c.walk.invariant.pc c.walk.invariant.position is_op;
+      tabled = c.requires.tabled;
+      ranges = c.requires.ranges;
+      can = can_walk c.args.input r c.args.table.now (op_of i) (place_of w) c.requires.program (and_parts (has_no_back_reference program) (is_tidy program) c.requires.tabled).0 can c.walk.invariant.pc
+          c.walk.invariant.position here;
+      at = record { routine = r; is = can.is; here = here; clean = c.walk.invariant.clean };
     }
 
 pub returns-then-not-branch : goal.returns-then-not-branch
 returns-then-not-branch c = record {
+  count = c.in_ok-step.ensures.count ∙ c.walk.invariant.count;
   ends = λ outs solution full right some.
-      let u = subject c.args.input.rules c.args.input.text.now in
-      let program = program_of c.args.input.routines.now in
-      let i = length c.args.input.tables.now in
-      let items = c.args.routine.now.instructions.items in
       let r = routine_of c.args.routine.now in
-      let a = at_of c.walk.walker in
       let can = c.requires.can in
-      let op = op_of c.index-instruction.result.now in
-      let lt : a.pc < length r.ops = omega (arith, c.walk.invariant.pc, can.of.width) in
-      let is_op : slice_get (ops_of items) a.pc ≡ Some op =
-      slice_get-map op_of items a.pc
-      ∙ ap (option_map op_of) (slice_get_read items _ a.pc _ refl (omega (arith, lt, length-map items op_of)) c.index-instruction.ensures) in
-      let outcomes : Op → List MatchState = λ o. outcomes_by u.setting u.bytes u.direction (matcher_of u.setting u.bytes program outs) (outs i) o a in
-      let solved : outs i a ≡ outcomes op =
-      solved-by u.setting u.bytes program outs i r op u.direction a solution can.is is_op lt (sym can.of.direction ∙ ap direction_if can.backwards)
-      (omega (arith, c.walk.invariant.position, can.of.text)) in
-      let so_far = c.walk.invariant.leads outs solution full right some in
-      let leads = c.in_ok-step.ensures.leads outs solution full right (λ e. c.in_default.not-Accept (accepts-only c.index-instruction.result.now e))
-      (ap has_outcome (sym solved) ∙ so_far.some) in
-      let bad : true ≡ false = sym leads.0 ∙ c.if-not-branch.true in
+      let w = c.walk.walker in
+      let i = c.index-instruction.result.now in
+      let here : slice_get r.ops w.pc ≡ Some (op_of i) =
+      op-here c.args.routine.now.instructions.items w.pc i (omega (arith, c.walk.invariant.pc, can.of.width)) c.index-instruction.ensures in
+      let goes = way-goes c.args.input r c.args.table.now (op_of i) c.args.walker.now w can here c.walk.invariant.pc c.walk.invariant.position
+      c.walk.invariant.leads outs (record { solution = solution; full = full; right = right }) some c.in_ok-step.field-0 c.step.new.walker
+      (λ is. c.in_default.not-Accept (accepts-only i is)) c.walk.invariant.count
+      (λ o knows other some'. c.in_ok-step.ensures.leads o knows.solution knows.full knows.right other some') in
+      let bad : true ≡ false = sym goes.0 ∙ c.if-not-branch.true in
       cc;
+  captures = λ inner le inside. c.in_ok-step.ensures.inside inner le (c.walk.invariant.captures inner le inside);
   inside = λ ends. let bad : true ≡ false = sym ends ∙ refl in cc;
   falls = λ ends. let bad : true ≡ false = sym ends ∙ refl in cc;
   steps = λ ends. let bad : true ≡ false = sym ends ∙ refl in cc;
@@ -84,25 +66,17 @@ walk-preserved c = record {
   position = (c.in_ok-step.ensures.below c.if-not-branch.false).position;
   steps = let below = c.in_ok-step.ensures.below c.if-not-branch.false in omega (arith, below.lower);
   falls = let below = c.in_ok-step.ensures.below c.if-not-branch.false in omega (arith, below.lower, c.walk.invariant.falls);
-  leads = λ outs solution full right some.
-      let u = subject c.args.input.rules c.args.input.text.now in
-      let program = program_of c.args.input.routines.now in
-      let i = length c.args.input.tables.now in
-      let items = c.args.routine.now.instructions.items in
+  count = c.in_ok-step.ensures.count ∙ c.walk.invariant.count;
+  clean = c.in_ok-step.ensures.clean (routine_of c.args.routine.now) c.requires.can.is c.if-not-branch.false;
+  captures = λ inner le inside. c.in_ok-step.ensures.inside inner le (c.walk.invariant.captures inner le inside);
+  leads = λ outs knows some.
       let r = routine_of c.args.routine.now in
-      let a = at_of c.walk.walker in
       let can = c.requires.can in
-      let op = op_of c.index-instruction.result.now in
-      let lt : a.pc < length r.ops = omega (arith, c.walk.invariant.pc, can.of.width) in
-      let is_op : slice_get (ops_of items) a.pc ≡ Some op =
-      slice_get-map op_of items a.pc
-      ∙ ap (option_map op_of) (slice_get_read items _ a.pc _ refl (omega (arith, lt, length-map items op_of)) c.index-instruction.ensures) in
-      let outcomes : Op → List MatchState = λ o. outcomes_by u.setting u.bytes u.direction (matcher_of u.setting u.bytes program outs) (outs i) o a in
-      let solved : outs i a ≡ outcomes op =
-      solved-by u.setting u.bytes program outs i r op u.direction a solution can.is is_op lt (sym can.of.direction ∙ ap direction_if can.backwards)
-      (omega (arith, c.walk.invariant.position, can.of.text)) in
-      let so_far = c.walk.invariant.leads outs solution full right some in
-      let leads = c.in_ok-step.ensures.leads outs solution full right (λ e. c.in_default.not-Accept (accepts-only c.index-instruction.result.now e))
-      (ap has_outcome (sym solved) ∙ so_far.some) in
-      Leads-trans (outs i) (outs i (at_of c.args.walker.now)) (outcomes op) a (at_of c.step.new.walker) so_far solved leads.1;
+      let w = c.walk.walker in
+      let i = c.index-instruction.result.now in
+      let here : slice_get r.ops w.pc ≡ Some (op_of i) =
+      op-here c.args.routine.now.instructions.items w.pc i (omega (arith, c.walk.invariant.pc, can.of.width)) c.index-instruction.ensures in
+      (way-goes c.args.input r c.args.table.now (op_of i) c.args.walker.now w can here c.walk.invariant.pc c.walk.invariant.position c.walk.invariant.leads outs
+      knows some c.in_ok-step.field-0 c.step.new.walker (λ is. c.in_default.not-Accept (accepts-only i is)) c.walk.invariant.count
+      (λ o knows' other some'. c.in_ok-step.ensures.leads o knows'.solution knows'.full knows'.right other some')).1;
 }

@@ -1,9 +1,9 @@
-use Rattle.std.proofs.Common.{◌≡◌, ◌+◌, ◌≤◌, ◌<◌, ℕ, length, true}
-use Rattle.regress_leaves.specs.Subject.{subject}
-use Rattle.regress_program.specs.Program.{IsSolution, Out}
-use Rattle.regress_program.specs.Table.{IsFull, IsRight, has_outcome, index}
-use Rattle.regress_program.specs.Views.{program_of}
-use Rattle.regress_program.specs.Walked.{at_of, Leads}
+use Rattle.std.proofs.Common.{◌≡◌, ◌+◌, ◌≤◌, ◌<◌, ℕ, length}
+use Rattle.regress_program.specs.Ranges.{inner_groups}
+use Rattle.regress_program.specs.Slots.{AreInside, IsClean}
+use Rattle.regress_program.specs.Table.{index}
+use Rattle.regress_program.specs.Views.{program_of, routine_of}
+use Rattle.regress_program.proofs.FirstLemmas.{IsOnWay}
 use Rattle.regress_program.proofs.walk.walk.Given as goal
 
 abbrev pub invariant-walk : goal.invariant-walk
@@ -13,9 +13,12 @@ invariant-walk l = record {
   steps : l.steps + index l.table l.walker.pc l.walker.moved l.walker.position
       ≤ l.fn.steps + index l.table l.fn.walker.pc l.fn.walker.moved l.fn.walker.position;
   falls : index l.table l.walker.pc l.walker.moved l.walker.position ≤ index l.table l.fn.walker.pc l.fn.walker.moved l.fn.walker.position;
-  leads : (outs : ℕ → Out) → IsSolution (subject l.input.rules l.input.text.now).setting l.input.text.now (program_of l.input.routines.now) outs →
-      IsFull l.table → IsRight (outs (length l.input.tables.now)) l.table → has_outcome (outs (length l.input.tables.now) (at_of l.fn.walker)) ≡ true →
-      Leads (outs (length l.input.tables.now) (at_of l.fn.walker)) (outs (length l.input.tables.now)) (at_of l.walker);
+  count : length l.walker.slots.items ≡ length l.fn.walker.slots.items;
+  clean : IsClean (program_of l.input.routines.now) (routine_of l.routine) l.walker.pc l.walker.slots.items;
+  captures : (inner : ℕ) → inner_groups (program_of l.input.routines.now) ≤ inner →
+      AreInside (length l.input.tables.now) l.table.length inner l.fn.walker.slots.items →
+      AreInside (length l.input.tables.now) l.table.length inner l.walker.slots.items;
+  leads : IsOnWay l.input l.table l.fn.walker l.walker;
 }
 
 abbrev pub decreases-walk : goal.decreases-walk

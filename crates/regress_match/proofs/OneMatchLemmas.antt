@@ -1,0 +1,78 @@
+-- Searches for one match in linear time.
+use Rattle.std.proofs.Common.{◌≡◌, ℕ, ◌+◌, ◌*◌, ◌≤◌, Bool, true, false, not, ◌&&◌, List, length, Option, Some, None, IfSome, refl, sym, ap, subst, ◌∙◌, arith}
+use Rattle.std.specs.Arc.{arc_value}
+use Rattle.std.specs.Prelude.{if◌then◌else◌, is_some, option_map}
+use Rattle.regress_unicode.specs.declared.Tables.{Tables}
+use Rattle.regress_program.specs.Compiled.{total}
+use Rattle.regress_program.specs.Found as searches
+use Rattle.regress_program.specs.Program.{IsSolution, Out, Routine}
+use Rattle.regress_program.specs.Ranges.{inner_groups}
+use Rattle.regress_program.specs.Search as program
+use Rattle.regress_program.specs.Search.{capturing_steps, groups_of, per_character, routines_of, setting_of}
+use Rattle.regress_program.specs.Tidy.{is_tabled}
+use Rattle.regress_program.specs.declared.found.Match.{Match}
+use Rattle.regress_program.specs.declared.program.Program.{Program}
+use Rattle.regress_program.proofs.lemmas.Strict.{linear-tabled}
+use Rattle.regress_backtrack.specs.Code.{code_groups, code_routines, setting_with}
+use Rattle.regress_match.specs.Compiled.{IsCodeOf}
+use Rattle.regress_match.specs.Matched.{Finds, IfOutOfSteps}
+use Rattle.regress_match.specs.Matcher.{factor, factor_with, find_factor, find_factor_with, matcher_outcomes, matcher_setting, matcher_tree, outcome_if}
+use Rattle.regress_match.specs.declared.matcher.Matcher.{Matcher}
+use Rattle.regress_match.proofs.MatcherLemmas.{bound_linear, program_outcomes, table_finds}
+
+-- ---- which searches take linear time
+
+-- Where searches for all matches take linear time the bounds are the same.
+pub same_bound : (routines : List Routine) (within : Bool) → is_some (factor_with routines within) ≡ true →
+    find_factor_with routines within ≡ factor_with routines within
+same_bound routines true some =
+    let linear = bound_linear routines true some in
+    ap (option_map (find_factor (total routines))) (linear-tabled routines linear.0)
+    ∙ ap (λ n. Some n) (let h : find_factor (total routines) 0 ≡ factor (total routines) = omega arith in h)
+    ∙ sym linear.1
+same_bound routines false some = refl
+
+-- Where no search takes linear time for one match alone, the bounds are the same.
+pub same_bounds : (all one : Option ℕ) → (is_some all ≡ true → one ≡ all) → (is_some one && not (is_some all)) ≡ false → one ≡ all
+same_bounds None None same is = refl
+same_bounds None (Some n) same is = absurd (cc)
+same_bounds (Some n) one same is = same refl
+
+-- ---- the steps of a search for one match
+
+with_backtracking : (i c d steps : ℕ) → steps ≤ (4 * i + 1 + c) * d → steps + 64 * d ≤ (64 + 2 * i + 2 * (2 * i + 1) + c) * d
+with_backtracking i c d steps few = omega (arith, few)
+
+never_ends_early : (found : Option Match) → IfOutOfSteps (outcome_if found) ⊥
+never_ends_early None = tt
+never_ends_early (Some m) = tt
+
+-- A search by tables leaves the steps of backtracking.
+pub searched_bounded : (routines : List Routine) (within : Bool) (p : Program) (text : List ℕ) (found : Option Match) (steps : ℕ) →
+    routines_of p ≡ routines → steps ≤ per_character p * (length text + 1) →
+    IfSome (find_factor_with routines within) (λ n. (steps + 64 * (length text + 1) ≤ n * (length text + 1)) × IfOutOfSteps (outcome_if found) ⊥)
+searched_bounded routines false p text found steps same few = tt
+searched_bounded routines true p text found steps same few = by (is_tabled routines)
+  where
+    by : (b : Bool) → IfSome (option_map (find_factor (total routines)) (if b then Some (inner_groups routines) else None))
+        (λ n. (steps + 64 * (length text + 1) ≤ n * (length text + 1)) × IfOutOfSteps (outcome_if found) ⊥)
+    by false = tt
+    by true = (
+      with_backtracking (total routines) (capturing_steps (total routines) (inner_groups routines)) (length text + 1) steps
+          (subst (λ rs. steps ≤ (4 * total rs + 1 + capturing_steps (total rs) (inner_groups rs)) * (length text + 1)) same few),
+      never_ends_early found,
+    )
+
+-- ---- what it finds
+
+pub tables_find : (m : Matcher) (text : List ℕ) (from : ℕ) (tables : Tables) (p q : Program) (found : Option Match) → tables ≡ arc_value m.tables →
+    IsCodeOf (matcher_setting m) (matcher_tree m) (arc_value m.tables) m.code →
+    routines_of p ≡ code_routines m.code → groups_of p ≡ code_groups m.code → setting_of p ≡ setting_with m.code tables → q ≡ p →
+    ((outs : ℕ → Out) → IsSolution (setting_of q) text (routines_of q) outs → searches.Finds text (program.outcomes_from q text outs) from found) →
+    Finds text (matcher_outcomes m text) from (outcome_if found)
+tables_find m text from tables p q found is_tables compiled routines groups setting same solved =
+    table_finds (matcher_setting m) (matcher_tree m) p text from found
+    (program_outcomes (matcher_setting m) (matcher_tree m) (arc_value m.tables) m.code p compiled routines groups
+    (setting ∙ ap (setting_with m.code) is_tables))
+    (subst (λ (x : Program). (outs : ℕ → Out) → IsSolution (setting_of x) text (routines_of x) outs →
+    searches.Finds text (program.outcomes_from x text outs) from found) same solved)

@@ -1,0 +1,77 @@
+//! One match in linear time, where lookarounds capture.
+ghost use Rattle.std.specs.Prelude.{◌≡◌, ◌+◌, ◌*◌, ◌≤◌, ◌&&◌, not, IfOk, IfSome, None, is_some, length};
+ghost use Rattle.regress_tree.specs.WellFormed.{IsWellFormed};
+ghost use Rattle.regress_match.specs.Matched.{Finds, IfMatched, IfOutOfSteps, IsInside};
+ghost use Rattle.regress_match.specs.Matcher.{IsLinear, factor_of, find_factor_of, matcher_outcomes, matcher_tree};
+
+use crate::iteration::outcome_of;
+use crate::matcher::Matcher;
+use crate::searches::steps_before_tables;
+use regress_backtrack::{Found, Outcome};
+use std::alloc::{AllocError, Global};
+
+impl Matcher {
+    /// Returns whether a search for one match takes linear time, and one for all matches does not.
+    pub(crate) fn is_linear_for_one(&self) -> bool
+        ensures { result ≡ (is_some (find_factor_of self.now) && not (is_some (factor_of self.now))) }
+    {
+        self.is_find_linear() && !self.is_linear()
+    }
+
+    /// Returns the leftmost match that starts at the byte offset `from` or later: by backtracking, and by tables once its
+    /// steps are used up.
+    ///
+    /// # Preconditions
+    /// Searches for all matches are not known to take linear time.
+    ///
+    /// # Errors
+    /// Returns [`AllocError`] if an allocation fails.
+    pub(crate) fn find_one(
+        &self,
+        alloc: Global,
+        text: &str,
+        from: usize,
+    ) -> Result<Found, AllocError>
+        requires { factor_of self.now ≡ None }
+        ensures finds { IfOk result (λ found. Finds text.now (matcher_outcomes self.now text.now) from found.outcome) }
+        ensures inside { IfOk result (λ found. IsWellFormed (matcher_tree self.now) → IfMatched found.outcome (IsInside text.now)) }
+        ensures bounded { IfOk result (λ found. IfSome (find_factor_of self.now) (λ n. IsLinear n text.now found.outcome found.steps)) }
+    {
+        let first = self.find_first(alloc, text, from, steps_before_tables(text))?;
+        let steps = first.steps;
+        match first.outcome {
+            Outcome::OutOfSteps => {
+                let found = self.find_by_tables(alloc, text, from)?;
+                Ok(Found {
+                    outcome: found.outcome,
+                    steps: steps.saturating_add(found.steps),
+                })
+            }
+            outcome => Ok(Found { outcome, steps }),
+        }
+    }
+
+    /// Returns the leftmost match by tables, or [`Outcome::OutOfSteps`] if they do not lead to it.
+    ///
+    /// # Errors
+    /// Returns [`AllocError`] if an allocation fails.
+    fn find_by_tables(&self, alloc: Global, text: &str, from: usize) -> Result<Found, AllocError>
+        ensures finds { IfOk result (λ found. Finds text.now (matcher_outcomes self.now text.now) from found.outcome) }
+        ensures inside { IfOk result (λ found. IsWellFormed (matcher_tree self.now) → IfMatched found.outcome (IsInside text.now)) }
+        ensures bounded { IfOk result (λ found. IfSome (find_factor_of self.now) (λ n.
+            (found.steps + 64 * (length text.now + 1) ≤ n * (length text.now + 1)) × IfOutOfSteps found.outcome ⊥)) }
+    {
+        let program = self.code.program(alloc, &self.tables)?;
+        let Some(linear) = program.linear(alloc)? else {
+            return Ok(Found {
+                outcome: Outcome::OutOfSteps,
+                steps: 0,
+            });
+        };
+        let search = linear.find(alloc, text, from)?;
+        Ok(Found {
+            outcome: outcome_of(search.found),
+            steps: search.steps,
+        })
+    }
+}

@@ -1,0 +1,97 @@
+//! Which groups the routines of a program change.
+ghost use Rattle.std.specs.Prelude.{◌≡◌, IfOk};
+ghost use Rattle.regress_program.specs.Ranges.{changed_by, changed_by_all, hull, ranges_of};
+ghost use Rattle.regress_program.specs.Views.{op_of, ops_of, program_of};
+
+use crate::instruction::{Instruction, Routine};
+use std::alloc::{AllocError, Global};
+
+/// A half-open range of ids of groups.
+#[derive(Clone, Copy)]
+pub struct GroupRange {
+    /// The first id.
+    pub start: usize,
+    /// The id after the last one.
+    pub end: usize,
+}
+
+/// The range without ids.
+pub(crate) const NO_GROUPS: GroupRange = GroupRange { start: 0, end: 0 };
+
+impl GroupRange {
+    /// Returns the least range with the ids of both.
+    pub(crate) fn hull(self, other: GroupRange) -> GroupRange
+        ensures { result ≡ hull self other }
+    {
+        if self.start >= self.end {
+            other
+        } else if other.start >= other.end {
+            self
+        } else {
+            GroupRange {
+                start: self.start.min(other.start),
+                end: self.end.max(other.end),
+            }
+        }
+    }
+}
+
+/// Returns for each routine the least range of the groups that it changes.
+///
+/// # Errors
+/// Returns [`AllocError`] if an allocation fails.
+pub(crate) fn ranges_of(
+    alloc: Global,
+    routines: &[Routine<'_>],
+) -> Result<Vec<GroupRange>, AllocError>
+    ensures { IfOk result (λ ranges. ranges.items ≡ ranges_of (program_of routines.now)) }
+{
+    let mut ranges = Vec::with_capacity(alloc, routines.len())?;
+    for routine in routines {
+        let range = changed_by_all(&ranges, &routine.instructions);
+        ranges.push(range)?;
+    }
+    Ok(ranges)
+}
+
+/// Returns the least range of the groups that the instructions change.
+fn changed_by_all(earlier: &[GroupRange], instructions: &[Instruction<'_>]) -> GroupRange
+    ensures { result ≡ changed_by_all earlier.now (ops_of instructions.now) }
+{
+    let mut range = NO_GROUPS;
+    for i in (0..instructions.len()).rev() {
+        range = changed_by(earlier, &instructions[i]).hull(range);
+    }
+    range
+}
+
+/// Returns the range of the groups that an instruction changes.
+pub(crate) fn changed_by(earlier: &[GroupRange], instruction: &Instruction<'_>) -> GroupRange
+    ensures { result ≡ changed_by earlier.now (op_of instruction.now) }
+{
+    match *instruction {
+        Instruction::Unset { start, end, .. } => {
+            if start < end {
+                GroupRange { start, end }
+            } else {
+                NO_GROUPS
+            }
+        }
+        Instruction::EndGroup { id, .. } => GroupRange {
+            start: usize::from(id),
+            end: usize::from(id) + 1,
+        },
+        Instruction::Look {
+            negate: false,
+            routine,
+            ..
+        } => {
+            if routine < earlier.len() {
+                earlier[routine]
+            } else {
+                NO_GROUPS
+            }
+        }
+        _ => NO_GROUPS,
+    }
+}
