@@ -23,12 +23,12 @@ use Rattle.regress_program.specs.declared.fault.CompileFault.{CompileFault}
 use Rattle.regress_program.specs.Search as program
 use Rattle.regress_program.specs.Ranges.{inner_groups}
 use Rattle.regress_program.specs.Search.{capturing_steps, groups_of, instructions_of, routines_of, setting_of, steps_up_to}
-use Rattle.regress_program.specs.TextSearch.{searched_program, searched_text}
+use Rattle.regress_tables.specs.TextSearch.{searched_program, searched_text}
 use Rattle.regress_program.specs.Tidy.{is_tabled}
 use Rattle.regress_program.specs.declared.found.Match.{Match}
-use Rattle.regress_program.specs.declared.found.Search.{Search}
+use Rattle.regress_tables.specs.declared.found.Search.{Search}
 use Rattle.regress_program.specs.declared.program.Program.{Program}
-use Rattle.regress_program.specs.declared.text.TextSearch.{TextSearch}
+use Rattle.regress_tables.specs.declared.text.TextSearch.{TextSearch}
 use Rattle.regress_program.specs.declared.nonlinear.Nonlinear.{Nonlinear as Reason}
 use Rattle.regress_program.specs.declared.nonlinear.Nonlinear.TheVariants as reasons
 use Rattle.regress_program.proofs.lemmas.Reasons.{linear-reason}

@@ -2,8 +2,8 @@
 use Rattle.std.specs.Prelude.{◌≡◌, ℕ, ◌+◌, ◌*◌, ◌≤◌, List, length, min, Option, Some, MatchOption, IfSome}
 use Rattle.std.proofs.Props.{props}
 use Rattle.regress_program.specs.Search.{instructions_of}
-use Rattle.regress_program.specs.TextSearch.{searched_program, searched_text}
-use Rattle.regress_program.specs.declared.text.TextSearch.{TextSearch}
+use Rattle.regress_tables.specs.TextSearch.{searched_program, searched_text}
+use Rattle.regress_tables.specs.declared.text.TextSearch.{TextSearch}
 use Rattle.regress_backtrack.specs.Backtracker.{run_code, run_tables, run_text}
 use Rattle.regress_backtrack.specs.declared.backtracker.Backtracker.{Backtracker}
 use Rattle.regress_match.specs.Compiled.{IsCodeOf, IsCodeOf-prop, IsProgramOf, IsProgramOf-prop}

@@ -22,8 +22,8 @@ use Rattle.regress_program.specs.Shape.{IsPart, Fits, IsProgram}
 use Rattle.regress_program.specs.Stays.{IsReached}
 use Rattle.regress_program.proofs.lemmas.Onward.{Stays-tree}
 use Rattle.regress_program.proofs.lemmas.Unset.{unset-none}
-use Rattle.regress_program.proofs.LinearLemmas.{list_any-get, linear-at, linear-look}
-use Rattle.regress_program.proofs.BelowLemmas.{IsAt, looked-stays, below-here, below-enter, below-again, below-reach, reach-moved}
+use Rattle.regress_program.proofs.lemmas.Linear.{list_any-get, linear-at, linear-look}
+use Rattle.regress_program.proofs.lemmas.Below.{IsAt, looked-stays, below-here, below-enter, below-again, below-reach, reach-moved}
 
 abbrev pub Has : List (Option CaptureSpan) → MatchState → Type 0
 Has cs t = t.captures ≡ cs

@@ -17,7 +17,7 @@ use Rattle.regress_program.specs.Ranges.{no_groups, IsIn, changed_by, ranges_of}
 use Rattle.regress_program.specs.Shape.{Fits, IsProgram}
 use Rattle.regress_program.specs.Stays.{IsReached}
 use Rattle.regress_program.proofs.lemmas.Onward.{Stays-tree}
-use Rattle.regress_program.proofs.BelowLemmas.{IsAt, looked-stays, below-here, below-enter, below-again, below-reach, reach-moved}
+use Rattle.regress_program.proofs.lemmas.Below.{IsAt, looked-stays, below-here, below-enter, below-again, below-reach, reach-moved}
 use Rattle.regress_program.proofs.CaptureLemmas.{SameIn, SameIn-refl, SameIn-then, SameIn-unset_outside, SameIn-set_outside}
 use Rattle.regress_program.proofs.ChangedLemmas.{changed-in}
 use Rattle.regress_program.proofs.KeepLemmas.{Has, flat_map-all, part-keeps}

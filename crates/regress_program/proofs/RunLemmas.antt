@@ -6,7 +6,7 @@ use Rattle.regress_tree.specs.Steps.{MatchState, Matcher}
 use Rattle.regress_program.specs.Below.{Below, place_of}
 use Rattle.regress_program.specs.Program.{Out, At, Routine, Op, outcomes_at, start, matcher_of, Solves, IsSolution}
 use Rattle.regress_program.specs.Shape.{IsRoutine, IsProgram}
-use Rattle.regress_program.proofs.BelowLemmas.{outcomes-same}
+use Rattle.regress_program.proofs.lemmas.Below.{outcomes-same}
 
 module _ (setting : Setting) (bytes : List ℕ) where
   -- the outcomes in a routine that are reached within a number of instructions

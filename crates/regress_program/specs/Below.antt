@@ -2,7 +2,7 @@
 use Rattle.std.specs.Prelude.{ℕ, ◌≤◌, ◌<◌}
 use Rattle.regress_tree.specs.Reading.{Direction}
 use Rattle.regress_program.specs.Program.{At}
-use Rattle.regress_program.specs.Table.{place}
+use Rattle.regress_tables.specs.Table.{place}
 
 -- a routine's states before that at one place are evaluated before it
 abbrev pub place_of : (width length : ℕ) → Direction → At → ℕ

@@ -7,7 +7,7 @@ use Rattle.regress_program.specs.Program.{Out, Routine, IsSolution}
 use Rattle.regress_program.specs.Shape.{IsProgram}
 use Rattle.regress_program.specs.declared.found.Match.{Match}
 use Rattle.regress_program.proofs.RunLemmas.{outcomes, outcomes-solve}
-use Rattle.regress_program.proofs.SearchLemmas.{Finds-same}
+use Rattle.regress_tables.proofs.SearchLemmas.{Finds-same}
 
 pub solution : (setting : Setting) (bytes : List ℕ) (program : List Routine) → IsProgram program →
     (outs : ℕ → Out) × IsSolution setting bytes program outs

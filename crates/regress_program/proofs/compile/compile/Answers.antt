@@ -2,7 +2,7 @@ use Rattle.std.proofs.Common.{◌≡◌, sym, ap, ◌∙◌}
 use Rattle.regress_tree.specs.Tree.{tree}
 use Rattle.regress_program.specs.CodeOf.{code_of}
 use Rattle.regress_program.specs.Program.{Routine}
-use Rattle.regress_program.proofs.FillLemmas.{some-same}
+use Rattle.regress_tables.proofs.FillLemmas.{some-same}
 use Rattle.regress_program.proofs.ViewLemmas.{is_pattern}
 use Rattle.regress_program.proofs.compile.compile.Goals as goal
 

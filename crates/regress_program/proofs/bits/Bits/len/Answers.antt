@@ -1,8 +1,0 @@
-use Rattle.std.proofs.Common.{sym}
-use Rattle.regress_program.specs.Bits.{bits_of}
-use Rattle.regress_program.proofs.BitLemmas.{length-first_bits}
-use Rattle.regress_program.proofs.bits.Bits.len.Goals as goal
-
-pub returns : goal.returns
-unfolding bits_of
-returns c = sym (length-first_bits c.args.self.now.words.items c.args.self.now.len)

@@ -1,7 +1,0 @@
-use Rattle.std.proofs.Common.{refl}
-use Rattle.regress_program.specs.Bits.{bits_of}
-use Rattle.regress_program.proofs.bits.Bits.with_room.Goals as goal
-
-pub returns-clause-empty : goal.returns-clause-empty
-unfolding bits_of
-returns-clause-empty c = refl

@@ -1,0 +1,79 @@
+-- The steps of a search in filled tables.
+use Rattle.std.proofs.Common.{zero, suc, ◌≡◌, ℕ, ◌+◌, ◌-◌, ◌*◌, ◌≤◌, ◌<◌, Bool, true, false, List, [], ◌∷◌, length, slice_get, Option, Some, None, IfSome, refl, ap, arith, inl, inr}
+use Rattle.std.proofs.Math.Nat.{mul-le-mul_left, mul-le-mul_right}
+use Rattle.std.proofs.lemmas.Bool.{cases_lt}
+use Rattle.regress_tree.specs.Reading.{forwards, direction_if}
+use Rattle.regress_program.specs.declared.found.Match.{Match}
+use Rattle.regress_tables.specs.declared.table.Table.{Table}
+use Rattle.regress_program.specs.Compiled.{total}
+use Rattle.regress_program.specs.Found.{state_of}
+use Rattle.regress_program.specs.Program.{Routine}
+use Rattle.regress_program.specs.Search.{steps_up_to}
+use Rattle.regress_tables.specs.Table.{column, index, place}
+use Rattle.regress_tables.proofs.TellsLemmas.{column-less, rows-less}
+
+module _ (w n pc pc' : ℕ) (moved' : Bool) (start end : ℕ) (lt : pc < w) (in_start : start ≤ n) (in_end : end ≤ n) where
+  -- A walk forwards does not end before its start.
+  onward : place w n forwards pc' moved' end ≤ place w n forwards pc true start → start ≤ end
+  unfolding place
+  onward falls =
+      elim (cases_lt end start) [
+        | inr le ↦ le
+        | inl before ↦
+            let less = rows-less (n - start) (n - end) (2 * w) (column w true pc) (column w moved' pc') (omega (arith, before, in_start)) (column-less w pc true lt) in
+            absurd (omega (arith, less, falls))
+      ]
+
+  sums : (W y d c c' s s' : ℕ) → c < W → s' + (y * W + c') ≤ s + ((y + d) * W + c) + 1 → s' ≤ s + W * (d + 1)
+  sums W y d c c' s s' small more = omega (arith, small, more)
+
+  sum : (s s' : ℕ) → start ≤ end → s' + place w n forwards pc' moved' end ≤ s + place w n forwards pc true start + 1 → s' ≤ s + 2 * w * (end + 1 - start)
+  unfolding place
+  sum s s' on more =
+      let rows : n - start ≡ (n - end) + (end - start) = omega (arith, on, in_end) in
+      let more' : s' + ((n - end) * (2 * w) + column w moved' pc') ≤ s + (((n - end) + (end - start)) * (2 * w) + column w true pc) + 1 =
+      omega (arith, more, ap (λ k. k * (2 * w)) rows) in
+      let all = sums (2 * w) (n - end) (end - start) (column w true pc) (column w moved' pc') s s' (column-less w pc true lt) more' in
+      let spans : end + 1 - start ≡ (end - start) + 1 = omega (arith, on) in
+      omega (arith, all, ap (λ k. 2 * w * k) spans)
+
+module _ (t : Table) (is : t.backwards ≡ false) where
+  forward_place : (pc : ℕ) (moved : Bool) (position : ℕ) → index t pc moved position ≡ place t.width t.length forwards pc moved position
+  forward_place pc moved position = ap (λ b. place t.width t.length (direction_if b) pc moved position) is
+
+  -- the steps of the walk
+  pub walk_steps : (pc pc' : ℕ) (moved' : Bool) (start end s s' : ℕ) → pc < t.width → start ≤ t.length → end ≤ t.length →
+      index t pc' moved' end ≤ index t pc true start → s' + index t pc' moved' end ≤ s + index t pc true start + 1 →
+      (start ≤ end) × (s' ≤ s + 2 * t.width * (end + 1 - start))
+  walk_steps pc pc' moved' start end s s' lt in_start in_end falls more =
+      let first = forward_place pc true start in
+      let last = forward_place pc' moved' end in
+      let on = onward t.width t.length pc pc' moved' start end lt in_start in_end (omega (arith, falls, first, last)) in
+      (on, sum t.width t.length pc pc' moved' start end lt in_start in_end s s' on (omega (arith, more, first, last)))
+
+-- A part has at most as many instructions as the whole.
+pub steps_of_part : (part whole : ℕ) (text : List ℕ) (origin : ℕ) (found : Option Match) → part ≤ whole →
+    steps_up_to part text origin found ≤ steps_up_to whole text origin found
+steps_of_part part whole text origin None le = omega arith
+steps_of_part part whole text origin (Some m) le = mul-le-mul_right _ (let h : 2 * part + 1 ≤ 2 * whole + 1 = omega (arith, le) in h)
+
+-- the steps of filling the tables and of one search, which takes `more` for each character to find what lookarounds capture
+pub fill_and_find : (instructions more : ℕ) (text : List ℕ) (origin : ℕ) (found : Option Match) (fill find : ℕ) →
+    fill ≤ 2 * instructions * (length text + 1) → find ≤ steps_up_to instructions text origin found + more * (length text + 1) →
+    IfSome found (λ m. (state_of m).position ≤ length text) → find + fill ≤ (4 * instructions + 1 + more) * (length text + 1)
+fill_and_find instructions more text origin None fill find filled searched inside =
+    let sum : find + fill ≤ 2 * instructions * (length text + 1) + (length text + 1) + more * (length text + 1) = omega (arith, filled, searched) in
+    omega (arith, sum)
+fill_and_find instructions more text origin (Some m) fill find filled searched inside =
+    let most = mul-le-mul_left (2 * instructions + 1) (let h : (state_of m).position + 1 - origin ≤ length text + 1 = omega (arith, inside) in h) in
+    omega (arith, most, filled, searched)
+
+-- A routine has at most as many instructions as the program.
+pub routine_size : (program : List Routine) (i : ℕ) (r : Routine) → slice_get program i ≡ Some r → length r.ops ≤ total program
+routine_size [] i r is = cc
+routine_size (x ∷ xs) zero r is = let same : x ≡ r = cc in omega (arith, ap (λ (y : Routine). length y.ops) same)
+routine_size (x ∷ xs) (suc i) r is = omega (arith, routine_size xs i r is)
+
+pub not_backwards : (b : Bool) → direction_if b ≡ forwards → b ≡ false
+not_backwards true is = cc
+not_backwards false is = refl

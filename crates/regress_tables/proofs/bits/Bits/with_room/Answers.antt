@@ -1,0 +1,7 @@
+use Rattle.std.proofs.Common.{refl}
+use Rattle.regress_tables.specs.Bits.{bits_of}
+use Rattle.regress_tables.proofs.bits.Bits.with_room.Goals as goal
+
+pub returns-clause-empty : goal.returns-clause-empty
+unfolding bits_of
+returns-clause-empty c = refl

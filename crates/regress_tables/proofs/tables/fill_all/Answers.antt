@@ -1,0 +1,54 @@
+use Rattle.std.proofs.Common.{List, ◌≡◌, ◌+◌, ◌*◌, [], ◌∷◌, length, slice_get, take, Some, option_map, refl, sym, ap, ◌∙◌, subst, arith, length-append}
+use Rattle.std.proofs.Math.Seq.{take-length}
+use Rattle.std.proofs.lemmas.List.{length-map}
+use Rattle.std.proofs.lemmas.Option.{slice_get-map, slice_get_read}
+use Rattle.regress_tables.specs.Bits.{bits_of}
+use Rattle.regress_tables.specs.declared.table.Table.{Table}
+use Rattle.regress_program.specs.Compiled.{total}
+use Rattle.regress_tables.specs.Table.{IsTableOf, AreTables, AreRight, IsRight}
+use Rattle.regress_program.specs.Views.{program_of, routine_of}
+use Rattle.regress_tables.proofs.FillLemmas.{push_tables, push_are_right, more_bits, total-more}
+use Rattle.regress_tables.proofs.tables.fill_all.Goals as goal
+
+pub loop-routine-preserved : goal.loop-routine-preserved
+loop-routine-preserved c =
+    let so_far = c.loop-routine.invariant in
+    let routines = c.args.routines.now in
+    let program = program_of routines in
+    let i = c.loop-routine.routine-index in
+    let tables = c.loop-routine.tables.items in
+    let t = c.in_ok-table.table in
+    let n = length c.args.text.now in
+    let r = routine_of c.routine-item.result in
+    let is : slice_get program i ≡ Some r =
+    slice_get-map routine_of routines i ∙ ap (option_map routine_of) (slice_get_read routines _ i _ refl c.loop-routine-test.true c.routine-item.is) in
+    let of : IsTableOf c.args.text.now r t = c.in_ok-table.ensures.of in
+    let pushed = c.in_ok-push.ensures.items in
+    let last : slice_get program (length tables) ≡ Some r = ap (slice_get program) so_far.count ∙ is in
+    record {
+      count = ap length pushed ∙ omega (arith, length-append tables (t ∷ []), so_far.count);
+      tables = subst (AreTables c.args.text.now program) (sym pushed)
+          (push_tables tables t c.args.text.now program r so_far.tables last of c.in_ok-table.ensures.full);
+      right = λ outs solution.
+          subst (AreRight outs) (sym pushed)
+          (push_are_right tables t outs (so_far.right outs solution)
+          (subst (λ (xs : List Table). IsRight (outs (length xs)) t) c.deref.ensures.value
+          (c.in_ok-table.ensures.filled outs solution (subst (AreRight outs) (sym c.deref.ensures.value) (so_far.right outs solution)))));
+      counted = more_bits n (length r.ops) (total (take i program)) (total (take (i + 1) program)) (length (bits_of t.bits)) c.loop-routine.bits
+          c.saturating_add-bits.result
+          (total-more program i r is)
+          (c.in_ok-table.ensures.full ∙ ap (λ k. (k + 1) * (2 * t.width)) of.text ∙ ap (λ w. (n + 1) * (2 * w)) of.width)
+          so_far.counted (omega arith);
+    }
+
+pub returns : goal.returns
+returns c =
+    let so_far = c.loop-routine.invariant in
+    let routines = c.args.routines.now in
+    let program = program_of routines in
+    let all : c.loop-routine.routine-index ≡ length program = omega (arith, length-map routines routine_of, c.loop-routine-test.false) in
+    let sum : total (take c.loop-routine.routine-index program) ≡ total program = ap (λ k. total (take k program)) all ∙ ap total (take-length program) in
+    record {
+      filled = record { are = so_far.tables; all = so_far.count ∙ all; right = so_far.right };
+      counted = omega (arith, so_far.counted, ap (λ k. (length c.args.text.now + 1) * (2 * k)) sum);
+    }

@@ -1,0 +1,84 @@
+-- Tables: which states of a routine have an outcome.
+use Rattle.std.specs.Prelude.{◌≡◌, ℕ, ◌+◌, ◌-◌, ◌*◌, ◌≤◌, ◌<◌, Bool, true, false, List, [], ◌∷◌, length, slice_get, slice_index_or, Some, if◌then◌else◌}
+use Rattle.regress_tree.specs.Reading.{Direction, forwards, backwards, direction_if}
+use Rattle.regress_tree.specs.Steps.{MatchState}
+use Rattle.regress_tables.specs.Bits.{bits_of}
+use Rattle.regress_tables.specs.declared.table.Table.{Table}
+use Rattle.regress_program.specs.Program.{Routine, At, Out}
+
+-- There is an outcome.
+abbrev pub has_outcome : List MatchState → Bool
+has_outcome [] = false
+has_outcome (s ∷ ss) = true
+
+-- The bit tells whether there is an outcome from an instruction, at a position, whatever the captures are and wherever
+-- the open groups began.
+abbrev pub Tells : Out → (pc : ℕ) (moved : Bool) (position : ℕ) → Bool → Type 0
+Tells out pc moved position bit = (a : At) → a.pc ≡ pc → a.moved ≡ moved → a.state.position ≡ position → has_outcome (out a) ≡ bit
+
+-- the number of rows before that of a position
+abbrev pub row_of : Direction → (length position : ℕ) → ℕ
+row_of forwards length position = length - position
+row_of backwards length position = position
+
+-- the index of a state in its row
+abbrev pub column : (width : ℕ) (moved : Bool) (pc : ℕ) → ℕ
+column width moved pc = if moved then width + pc else pc
+
+-- the number of states of a routine before a state, in the order in which they are evaluated
+unfoldable pub place : (width length : ℕ) → Direction → (pc : ℕ) (moved : Bool) (position : ℕ) → ℕ
+place width length d pc moved position = row_of d length position * (2 * width) + column width moved pc
+
+-- the index of the bit of a state
+abbrev pub index : Table → (pc : ℕ) (moved : Bool) (position : ℕ) → ℕ
+index t pc moved position = place t.width t.length (direction_if t.backwards) pc moved position
+
+-- the bit of a state
+unfoldable pub cell : Table → (pc : ℕ) (moved : Bool) (position : ℕ) → Bool
+cell t pc moved position = slice_index_or (bits_of t.bits) (index t pc moved position) false
+
+-- the number of bits of a full table
+abbrev pub size : Table → ℕ
+size t = (t.length + 1) * (2 * t.width)
+
+-- Each bit so far tells whether its state has an outcome.
+pub record IsRight (out : Out) (t : Table) : Type 0 where
+  pub tells : (pc : ℕ) (moved : Bool) (position : ℕ) → pc < t.width → position ≤ t.length →
+      index t pc moved position < length (bits_of t.bits) → Tells out pc moved position (cell t pc moved position)
+
+-- a table for a routine and a text
+pub record IsTableOf (bytes : List ℕ) (r : Routine) (t : Table) : Type 0 where
+  pub width : t.width ≡ length r.ops
+  pub text : t.length ≡ length bytes
+  pub direction : direction_if t.backwards ≡ r.direction
+
+-- Every state was evaluated.
+abbrev pub IsFull : Table → Type 0
+IsFull t = length (bits_of t.bits) ≡ size t
+
+-- the full tables of the first routines of a program
+pub record AreTables (bytes : List ℕ) (program : List Routine) (tables : List Table) : Type 0 where
+  pub few : length tables ≤ length program
+  pub of : (i : ℕ) (r : Routine) (t : Table) → slice_get program i ≡ Some r → slice_get tables i ≡ Some t → IsTableOf bytes r t
+  pub full : (i : ℕ) (t : Table) → slice_get tables i ≡ Some t → IsFull t
+
+-- Each of the tables tells which states of its routine have an outcome.
+abbrev pub AreRight : (ℕ → Out) → List Table → Type 0
+AreRight outs tables = (i : ℕ) (t : Table) → slice_get tables i ≡ Some t → IsRight (outs i) t
+
+-- The bit tells whether these outcomes exist, from a position, whatever the captures are and wherever the open groups
+-- began.
+abbrev pub TellsOf : Out → (moved : Bool) (position : ℕ) → Bool → Type 0
+TellsOf f moved position bit = (a : At) → a.moved ≡ moved → a.state.position ≡ position → has_outcome (f a) ≡ bit
+
+-- The state is the next one to evaluate.
+pub record IsNext (t : Table) (pc : ℕ) (moved : Bool) (position : ℕ) : Type 0 where
+  pub pc_in : pc < t.width
+  pub position_in : position ≤ t.length
+  pub at : index t pc moved position ≡ length (bits_of t.bits)
+
+-- Only the bits may differ.
+pub record SameShape (t t' : Table) : Type 0 where
+  pub width : t'.width ≡ t.width
+  pub length : t'.length ≡ t.length
+  pub backwards : t'.backwards ≡ t.backwards

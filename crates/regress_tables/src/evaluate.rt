@@ -1,0 +1,129 @@
+//! Evaluating an instruction: whether there is an outcome from a state.
+ghost use Rattle.std.specs.Prelude.{◌≡◌, ℕ, ◌<◌, ◌≤◌, IfSome, false, length};
+ghost use Rattle.regress_leaves.specs.Leaves.{GoesTo};
+ghost use Rattle.regress_leaves.specs.Subject.{subject};
+ghost use Rattle.regress_tree.specs.Steps.{MatchState};
+ghost use Rattle.regress_tree.specs.Tree.{tree};
+ghost use Rattle.regress_program.specs.Linear.{is_back_ref};
+ghost use Rattle.regress_program.specs.Program.{Out, matcher_of, outcomes_by};
+ghost use Rattle.regress_program.specs.Shape.{IsPart, IsProgram};
+ghost use Rattle.regress_tables.specs.Evaluated.{CanEvaluate, reached_cell};
+ghost use Rattle.regress_tables.specs.Table.{AreRight, AreTables, IsRight, TellsOf, has_outcome};
+ghost use Rattle.regress_program.specs.Views.{op_of, program_of};
+
+use crate::instruction::{Instruction, Routine};
+use crate::table::Table;
+use regress_leaves::leaves::{all_of, simple_leaf};
+use regress_leaves::rules::MatchContext;
+use regress_tree::ir::Node;
+
+/// What the bits of a routine are evaluated from.
+#[derive(Clone, Copy)]
+pub(crate) struct Input<'k, 'n, 't> {
+    /// The text.
+    pub(crate) text: &'t str,
+    /// The flags and case mappings, with the direction of the routine.
+    pub(crate) rules: MatchContext<'k>,
+    /// The routines of the program.
+    pub(crate) routines: &'t [Routine<'n>],
+    /// The full tables of the routines before this one.
+    pub(crate) tables: &'t [Table],
+}
+
+/// Returns whether there is an outcome from an instruction, by the bits that are evaluated already.
+pub(crate) fn evaluate(
+    input: Input<'_, '_, '_>,
+    table: &Table,
+    instruction: Instruction<'_>,
+    moved: bool,
+    position: usize,
+) -> bool
+    requires program { IsProgram (program_of input.routines.now) }
+    requires tables { AreTables input.text.now (program_of input.routines.now) input.tables.now }
+    requires can { CanEvaluate input table.now (op_of instruction) moved position }
+    ensures { (outs : ℕ → Out) → AreRight outs input.entry.tables.now → IsRight (outs (length input.entry.tables.now)) table.now →
+        (let u = subject input.entry.rules input.entry.text.now in
+        TellsOf (outcomes_by u.setting u.bytes u.direction (matcher_of u.setting u.bytes (program_of input.entry.routines.now) outs)
+        (outs (length input.entry.tables.now)) (op_of instruction.entry)) moved position result) }
+{
+    match instruction {
+        Instruction::Accept => true,
+        Instruction::Fail => false,
+        Instruction::Leaf { node, next } => {
+            let to = leaf_end(input.text, input.rules, node, position);
+            reached(table, next, moved, position, to)
+        }
+        Instruction::Text {
+            characters,
+            icase,
+            next,
+        } => {
+            let to = all_of(input.text, input.rules, icase, characters, position);
+            reached(table, next, moved, position, to)
+        }
+        Instruction::Split { first, second } => {
+            table.cell(first, moved, position) | table.cell(second, moved, position)
+        }
+        Instruction::BeginLoop { body, next, .. } => {
+            table.cell(body, false, position) | table.cell(next, moved, position)
+        }
+        Instruction::Repeat { body, next, .. } => {
+            moved & (table.cell(body, false, position) | table.cell(next, true, position))
+        }
+        Instruction::EndLoop { next } => moved & table.cell(next, true, position),
+        Instruction::Unset { next, .. } => table.cell(next, moved, position),
+        Instruction::BeginGroup { next } => table.cell(next, moved, position),
+        Instruction::EndGroup { next, .. } => table.cell(next, moved, position),
+        Instruction::Look {
+            negate,
+            routine,
+            next,
+        } => (looks(input, routine, position) != negate) & table.cell(next, moved, position),
+    }
+}
+
+/// Returns the position at which a leaf ends, or `None` if it fails. It is no back reference, and a set of strings has
+/// only one.
+pub(crate) fn leaf_end(
+    text: &str,
+    rules: MatchContext<'_>,
+    node: &Node,
+    position: usize,
+) -> Option<usize>
+    requires part { IsPart (tree node.now) }
+    requires captures { is_back_ref (tree node.now) ≡ false }
+    ensures { GoesTo (subject rules.entry text.now) position (tree node.now) result }
+{
+    match node {
+        Node::StringSet {
+            alternatives,
+            icase,
+        } => all_of(text, rules, *icase, &alternatives[0], position),
+        _ => simple_leaf(text, rules, node, position),
+    }
+}
+
+/// Returns whether there is an outcome after a part that ends at a position, if it matches.
+fn reached(table: &Table, next: usize, moved: bool, position: usize, to: Option<usize>) -> bool
+    requires next { next < table.now.width }
+    requires to { IfSome to (λ q. q ≤ table.now.length) }
+    ensures { result ≡ reached_cell table.now next moved position to }
+{
+    match to {
+        Some(q) => table.cell(next, moved | (q != position), q),
+        None => false,
+    }
+}
+
+/// Returns whether another routine has an outcome from a position.
+fn looks(input: Input<'_, '_, '_>, routine: usize, position: usize) -> bool
+    requires program { IsProgram (program_of input.routines.now) }
+    requires tables { AreTables input.text.now (program_of input.routines.now) input.tables.now }
+    requires earlier { routine < length input.tables.now }
+    requires position { position ≤ length input.text.now }
+    ensures { (outs : ℕ → Out) → AreRight outs input.entry.tables.now → (s : MatchState) → s.position ≡ position →
+        (let u = subject input.entry.rules input.entry.text.now in
+        has_outcome (matcher_of u.setting u.bytes (program_of input.entry.routines.now) outs routine s) ≡ result) }
+{
+    input.tables[routine].cell(input.routines[routine].entry, true, position)
+}

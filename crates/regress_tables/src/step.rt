@@ -1,0 +1,97 @@
+//! One step of a walk.
+ghost use Rattle.std.specs.Prelude.{◌≡◌, ◌≢◌, ◌≤◌, ℕ, IfOk, Some, length, slice_get, true};
+ghost use Rattle.regress_leaves.specs.Subject.{subject};
+ghost use Rattle.regress_tree.specs.Reading.{direction_if};
+ghost use Rattle.regress_program.specs.Below.{Below};
+ghost use Rattle.regress_program.specs.Program.{IsSolution, Out, Routine, accept, matcher_of, outcomes_by};
+ghost use Rattle.regress_program.specs.Ranges.{inner_groups, ranges_of};
+ghost use Rattle.regress_program.specs.Shape.{IsProgram};
+ghost use Rattle.regress_tables.specs.Slots.{AreInside, IsClean, capture_in};
+ghost use Rattle.regress_tables.specs.Table.{IsFull, IsRight, has_outcome};
+ghost use Rattle.regress_program.specs.Tidy.{is_tabled};
+ghost use Rattle.regress_program.specs.Views.{op_of, program_of};
+ghost use Rattle.regress_tables.specs.Walked.{CanWalk, Leads, StepsAt, at_of, place_of};
+
+use crate::evaluate::{Input, leaf_end};
+use crate::instruction::Instruction;
+use crate::ranges::{GroupRange, changed_by};
+use crate::table::Table;
+use crate::walker::Walker;
+use regress_leaves::leaves::all_of;
+use std::alloc::AllocError;
+
+/// Goes on to the next instruction of the first outcome. Returns false at the end, or if there is no outcome.
+///
+/// `ranges` are the groups that each routine changes.
+///
+/// # Errors
+/// Returns [`AllocError`] if an allocation fails.
+pub(crate) fn step(
+    input: Input<'_, '_, '_>,
+    ranges: &[GroupRange],
+    table: &Table,
+    instruction: Instruction<'_>,
+    walker: &mut Walker,
+) -> Result<bool, AllocError>
+    requires program { IsProgram (program_of input.routines.now) }
+    requires tabled { is_tabled (program_of input.routines.now) ≡ true }
+    requires ranges { ranges.now ≡ ranges_of (program_of input.routines.now) }
+    requires can { CanWalk input table.now (op_of instruction) (place_of walker.old) }
+    requires at { StepsAt input (op_of instruction) walker.old }
+    ensures count { IfOk result (λ _. length walker.new.slots.items ≡ length walker.old.slots.items) }
+    ensures below { IfOk result (λ goes. goes ≡ true →
+        Below table.now.width table.now.length (direction_if table.now.backwards) (place_of walker.old) (place_of walker.new)) }
+    ensures clean { IfOk result (λ goes. (r : Routine) → slice_get (program_of input.entry.routines.now) (length input.entry.tables.now) ≡ Some r →
+        goes ≡ true → IsClean (program_of input.entry.routines.now) r walker.new.pc walker.new.slots.items) }
+    ensures inside { IfOk result (λ _. (inner : ℕ) → inner_groups (program_of input.entry.routines.now) ≤ inner →
+        AreInside (length input.entry.tables.now) table.now.length inner walker.old.slots.items →
+        AreInside (length input.entry.tables.now) table.now.length inner walker.new.slots.items) }
+    ensures leads { IfOk result (λ goes. (outs : ℕ → Out) → (let u = subject input.entry.rules input.entry.text.now in
+        let out = outs (length input.entry.tables.now) in
+        let program = program_of input.entry.routines.now in
+        let capture_of = capture_in u.setting u.bytes program outs (length walker.old.slots.items) in
+        let states = outcomes_by u.setting u.bytes u.direction (matcher_of u.setting u.bytes program outs) out (op_of instruction.entry) (at_of capture_of walker.old) in
+        IsSolution u.setting u.bytes program outs → IsFull table.now → IsRight out table.now → op_of instruction.entry ≢ accept →
+        has_outcome states ≡ true → (goes ≡ true) × Leads states out (at_of capture_of walker.new))) }
+{
+    let position = walker.position;
+    match instruction {
+        Instruction::Accept => return Ok(false),
+        Instruction::Fail => return Ok(false),
+        Instruction::Leaf { node, next } => {
+            let to = leaf_end(input.text, input.rules, node, position);
+            return Ok(walker.reach(next, to));
+        }
+        Instruction::Text {
+            characters,
+            icase,
+            next,
+        } => {
+            let to = all_of(input.text, input.rules, icase, characters, position);
+            return Ok(walker.reach(next, to));
+        }
+        Instruction::Split { first, second } => walker.split(table, first, second),
+        Instruction::BeginLoop { greedy, body, next } => walker.choose(table, greedy, body, next),
+        Instruction::Repeat { greedy, body, next } => {
+            if !walker.moved {
+                return Ok(false);
+            }
+            walker.choose(table, greedy, body, next);
+        }
+        Instruction::EndLoop { next } => {
+            if !walker.moved {
+                return Ok(false);
+            }
+            walker.pc = next;
+        }
+        Instruction::Unset { start, end, next } => walker.begin_iteration(start, end, next),
+        Instruction::BeginGroup { next } => walker.begin_group(next)?,
+        Instruction::EndGroup { id, next } => walker.end_group(id, next),
+        // It holds: otherwise there would be no outcome.
+        Instruction::Look { routine, next, .. } => {
+            let range = changed_by(ranges, &instruction);
+            walker.pass(routine, range, next);
+        }
+    }
+    Ok(true)
+}

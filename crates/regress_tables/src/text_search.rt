@@ -1,0 +1,99 @@
+//! Searching a text whose tables are filled.
+ghost use Rattle.std.specs.Prelude.{◌≡◌, ◌≤◌, ◌+◌, ◌*◌, ℕ, IfOk, IfSome, length, min};
+ghost use Rattle.regress_tree.specs.Tree.{Tree};
+ghost use Rattle.regress_program.specs.Compiled.{IsPattern};
+ghost use Rattle.regress_tables.specs.Filled.{AreFilled};
+ghost use Rattle.regress_program.specs.Found.{Finds, state_of};
+ghost use Rattle.regress_program.specs.Program.{IsSolution, Out};
+ghost use Rattle.regress_program.specs.Ranges.{inner_groups};
+ghost use Rattle.regress_program.specs.Search.{capturing_steps, instructions_of, outcomes_from, positions_tried, routines_of, setting_of, steps_up_to, tree_outcomes_from};
+ghost use Rattle.regress_tables.specs.TextSearch.{searched_program, searched_text};
+
+use crate::evaluate::Input;
+use crate::filled::Filled;
+use crate::found::Search;
+use crate::leftmost::find_leftmost;
+use crate::linear::Linear;
+use crate::table::Table;
+use crate::text::TextSearch;
+use regress_leaves::rules::MatchContext;
+use std::alloc::{AllocError, Global};
+
+impl<'p> TextSearch<'p> {
+    /// Returns the leftmost match that starts at the byte offset `from` or later, on a character boundary.
+    ///
+    /// # Complexity
+    /// With a match the steps are at most twice the number of instructions and one for each byte from `from` to its end,
+    /// and once more. Without a match they are at most one for each byte from `from` on, and once more. If lookarounds
+    /// capture, the steps that find what they have captured come on top, at most twice the number of instructions for
+    /// each group that they may set and each byte of the text, and once more. A step takes constant time, but for
+    /// literals, sets, and the groups that an iteration unsets or a lookaround sets.
+    ///
+    /// # Errors
+    /// Returns [`AllocError`] if an allocation fails.
+    pub fn find(&self, alloc: Global, from: usize) -> Result<Search, AllocError>
+        ensures solved { IfOk result (λ search. (let p = searched_program self.now in let text = searched_text self.now in
+            (outs : ℕ → Out) → IsSolution (setting_of p) text (routines_of p) outs → Finds text (outcomes_from p text outs) from search.found)) }
+        ensures finds { IfOk result (λ search. (let p = searched_program self.now in let text = searched_text self.now in
+            (t : Tree) → IsPattern (routines_of p) t → Finds text (tree_outcomes_from p text t) from search.found)) }
+        ensures inside { IfOk result (λ search. IfSome search.found (λ m. (state_of m).position ≤ length (searched_text self.now))) }
+        ensures steps { IfOk result (λ search. (let p = searched_program self.now in let text = searched_text self.now in
+            search.steps ≤ steps_up_to (instructions_of p) text from search.found
+            + capturing_steps (instructions_of p) (inner_groups (routines_of p)) * (length text + 1))) }
+        ensures tried { IfOk result (λ search. positions_tried (searched_text self.now) from search.found ≤ search.steps) }
+    {
+        find_filled(alloc, &self.linear, self.text, &self.tables, from)
+    }
+
+    /// Returns the number of steps that it took to prepare the search, at most `u64::MAX`: of states that were evaluated,
+    /// two for each instruction at each byte of the text, and once more.
+    pub fn steps(&self) -> u64
+        ensures counted { result ≡ min (2 * instructions_of (searched_program self.now) * (length (searched_text self.now) + 1)) u64.MAX }
+        ensures within { result ≤ 2 * instructions_of (searched_program self.now) * (length (searched_text self.now) + 1) }
+    {
+        self.steps
+    }
+}
+
+/// Returns the leftmost match that starts at the byte offset `from` or later, by the tables of a text.
+///
+/// # Preconditions
+/// The tables are those of the program and of the text.
+///
+/// # Errors
+/// Returns [`AllocError`] if an allocation fails.
+pub(crate) fn find_filled(
+    alloc: Global,
+    linear: &Linear<'_, '_>,
+    text: &str,
+    tables: &[Table],
+    from: usize,
+) -> Result<Search, AllocError>
+    requires filled { AreFilled (setting_of linear.now.program) text.now (routines_of linear.now.program) tables.now }
+    ensures solved { IfOk result (λ search. (outs : ℕ → Out) → IsSolution (setting_of linear.now.program) text.now (routines_of linear.now.program) outs →
+        Finds text.now (outcomes_from linear.now.program text.now outs) from search.found) }
+    ensures finds { IfOk result (λ search. (t : Tree) → IsPattern (routines_of linear.now.program) t →
+        Finds text.now (tree_outcomes_from linear.now.program text.now t) from search.found) }
+    ensures inside { IfOk result (λ search. IfSome search.found (λ m. (state_of m).position ≤ length text.now)) }
+    ensures steps { IfOk result (λ search. search.steps ≤ steps_up_to (instructions_of linear.now.program) text.now from search.found
+        + capturing_steps (instructions_of linear.now.program) (inner_groups (routines_of linear.now.program)) * (length text.now + 1)) }
+    ensures tried { IfOk result (λ search. positions_tried text.now from search.found ≤ search.steps) }
+{
+    let program = &linear.program;
+    let input = Input {
+        text,
+        rules: MatchContext {
+            flags: program.flags,
+            known: program.known,
+            backwards: false,
+        },
+        routines: &program.routines,
+        tables,
+    };
+    let filled = Filled {
+        input,
+        ranges: &linear.ranges,
+        inner: linear.inner,
+    };
+    find_leftmost(alloc, filled, program.groups, from)
+}
