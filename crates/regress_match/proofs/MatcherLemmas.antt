@@ -22,7 +22,8 @@ use Rattle.regress_program.specs.Program.{IsSolution, Out, Routine, matcher_of}
 use Rattle.regress_program.specs.declared.fault.CompileFault.{CompileFault}
 use Rattle.regress_program.specs.Search as program
 use Rattle.regress_program.specs.Ranges.{inner_groups}
-use Rattle.regress_program.specs.Search.{capturing_steps, groups_of, instructions_of, routines_of, setting_of, steps_up_to}
+use Rattle.regress_program.specs.Search.{groups_of, instructions_of, routines_of, setting_of}
+use Rattle.regress_tables.specs.Search.{capturing_steps, steps_up_to}
 use Rattle.regress_tables.specs.TextSearch.{searched_program, searched_text}
 use Rattle.regress_program.specs.Tidy.{is_tabled}
 use Rattle.regress_program.specs.declared.found.Match.{Match}

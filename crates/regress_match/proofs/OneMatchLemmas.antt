@@ -8,7 +8,8 @@ use Rattle.regress_program.specs.Found as searches
 use Rattle.regress_program.specs.Program.{IsSolution, Out, Routine}
 use Rattle.regress_program.specs.Ranges.{inner_groups}
 use Rattle.regress_program.specs.Search as program
-use Rattle.regress_program.specs.Search.{capturing_steps, groups_of, per_character, routines_of, setting_of}
+use Rattle.regress_program.specs.Search.{groups_of, routines_of, setting_of}
+use Rattle.regress_tables.specs.Search.{capturing_steps, per_character}
 use Rattle.regress_program.specs.Tidy.{is_tabled}
 use Rattle.regress_program.specs.declared.found.Match.{Match}
 use Rattle.regress_program.specs.declared.program.Program.{Program}

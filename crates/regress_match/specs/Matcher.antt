@@ -8,7 +8,7 @@ use Rattle.regress_unicode.specs.TableOf.{table_of}
 use Rattle.regress_program.specs.Compiled.{IsPattern, total}
 use Rattle.regress_program.specs.Linear.{is_linear, reason}
 use Rattle.regress_program.specs.Program.{Routine}
-use Rattle.regress_program.specs.Search.{capturing_steps}
+use Rattle.regress_tables.specs.Search.{capturing_steps}
 use Rattle.regress_program.specs.Size.{program_size}
 use Rattle.regress_program.specs.Tidy.{table_groups}
 use Rattle.regress_program.specs.declared.found.Match.{Match}

@@ -13,6 +13,7 @@ use crate::matcher_matches::MatcherMatches;
 use memchr::memchr;
 use regress_backtrack::{Backtracker, Outcome};
 use regress_program::Match;
+use regress_tables::Linear;
 use std::alloc::{AllocError, Global};
 
 /// The length in bytes from which on a search first looks for a byte that each match contains.
@@ -154,7 +155,7 @@ impl<'m> MatcherMatches<'m> {
         let matcher = self.matcher;
         if matcher.is_linear() {
             let program = matcher.code.program(alloc, &matcher.tables)?;
-            if let Some(linear) = program.linear(alloc)? {
+            if let Some(linear) = Linear::new(alloc, program)? {
                 let search = linear.search(alloc, self.text)?;
                 self.searched = search.steps();
                 self.search = Some(search);

@@ -6,7 +6,7 @@ ghost use Rattle.regress_match.specs.Matcher.{factor_of};
 
 use crate::matcher::Matcher;
 use regress_backtrack::Backtracker;
-use regress_program::TextSearch;
+use regress_tables::TextSearch;
 
 /// The non-overlapping matches of a [`Matcher`] in a text, from left to right: each starts at the end of the one before
 /// or later.

@@ -8,6 +8,7 @@ use crate::iteration::outcome_of;
 use crate::matcher::Matcher;
 use crate::searches::steps_before_tables;
 use regress_backtrack::{Found, Outcome};
+use regress_tables::Linear;
 use std::alloc::{AllocError, Global};
 
 impl Matcher {
@@ -62,7 +63,7 @@ impl Matcher {
             (found.steps + 64 * (length text.now + 1) ≤ n * (length text.now + 1)) × IfOutOfSteps found.outcome ⊥)) }
     {
         let program = self.code.program(alloc, &self.tables)?;
-        let Some(linear) = program.linear(alloc)? else {
+        let Some(linear) = Linear::new(alloc, program)? else {
             return Ok(Found {
                 outcome: Outcome::OutOfSteps,
                 steps: 0,

@@ -1,6 +1,11 @@
 -- Lemmas about the definitions of this crate, for use by other crates.
+pub mod Agreement
+pub mod Below
+pub mod Linear
 pub mod Onward
+pub mod Places
 pub mod Reasons
 pub mod Solutions
 pub mod Strict
+pub mod Totals
 pub mod Unset

@@ -1,11 +1,8 @@
 pub mod Alternatives
 pub mod Below
-pub mod Bits
 pub mod Claims
 pub mod CodeOf
 pub mod Compiled
-pub mod Evaluated
-pub mod Filled
 pub mod Found
 pub mod Isolated
 pub mod Iterates
@@ -14,14 +11,9 @@ pub mod Program
 pub mod Pushed
 pub mod Ranges
 pub mod Search
-pub mod Searchable
 pub mod Shape
 pub mod Size
-pub mod Slots
 pub mod Stays
-pub mod Table
-pub mod TextSearch
 pub mod Tidy
 pub mod Unique
 pub mod Views
-pub mod Walked

@@ -1,17 +1,15 @@
--- Searching with a program.
-use Rattle.std.specs.Prelude.{ℕ, ◌+◌, ◌*◌, ◌-◌, List, length, Option, Some, None}
+-- What a program is, and its outcomes in a text.
+use Rattle.std.specs.Prelude.{ℕ, ◌-◌, List, length}
 use Rattle.regress_tree.specs.Matching.{steps}
 use Rattle.regress_tree.specs.Reading.{forwards}
 use Rattle.regress_tree.specs.Setting.{Setting}
 use Rattle.regress_tree.specs.Steps.{MatchState}
 use Rattle.regress_tree.specs.Tree.{Tree}
 use Rattle.regress_unicode.specs.TableOf.{table_of}
-use Rattle.regress_program.specs.declared.found.Match.{Match}
 use Rattle.regress_program.specs.declared.program.Program.{Program}
 use Rattle.regress_program.specs.Compiled.{total}
-use Rattle.regress_program.specs.Found.{no_groups, start_of, state_of}
+use Rattle.regress_program.specs.Found.{no_groups}
 use Rattle.regress_program.specs.Program.{Routine, Out, matcher_of}
-use Rattle.regress_program.specs.Ranges.{inner_groups}
 use Rattle.regress_program.specs.Views.{program_of}
 
 -- the routines of a program
@@ -29,28 +27,6 @@ groups_of p = p.groups
 -- the number of instructions of a program
 abbrev pub instructions_of : Program → ℕ
 instructions_of p = total (routines_of p)
-
--- An upper bound for the steps for each character, and once more for the end of the text, that it takes to find what
--- lookarounds have captured: each routine is walked through at most once for each group that they may set.
-abbrev pub capturing_steps : (instructions inner : ℕ) → ℕ
-capturing_steps instructions inner = 2 * instructions * inner
-
--- An upper bound for the steps of a search for each character, and once more for the end of the text. Each instruction
--- has two bits at a position, and the walk takes at most as many steps as the table of its routine has bits.
-abbrev pub per_character : Program → ℕ
-per_character p = 4 * instructions_of p + 1 + capturing_steps (instructions_of p) (inner_groups (routines_of p))
-
--- An upper bound for the steps of a search from `origin` with this number of instructions, where the tables are filled:
--- the positions that are tried, and for each up to the end of the match the steps of the walk.
-abbrev pub steps_up_to : (instructions : ℕ) (text : List ℕ) (origin : ℕ) → Option Match → ℕ
-steps_up_to instructions text origin (Some m) = (2 * instructions + 1) * ((state_of m).position + 1 - origin)
-steps_up_to instructions text origin None = length text + 1 - origin
-
--- The positions that a search tries, at least: those from `origin` up to the start of the match, or up to the end of
--- the text.
-abbrev pub positions_tried : (text : List ℕ) (origin : ℕ) → Option Match → ℕ
-positions_tried text origin (Some m) = start_of m + 1 - origin
-positions_tried text origin None = length text + 1 - origin
 
 -- the outcomes of a program from a position with every group unset, by the outcomes in each routine
 abbrev pub outcomes_from : Program → (text : List ℕ) → (ℕ → Out) → (position : ℕ) → List MatchState

@@ -1,9 +1,9 @@
 //! What a program contains.
-ghost use Rattle.std.specs.Prelude.{◌≡◌, ◌<◌, ℕ, List, length};
+ghost use Rattle.std.specs.Prelude.{◌≡◌, ◌<◌, ℕ, List, length, min};
 ghost use Rattle.regress_leaves.specs.Subject.{subject};
 ghost use Rattle.regress_tree.specs.Reading.{direction_if};
-ghost use Rattle.regress_program.specs.Search.{groups_of, routines_of, setting_of};
-ghost use Rattle.regress_program.specs.Shape.{IsProgram};
+ghost use Rattle.regress_program.specs.Search.{groups_of, instructions_of, routines_of, setting_of};
+ghost use Rattle.regress_program.specs.Shape.{IsForwards, IsProgram};
 ghost use Rattle.regress_program.specs.Views.{program_of};
 
 use crate::instruction::Routine;
@@ -17,8 +17,23 @@ impl<'n, 't> Program<'n, 't> {
         ensures routines { program_of result.now ≡ routines_of self.now }
         ensures program { IsProgram (routines_of self.now) }
         ensures some { 0 < length (routines_of self.now) }
+        ensures forwards { IsForwards (routines_of self.now) }
     {
         &self.routines
+    }
+
+    /// Returns the number of instructions, at most `usize::MAX`.
+    ///
+    /// # Complexity
+    /// Linear in the number of routines: that of the pattern, and one for each copy of a lookaround.
+    pub fn instructions(&self) -> usize
+        ensures { result ≡ min (instructions_of self.now) usize.MAX }
+    {
+        let mut count: usize = 0;
+        for routine in &self.routines {
+            count = count.saturating_add(routine.instructions.len());
+        }
+        count
     }
 
     /// Returns the number of capture groups of the pattern, at most `usize::MAX`.

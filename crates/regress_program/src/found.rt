@@ -1,4 +1,4 @@
-//! What a search finds.
+//! Matches.
 ghost use Rattle.std.specs.Prelude.{◌≡◌, None, length, slice_index_or};
 ghost use Rattle.regress_program.specs.Found.{start_of, state_of};
 
@@ -54,13 +54,4 @@ impl Match {
             None
         }
     }
-}
-
-/// The result of a search.
-#[derive(Debug, Drop)]
-pub struct Search {
-    /// The leftmost match, or `None` if there is none.
-    pub found: Option<Match>,
-    /// The number of steps: of bits that were evaluated, positions that were tried, and instructions of the walk.
-    pub steps: u64,
 }

@@ -40,7 +40,7 @@ impl GroupRange {
 ///
 /// # Errors
 /// Returns [`AllocError`] if an allocation fails.
-pub(crate) fn ranges_of(
+pub fn ranges_of(
     alloc: Global,
     routines: &[Routine<'_>],
 ) -> Result<Vec<GroupRange>, AllocError>
@@ -66,7 +66,7 @@ fn changed_by_all(earlier: &[GroupRange], instructions: &[Instruction<'_>]) -> G
 }
 
 /// Returns the range of the groups that an instruction changes.
-pub(crate) fn changed_by(earlier: &[GroupRange], instruction: &Instruction<'_>) -> GroupRange
+pub fn changed_by(earlier: &[GroupRange], instruction: &Instruction<'_>) -> GroupRange
     ensures { result ≡ changed_by earlier.now (op_of instruction.now) }
 {
     match *instruction {

@@ -7,13 +7,13 @@ use Rattle.std.specs.List.{list_all, list_any}
 use Rattle.regress_tree.specs.Reading.{Direction, forwards, backwards}
 use Rattle.regress_tree.specs.Steps.{CaptureSpan}
 use Rattle.regress_program.specs.declared.ranges.GroupRange.{GroupRange}
-use Rattle.regress_tables.specs.declared.slots.Slot.{Slot}
-use Rattle.regress_tables.specs.declared.slots.Slot.TheVariants as slots
 use Rattle.regress_program.specs.Isolated.{AreUnset}
 use Rattle.regress_program.specs.Program.{Op, accept, fail, part, split, begin_loop, repeat, end_loop, unsets, begin_group, end_group, look, Routine}
 use Rattle.regress_program.specs.Ranges.{IsIn, changed_by, is_empty, no_groups, ranges_of, captured_by, captured_by_all, captured_in, inner_groups}
-use Rattle.regress_tables.specs.Slots.{AreInside, IsClean, resolved}
 use Rattle.regress_program.specs.Tidy.{IsClaimed, all_kept, begins_unset, claim_after, claims_from, continues, followers, includes, is_capturing_look, is_claimed, is_kept, is_tidy, is_tidy_routine, with_groups, without}
+use Rattle.regress_tables.specs.declared.slots.Slot.{Slot}
+use Rattle.regress_tables.specs.declared.slots.Slot.TheVariants as slots
+use Rattle.regress_tables.specs.Slots.{AreInside, IsClean, resolved}
 use Rattle.regress_tables.specs.Walked.{OneSpan, SetInside, SlotsSet, UnsetSlots}
 use Rattle.regress_program.proofs.lemmas.Linear.{list_all-get, any-at}
 use Rattle.regress_tables.proofs.SlotLemmas.{cases_in, resolved-at, value_at}

@@ -17,22 +17,16 @@ use Rattle.regress_tree.specs.Tree.{Tree, leaf, string_set}
 use Rattle.regress_leaves.specs.Leaves.{put}
 use Rattle.regress_leaves.specs.Subject.{Subject}
 use Rattle.regress_leaves.proofs.lemmas.Leaves.{any-nil, any-cons}
-use Rattle.regress_tables.specs.declared.table.Table.{Table}
-use Rattle.regress_tables.specs.Evaluated.{reached_cell}
+use Rattle.regress_program.specs.Below.{row_of, column, place}
 use Rattle.regress_program.specs.Program.{Out, Routine, Op, part, split, begin_loop, repeat, end_loop, unsets, begin_group, end_group, look, outcomes_by, matcher_of, start}
 use Rattle.regress_program.specs.Shape.{Fits, IsPart, IsProgram}
 use Rattle.regress_program.specs.Stays.{IsReached, IsOnward, Stays}
-use Rattle.regress_tables.specs.Table.{has_outcome, Tells, TellsOf, row_of, column, place, index, cell, IsRight, IsNext, AreRight, AreTables, IsFull, size}
-use Rattle.regress_program.proofs.lemmas.Onward.{Stays-tree}
-use Rattle.regress_tables.proofs.TellsLemmas.{tells-earlier, tells-begins, tells-enters, tells-row, row-onward, column-less, rows-less, split_tells, either_tells, advanced_tells, none_tells, one_tells, looked_tells, group_tells}
-
-pub reached-one : (bytes : List ℕ) (d : Direction) (f : Matcher) (position q : ℕ) → Stays bytes d f → position ≤ length bytes →
-    ((s : MatchState) → s.position ≡ position → f s ≡ put s (Some q)) → (q ≤ length bytes) × IsOnward d position q
-reached-one bytes d f position q stays within goes =
-    let s : MatchState = record { position = position; captures = [] } in
-    let all = subst (All (IsReached bytes d s)) (goes s refl) (stays.reached s within) in
-    let here = All-head (IsReached bytes d s) (record s { position = q }) [] all in
-    (here.inside, here.onward)
+use Rattle.regress_tables.specs.declared.table.Table.{Table}
+use Rattle.regress_tables.specs.Evaluated.{reached_cell}
+use Rattle.regress_tables.specs.Table.{has_outcome, Tells, TellsOf, index, cell, IsRight, IsNext, AreRight, AreTables, IsFull, size}
+use Rattle.regress_program.proofs.lemmas.Onward.{Stays-tree, reached-one}
+use Rattle.regress_program.proofs.lemmas.Places.{row-onward, column-less, rows-less}
+use Rattle.regress_tables.proofs.TellsLemmas.{tells-earlier, tells-begins, tells-enters, tells-row, split_tells, either_tells, advanced_tells, none_tells, one_tells, looked_tells, group_tells}
 
 pub reached-within : (bytes : List ℕ) (d : Direction) (f : Matcher) (position n : ℕ) (to : Option ℕ) → Stays bytes d f → position ≤ length bytes → n ≡ length bytes →
     ((s : MatchState) → s.position ≡ position → f s ≡ put s to) → IfSome to (λ q. q ≤ n)

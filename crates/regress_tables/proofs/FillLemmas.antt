@@ -7,18 +7,18 @@ use Rattle.std.proofs.lemmas.Option.{slice_get_within}
 use Rattle.std.proofs.lemmas.Nat.{same_from_place}
 use Rattle.regress_tree.specs.Reading.{Direction, forwards, backwards, direction_if}
 use Rattle.regress_tree.specs.Setting.{Setting}
-use Rattle.regress_tables.specs.Bits.{bits_of}
-use Rattle.regress_tables.specs.declared.table.Table.{Table}
-use Rattle.regress_program.specs.Compiled.{total}
+use Rattle.regress_program.specs.Below.{row_of, column, place}
 use Rattle.regress_program.specs.Program.{Out, Routine, Op, outcomes_by, outcomes_at, matcher_of, IsSolution}
-use Rattle.regress_tables.specs.declared.evaluate.Input.{Input}
-use Rattle.regress_tables.specs.Evaluated.{CanEvaluate, CanFill}
 use Rattle.regress_program.specs.Tidy.{has_no_back_reference}
 use Rattle.regress_program.specs.Shape.{Fits, IsProgram}
 use Rattle.regress_program.specs.Views.{program_of}
-use Rattle.regress_tables.specs.Table.{has_outcome, Tells, TellsOf, row_of, column, place, index, cell, IsRight, IsNext, SameShape, IsTableOf, IsFull, AreTables, AreRight}
+use Rattle.regress_tables.specs.Bits.{bits_of}
+use Rattle.regress_tables.specs.declared.table.Table.{Table}
+use Rattle.regress_tables.specs.declared.evaluate.Input.{Input}
+use Rattle.regress_tables.specs.Evaluated.{CanEvaluate, CanFill}
+use Rattle.regress_tables.specs.Table.{has_outcome, Tells, TellsOf, index, cell, IsRight, IsNext, SameShape, IsTableOf, IsFull, AreTables, AreRight}
 use Rattle.regress_program.proofs.lemmas.Linear.{no_reference-at}
-use Rattle.regress_tables.proofs.TellsLemmas.{column-less}
+use Rattle.regress_program.proofs.lemmas.Places.{column-less}
 
 pub same-index : (t t' : Table) (pc : ℕ) (moved : Bool) (position : ℕ) → SameShape t t' → index t' pc moved position ≡ index t pc moved position
 same-index t t' pc moved position same =
@@ -178,11 +178,3 @@ pub more_bits : (n w a a' l s s' : ℕ) → a' ≡ a + w → l ≡ (n + 1) * (2 
 more_bits n w a a' l s s' ea el so_far next =
     let both : s' ≡ min ((n + 1) * (2 * (a + w))) 18446744073709551615 = omega (arith, el, so_far, next) in
     subst (λ x. s' ≡ min ((n + 1) * (2 * x)) 18446744073709551615) (sym ea) both
-
-total-suc : (program : List Routine) (i : ℕ) (r : Routine) → slice_get program i ≡ Some r → total (take (suc i) program) ≡ total (take i program) + length r.ops
-total-suc [] i r is = cc
-total-suc (x ∷ xs) zero r is = let same : x ≡ r = cc in omega (arith, ap (λ (y : Routine). length y.ops) same)
-total-suc (x ∷ xs) (suc i) r is = omega (arith, total-suc xs i r is)
-
-pub total-more : (program : List Routine) (i : ℕ) (r : Routine) → slice_get program i ≡ Some r → total (take (i + 1) program) ≡ total (take i program) + length r.ops
-total-more program i r is = let e : i + 1 ≡ suc i = omega arith in ap (λ k. total (take k program)) e ∙ total-suc program i r is

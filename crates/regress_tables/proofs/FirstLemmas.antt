@@ -5,24 +5,24 @@ use Rattle.std.proofs.lemmas.Option.{same_Some, slice_get-map, slice_get_read}
 use Rattle.regress_leaves.specs.Subject.{subject}
 use Rattle.regress_tree.specs.Reading.{forwards, direction_if}
 use Rattle.regress_tree.specs.Steps.{MatchState}
-use Rattle.regress_tables.specs.declared.evaluate.Input.{Input}
-use Rattle.regress_tables.specs.declared.filled.Filled.{Filled}
 use Rattle.regress_program.specs.declared.instruction.Instruction.{Instruction}
 use Rattle.regress_program.specs.declared.instruction.Routine as declared
+use Rattle.regress_program.specs.Program.{Op, At, Out, Routine, IsSolution, accept, matcher_of, outcomes_by}
+use Rattle.regress_program.specs.Shape.{IsProgram}
+use Rattle.regress_program.specs.Views.{op_of, ops_of, program_of, routine_of}
+use Rattle.regress_tables.specs.declared.evaluate.Input.{Input}
+use Rattle.regress_tables.specs.declared.filled.Filled.{Filled}
 use Rattle.regress_tables.specs.declared.slots.Slot.{Slot}
 use Rattle.regress_tables.specs.declared.slots.Slot.TheVariants as slots
 use Rattle.regress_tables.specs.declared.table.Table.{Table}
 use Rattle.regress_tables.specs.declared.walker.Walker.{Walker}
 use Rattle.regress_tables.specs.Evaluated.{CanFill}
-use Rattle.regress_program.specs.Program.{Op, At, Out, Routine, IsSolution, accept, matcher_of, outcomes_by}
 use Rattle.regress_tables.specs.Searchable.{IsFirst, IsSearchable, Solves, captures_in, outcomes_in, program_in, subject_of, width_at}
-use Rattle.regress_program.specs.Shape.{IsProgram}
 use Rattle.regress_tables.specs.Slots.{AreInside, IsClean, capture_in, resolved}
 use Rattle.regress_tables.specs.Table.{IsFull, IsRight, IsTableOf, cell, has_outcome, index as index_of}
-use Rattle.regress_program.specs.Views.{op_of, ops_of, program_of, routine_of}
 use Rattle.regress_tables.specs.Walked.{at_of, Leads}
+use Rattle.regress_program.proofs.lemmas.Solutions.{solution}
 use Rattle.regress_tables.proofs.EvaluateLemmas.{full_tells, index-within}
-use Rattle.regress_program.proofs.RunLemmas.{outcomes, outcomes-solve}
 use Rattle.regress_tables.proofs.StepLemmas.{not_backwards, walk_steps}
 use Rattle.regress_tables.proofs.WalkLemmas.{Leads-trans, entry-none, solved-by, walk-begins}
 
@@ -214,8 +214,8 @@ module _ (f : Filled) (index n position : ℕ) (r : Routine) (t : Table) (at : T
     -- Every program has outcomes, so the walk ends.
     pub first-ends : IsProgram (program_in f) → ended ≡ true
     first-ends is_program =
-        (first-some (outcomes (subject_of f).setting f.input.text.now (program_in f) is_program)
-        (outcomes-solve (subject_of f).setting f.input.text.now (program_in f) is_program)).0
+        let some = solution (subject_of f).setting f.input.text.now (program_in f) is_program in
+        (first-some some.0 some.1).0
 
 -- ---- the steps of a walk
 

@@ -2,14 +2,14 @@
 use Rattle.std.proofs.Common.{◌≡◌, ℕ, Bool, true, false, List, [], ◌∷◌, length, slice_get, Option, Some, None, refl, sym, ap, ◌∙◌, subst, if◌then◌else◌}
 use Rattle.std.proofs.lemmas.Bool.{and_parts}
 use Rattle.std.proofs.lemmas.Option.{same_Some}
+use Rattle.regress_program.specs.Program.{At, Op, unsets, end_group, look, Routine, goto, enter, ended}
+use Rattle.regress_program.specs.Ranges.{changed_by, ranges_of}
+use Rattle.regress_program.specs.Tidy.{followers, has_no_back_reference, is_tabled, is_tidy}
+use Rattle.regress_program.specs.Views.{program_of}
 use Rattle.regress_tables.specs.declared.evaluate.Input.{Input}
 use Rattle.regress_tables.specs.declared.table.Table.{Table}
 use Rattle.regress_tables.specs.declared.walker.Walker.{Walker}
-use Rattle.regress_program.specs.Program.{At, Op, unsets, end_group, look, Routine, goto, enter, ended}
-use Rattle.regress_program.specs.Ranges.{changed_by, ranges_of}
 use Rattle.regress_tables.specs.Slots.{IsClean}
-use Rattle.regress_program.specs.Tidy.{followers, has_no_back_reference, is_tabled, is_tidy}
-use Rattle.regress_program.specs.Views.{program_of}
 use Rattle.regress_tables.specs.Walked.{OneSpan, SetInside, StepsAt, UnsetSlots, chosen, iterates}
 use Rattle.regress_tables.proofs.CleanLemmas.{IsQuiet, clean-ended, clean-look, clean-quiet, clean-unsets}
 use Rattle.regress_tables.proofs.WalkLemmas.{Reaches}

@@ -4,16 +4,16 @@ use Rattle.std.proofs.Math.Nat.{mul-le-mul, mul-le-mul_right}
 use Rattle.std.proofs.lemmas.Bool.{cases_eq}
 use Rattle.std.proofs.lemmas.Option.{slice_get_within}
 use Rattle.regress_tree.specs.Steps.{CaptureSpan}
+use Rattle.regress_program.specs.Compiled.{total}
+use Rattle.regress_program.specs.Isolated.{capture_at, first_captures}
+use Rattle.regress_program.specs.Program.{Out, Routine}
 use Rattle.regress_tables.specs.declared.first.FirstOutcome.{FirstOutcome}
 use Rattle.regress_tables.specs.declared.filled.Filled.{Filled}
 use Rattle.regress_tables.specs.declared.slots.Slot.{Slot}
 use Rattle.regress_tables.specs.declared.slots.Slot.TheVariants as slots
-use Rattle.regress_program.specs.Compiled.{total}
-use Rattle.regress_program.specs.Isolated.{capture_at, first_captures}
-use Rattle.regress_program.specs.Program.{Out, Routine}
 use Rattle.regress_tables.specs.Searchable.{AreFound, AreResolved, AreTaken, IsEnd, IsFirst, Solves, captures_in, width_at}
 use Rattle.regress_tables.specs.Slots.{AreInside, resolved, resolved_from, value}
-use Rattle.regress_tables.proofs.FillLemmas.{total-more}
+use Rattle.regress_program.proofs.lemmas.Totals.{total-more}
 
 module _ (capture_of : (routine position id : ℕ) → Option CaptureSpan) where
   resolved_from-same : (k : ℕ) (a b : List Slot) → length a ≡ length b →
@@ -243,13 +243,6 @@ total_next program i lt =
 
 pub steps_next : (t w inner m : ℕ) → 2 * (t + w) * inner * m ≡ 2 * t * inner * m + 2 * w * inner * m
 steps_next t w inner m = grind arith
-
--- The first routines have at most as many instructions as all.
-pub total_part : (program : List Routine) (i : ℕ) → total (take i program) ≤ total program
-total_part [] zero = omega arith
-total_part [] (suc i) = omega arith
-total_part (r ∷ rs) zero = omega arith
-total_part (r ∷ rs) (suc i) = omega (arith, total_part rs i)
 
 -- the positions that are tried, the walk, and the steps of finding what lookarounds capture
 pub leftmost_steps : (w whole part inner m start' end from s t u end' : ℕ) → w ≤ whole → part ≤ whole → start' ≤ end → from ≤ start' → s ≤ start' - from →

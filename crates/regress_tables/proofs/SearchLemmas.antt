@@ -1,20 +1,9 @@
--- A search by tables, and what it finds of a tree.
-use Rattle.std.proofs.Common.{◌≡◌, ℕ, ◌≤◌, List, ◌∷◌, length, Option, Some, None, Result, Ok, Err, IfOk, sym, ap, ◌∙◌, subst}
+-- What a search by tables finds.
+use Rattle.std.proofs.Common.{◌≡◌, ℕ, ◌≤◌, List, ◌∷◌, Result, Ok, Err, IfOk, sym, ap, ◌∙◌, subst}
 use Rattle.std.specs.Str.{IsCharBoundary}
 use Rattle.regress_tree.specs.Steps.{MatchState}
 use Rattle.regress_program.specs.declared.found.Match.{Match}
-use Rattle.regress_program.specs.Found.{Finds, IsLeftmost, NoneBefore, start_of, state_of}
-
--- Outcomes that are the same inside the text make no difference.
-pub Finds-same : (text : List ℕ) (at at' : ℕ → List MatchState) (origin : ℕ) (found : Option Match) →
-    ((p : ℕ) → p ≤ length text → at p ≡ at' p) → Finds text at origin found → Finds text at' origin found
-Finds-same text at at' origin None same none = λ p low on. sym (same p on.0) ∙ none p low on
-Finds-same text at at' origin (Some m) same is = record {
-  from = is.from;
-  boundary = is.boundary;
-  first = (is.first.0, sym (same (start_of m) is.boundary.0) ∙ is.first.1);
-  least = λ p low high on. sym (same p on.0) ∙ is.least p low high on;
-}
+use Rattle.regress_program.specs.Found.{IsLeftmost, NoneBefore, start_of, state_of}
 
 -- a match with this start and this state
 pub leftmost_by : (text : List ℕ) (at : ℕ → List MatchState) (origin start : ℕ) (state : MatchState) (m : Match) → start_of m ≡ start → state_of m ≡ state →

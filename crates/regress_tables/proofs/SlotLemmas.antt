@@ -5,10 +5,10 @@ use Rattle.std.proofs.lemmas.List.{ext_get_or, length-set}
 use Rattle.regress_tree.specs.Repetition.{unset_from}
 use Rattle.regress_tree.specs.Steps.{CaptureSpan}
 use Rattle.regress_program.specs.declared.ranges.GroupRange.{GroupRange}
-use Rattle.regress_tables.specs.declared.slots.Slot.{Slot}
-use Rattle.regress_tables.specs.declared.slots.Slot.TheVariants as slots
 use Rattle.regress_program.specs.Isolated.{Captures, IsReplaced, capture_at}
 use Rattle.regress_program.specs.Ranges.{IsIn, no_groups}
+use Rattle.regress_tables.specs.declared.slots.Slot.{Slot}
+use Rattle.regress_tables.specs.declared.slots.Slot.TheVariants as slots
 use Rattle.regress_tables.specs.Slots.{value, resolved_from, resolved}
 use Rattle.regress_tables.specs.Walked.{OneSpan, SetInside, SlotsSet, UnsetSlots}
 

@@ -4,13 +4,12 @@ use Rattle.std.proofs.Math.Nat.{mul-le-mul_left, mul-le-mul_right}
 use Rattle.std.proofs.lemmas.Bool.{cases_lt}
 use Rattle.regress_tree.specs.Reading.{forwards, direction_if}
 use Rattle.regress_program.specs.declared.found.Match.{Match}
-use Rattle.regress_tables.specs.declared.table.Table.{Table}
-use Rattle.regress_program.specs.Compiled.{total}
 use Rattle.regress_program.specs.Found.{state_of}
-use Rattle.regress_program.specs.Program.{Routine}
-use Rattle.regress_program.specs.Search.{steps_up_to}
-use Rattle.regress_tables.specs.Table.{column, index, place}
-use Rattle.regress_tables.proofs.TellsLemmas.{column-less, rows-less}
+use Rattle.regress_program.specs.Below.{column, place}
+use Rattle.regress_tables.specs.declared.table.Table.{Table}
+use Rattle.regress_tables.specs.Search.{steps_up_to}
+use Rattle.regress_tables.specs.Table.{index}
+use Rattle.regress_program.proofs.lemmas.Places.{column-less, rows-less}
 
 module _ (w n pc pc' : ℕ) (moved' : Bool) (start end : ℕ) (lt : pc < w) (in_start : start ≤ n) (in_end : end ≤ n) where
   -- A walk forwards does not end before its start.
@@ -67,12 +66,6 @@ fill_and_find instructions more text origin None fill find filled searched insid
 fill_and_find instructions more text origin (Some m) fill find filled searched inside =
     let most = mul-le-mul_left (2 * instructions + 1) (let h : (state_of m).position + 1 - origin ≤ length text + 1 = omega (arith, inside) in h) in
     omega (arith, most, filled, searched)
-
--- A routine has at most as many instructions as the program.
-pub routine_size : (program : List Routine) (i : ℕ) (r : Routine) → slice_get program i ≡ Some r → length r.ops ≤ total program
-routine_size [] i r is = cc
-routine_size (x ∷ xs) zero r is = let same : x ≡ r = cc in omega (arith, ap (λ (y : Routine). length y.ops) same)
-routine_size (x ∷ xs) (suc i) r is = omega (arith, routine_size xs i r is)
 
 pub not_backwards : (b : Bool) → direction_if b ≡ forwards → b ≡ false
 not_backwards true is = cc

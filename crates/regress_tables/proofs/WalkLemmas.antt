@@ -14,12 +14,6 @@ use Rattle.regress_tree.specs.Steps.{CaptureSpan, MatchState}
 use Rattle.regress_tree.specs.Tree.{Tree}
 use Rattle.regress_leaves.specs.Leaves.{put}
 use Rattle.regress_program.specs.declared.ranges.GroupRange.{GroupRange}
-use Rattle.regress_tables.specs.declared.slots.Slot.{Slot}
-use Rattle.regress_tables.specs.declared.slots.Slot.TheVariants as slots
-use Rattle.regress_tables.specs.declared.table.Table.{Table}
-use Rattle.regress_tables.specs.declared.evaluate.Input.{Input}
-use Rattle.regress_tables.specs.Evaluated.{CanFill}
-use Rattle.regress_tables.specs.declared.walker.Walker.{Walker}
 use Rattle.regress_program.specs.Found.{no_groups, NoneBefore}
 use Rattle.regress_program.specs.Below.{Below}
 use Rattle.regress_program.specs.Program.{Out, At, Routine, Op, accept, look, goto, enter, reach, either, ended, outcomes_by, outcomes_at, matcher_of, start, IsSolution}
@@ -27,20 +21,26 @@ use Rattle.regress_program.specs.Isolated.{Captures, AreUnset, capture_at, captu
 use Rattle.regress_program.specs.Ranges as ranges
 use Rattle.regress_program.specs.Ranges.{changed_by, ranges_of}
 use Rattle.regress_program.specs.Shape.{Fits, IsProgram}
-use Rattle.regress_tables.specs.Slots.{capture_in, resolved}
 use Rattle.regress_program.specs.Stays.{IsOnward}
-use Rattle.regress_tables.specs.Table.{has_outcome, cell, IsFull, IsRight}
 use Rattle.regress_program.specs.declared.instruction.Instruction.{Instruction}
 use Rattle.regress_program.specs.declared.instruction.Instruction.TheVariants as insts
 use Rattle.regress_program.specs.Tidy.{has_no_back_reference}
 use Rattle.regress_program.specs.Views.{op_of, program_of}
+use Rattle.regress_tables.specs.declared.slots.Slot.{Slot}
+use Rattle.regress_tables.specs.declared.slots.Slot.TheVariants as slots
+use Rattle.regress_tables.specs.declared.table.Table.{Table}
+use Rattle.regress_tables.specs.declared.evaluate.Input.{Input}
+use Rattle.regress_tables.specs.Evaluated.{CanFill}
+use Rattle.regress_tables.specs.declared.walker.Walker.{Walker}
+use Rattle.regress_tables.specs.Slots.{capture_in, resolved}
+use Rattle.regress_tables.specs.Table.{has_outcome, cell, IsFull, IsRight}
 use Rattle.regress_tables.specs.Walked.{iterates, chosen, alternative, at_of, CanWalk, Leads, SetInside}
 use Rattle.regress_program.proofs.lemmas.Agreement.{isolated}
 use Rattle.regress_program.proofs.lemmas.Linear.{no_reference-at}
-use Rattle.regress_tables.proofs.SlotLemmas.{length-resolved, resolved-none, resolved-replaced, resolved-same}
-use Rattle.regress_program.proofs.lemmas.Onward.{Stays-tree}
+use Rattle.regress_program.proofs.lemmas.Onward.{Stays-tree, reached-one}
 use Rattle.regress_program.proofs.lemmas.Below.{below-here, below-enter, below-again, below-reach}
-use Rattle.regress_tables.proofs.EvaluateLemmas.{reached-one, full_tells}
+use Rattle.regress_tables.proofs.SlotLemmas.{length-resolved, resolved-none, resolved-replaced, resolved-same}
+use Rattle.regress_tables.proofs.EvaluateLemmas.{full_tells}
 
 -- what lookarounds capture, where it does not matter
 abbrev pub unknown : (routine position id : ℕ) → Option CaptureSpan

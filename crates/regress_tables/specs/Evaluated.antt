@@ -1,13 +1,13 @@
 -- What evaluating an instruction needs.
 use Rattle.std.specs.Prelude.{◌≡◌, ℕ, ◌==◌, Bool, false, not, ◌||◌, length, take, slice_get, Option, Some, None}
 use Rattle.regress_leaves.specs.Subject.{subject}
-use Rattle.regress_tables.specs.declared.evaluate.Input.{Input}
-use Rattle.regress_tables.specs.declared.table.Table.{Table}
 use Rattle.regress_program.specs.Linear.{is_back_reference}
 use Rattle.regress_program.specs.Program.{Op, Routine, Out, IsSolution}
 use Rattle.regress_program.specs.Shape.{Fits}
-use Rattle.regress_tables.specs.Table.{cell, IsNext, IsTableOf, AreRight, IsRight}
 use Rattle.regress_program.specs.Views.{program_of}
+use Rattle.regress_tables.specs.declared.evaluate.Input.{Input}
+use Rattle.regress_tables.specs.declared.table.Table.{Table}
+use Rattle.regress_tables.specs.Table.{cell, IsNext, IsTableOf, AreRight, IsRight}
 
 -- the bit after a part that ends at a position, or none
 abbrev pub reached_cell : Table → (next : ℕ) (moved : Bool) (position : ℕ) → Option ℕ → Bool

@@ -2,9 +2,9 @@
 use Rattle.std.specs.Prelude.{◌≡◌, ℕ, List, length}
 use Rattle.std.proofs.Props.{props}
 use Rattle.regress_tree.specs.Setting.{Setting}
-use Rattle.regress_tables.specs.declared.table.Table.{Table}
 use Rattle.regress_program.specs.Program.{Routine, Out, IsSolution}
 use Rattle.regress_program.specs.Unique.{Direction-set}
+use Rattle.regress_tables.specs.declared.table.Table.{Table}
 use Rattle.regress_tables.specs.Table.{AreRight, AreTables}
 
 -- The tables of all routines of a program for a text are full, and tell which states have an outcome.

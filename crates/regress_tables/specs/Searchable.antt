@@ -2,18 +2,18 @@
 use Rattle.std.specs.Prelude.{◌≡◌, ℕ, ◌≤◌, true, List, [], ◌∷◌, length, slice_get, Option, Some, None}
 use Rattle.regress_leaves.specs.Subject.{Subject, subject}
 use Rattle.regress_tree.specs.Steps.{CaptureSpan, MatchState}
+use Rattle.regress_program.specs.Found.{no_groups}
+use Rattle.regress_program.specs.Program.{Out, Routine, IsSolution, matcher_of}
+use Rattle.regress_program.specs.Ranges.{inner_groups, ranges_of}
+use Rattle.regress_program.specs.Shape.{IsProgram}
+use Rattle.regress_program.specs.Tidy.{is_tabled}
+use Rattle.regress_program.specs.Views.{program_of}
 use Rattle.regress_tables.specs.declared.filled.Filled.{Filled}
 use Rattle.regress_tables.specs.declared.first.FirstOutcome.{FirstOutcome}
 use Rattle.regress_tables.specs.declared.slots.Slot.{Slot}
 use Rattle.regress_tables.specs.declared.slots.Slot.TheVariants as slots
 use Rattle.regress_tables.specs.Filled.{AreFilled}
-use Rattle.regress_program.specs.Found.{no_groups}
-use Rattle.regress_program.specs.Program.{Out, Routine, IsSolution, matcher_of}
-use Rattle.regress_program.specs.Ranges.{inner_groups, ranges_of}
-use Rattle.regress_program.specs.Shape.{IsProgram}
 use Rattle.regress_tables.specs.Slots.{AreInside, capture_in, resolved, value}
-use Rattle.regress_program.specs.Tidy.{is_tabled}
-use Rattle.regress_program.specs.Views.{program_of}
 
 -- the program, and the text with the flags and case mappings
 abbrev pub program_in : Filled → List Routine

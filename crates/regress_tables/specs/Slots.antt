@@ -3,12 +3,12 @@ use Rattle.std.specs.Prelude.{◌≡◌, ℕ, ◌+◌, ◌≤◌, ◌<◌, true,
 use Rattle.std.specs.List.{list_any}
 use Rattle.regress_tree.specs.Setting.{Setting}
 use Rattle.regress_tree.specs.Steps.{CaptureSpan}
-use Rattle.regress_tables.specs.declared.slots.Slot.{Slot}
-use Rattle.regress_tables.specs.declared.slots.Slot.TheVariants as slots
 use Rattle.regress_program.specs.Isolated.{Captures, capture_at, captures_from}
 use Rattle.regress_program.specs.Program.{Out, Routine}
 use Rattle.regress_program.specs.Ranges.{ranges_of}
 use Rattle.regress_program.specs.Tidy.{IsClaimed, claims_from, is_capturing_look}
+use Rattle.regress_tables.specs.declared.slots.Slot.{Slot}
+use Rattle.regress_tables.specs.declared.slots.Slot.TheVariants as slots
 
 -- the capture of a group by the first outcome of a routine from a position, where n groups are unset
 abbrev pub capture_in : (setting : Setting) (bytes : List ℕ) (program : List Routine) (outs : ℕ → Out) (n : ℕ) → (routine position id : ℕ) → Option CaptureSpan

@@ -1,10 +1,11 @@
 -- Tables: which states of a routine have an outcome.
 use Rattle.std.specs.Prelude.{◌≡◌, ℕ, ◌+◌, ◌-◌, ◌*◌, ◌≤◌, ◌<◌, Bool, true, false, List, [], ◌∷◌, length, slice_get, slice_index_or, Some, if◌then◌else◌}
-use Rattle.regress_tree.specs.Reading.{Direction, forwards, backwards, direction_if}
+use Rattle.regress_tree.specs.Reading.{direction_if}
 use Rattle.regress_tree.specs.Steps.{MatchState}
+use Rattle.regress_program.specs.Below.{place}
+use Rattle.regress_program.specs.Program.{Routine, At, Out}
 use Rattle.regress_tables.specs.Bits.{bits_of}
 use Rattle.regress_tables.specs.declared.table.Table.{Table}
-use Rattle.regress_program.specs.Program.{Routine, At, Out}
 
 -- There is an outcome.
 abbrev pub has_outcome : List MatchState → Bool
@@ -15,19 +16,6 @@ has_outcome (s ∷ ss) = true
 -- the open groups began.
 abbrev pub Tells : Out → (pc : ℕ) (moved : Bool) (position : ℕ) → Bool → Type 0
 Tells out pc moved position bit = (a : At) → a.pc ≡ pc → a.moved ≡ moved → a.state.position ≡ position → has_outcome (out a) ≡ bit
-
--- the number of rows before that of a position
-abbrev pub row_of : Direction → (length position : ℕ) → ℕ
-row_of forwards length position = length - position
-row_of backwards length position = position
-
--- the index of a state in its row
-abbrev pub column : (width : ℕ) (moved : Bool) (pc : ℕ) → ℕ
-column width moved pc = if moved then width + pc else pc
-
--- the number of states of a routine before a state, in the order in which they are evaluated
-unfoldable pub place : (width length : ℕ) → Direction → (pc : ℕ) (moved : Bool) (position : ℕ) → ℕ
-place width length d pc moved position = row_of d length position * (2 * width) + column width moved pc
 
 -- the index of the bit of a state
 abbrev pub index : Table → (pc : ℕ) (moved : Bool) (position : ℕ) → ℕ

@@ -1,19 +1,19 @@
 -- A walk through the instructions of the first outcome.
 use Rattle.std.specs.Prelude.{◌≡◌, ℕ, ◌+◌, ◌<◌, ◌≤◌, Bool, true, false, not, List, ◌++◌, length, take, reverse, slice_get, Option, Some, None, if◌then◌else◌}
 use Rattle.regress_tree.specs.Steps.{CaptureSpan, MatchState}
-use Rattle.regress_tables.specs.declared.evaluate.Input.{Input}
-use Rattle.regress_tables.specs.declared.table.Table.{Table}
 use Rattle.regress_program.specs.declared.ranges.GroupRange.{GroupRange}
-use Rattle.regress_tables.specs.declared.slots.Slot.{Slot}
-use Rattle.regress_tables.specs.declared.slots.Slot.TheVariants as slots
-use Rattle.regress_tables.specs.declared.walker.Walker.{Walker}
 use Rattle.regress_program.specs.Linear.{is_back_reference}
 use Rattle.regress_program.specs.Program.{Op, At, Out, Routine, goto, enter}
 use Rattle.regress_program.specs.Ranges.{IsIn}
 use Rattle.regress_program.specs.Shape.{Fits}
+use Rattle.regress_program.specs.Views.{program_of}
+use Rattle.regress_tables.specs.declared.evaluate.Input.{Input}
+use Rattle.regress_tables.specs.declared.table.Table.{Table}
+use Rattle.regress_tables.specs.declared.slots.Slot.{Slot}
+use Rattle.regress_tables.specs.declared.slots.Slot.TheVariants as slots
+use Rattle.regress_tables.specs.declared.walker.Walker.{Walker}
 use Rattle.regress_tables.specs.Slots.{IsClean, resolved}
 use Rattle.regress_tables.specs.Table.{cell, has_outcome}
-use Rattle.regress_program.specs.Views.{program_of}
 
 -- where a walk is, by what lookarounds capture
 abbrev pub at_of : (capture_of : (routine position id : ℕ) → Option CaptureSpan) → Walker → At

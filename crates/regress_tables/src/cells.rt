@@ -1,8 +1,9 @@
 //! The bits of a table.
 ghost use Rattle.std.specs.Prelude.{◌≡◌, ◌<◌, ◌≤◌, ◌++◌, ◌*◌, ◌^◌, [], ◌∷◌, IfOk, length};
 ghost use Rattle.regress_tree.specs.Reading.{direction_if};
+ghost use Rattle.regress_program.specs.Below.{column, row_of};
 ghost use Rattle.regress_tables.specs.Bits.{bits_of};
-ghost use Rattle.regress_tables.specs.Table.{SameShape, cell, column, row_of, size};
+ghost use Rattle.regress_tables.specs.Table.{SameShape, cell, size};
 
 use crate::bits::Bits;
 use crate::table::Table;

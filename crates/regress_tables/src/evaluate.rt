@@ -7,14 +7,14 @@ ghost use Rattle.regress_tree.specs.Tree.{tree};
 ghost use Rattle.regress_program.specs.Linear.{is_back_ref};
 ghost use Rattle.regress_program.specs.Program.{Out, matcher_of, outcomes_by};
 ghost use Rattle.regress_program.specs.Shape.{IsPart, IsProgram};
+ghost use Rattle.regress_program.specs.Views.{op_of, program_of};
 ghost use Rattle.regress_tables.specs.Evaluated.{CanEvaluate, reached_cell};
 ghost use Rattle.regress_tables.specs.Table.{AreRight, AreTables, IsRight, TellsOf, has_outcome};
-ghost use Rattle.regress_program.specs.Views.{op_of, program_of};
 
-use crate::instruction::{Instruction, Routine};
 use crate::table::Table;
 use regress_leaves::leaves::{all_of, simple_leaf};
 use regress_leaves::rules::MatchContext;
+use regress_program::instruction::{Instruction, Routine};
 use regress_tree::ir::Node;
 
 /// What the bits of a routine are evaluated from.

@@ -1,17 +1,17 @@
 //! Filling the table of a routine.
 ghost use Rattle.std.specs.Prelude.{◌≡◌, ◌≤◌, ◌+◌, ◌^◌, ◌<◌, IfOk, Some, length, slice_get, true};
-ghost use Rattle.regress_tables.specs.Bits.{bits_of};
-ghost use Rattle.regress_tables.specs.Evaluated.{CanFill, IsFilled};
 ghost use Rattle.regress_program.specs.Tidy.{has_no_back_reference};
 ghost use Rattle.regress_program.specs.Shape.{IsProgram};
-ghost use Rattle.regress_tables.specs.Table.{AreTables, IsFull, IsTableOf, SameShape, index};
 ghost use Rattle.regress_program.specs.Views.{program_of, routine_of};
+ghost use Rattle.regress_tables.specs.Bits.{bits_of};
+ghost use Rattle.regress_tables.specs.Evaluated.{CanFill, IsFilled};
+ghost use Rattle.regress_tables.specs.Table.{AreTables, IsFull, IsTableOf, SameShape, index};
 
 use crate::cells::row_of;
 use crate::evaluate::{Input, evaluate};
-use crate::instruction::Routine;
 use crate::table::Table;
 use regress_leaves::rules::MatchContext;
+use regress_program::instruction::Routine;
 use std::alloc::{AllocError, Global};
 
 /// Returns the full table of a routine: the one after those whose tables are full.

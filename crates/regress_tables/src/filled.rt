@@ -1,7 +1,7 @@
 //! A program with its tables for a text.
 
 use crate::evaluate::Input;
-use crate::ranges::GroupRange;
+use regress_program::ranges::GroupRange;
 
 /// A program, with the full tables of all its routines for a text.
 #[derive(Clone, Copy)]

@@ -3,15 +3,16 @@ ghost use Rattle.std.specs.Prelude.{◌≡◌, ◌≤◌, ◌<◌, ◌+◌, ◌-
 ghost use Rattle.regress_program.specs.Compiled.{total};
 ghost use Rattle.regress_program.specs.Found.{Finds, state_of};
 ghost use Rattle.regress_program.specs.Program.{Out};
-ghost use Rattle.regress_program.specs.Search.{positions_tried, steps_up_to};
-ghost use Rattle.regress_tables.specs.Searchable.{IsSearchable, Solves, outcomes_in, program_in};
 ghost use Rattle.regress_program.specs.Shape.{IsForwards};
+ghost use Rattle.regress_tables.specs.Search.{positions_tried, steps_up_to};
+ghost use Rattle.regress_tables.specs.Searchable.{IsSearchable, Solves, outcomes_in, program_in};
 
 use crate::filled::Filled;
 use crate::first::first_outcome;
-use crate::found::{Match, Search};
+use crate::found::Search;
 use crate::resolve::resolve;
 use crate::slots::captures_of;
+use regress_program::Match;
 use std::alloc::{AllocError, Global};
 
 /// Returns the leftmost match that starts at the byte offset `from` or later.

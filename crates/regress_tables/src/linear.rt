@@ -3,13 +3,12 @@ ghost use Rattle.std.specs.Prelude.{◌≡◌, IfOk, IfSome, is_some, true};
 ghost use Rattle.regress_program.specs.Ranges.{GroupRanges-set, inner_groups, ranges_of};
 ghost use Rattle.regress_program.specs.Search.{routines_of};
 ghost use Rattle.regress_program.specs.Tidy.{is_tabled};
-ghost use Rattle.regress_program.specs.Views.{program_of};
 
-use crate::program::Program;
-use crate::ranges::{GroupRange, ranges_of};
+use regress_program::Program;
+use regress_program::ranges::{GroupRange, ranges_of};
 use std::alloc::{AllocError, Global};
 
-/// A program that is searched in linear time, by tables: [`Program::linear`] returns it.
+/// A program that is searched in linear time, by tables.
 #[derive(Drop)]
 pub struct Linear<'n, 't> {
     /// The program.
@@ -18,13 +17,13 @@ pub struct Linear<'n, 't> {
     pub(crate) ranges: Vec<GroupRange>,
     /// An upper bound for the ids of the groups that lookarounds set, which are below it.
     pub(crate) inner: usize,
-    ghost tabled: { is_tabled (program_of program.routines.items) ≡ true },
-    ghost ranged: { ranges.items ≡ ranges_of (program_of program.routines.items) } by { GroupRanges-set ranges.items (ranges_of (program_of program.routines.items)) },
-    ghost within: { inner ≡ inner_groups (program_of program.routines.items) },
+    ghost tabled: { is_tabled (routines_of program) ≡ true },
+    ghost ranged: { ranges.items ≡ ranges_of (routines_of program) } by { GroupRanges-set ranges.items (ranges_of (routines_of program)) },
+    ghost within: { inner ≡ inner_groups (routines_of program) },
 }
 
-impl<'n, 't> Program<'n, 't> {
-    /// Returns the program as one that is searched by tables, each time in linear time.
+impl<'n, 't> Linear<'n, 't> {
+    /// Returns a program as one that is searched by tables, each time in linear time.
     ///
     /// The result is `None` if tables do not lead to its matches: if it has a back reference, or if a lookaround that
     /// captures may begin where its groups are set. Programs of parsed patterns have no such lookaround, which is tested.
@@ -41,18 +40,21 @@ impl<'n, 't> Program<'n, 't> {
     /// let points = code_points(alloc, "(a)\\1")?;
     /// let regex = try_parse(alloc, &points, Flags::default(), &tables)?;
     /// let program = Program::compile(alloc, &regex, &tables, 1000)?;
-    /// assert!(rt; program.linear(alloc)?.is_none());
+    /// assert!(rt; Linear::new(alloc, program)?.is_none());
     /// ```
-    pub fn linear(self, alloc: Global) -> Result<Option<Linear<'n, 't>>, AllocError>
-        ensures same { IfOk result (λ linear. IfSome linear (λ l. l.program ≡ self.entry)) }
-        ensures linear { IfOk result (λ linear. is_some linear ≡ is_tabled (routines_of self.entry)) }
+    pub fn new(
+        alloc: Global,
+        program: Program<'n, 't>,
+    ) -> Result<Option<Linear<'n, 't>>, AllocError>
+        ensures same { IfOk result (λ linear. IfSome linear (λ l. l.program ≡ program.entry)) }
+        ensures linear { IfOk result (λ linear. is_some linear ≡ is_tabled (routines_of program.entry)) }
     {
-        let Some(inner) = self.table_groups(alloc)? else {
+        let Some(inner) = program.table_groups(alloc)? else {
             return Ok(None);
         };
-        let ranges = ranges_of(alloc, &self.routines)?;
+        let ranges = ranges_of(alloc, program.routines())?;
         Ok(Some(Linear {
-            program: self,
+            program,
             ranges,
             inner,
         }))

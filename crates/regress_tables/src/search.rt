@@ -1,71 +1,23 @@
-//! Searching with a program.
+//! Searching with a program, by tables.
 ghost use Rattle.std.specs.Prelude.{◌≡◌, ◌≤◌, ◌<◌, ◌+◌, ◌*◌, ℕ, IfOk, length, min, true};
 ghost use Rattle.regress_tree.specs.Tree.{Tree};
-ghost use Rattle.regress_unicode.specs.TableOf.{table_of};
 ghost use Rattle.regress_program.specs.Compiled.{IsPattern};
-ghost use Rattle.regress_tables.specs.Filled.{AreFilled};
 ghost use Rattle.regress_program.specs.Found.{Finds};
-ghost use Rattle.regress_program.specs.Ranges.{inner_groups};
 ghost use Rattle.regress_program.specs.Program.{IsSolution, Out};
-ghost use Rattle.regress_program.specs.Search.{groups_of, instructions_of, outcomes_from, per_character, positions_tried, routines_of, setting_of, tree_outcomes_from};
-ghost use Rattle.regress_program.specs.Shape.{IsForwards, IsProgram};
+ghost use Rattle.regress_program.specs.Search.{instructions_of, outcomes_from, routines_of, setting_of, tree_outcomes_from};
 ghost use Rattle.regress_program.specs.Tidy.{has_no_back_reference};
+ghost use Rattle.regress_tables.specs.Filled.{AreFilled};
+ghost use Rattle.regress_tables.specs.Search.{per_character, positions_tried};
 ghost use Rattle.regress_tables.specs.TextSearch.{searched_program, searched_text};
-ghost use Rattle.regress_program.specs.Views.{program_of};
 
 use crate::found::Search;
-use crate::instruction::Routine;
 use crate::linear::Linear;
-use crate::program::Program;
 use crate::table::Table;
 use crate::tables::fill_all;
 use crate::text::TextSearch;
 use crate::text_search::find_filled;
-use regress_base::types::Flags;
-use regress_leaves::known::Known;
-use regress_leaves::rules::MatchContext;
+use regress_program::Program;
 use std::alloc::{AllocError, Global};
-
-impl<'n, 't> Program<'n, 't> {
-    /// Returns a program of these routines, for a pattern with these flags and this number of groups.
-    ///
-    /// # Preconditions
-    /// The routines are what compiling a pattern yields.
-    pub(crate) fn new(
-        routines: Vec<Routine<'n>>,
-        flags: Flags,
-        known: Known<'t>,
-        groups: usize,
-    ) -> Program<'n, 't>
-        requires program { IsProgram (program_of routines.items) }
-        requires some { 0 < length routines.items }
-        requires forwards { IsForwards (program_of routines.items) }
-        ensures routines { routines_of result ≡ program_of routines.entry.items }
-        ensures setting { setting_of result ≡ record { flags = flags; table = table_of known.entry.tables.now } }
-        ensures groups { groups_of result ≡ groups }
-    {
-        Program {
-            routines,
-            flags,
-            known,
-            groups,
-        }
-    }
-
-    /// Returns the number of instructions, at most `usize::MAX`.
-    ///
-    /// # Complexity
-    /// Linear in the number of routines: that of the pattern, and one for each copy of a lookaround.
-    pub fn instructions(&self) -> usize
-        ensures { result ≡ min (instructions_of self.now) usize.MAX }
-    {
-        let mut count: usize = 0;
-        for routine in &self.routines {
-            count = count.saturating_add(routine.instructions.len());
-        }
-        count
-    }
-}
 
 impl Linear<'_, '_> {
     /// Returns an upper bound for the steps of a search for each character of a text, counting its end as one more; at
@@ -101,7 +53,7 @@ impl Linear<'_, '_> {
     /// let regex = try_parse(alloc, &points, Flags::default(), &tables)?;
     /// let program = Program::compile(alloc, &regex, &tables, 1000)?;
     /// let mut end = 0;
-    /// if let Some(linear) = program.linear(alloc)? {
+    /// if let Some(linear) = Linear::new(alloc, program)? {
     ///     let search = linear.find(alloc, "xaaab", 0)?;
     ///     if let Some(found) = &search.found {
     ///         assert_eq!(rt; found.start(), 1);
@@ -171,10 +123,5 @@ fn fill_tables(
     ensures filled { IfOk result (λ tables. AreFilled (setting_of program.now) text.now (routines_of program.now) tables.items) }
     ensures counted { IfOk result (λ _. steps.new ≡ min (steps.old + 2 * instructions_of program.now * (length text.now + 1)) u64.MAX) }
 {
-    let rules = MatchContext {
-        flags: program.flags,
-        known: program.known,
-        backwards: false,
-    };
-    fill_all(alloc, text, rules, &program.routines, steps)
+    fill_all(alloc, text, program.rules(false), program.routines(), steps)
 }

@@ -6,18 +6,18 @@ ghost use Rattle.regress_program.specs.Below.{Below};
 ghost use Rattle.regress_program.specs.Program.{IsSolution, Out, Routine, accept, matcher_of, outcomes_by};
 ghost use Rattle.regress_program.specs.Ranges.{inner_groups, ranges_of};
 ghost use Rattle.regress_program.specs.Shape.{IsProgram};
-ghost use Rattle.regress_tables.specs.Slots.{AreInside, IsClean, capture_in};
-ghost use Rattle.regress_tables.specs.Table.{IsFull, IsRight, has_outcome};
 ghost use Rattle.regress_program.specs.Tidy.{is_tabled};
 ghost use Rattle.regress_program.specs.Views.{op_of, program_of};
+ghost use Rattle.regress_tables.specs.Slots.{AreInside, IsClean, capture_in};
+ghost use Rattle.regress_tables.specs.Table.{IsFull, IsRight, has_outcome};
 ghost use Rattle.regress_tables.specs.Walked.{CanWalk, Leads, StepsAt, at_of, place_of};
 
 use crate::evaluate::{Input, leaf_end};
-use crate::instruction::Instruction;
-use crate::ranges::{GroupRange, changed_by};
 use crate::table::Table;
 use crate::walker::Walker;
 use regress_leaves::leaves::all_of;
+use regress_program::instruction::Instruction;
+use regress_program::ranges::{GroupRange, changed_by};
 use std::alloc::AllocError;
 
 /// Goes on to the next instruction of the first outcome. Returns false at the end, or if there is no outcome.

@@ -2,16 +2,16 @@
 ghost use Rattle.std.specs.Prelude.{◌≡◌, ◌+◌, ◌*◌, IfOk, length, min, true};
 ghost use Rattle.regress_leaves.specs.Subject.{subject};
 ghost use Rattle.regress_program.specs.Compiled.{total};
-ghost use Rattle.regress_tables.specs.Filled.{AreFilled};
 ghost use Rattle.regress_program.specs.Tidy.{has_no_back_reference};
 ghost use Rattle.regress_program.specs.Shape.{IsProgram};
 ghost use Rattle.regress_program.specs.Views.{program_of};
+ghost use Rattle.regress_tables.specs.Filled.{AreFilled};
 
 use crate::evaluate::Input;
 use crate::fill::fill;
-use crate::instruction::Routine;
 use crate::table::Table;
 use regress_leaves::rules::MatchContext;
+use regress_program::instruction::Routine;
 use std::alloc::{AllocError, Global};
 
 /// Returns the full tables of all routines, and adds the number of their bits to `steps`, up to `u64::MAX`.

@@ -1,7 +1,7 @@
 //! A text, prepared for searches with a program.
 ghost use Rattle.std.specs.Prelude.{◌≡◌, ◌+◌, ◌*◌, length, min};
-ghost use Rattle.regress_tables.specs.Filled.{AreFilled, AreFilled-prop};
 ghost use Rattle.regress_program.specs.Search.{instructions_of, routines_of, setting_of};
+ghost use Rattle.regress_tables.specs.Filled.{AreFilled, AreFilled-prop};
 
 use crate::linear::Linear;
 use crate::table::Table;

@@ -2,11 +2,12 @@
 ghost use Rattle.std.specs.Prelude.{◌≡◌, ◌≤◌, ◌+◌, ◌*◌, ℕ, IfOk, IfSome, length, min};
 ghost use Rattle.regress_tree.specs.Tree.{Tree};
 ghost use Rattle.regress_program.specs.Compiled.{IsPattern};
-ghost use Rattle.regress_tables.specs.Filled.{AreFilled};
 ghost use Rattle.regress_program.specs.Found.{Finds, state_of};
 ghost use Rattle.regress_program.specs.Program.{IsSolution, Out};
 ghost use Rattle.regress_program.specs.Ranges.{inner_groups};
-ghost use Rattle.regress_program.specs.Search.{capturing_steps, instructions_of, outcomes_from, positions_tried, routines_of, setting_of, steps_up_to, tree_outcomes_from};
+ghost use Rattle.regress_program.specs.Search.{instructions_of, outcomes_from, routines_of, setting_of, tree_outcomes_from};
+ghost use Rattle.regress_tables.specs.Filled.{AreFilled};
+ghost use Rattle.regress_tables.specs.Search.{capturing_steps, positions_tried, steps_up_to};
 ghost use Rattle.regress_tables.specs.TextSearch.{searched_program, searched_text};
 
 use crate::evaluate::Input;
@@ -16,7 +17,6 @@ use crate::leftmost::find_leftmost;
 use crate::linear::Linear;
 use crate::table::Table;
 use crate::text::TextSearch;
-use regress_leaves::rules::MatchContext;
 use std::alloc::{AllocError, Global};
 
 impl<'p> TextSearch<'p> {
@@ -82,12 +82,8 @@ pub(crate) fn find_filled(
     let program = &linear.program;
     let input = Input {
         text,
-        rules: MatchContext {
-            flags: program.flags,
-            known: program.known,
-            backwards: false,
-        },
-        routines: &program.routines,
+        rules: program.rules(false),
+        routines: program.routines(),
         tables,
     };
     let filled = Filled {
@@ -95,5 +91,5 @@ pub(crate) fn find_filled(
         ranges: &linear.ranges,
         inner: linear.inner,
     };
-    find_leftmost(alloc, filled, program.groups, from)
+    find_leftmost(alloc, filled, program.groups(), from)
 }

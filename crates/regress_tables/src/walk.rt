@@ -2,22 +2,22 @@
 ghost use Rattle.std.specs.Prelude.{◌≡◌, ◌+◌, ◌≤◌, ◌<◌, ◌∷◌, ℕ, IfOk, List, length, true};
 ghost use Rattle.regress_leaves.specs.Subject.{subject};
 ghost use Rattle.regress_tree.specs.Steps.{MatchState};
-ghost use Rattle.regress_tables.specs.Evaluated.{CanFill};
 ghost use Rattle.regress_program.specs.Program.{IsSolution, Out};
 ghost use Rattle.regress_program.specs.Ranges.{inner_groups, ranges_of};
 ghost use Rattle.regress_program.specs.Shape.{IsProgram};
-ghost use Rattle.regress_tables.specs.Slots.{AreInside, IsClean, capture_in};
-ghost use Rattle.regress_tables.specs.Table.{IsFull, IsRight, has_outcome, index};
 ghost use Rattle.regress_program.specs.Tidy.{is_tabled};
 ghost use Rattle.regress_program.specs.Views.{program_of, routine_of};
+ghost use Rattle.regress_tables.specs.Evaluated.{CanFill};
+ghost use Rattle.regress_tables.specs.Slots.{AreInside, IsClean, capture_in};
+ghost use Rattle.regress_tables.specs.Table.{IsFull, IsRight, has_outcome, index};
 ghost use Rattle.regress_tables.specs.Walked.{at_of};
 
 use crate::evaluate::Input;
-use crate::instruction::{Instruction, Routine};
-use crate::ranges::GroupRange;
 use crate::step::step;
 use crate::table::Table;
 use crate::walker::Walker;
+use regress_program::instruction::{Instruction, Routine};
+use regress_program::ranges::GroupRange;
 use std::alloc::AllocError;
 
 /// Walks to the end of the first outcome, and adds the number of steps to `steps`. Returns false if there is no outcome.

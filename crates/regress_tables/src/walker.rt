@@ -6,9 +6,9 @@ ghost use Rattle.regress_program.specs.Program.{ended, goto, reach};
 ghost use Rattle.regress_tables.specs.Slots.{resolved};
 ghost use Rattle.regress_tables.specs.Walked.{OneSpan, SetInside, SlotsSet, UnsetSlots, alternative, at_of, chosen};
 
-use crate::ranges::GroupRange;
 use crate::slots::Slot;
 use crate::table::Table;
+use regress_program::ranges::GroupRange;
 use std::alloc::AllocError;
 
 /// Where a walk is.

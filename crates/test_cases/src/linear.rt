@@ -1,7 +1,8 @@
 //! Searches by the tables of a program, for patterns without a back reference.
 
 use crate::outcome::{Question, report_spans};
-use regress_program::{CompileFault, Nonlinear, Program, TextSearch};
+use regress_program::{CompileFault, Nonlinear, Program};
+use regress_tables::{Linear, TextSearch};
 use regress_tree::ir::Regex;
 use regress_unicode::Tables;
 use test_notation::{Call, Fault};
@@ -42,7 +43,7 @@ pub(crate) fn response_linear(
     if program.nonlinear() == Some(Nonlinear::BackReference) {
         return false;
     }
-    match program.linear(alloc) {
+    match Linear::new(alloc, program) {
         Ok(Some(linear)) => match linear.search(alloc, text) {
             Ok(search) => report_matches(call, &search, text, most),
             Err(_) => call.fail(Fault::Memory),

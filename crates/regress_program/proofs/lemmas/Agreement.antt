@@ -18,10 +18,9 @@ use Rattle.regress_program.specs.Program.{Out, At, Routine, Op, accept, fail, pa
 use Rattle.regress_program.specs.Ranges.{IsIn, ranges_of, no_groups as empty_range}
 use Rattle.regress_program.specs.Shape.{Fits, IsProgram}
 use Rattle.regress_program.specs.Tidy.{has_no_back_reference}
-use Rattle.regress_program.proofs.lemmas.Onward.{Stays-tree}
+use Rattle.regress_program.proofs.lemmas.Onward.{Stays-tree, reached-one}
 use Rattle.regress_program.proofs.lemmas.Below.{below-here, below-enter, below-again, below-reach, reach-moved}
 use Rattle.regress_program.proofs.CaptureLemmas.{SameIn, SameIn-unset, SameIn-set, capture-none}
-use Rattle.regress_tables.proofs.EvaluateLemmas.{reached-one}
 use Rattle.regress_program.proofs.lemmas.Linear.{plain-at}
 use Rattle.regress_program.proofs.LocalLemmas.{KeepsIn, local-matcher}
 use Rattle.regress_program.proofs.PutLemmas.{puts-part}

@@ -7,13 +7,12 @@ use Rattle.regress_tree.specs.Matching.{steps}
 use Rattle.regress_tree.specs.Reading.{Direction}
 use Rattle.regress_tree.specs.Setting.{Setting}
 use Rattle.regress_tree.specs.Steps.{MatchState, Matcher}
-use Rattle.regress_program.specs.Below.{Below}
+use Rattle.regress_program.specs.Below.{Below, place}
 use Rattle.regress_program.specs.Program.{Out, At, Routine, Op, accept, fail, part, split, begin_loop, repeat, end_loop, unsets, begin_group, end_group, look, goto, enter, reach, either, ended, outcomes_by}
 use Rattle.regress_program.specs.Shape.{Fits}
 use Rattle.regress_program.specs.Stays.{IsReached, IsOnward}
-use Rattle.regress_tables.specs.Table.{place}
 use Rattle.regress_program.proofs.lemmas.Onward.{Stays-tree}
-use Rattle.regress_tables.proofs.TellsLemmas.{place-earlier, place-begins, place-enters, place-row, row-onward}
+use Rattle.regress_program.proofs.lemmas.Places.{place-earlier, place-begins, place-enters, place-row, row-onward}
 
 pub flat_map-same : {A B : Type 0} (P : A → Type 0) (f g : A → List B) (xs : List A) → All P xs → ((x : A) → P x → f x ≡ g x) → flat_map f xs ≡ flat_map g xs
 flat_map-same P f g [] all same = refl

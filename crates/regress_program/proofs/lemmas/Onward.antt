@@ -19,6 +19,7 @@ use Rattle.regress_tree.specs.Setting.{Setting}
 use Rattle.regress_tree.specs.Steps.{CaptureSpan, MatchState, Matcher, stay, fail, ◌then_◌, ◌or_◌, moved, one_character, these_bytes, hold_at, capture, captured}
 use Rattle.regress_tree.specs.Strings.{any_string}
 use Rattle.regress_tree.specs.Tree.{Leaf, empty, goal, char, byte_sequence, byte_set, char_set, match_any, match_any_except_line_terminator, anchor, word_boundary, bracket, back_ref, string_set, capture_group, loop, loop_one, lookaround, Tree, Trees, leaf, cat, alt, wrapped, no_trees, more_trees}
+use Rattle.regress_leaves.specs.Leaves.{put}
 use Rattle.regress_program.specs.Stays.{IsOnward, IsReached, Stays}
 
 pub IsOnward-same : (d : Direction) (k : ℕ) → IsOnward d k k
@@ -245,3 +246,12 @@ module _ (setting : Setting) (bytes : List ℕ) where
     pub Stays-parts : (d : Direction) (ts : Trees) → Stays bytes d (steps_of_parts setting bytes d ts)
     Stays-parts d no_trees = Stays-stay bytes d
     Stays-parts d (more_trees t ts) = Stays-then bytes d _ _ (Stays-tree d t) (Stays-parts d ts)
+
+-- where a part that has one outcome ends
+pub reached-one : (bytes : List ℕ) (d : Direction) (f : Matcher) (position q : ℕ) → Stays bytes d f → position ≤ length bytes →
+    ((s : MatchState) → s.position ≡ position → f s ≡ put s (Some q)) → (q ≤ length bytes) × IsOnward d position q
+reached-one bytes d f position q stays within goes =
+    let s : MatchState = record { position = position; captures = [] } in
+    let all = subst (All (IsReached bytes d s)) (goes s refl) (stays.reached s within) in
+    let here = All-head (IsReached bytes d s) (record s { position = q }) [] all in
+    (here.inside, here.onward)

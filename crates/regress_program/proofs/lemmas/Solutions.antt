@@ -1,13 +1,23 @@
 -- Every program has a solution, so what a search finds is found of a pattern with the same outcomes.
-use Rattle.std.proofs.Common.{◌≡◌, ℕ, ◌≤◌, List, length, Option}
+use Rattle.std.proofs.Common.{◌≡◌, ℕ, ◌≤◌, List, length, Option, Some, None, sym, ◌∙◌}
 use Rattle.regress_tree.specs.Setting.{Setting}
 use Rattle.regress_tree.specs.Steps.{MatchState}
-use Rattle.regress_program.specs.Found.{Finds}
+use Rattle.regress_program.specs.Found.{Finds, start_of}
 use Rattle.regress_program.specs.Program.{Out, Routine, IsSolution}
 use Rattle.regress_program.specs.Shape.{IsProgram}
 use Rattle.regress_program.specs.declared.found.Match.{Match}
 use Rattle.regress_program.proofs.RunLemmas.{outcomes, outcomes-solve}
-use Rattle.regress_tables.proofs.SearchLemmas.{Finds-same}
+
+-- Outcomes that are the same inside the text make no difference.
+pub Finds-same : (text : List ℕ) (at at' : ℕ → List MatchState) (origin : ℕ) (found : Option Match) →
+    ((p : ℕ) → p ≤ length text → at p ≡ at' p) → Finds text at origin found → Finds text at' origin found
+Finds-same text at at' origin None same none = λ p low on. sym (same p on.0) ∙ none p low on
+Finds-same text at at' origin (Some m) same is = record {
+  from = is.from;
+  boundary = is.boundary;
+  first = (is.first.0, sym (same (start_of m) is.boundary.0) ∙ is.first.1);
+  least = λ p low high on. sym (same p on.0) ∙ is.least p low high on;
+}
 
 pub solution : (setting : Setting) (bytes : List ℕ) (program : List Routine) → IsProgram program →
     (outs : ℕ → Out) × IsSolution setting bytes program outs

@@ -7,6 +7,7 @@ use regress_front::unicode::Tables;
 use regress_front::util::code_points;
 use regress_match::{Limits, Match, Matcher, Outcome};
 use regress_program::Program;
+use regress_tables::Linear;
 use std::test::Fail;
 
 #[test]
@@ -19,7 +20,7 @@ fn the_example_of_a_program_holds(rt: HostRuntime) -> Result<(), Fail> {
         let regex = try_parse(alloc, &points, Flags::default(), &tables)?;
         let program = Program::compile(alloc, &regex, &tables, 1000)?;
         let mut end = 0;
-        if let Some(linear) = program.linear(alloc)? {
+        if let Some(linear) = Linear::new(alloc, program)? {
             let search = linear.find(alloc, "xaaab", 0)?;
             if let Some(found) = &search.found {
                 assert_eq!(rt; found.start(), 1);
@@ -35,7 +36,7 @@ fn the_example_of_a_program_holds(rt: HostRuntime) -> Result<(), Fail> {
         let points = code_points(alloc, "(a)\\1")?;
         let regex = try_parse(alloc, &points, Flags::default(), &tables)?;
         let program = Program::compile(alloc, &regex, &tables, 1000)?;
-        assert!(rt; program.linear(alloc)?.is_none());
+        assert!(rt; Linear::new(alloc, program)?.is_none());
     }
     Ok(())
 }

@@ -7,8 +7,8 @@ use Rattle.regress_program.specs.Linear.{is_back_reference}
 use Rattle.regress_program.specs.Program.{matcher_of}
 use Rattle.regress_program.specs.Shape.{Fits}
 use Rattle.regress_program.specs.Views.{op_of, program_of}
-use Rattle.regress_tables.proofs.EvaluateLemmas.{part_yields, split_yields, begin_yields, repeat_yields, end_yields, unsets_yields, begin_group_yields, end_group_yields, look_yields, reached-within, one_string, look-earlier}
 use Rattle.regress_program.proofs.lemmas.Onward.{Stays-tree}
+use Rattle.regress_tables.proofs.EvaluateLemmas.{part_yields, split_yields, begin_yields, repeat_yields, end_yields, unsets_yields, begin_group_yields, end_group_yields, look_yields, reached-within, one_string, look-earlier}
 use Rattle.regress_tables.proofs.evaluate.evaluate.Goals as goal
 
 pub reached-requires-clause-to : goal.reached-requires-clause-to

@@ -2,8 +2,8 @@ use Rattle.std.proofs.Common.{◌≡◌, ◌<◌, true, slice_get, Some, option_
 use Rattle.std.proofs.lemmas.List.{length-map}
 use Rattle.std.proofs.lemmas.Option.{slice_get-map, slice_get_read}
 use Rattle.regress_leaves.specs.Subject.{subject}
-use Rattle.regress_tables.specs.Table.{cell}
 use Rattle.regress_program.specs.Views.{program_of, routine_of}
+use Rattle.regress_tables.specs.Table.{cell}
 use Rattle.regress_tables.proofs.EvaluateLemmas.{entry_tells}
 use Rattle.regress_tables.proofs.evaluate.looks.Goals as goal
 

@@ -1,8 +1,8 @@
 use Rattle.std.proofs.Common.{◌≡◌, ◌*◌, length}
+use Rattle.regress_program.specs.Views.{routine_of}
 use Rattle.regress_tables.specs.Bits.{bits_of}
 use Rattle.regress_tables.specs.Evaluated.{IsFilled}
 use Rattle.regress_tables.specs.Table.{IsTableOf}
-use Rattle.regress_program.specs.Views.{routine_of}
 use Rattle.regress_tables.proofs.fill.fill.Given as goal
 
 abbrev pub invariant-loop-row : goal.invariant-loop-row

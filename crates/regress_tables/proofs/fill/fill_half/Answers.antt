@@ -3,9 +3,9 @@ use Rattle.std.proofs.lemmas.List.{length-map}
 use Rattle.std.proofs.lemmas.Option.{slice_get-map, slice_get_read}
 use Rattle.regress_leaves.specs.Subject.{subject}
 use Rattle.regress_tree.specs.Reading.{direction_if}
+use Rattle.regress_program.specs.Views.{op_of, ops_of, program_of, routine_of}
 use Rattle.regress_tables.specs.Bits.{bits_of}
 use Rattle.regress_tables.specs.Table.{size}
-use Rattle.regress_program.specs.Views.{op_of, ops_of, program_of, routine_of}
 use Rattle.regress_tables.proofs.EvaluateLemmas.{index-within}
 use Rattle.regress_tables.proofs.FillLemmas.{SameShape-trans, push_right, evaluated_tells, is_next, can_evaluate}
 use Rattle.regress_tables.proofs.fill.fill_half.Goals as goal

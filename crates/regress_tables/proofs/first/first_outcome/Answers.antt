@@ -1,10 +1,10 @@
 use Rattle.std.proofs.Common.{true, length, slice_get, slice_index_or, refl, ap, ◌∙◌, subst, arith}
 use Rattle.std.proofs.lemmas.List.{length-replicate}
+use Rattle.regress_program.specs.Views.{routine_of}
 use Rattle.regress_tables.specs.declared.slots.Slot.TheVariants as slots
 use Rattle.regress_tables.specs.declared.walker.Walker.{Walker}
 use Rattle.regress_tables.specs.Searchable.{program_in}
 use Rattle.regress_tables.specs.Slots.{AreInside}
-use Rattle.regress_program.specs.Views.{routine_of}
 use Rattle.regress_tables.proofs.FirstLemmas.{clean-first, first-ends, first-forwards, first-none, first-some, first-steps, inside-first, same-way, table-at}
 use Rattle.regress_tables.proofs.first.first_outcome.Goals as goal
 

@@ -2,17 +2,17 @@ use Rattle.std.proofs.Common.{rules, ◌≡◌, ◌+◌, ◌-◌, ◌*◌, ◌�
 use Rattle.std.proofs.lemmas.List.{length-map}
 use Rattle.std.specs.Str.{IsCharBoundary}
 use Rattle.regress_tree.specs.Steps.{MatchState}
+use Rattle.regress_tree.specs.Reading.{forwards}
 use Rattle.regress_program.specs.Compiled.{total}
 use Rattle.regress_program.specs.Found.{state_of}
-use Rattle.regress_tables.specs.Searchable.{IsEnd, IsFirst, captures_in, outcomes_in, program_in}
-use Rattle.regress_tables.specs.Slots.{AreInside, resolved}
 use Rattle.regress_program.specs.Views.{routine_of}
 use Rattle.regress_program.specs.Isolated.{Captures}
 use Rattle.regress_program.specs.Program.{Out, Routine}
+use Rattle.regress_tables.specs.Searchable.{IsEnd, IsFirst, captures_in, outcomes_in, program_in}
+use Rattle.regress_tables.specs.Slots.{AreInside, resolved}
 use Rattle.regress_tables.specs.declared.first.FirstOutcome.{FirstOutcome}
-use Rattle.regress_tree.specs.Reading.{forwards}
-use Rattle.regress_tables.proofs.ResolveLemmas.{get-some, leftmost_steps, total_part}
-use Rattle.regress_tables.proofs.StepLemmas.{routine_size}
+use Rattle.regress_program.proofs.lemmas.Totals.{routine_size, total_part}
+use Rattle.regress_tables.proofs.ResolveLemmas.{get-some, leftmost_steps}
 use Rattle.regress_tables.proofs.SearchLemmas.{leftmost_by}
 use Rattle.regress_tables.proofs.WalkLemmas.{none-more, not-true}
 use Rattle.regress_tables.proofs.leftmost.find_leftmost.Goals as goal

@@ -8,11 +8,11 @@ use Rattle.regress_program.specs.Below.{Below}
 use Rattle.regress_program.specs.Program.{At, Op, part, split, begin_loop, repeat, end_loop, begin_group, look, goto, enter, reach, either, matcher_of, outcomes_by}
 use Rattle.regress_program.specs.declared.instruction.Instruction.TheVariants as insts
 use Rattle.regress_program.specs.Ranges.{changed_by}
-use Rattle.regress_tables.specs.Slots.{capture_in}
-use Rattle.regress_tables.specs.Table.{cell, has_outcome}
 use Rattle.regress_program.specs.Shape.{Fits}
 use Rattle.regress_program.specs.Tidy.{has_no_back_reference, is_tidy}
 use Rattle.regress_program.specs.Views.{op_of, program_of}
+use Rattle.regress_tables.specs.Slots.{capture_in}
+use Rattle.regress_tables.specs.Table.{cell, has_outcome}
 use Rattle.regress_tables.specs.Walked.{at_of, place_of, iterates, Leads, SetInside}
 use Rattle.regress_tables.proofs.CleanLemmas.{look-inside, look-unset, span-inside, unset-inside}
 use Rattle.regress_tables.proofs.EvaluateLemmas.{look-earlier, one_string}

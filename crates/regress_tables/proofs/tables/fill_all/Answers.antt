@@ -2,12 +2,13 @@ use Rattle.std.proofs.Common.{List, ◌≡◌, ◌+◌, ◌*◌, [], ◌∷◌, 
 use Rattle.std.proofs.Math.Seq.{take-length}
 use Rattle.std.proofs.lemmas.List.{length-map}
 use Rattle.std.proofs.lemmas.Option.{slice_get-map, slice_get_read}
+use Rattle.regress_program.specs.Compiled.{total}
+use Rattle.regress_program.specs.Views.{program_of, routine_of}
 use Rattle.regress_tables.specs.Bits.{bits_of}
 use Rattle.regress_tables.specs.declared.table.Table.{Table}
-use Rattle.regress_program.specs.Compiled.{total}
 use Rattle.regress_tables.specs.Table.{IsTableOf, AreTables, AreRight, IsRight}
-use Rattle.regress_program.specs.Views.{program_of, routine_of}
-use Rattle.regress_tables.proofs.FillLemmas.{push_tables, push_are_right, more_bits, total-more}
+use Rattle.regress_program.proofs.lemmas.Totals.{total-more}
+use Rattle.regress_tables.proofs.FillLemmas.{push_tables, push_are_right, more_bits}
 use Rattle.regress_tables.proofs.tables.fill_all.Goals as goal
 
 pub loop-routine-preserved : goal.loop-routine-preserved

@@ -2,8 +2,8 @@ use Rattle.std.proofs.Common.{◌≡◌, ◌+◌, ◌*◌, ℕ, length, min, tak
 use Rattle.regress_leaves.specs.Subject.{subject}
 use Rattle.regress_program.specs.Program.{IsSolution, Out}
 use Rattle.regress_program.specs.Compiled.{total}
-use Rattle.regress_tables.specs.Table.{AreRight, AreTables}
 use Rattle.regress_program.specs.Views.{program_of}
+use Rattle.regress_tables.specs.Table.{AreRight, AreTables}
 use Rattle.regress_tables.proofs.tables.fill_all.Given as goal
 
 abbrev pub invariant-loop-routine : goal.invariant-loop-routine

@@ -1,8 +1,8 @@
 use Rattle.std.proofs.Common.{◌≡◌, ◌+◌, ◌≤◌, ◌<◌, ℕ, length}
 use Rattle.regress_program.specs.Ranges.{inner_groups}
+use Rattle.regress_program.specs.Views.{program_of, routine_of}
 use Rattle.regress_tables.specs.Slots.{AreInside, IsClean}
 use Rattle.regress_tables.specs.Table.{index}
-use Rattle.regress_program.specs.Views.{program_of, routine_of}
 use Rattle.regress_tables.proofs.FirstLemmas.{IsOnWay}
 use Rattle.regress_tables.proofs.walk.walk.Given as goal
 

@@ -3,7 +3,7 @@ use Rattle.std.proofs.lemmas.List.{length-map}
 use Rattle.std.proofs.lemmas.Option.{slice_get-map, slice_get_read}
 use Rattle.regress_program.specs.Compiled.{total}
 use Rattle.regress_program.specs.Views.{op_of, program_of, routine_of}
-use Rattle.regress_tables.proofs.FillLemmas.{total-more}
+use Rattle.regress_program.proofs.lemmas.Totals.{total-more}
 use Rattle.regress_program.proofs.program.Program.instructions.Goals as goal
 
 pub loop-routine-preserved : goal.loop-routine-preserved

@@ -1,6 +1,7 @@
 use Rattle.std.proofs.Common.{◌+◌, ◌*◌, ◌≤◌, length, arith}
 use Rattle.regress_program.specs.Ranges.{inner_groups}
-use Rattle.regress_program.specs.Search.{capturing_steps, instructions_of, routines_of}
+use Rattle.regress_program.specs.Search.{instructions_of, routines_of}
+use Rattle.regress_tables.specs.Search.{capturing_steps}
 use Rattle.regress_tables.proofs.StepLemmas.{fill_and_find}
 use Rattle.regress_tables.proofs.linear.Linear.find.Goals as goal
 

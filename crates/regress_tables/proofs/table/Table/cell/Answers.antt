@@ -1,7 +1,8 @@
 use Rattle.std.proofs.Common.{◌≡◌, ◌+◌, ◌*◌, false, get_or, sym, ap, ◌∙◌, arith}
 use Rattle.std.proofs.lemmas.List.{get_or_past}
+use Rattle.regress_program.specs.Below.{place}
 use Rattle.regress_tables.specs.Bits.{bits_of}
-use Rattle.regress_tables.specs.Table.{cell, index, place}
+use Rattle.regress_tables.specs.Table.{cell, index}
 use Rattle.regress_tables.proofs.table.Table.cell.Goals as goal
 
 pub returns-then-index-len : goal.returns-then-index-len

@@ -1,0 +1,12 @@
+mod BitLemmas
+mod CleanLemmas
+mod EvaluateLemmas
+mod FillLemmas
+mod FirstLemmas
+mod FollowLemmas
+mod ResolveLemmas
+mod SearchLemmas
+mod SlotLemmas
+mod StepLemmas
+mod TellsLemmas
+mod WalkLemmas

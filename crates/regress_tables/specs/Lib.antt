@@ -1,0 +1,9 @@
+pub mod Bits
+pub mod Evaluated
+pub mod Filled
+pub mod Search
+pub mod Searchable
+pub mod Slots
+pub mod Table
+pub mod TextSearch
+pub mod Walked

@@ -1,0 +1,12 @@
+//! What a search finds.
+
+use regress_program::Match;
+
+/// The result of a search.
+#[derive(Debug, Drop)]
+pub struct Search {
+    /// The leftmost match, or `None` if there is none.
+    pub found: Option<Match>,
+    /// The number of steps: of bits that were evaluated, positions that were tried, and instructions of the walk.
+    pub steps: u64,
+}

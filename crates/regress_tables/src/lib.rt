@@ -1,0 +1,27 @@
+//! Programs matched by tables, in time linear in the length of the text if no back reference prevents it.
+#![tactic(auto)]
+
+mod bits;
+mod cells;
+mod evaluate;
+mod fill;
+mod filled;
+mod first;
+mod found;
+mod leftmost;
+mod linear;
+mod resolve;
+mod search;
+mod slots;
+mod step;
+mod table;
+mod tables;
+mod text;
+mod text_search;
+mod walk;
+mod walker;
+mod words;
+
+pub use found::Search;
+pub use linear::Linear;
+pub use text::TextSearch;
