@@ -83,18 +83,6 @@ pub record Claimed (ranges : List GroupRange) (d : Direction) (ops : List Op) (a
   pub before : (j : ℕ) → j < at → get_or claims j 0 ≡ claimed_for ranges d j (drop at ops) (claims_from ranges d at (drop at ops))
 
 module _ (ranges : List GroupRange) (d : Direction) (ops : List Op) where
-  pub claimed-none : Claimed ranges d ops (length ops) (replicate (length ops) (first_claim d))
-  claimed-none =
-      let n = length ops in
-      let claims = replicate n (first_claim d) in
-      let none : drop n ops ≡ [] = drop_all n ops (omega arith) in
-      record {
-        count = length-replicate n (first_claim d);
-        done = drop_all n claims (omega (arith, length-replicate n (first_claim d))) ∙ sym (ap (λ (os : List Op). claims_from ranges d n os) none);
-        before = λ j lt. get_or-replicate n j (first_claim d) 0 lt
-            ∙ sym (ap (λ (os : List Op). claimed_for ranges d j os (claims_from ranges d n os)) none);
-      }
-
   pub claimed-more : (at next : ℕ) (op : Op) (claims : List ℕ) → next ≡ at + 1 → at < length ops → drop at ops ≡ op ∷ drop next ops →
       Claimed ranges d ops next claims → Claimed ranges d ops at (with_instruction ranges d at op claims)
   claimed-more at next op claims one within more now =

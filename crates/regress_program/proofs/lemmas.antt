@@ -1,7 +1,7 @@
 -- Lemmas about the definitions of this crate, for use by other crates.
 pub mod Agreement
 pub mod Below
-pub mod Linear
+pub mod Instructions
 pub mod Onward
 pub mod Places
 pub mod Reasons

@@ -15,7 +15,7 @@ use Rattle.regress_tables.specs.declared.slots.Slot.{Slot}
 use Rattle.regress_tables.specs.declared.slots.Slot.TheVariants as slots
 use Rattle.regress_tables.specs.Slots.{AreInside, IsClean, resolved}
 use Rattle.regress_tables.specs.Walked.{OneSpan, SetInside, SlotsSet, UnsetSlots}
-use Rattle.regress_program.proofs.lemmas.Linear.{list_all-get, any-at}
+use Rattle.regress_program.proofs.lemmas.Instructions.{list_all-get, any-at}
 use Rattle.regress_tables.proofs.SlotLemmas.{cases_in, resolved-at, value_at}
 
 -- ---- what a tidy program keeps

@@ -17,7 +17,7 @@ use Rattle.regress_tables.specs.declared.table.Table.{Table}
 use Rattle.regress_tables.specs.declared.evaluate.Input.{Input}
 use Rattle.regress_tables.specs.Evaluated.{CanEvaluate, CanFill}
 use Rattle.regress_tables.specs.Table.{has_outcome, Tells, TellsOf, index, cell, IsRight, IsNext, SameShape, IsTableOf, IsFull, AreTables, AreRight}
-use Rattle.regress_program.proofs.lemmas.Linear.{no_reference-at}
+use Rattle.regress_program.proofs.lemmas.Instructions.{no_reference-at}
 use Rattle.regress_program.proofs.lemmas.Places.{column-less}
 
 pub same-index : (t t' : Table) (pc : ℕ) (moved : Bool) (position : ℕ) → SameShape t t' → index t' pc moved position ≡ index t pc moved position

@@ -57,15 +57,6 @@ set-more start k slot before after le lt so_far = record {
       ∙ so_far.outside id (λ is. out (is.0, omega (arith, is.1)));
 }
 
--- ids past the last slot make no difference
-pub set-clipped : (range : GroupRange) (stop : ℕ) (slot : Slot) (before after : List Slot) → stop ≡ min range.end (length before) →
-    SlotsSet (record { start = range.start; end = stop }) slot before after → SlotsSet range slot before after
-set-clipped range stop slot before after is so_far = record {
-  count = so_far.count;
-  inside = λ id lt within. so_far.inside id lt (within.0, omega (arith, within.1, lt, is));
-  outside = λ id out. so_far.outside id (λ within. out (within.0, omega (arith, within.1, is)));
-}
-
 -- a group that has captured a span
 pub one-span : (id from to : ℕ) (ss : List Slot) → id < length ss → OneSpan id ss (set ss id (slots.Span from to))
 one-span id from to ss lt = record {

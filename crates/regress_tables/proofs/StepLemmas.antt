@@ -50,12 +50,6 @@ module _ (t : Table) (is : t.backwards ≡ false) where
       let on = onward t.width t.length pc pc' moved' start end lt in_start in_end (omega (arith, falls, first, last)) in
       (on, sum t.width t.length pc pc' moved' start end lt in_start in_end s s' on (omega (arith, more, first, last)))
 
--- A part has at most as many instructions as the whole.
-pub steps_of_part : (part whole : ℕ) (text : List ℕ) (origin : ℕ) (found : Option Match) → part ≤ whole →
-    steps_up_to part text origin found ≤ steps_up_to whole text origin found
-steps_of_part part whole text origin None le = omega arith
-steps_of_part part whole text origin (Some m) le = mul-le-mul_right _ (let h : 2 * part + 1 ≤ 2 * whole + 1 = omega (arith, le) in h)
-
 -- the steps of filling the tables and of one search, which takes `more` for each character to find what lookarounds capture
 pub fill_and_find : (instructions more : ℕ) (text : List ℕ) (origin : ℕ) (found : Option Match) (fill find : ℕ) →
     fill ≤ 2 * instructions * (length text + 1) → find ≤ steps_up_to instructions text origin found + more * (length text + 1) →

@@ -36,7 +36,7 @@ use Rattle.regress_tables.specs.Slots.{capture_in, resolved}
 use Rattle.regress_tables.specs.Table.{has_outcome, cell, IsFull, IsRight}
 use Rattle.regress_tables.specs.Walked.{iterates, chosen, alternative, at_of, CanWalk, Leads, SetInside}
 use Rattle.regress_program.proofs.lemmas.Agreement.{isolated}
-use Rattle.regress_program.proofs.lemmas.Linear.{no_reference-at}
+use Rattle.regress_program.proofs.lemmas.Instructions.{no_reference-at}
 use Rattle.regress_program.proofs.lemmas.Onward.{Stays-tree, reached-one}
 use Rattle.regress_program.proofs.lemmas.Below.{below-here, below-enter, below-again, below-reach}
 use Rattle.regress_tables.proofs.SlotLemmas.{length-resolved, resolved-none, resolved-replaced, resolved-same}

@@ -21,7 +21,7 @@ use Rattle.regress_program.specs.Tidy.{has_no_back_reference}
 use Rattle.regress_program.proofs.lemmas.Onward.{Stays-tree, reached-one}
 use Rattle.regress_program.proofs.lemmas.Below.{below-here, below-enter, below-again, below-reach, reach-moved}
 use Rattle.regress_program.proofs.CaptureLemmas.{SameIn, SameIn-unset, SameIn-set, capture-none}
-use Rattle.regress_program.proofs.lemmas.Linear.{plain-at}
+use Rattle.regress_program.proofs.lemmas.Instructions.{no_reference-at}
 use Rattle.regress_program.proofs.LocalLemmas.{KeepsIn, local-matcher}
 use Rattle.regress_program.proofs.PutLemmas.{puts-part}
 
@@ -168,7 +168,7 @@ module _ (R : ℕ → Type 0) where
         (at-agrees setting bytes r.direction (length r.ops) (take i program) (matcher_of setting bytes program outs) (outs i) a cs lt within same
         (λ b ds below. routine-agrees i r is bodies n b ds below.pc below.position (omega (arith, below.lower, low)))
         (λ j earlier. body-agrees i bodies j a.state (with_captures cs a).state earlier within (record { position = refl; captures = same }))
-        (slice_get r.ops a.pc) (λ op e. (is_program i r is).fit a.pc op (omega arith) lt e) (λ op e. plain-at program i r a.pc op plain is e))
+        (slice_get r.ops a.pc) (λ op e. (is_program i r is).fit a.pc op (omega arith) lt e) (λ op e. no_reference-at program i r a.pc op plain is e))
 
     -- the outcomes from two places that agree
     agrees-at : (i : ℕ) (r : Routine) → slice_get program i ≡ Some r → AgreeBefore i → (pc : ℕ) (moved : Bool) (begins : List ℕ) (s t : MatchState) →

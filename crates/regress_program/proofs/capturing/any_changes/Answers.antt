@@ -2,7 +2,7 @@ use Rattle.std.proofs.Common.{◌≡◌, slice_get, Some, option_map, refl, sym,
 use Rattle.std.proofs.lemmas.Option.{slice_get-map, slice_get_read}
 use Rattle.regress_program.specs.Linear.{changes_captures}
 use Rattle.regress_program.specs.Views.{op_of, ops_of}
-use Rattle.regress_program.proofs.lemmas.Linear.{any-at, any-more}
+use Rattle.regress_program.proofs.lemmas.Instructions.{any-at, any-more}
 use Rattle.regress_program.proofs.capturing.any_changes.Goals as goal
 
 pub returns-then-changes_captures : goal.returns-then-changes_captures

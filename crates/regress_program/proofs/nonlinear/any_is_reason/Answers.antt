@@ -2,7 +2,7 @@ use Rattle.std.proofs.Common.{◌≡◌, slice_get, Some, option_map, refl, sym,
 use Rattle.std.proofs.lemmas.Option.{slice_get-map, slice_get_read}
 use Rattle.regress_program.specs.Linear.{is_reason}
 use Rattle.regress_program.specs.Views.{op_of, ops_of, program_of}
-use Rattle.regress_program.proofs.lemmas.Linear.{any-at, any-more}
+use Rattle.regress_program.proofs.lemmas.Instructions.{any-at, any-more}
 use Rattle.regress_program.proofs.nonlinear.any_is_reason.Goals as goal
 
 pub returns-then-is_reason : goal.returns-then-is_reason

@@ -4,7 +4,7 @@ use Rattle.std.specs.List.{list_any}
 use Rattle.regress_program.specs.Linear.{is_reason}
 use Rattle.regress_program.specs.Program.{Routine}
 use Rattle.regress_program.specs.Views.{ops_of, program_of, routine_of}
-use Rattle.regress_program.proofs.lemmas.Linear.{any-at, any-more}
+use Rattle.regress_program.proofs.lemmas.Instructions.{any-at, any-more}
 use Rattle.regress_program.proofs.nonlinear.has_reason.Goals as goal
 
 pub returns-then-any_is_reason : goal.returns-then-any_is_reason

@@ -1,9 +1,8 @@
--- What is known of the instructions of a linear program.
+-- What is known of one instruction, by what is known of all.
 use Rattle.std.proofs.Common.{◌≡◌, ℕ, zero, suc, Bool, true, false, not, ◌&&◌, ◌||◌, List, [], ◌∷◌, ◌+◌, take, slice_get, Some, refl, sym, ap, subst, ◌∙◌, arith}
 use Rattle.std.specs.List.{list_all, list_any}
-use Rattle.regress_tree.specs.Tree.{Tree}
-use Rattle.regress_program.specs.Linear.{is_back_ref, is_back_reference, is_capturing, is_linear_op, is_linear}
-use Rattle.regress_program.specs.Program.{Op, part, look, Routine}
+use Rattle.regress_program.specs.Linear.{is_back_reference}
+use Rattle.regress_program.specs.Program.{Op, Routine}
 use Rattle.regress_program.specs.Tidy.{has_no_back_reference}
 
 and_true : (a b : Bool) → (a && b) ≡ true → (a ≡ true) × (b ≡ true)
@@ -19,42 +18,16 @@ list_all-get p [] i x all is = cc
 list_all-get p (y ∷ ys) zero x all is = let same : y ≡ x = cc in sym (ap p same) ∙ (and_true (p y) (list_all p ys) all).0
 list_all-get p (y ∷ ys) (suc i) x all is = list_all-get p ys i x (and_true (p y) (list_all p ys) all).1 is
 
-pub list_any-get : {X : Type 0} (p : X → Bool) (xs : List X) (i : ℕ) (x : X) → list_any p xs ≡ false → slice_get xs i ≡ Some x → p x ≡ false
-list_any-get p [] i x none is = cc
-list_any-get p (y ∷ ys) zero x none is = let same : y ≡ x = cc in sym (ap p same) ∙ (or_false (p y) (list_any p ys) none).0
-list_any-get p (y ∷ ys) (suc i) x none is = list_any-get p ys i x (or_false (p y) (list_any p ys) none).1 is
-
-pub linear-at : (program : List Routine) (i : ℕ) (r : Routine) (pc : ℕ) (op : Op) → is_linear program ≡ true → slice_get program i ≡ Some r →
-    slice_get r.ops pc ≡ Some op → is_linear_op program op ≡ true
-linear-at program i r pc op linear is_r is_op =
-    list_all-get (is_linear_op program) r.ops pc op (list_all-get (λ (q : Routine). list_all (is_linear_op program) q.ops) program i r linear is_r) is_op
-
 not_false : (b : Bool) → not b ≡ true → b ≡ false
 not_false true is = cc
 not_false false is = refl
 
--- No instruction of such a program is a back reference.
+-- No instruction of a program without back references is one.
 pub no_reference-at : (program : List Routine) (i : ℕ) (r : Routine) (pc : ℕ) (op : Op) → has_no_back_reference program ≡ true → slice_get program i ≡ Some r →
     slice_get r.ops pc ≡ Some op → is_back_reference op ≡ false
 no_reference-at program i r pc op none is_r is_op =
     not_false (is_back_reference op)
     (list_all-get (λ o. not (is_back_reference o)) r.ops pc op (list_all-get (λ (q : Routine). list_all (λ o. not (is_back_reference o)) q.ops) program i r none is_r) is_op)
-
-pub linear-part : (program : List Routine) (t : Tree) (next : ℕ) → is_linear_op program (part t next) ≡ true → is_back_ref t ≡ false
-linear-part program t next linear = by (is_back_ref t) linear
-  where
-    by : (b : Bool) → (not b && true) ≡ true → b ≡ false
-    by true is = cc
-    by false is = refl
-
-pub linear-look : (program : List Routine) (negate : Bool) (i next : ℕ) → is_linear_op program (look negate i next) ≡ true → negate ≡ false →
-    is_capturing (slice_get program i) ≡ false
-linear-look program true i next linear is = cc
-linear-look program false i next linear is = by (is_capturing (slice_get program i)) linear
-  where
-    by : (b : Bool) → not b ≡ true → b ≡ false
-    by true is = cc
-    by false is = refl
 
 -- ---- one more instruction or routine
 
@@ -78,15 +51,3 @@ pub any-at : {X : Type 0} (p : X → Bool) (xs : List X) (i : ℕ) (x : X) → s
 any-at p [] i x is here = cc
 any-at p (y ∷ ys) zero x is here = let same : y ≡ x = cc in ap (λ b. b || list_any p ys) (ap p same ∙ here)
 any-at p (y ∷ ys) (suc i) x is here = true_or (p y) (list_any p ys) (any-at p ys i x is here)
-
--- ---- programs without back references
-
-not-true : (b : Bool) → not b ≡ true → b ≡ false
-not-true true is = cc
-not-true false is = refl
-
-pub plain-at : (program : List Routine) (i : ℕ) (r : Routine) (pc : ℕ) (op : Op) → has_no_back_reference program ≡ true →
-    slice_get program i ≡ Some r → slice_get r.ops pc ≡ Some op → is_back_reference op ≡ false
-plain-at program i r pc op plain is_r is_op =
-    not-true (is_back_reference op) (list_all-get (λ (o : Op). not (is_back_reference o)) r.ops pc op
-    (list_all-get (λ (q : Routine). list_all (λ o. not (is_back_reference o)) q.ops) program i r plain is_r) is_op)
