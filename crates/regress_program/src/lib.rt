@@ -1,4 +1,4 @@
-//! Patterns compiled into instructions, and what the instructions tell of matching them.
+//! Patterns compiled into instructions: what a program matches, and whether it is searched by tables.
 #![tactic(auto)]
 
 mod capturing;
