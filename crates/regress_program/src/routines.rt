@@ -1,4 +1,4 @@
-//! Programs of routines that are there already.
+//! Programs of routines.
 ghost use Rattle.std.specs.Prelude.{◌≡◌, ◌<◌, length};
 ghost use Rattle.regress_unicode.specs.TableOf.{table_of};
 ghost use Rattle.regress_program.specs.Search.{groups_of, routines_of, setting_of};
@@ -12,6 +12,31 @@ use regress_leaves::known::Known;
 use regress_unicode::Tables;
 
 impl<'n, 't> Program<'n, 't> {
+    /// Returns a program of these routines, for a pattern with these flags and this number of groups.
+    ///
+    /// # Preconditions
+    /// The routines are what compiling a pattern yields.
+    pub(crate) fn new(
+        routines: Vec<Routine<'n>>,
+        flags: Flags,
+        known: Known<'t>,
+        groups: usize,
+    ) -> Program<'n, 't>
+        requires program { IsProgram (program_of routines.items) }
+        requires some { 0 < length routines.items }
+        requires forwards { IsForwards (program_of routines.items) }
+        ensures routines { routines_of result ≡ program_of routines.entry.items }
+        ensures setting { setting_of result ≡ record { flags = flags; table = table_of known.entry.tables.now } }
+        ensures groups { groups_of result ≡ groups }
+    {
+        Program {
+            routines,
+            flags,
+            known,
+            groups,
+        }
+    }
+
     /// Returns the program of these routines, for a pattern with these flags and this number of groups. It is for the
     /// matchers of this repository, which keep the routines of a program in a form of their own.
     ///
