@@ -1,5 +1,5 @@
-use Rattle.std.proofs.Common.{◌≡◌, ℕ, ◌+◌, ◌-◌, ◌*◌, ◌≤◌, List, length, true, sym, ap, ◌∙◌, subst, IfOk}
-use Rattle.regress_leaves.specs.Subject.{Subject}
+use Rattle.std.proofs.Common.{◌≡◌, ℕ, ◌+◌, ◌-◌, ◌*◌, ◌≤◌, ◌<◌, List, length, true, sym, ap, ◌∙◌, subst, IfOk}
+use Rattle.regress_leaves.specs.Subject.{Subject, subject}
 use Rattle.regress_tree.specs.Setting.{Setting}
 use Rattle.regress_program.specs.Compiled.{total}
 use Rattle.regress_program.specs.Found.{Finds, no_groups}
@@ -8,6 +8,7 @@ use Rattle.regress_program.specs.Ranges.{inner_groups, ranges_of}
 use Rattle.regress_program.specs.Search.{routines_of, setting_of, groups_of, outcomes_from, tree_outcomes_from}
 use Rattle.regress_program.specs.Shape.{IsForwards, IsProgram}
 use Rattle.regress_program.specs.Tidy.{is_tabled}
+use Rattle.regress_program.specs.Views.{program_of}
 use Rattle.regress_tables.specs.Filled.{AreFilled}
 use Rattle.regress_tables.specs.Search.{steps_up_to}
 use Rattle.regress_program.proofs.lemmas.Solutions.{finds_by}
@@ -26,7 +27,7 @@ find_leftmost-requires c =
         tabled = subst (λ rs. is_tabled rs ≡ true) same l.tabled;
         ranges = c.deref.ensures.value ∙ subst (λ rs. l.ranges.items ≡ ranges_of rs) same l.ranged;
         inner = subst (λ rs. l.inner ≡ inner_groups rs) same l.within;
-        filled = subst (λ s. AreFilled s text _ c.args.tables.now) setting
+        filled = subst (λ s. AreFilled s text (program_of c.routines.result.now) c.args.tables.now) setting
             (subst (λ rs. AreFilled (setting_of l.program) text rs c.args.tables.now) same c.requires.filled);
       };
       some = subst (λ (rs : List Routine). 0 < length rs) same c.routines.ensures.some;
@@ -40,9 +41,10 @@ returns-clause-solved c =
     let Solved : Setting → List Routine → ℕ → Type 0 = λ s rs n.
     IfOk c.find_leftmost.result (λ search. (outs : ℕ → Out) → IsSolution s text rs outs →
     Finds text (λ k. matcher_of s text rs outs (length rs - 1) (no_groups n k)) c.args.from search.found) in
+    let setting = (subject c.rules.result text).setting in
     subst (λ s. Solved s (routines_of p) (groups_of p)) (ap (λ (u : Subject). u.setting) (c.rules.ensures text))
-    (subst (λ rs. Solved _ rs (groups_of p)) c.routines.ensures.routines
-    (subst (λ n. Solved _ _ n) c.groups.ensures c.find_leftmost.ensures.solved))
+    (subst (λ rs. Solved setting rs (groups_of p)) c.routines.ensures.routines
+    (subst (λ n. Solved setting (program_of c.routines.result.now) n) c.groups.ensures c.find_leftmost.ensures.solved))
 
 pub returns-clause-finds : goal.returns-clause-finds
 returns-clause-finds c =
