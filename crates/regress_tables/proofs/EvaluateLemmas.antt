@@ -1,9 +1,8 @@
 -- Evaluating an instruction yields its bit.
-use Rattle.std.proofs.Common.{◌*◌, get_or, map, ◌≡◌, ◌≢◌, ℕ, ◌+◌, ◌≤◌, ◌<◌, ◌⊎◌, ◌==◌, Bool, true, false, not, ◌&&◌, ◌||◌, List, [], ◌∷◌, ◌++◌, length, slice_get, take, Option, Some, None, IfSome, All, refl, sym, ap, ap₂, ◌∙◌, subst, append-nil, inl, inr, arith}
+use Rattle.std.proofs.Common.{◌*◌, get_or, map, ◌≡◌, ◌≢◌, ℕ, ◌+◌, ◌≤◌, ◌<◌, ◌⊎◌, ◌==◌, Bool, true, false, not, ◌&&◌, ◌||◌, List, [], ◌∷◌, ◌++◌, length, slice_get, take, Option, Some, None, IfSome, refl, sym, ap, ap₂, ◌∙◌, subst, append-nil, inl, inr, arith}
 use Rattle.std.proofs.Math.Bool.{beq}
 use Rattle.std.proofs.lemmas.Bool.{cases_eq}
 use Rattle.std.proofs.lemmas.List.{length-take}
-use Rattle.std.proofs.lemmas.List.Elements.{All-head}
 use Rattle.std.specs.Box.{boxed_slice_items}
 use Rattle.std.specs.Global.{Global}
 use Rattle.std.specs.declared.boxed.BoxedSlice.{BoxedSlice}
@@ -20,7 +19,7 @@ use Rattle.regress_leaves.proofs.lemmas.Leaves.{any-nil, any-cons}
 use Rattle.regress_program.specs.Below.{row_of, column, place}
 use Rattle.regress_program.specs.Program.{Out, Routine, Op, part, split, begin_loop, repeat, end_loop, unsets, begin_group, end_group, look, outcomes_by, matcher_of, start}
 use Rattle.regress_program.specs.Shape.{Fits, IsPart, IsProgram}
-use Rattle.regress_program.specs.Stays.{IsReached, IsOnward, Stays}
+use Rattle.regress_program.specs.Stays.{IsOnward, Stays}
 use Rattle.regress_tables.specs.declared.table.Table.{Table}
 use Rattle.regress_tables.specs.Evaluated.{reached_cell}
 use Rattle.regress_tables.specs.Table.{has_outcome, Tells, TellsOf, index, cell, IsRight, IsNext, AreRight, AreTables, IsFull, size}

@@ -1,9 +1,8 @@
 -- What an instruction's bit is, by the bits that it reads.
-use Rattle.std.proofs.Common.{◌≢◌, ◌≡◌, ℕ, ◌+◌, ◌*◌, ◌≤◌, ◌<◌, ◌==◌, Bool, true, false, not, ◌&&◌, ◌||◌, List, [], ◌∷◌, ◌++◌, flat_map, if◌then◌else◌, refl, ap, ap₂, ◌∙◌, append-nil, arith}
-use Rattle.std.proofs.Math.Nat.{mul-le-mul_right}
+use Rattle.std.proofs.Common.{◌≡◌, ℕ, ◌≤◌, ◌<◌, ◌==◌, Bool, true, false, not, ◌&&◌, ◌||◌, List, [], ◌∷◌, ◌++◌, flat_map, if◌then◌else◌, refl, ap, ap₂, ◌∙◌, append-nil, arith}
 use Rattle.std.proofs.Math.Bool.{beq}
 use Rattle.regress_tree.specs.Lookaround.{looked, lookaround_matcher}
-use Rattle.regress_tree.specs.Reading.{Direction, forwards, backwards, direction_if}
+use Rattle.regress_tree.specs.Reading.{direction_if}
 use Rattle.regress_tree.specs.Steps.{MatchState, Matcher}
 use Rattle.regress_program.specs.Below.{row_of}
 use Rattle.regress_program.specs.Program.{Out, At, goto, enter, reach, either, ended}
