@@ -1,15 +1,15 @@
 -- The claims of a routine are computed from the last instruction on.
-use Rattle.std.proofs.Common.{◌≡◌, ◌≢◌, ℕ, ◌+◌, ◌<◌, ◌≤◌, ◌==◌, Bool, true, false, ◌&&◌, ◌||◌, List, [], ◌∷◌, ◌++◌, length, take, drop, get_or, replicate, set, refl, sym, ap, ap₂, subst, ◌∙◌, arith}
+use Rattle.std.proofs.Common.{◌≡◌, ◌≢◌, ℕ, ◌+◌, ◌<◌, ◌≤◌, ◌==◌, Bool, true, false, ◌&&◌, ◌||◌, List, [], ◌∷◌, ◌++◌, length, take, drop, get_or, set, refl, sym, ap, ap₂, subst, ◌∙◌, arith}
 use Rattle.std.specs.Prelude.{if◌then◌else◌, nat_lt}
 use Rattle.std.specs.List.{list_all, list_any}
 use Rattle.std.proofs.lemmas.Bool.{eqb-true, eqb-false, ltb-true, ltb-false}
-use Rattle.std.proofs.lemmas.List.{drop_all, drop-set, drop-set-lt, get_or-replicate, get_or-set_same, get_or-set_other, length-replicate, length-set}
+use Rattle.std.proofs.lemmas.List.{drop-set, drop-set-lt, get_or-set_same, get_or-set_other, length-set}
 use Rattle.std.proofs.Math.Seq.{take-append_seam}
 use Rattle.regress_tree.specs.Reading.{Direction, forwards, backwards}
 use Rattle.regress_program.specs.declared.ranges.GroupRange.{GroupRange}
 use Rattle.regress_program.specs.Claims.{with_followers, with_instruction, with_next}
 use Rattle.regress_program.specs.Program.{Op}
-use Rattle.regress_program.specs.Tidy.{all_kept, claim_after, claim_at, claimed_for, claims_from, common, first_claim, followers, is_kept}
+use Rattle.regress_program.specs.Tidy.{all_kept, claim_after, claim_at, claimed_for, claims_from, common, followers, is_kept}
 
 common_twice : (d : Direction) (a b : ℕ) → common d a (common d a b) ≡ common d a b
 common_twice forwards a b = omega arith

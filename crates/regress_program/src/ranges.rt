@@ -40,10 +40,7 @@ impl GroupRange {
 ///
 /// # Errors
 /// Returns [`AllocError`] if an allocation fails.
-pub fn ranges_of(
-    alloc: Global,
-    routines: &[Routine<'_>],
-) -> Result<Vec<GroupRange>, AllocError>
+pub fn ranges_of(alloc: Global, routines: &[Routine<'_>]) -> Result<Vec<GroupRange>, AllocError>
     ensures { IfOk result (λ ranges. ranges.items ≡ ranges_of (program_of routines.now)) }
 {
     let mut ranges = Vec::with_capacity(alloc, routines.len())?;
