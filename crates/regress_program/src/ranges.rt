@@ -38,6 +38,9 @@ impl GroupRange {
 
 /// Returns for each routine the least range of the groups that it changes.
 ///
+/// # Complexity
+/// Linear in the number of instructions.
+///
 /// # Errors
 /// Returns [`AllocError`] if an allocation fails.
 pub fn ranges_of(alloc: Global, routines: &[Routine<'_>]) -> Result<Vec<GroupRange>, AllocError>
@@ -62,7 +65,7 @@ fn changed_by_all(earlier: &[GroupRange], instructions: &[Instruction<'_>]) -> G
     range
 }
 
-/// Returns the range of the groups that an instruction changes.
+/// Returns the range of the groups that an instruction changes, where `earlier` are those of the routines before its own.
 pub fn changed_by(earlier: &[GroupRange], instruction: &Instruction<'_>) -> GroupRange
     ensures { result ≡ changed_by earlier.now (op_of instruction.now) }
 {
