@@ -65,7 +65,7 @@ fn changed_by_all(earlier: &[GroupRange], instructions: &[Instruction<'_>]) -> G
     range
 }
 
-/// Returns the range of the groups that an instruction changes, where `earlier` are those of the routines before its own.
+/// Returns the range of the groups that an instruction changes, by those of the routines before its own.
 pub fn changed_by(earlier: &[GroupRange], instruction: &Instruction<'_>) -> GroupRange
     ensures { result ≡ changed_by earlier.now (op_of instruction.now) }
 {
