@@ -11,7 +11,7 @@ ghost use Rattle.regress_tree.specs.Steps.{MatchState, these_bytes};
 ghost use Rattle.regress_tree.specs.Tree.{tree};
 ghost use Rattle.regress_unicode.specs.TableOf.{table_of};
 ghost use Rattle.regress_prefilter.specs.OneCharacter.{sole_character, takes_one, test_of};
-ghost use Rattle.regress_leaves.specs.Leaves.{put, read_of, is_simple, GoesTo, one_of};
+ghost use Rattle.regress_leaves.specs.Leaves.{put, read_of, is_simple, exactly, GoesTo, one_of};
 ghost use Rattle.regress_leaves.specs.Subject.{subject};
 
 use crate::characters::{denotes, is_line_terminator, is_word_character};
@@ -123,6 +123,24 @@ pub fn one_character(
 {
     let (c, to) = next_read(text, rules.backwards, position)?;
     if accepts(node, c) { Some(to) } else { None }
+}
+
+/// Returns the position after exactly `count` characters, each of which the leaf accepts, in the direction of matching, or
+/// `None` if there are fewer. The leaf matches one character.
+pub fn exactly(
+    text: &str,
+    rules: MatchContext<'_>,
+    node: &Node,
+    count: usize,
+    position: usize,
+) -> Option<usize>
+    ensures { takes_one (tree node.now) ≡ true → GoesTo (subject rules.entry text.now) position (exactly count (tree node.now)) result }
+{
+    let mut here = position;
+    for _i in 0..count {
+        here = simple_leaf(text, rules, node, here)?;
+    }
+    Some(here)
 }
 
 /// Returns whether a node is a leaf that matches exactly one character.

@@ -8,6 +8,7 @@ mod ChangedLemmas
 mod CleanLemmas
 mod CodeLemmas
 mod CompileLemmas
+mod CountLemmas
 mod EvaluateLemmas
 mod FillLemmas
 mod FirstLemmas
@@ -16,6 +17,7 @@ mod FollowLemmas
 mod KeepLemmas
 mod LinearLemmas
 mod LocalLemmas
+mod PartLemmas
 mod PutLemmas
 mod RangeLemmas
 mod RepeatLemmas

@@ -13,7 +13,7 @@ ghost use Rattle.regress_program.specs.Views.{op_of, program_of};
 
 use crate::instruction::{Instruction, Routine};
 use crate::table::Table;
-use regress_leaves::leaves::{all_of, simple_leaf};
+use regress_leaves::leaves::{all_of, exactly, simple_leaf};
 use regress_leaves::rules::MatchContext;
 use regress_tree::ir::Node;
 
@@ -51,6 +51,10 @@ pub(crate) fn evaluate(
         Instruction::Fail => false,
         Instruction::Leaf { node, next } => {
             let to = leaf_end(input.text, input.rules, node, position);
+            reached(table, next, moved, position, to)
+        }
+        Instruction::Characters { node, count, next } => {
+            let to = exactly(input.text, input.rules, node, count, position);
             reached(table, next, moved, position, to)
         }
         Instruction::Text {

@@ -5,6 +5,7 @@
 mod bits;
 mod capturing;
 mod cells;
+mod characters;
 mod claims;
 mod compile;
 mod compiler;

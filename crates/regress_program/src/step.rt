@@ -17,7 +17,7 @@ use crate::instruction::Instruction;
 use crate::ranges::{GroupRange, changed_by};
 use crate::table::Table;
 use crate::walker::Walker;
-use regress_leaves::leaves::all_of;
+use regress_leaves::leaves::{all_of, exactly};
 use std::alloc::AllocError;
 
 /// Goes on to the next instruction of the first outcome. Returns false at the end, or if there is no outcome.
@@ -60,6 +60,10 @@ pub(crate) fn step(
         Instruction::Fail => return Ok(false),
         Instruction::Leaf { node, next } => {
             let to = leaf_end(input.text, input.rules, node, position);
+            return Ok(walker.reach(next, to));
+        }
+        Instruction::Characters { node, count, next } => {
+            let to = exactly(input.text, input.rules, node, count, position);
             return Ok(walker.reach(next, to));
         }
         Instruction::Text {
