@@ -117,7 +117,7 @@ module _ (setting : Setting) (bytes : List ℕ) (d : Direction) where
       (iterations-keeps q.min (steps setting bytes d body) (part-keeps body (part_if_one body is.1)) s)
   part-keeps (wrapped (capture_group id name) body) is s = absurd is
   part-keeps (wrapped (loop q start end) body) is s = absurd is
-  part-keeps (wrapped (lookaround negate backwards start end) body) is s = absurd is
+  part-keeps (wrapped (lookaround negate looks_back start end) body) is s = absurd is
 
 -- ---- instructions
 

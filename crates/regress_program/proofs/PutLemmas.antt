@@ -130,7 +130,7 @@ module _ (setting : Setting) (bytes : List ℕ) (d : Direction) where
       record { to = all.to; goes = λ s at. counted-steps setting bytes d q body s is.0 ∙ all.goes s at }
   puts-at (wrapped (capture_group id name) body) is plain p = absurd is
   puts-at (wrapped (loop q start end) body) is plain p = absurd is
-  puts-at (wrapped (lookaround negate backwards start end) body) is plain p = absurd is
+  puts-at (wrapped (lookaround negate looks_back start end) body) is plain p = absurd is
 
   pub puts-part : (p : ℕ) (t : Tree) → IsPart t → is_back_ref t ≡ false → Puts (steps setting bytes d t) p
   puts-part p t is plain = puts-at t is plain p

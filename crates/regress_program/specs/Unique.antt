@@ -30,7 +30,7 @@ part-prop (alt left right) = hlevel props
 part-prop (wrapped (loop_one q) body) = hlevel props
 part-prop (wrapped (capture_group id name) body) = hlevel props
 part-prop (wrapped (loop q start end) body) = hlevel props
-part-prop (wrapped (lookaround negate backwards start end) body) = hlevel props
+part-prop (wrapped (lookaround negate looks_back start end) body) = hlevel props
 
 pub fits-prop : (earlier : List Routine) (high i : ℕ) (op : Op) → IsProp (Fits earlier high i op)
 fits-prop earlier high i accept = hlevel props

@@ -86,8 +86,8 @@ pub(crate) fn evaluate(
     }
 }
 
-/// Returns the position at which a leaf ends, or `None` if it fails. It is no back reference, and a set of strings has
-/// only one.
+/// Returns the position at which a leaf, or exactly so many characters, end, or `None` if they fail. It is no back
+/// reference, and a set of strings has only one.
 pub(crate) fn leaf_end(
     text: &str,
     rules: MatchContext<'_>,
@@ -103,6 +103,9 @@ pub(crate) fn leaf_end(
             alternatives,
             icase,
         } => all_of(text, rules, *icase, &alternatives[0], position),
+        Node::Loop1CharBody { loopee, quant } => {
+            exactly(text, rules, loopee, quant.min, position)
+        }
         _ => simple_leaf(text, rules, node, position),
     }
 }
