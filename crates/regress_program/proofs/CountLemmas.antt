@@ -17,7 +17,9 @@ use Rattle.regress_tree.specs.Steps.{MatchState, Matcher, ◌then_◌, ◌or_◌
 use Rattle.regress_tree.specs.Tree.{loop_one, Tree, wrapped}
 use Rattle.regress_tree.proofs.lemmas.Groups.{iteration-none}
 use Rattle.regress_tree.proofs.lemmas.Outcomes.{flat_map-then, flat_map-stay}
-use Rattle.regress_program.specs.Compiled.{matching, exactly, optional, extra, Code, Compiled}
+use Rattle.regress_program.specs.Compiled.{Matching, matching, exactly, optional, any_number, extra, Code, Compiled}
+use Rattle.regress_program.specs.CodeOf.{iterating}
+use Rattle.regress_program.specs.declared.loops.Iterations.{Iterations}
 use Rattle.regress_program.specs.Program.{part}
 use Rattle.regress_program.specs.Pushed.{Pushed, preferred}
 use Rattle.regress_program.proofs.CompileLemmas.{compiled_same, compiled_nothing, compiled_part, compiled_then, compiled_or, compiled_later}
@@ -27,12 +29,24 @@ flat_map-same : (f g : Matcher) → ((s : MatchState) → f s ≡ g s) → (stat
 flat_map-same f g same [] = refl
 flat_map-same f g same (s ∷ states) = ap₂ ◌++◌ (same s) (flat_map-same f g same states)
 
+-- a sum, by the first number
+abbrev plus : ℕ → ℕ → ℕ
+plus zero b = b
+plus (suc a) b = suc (plus a b)
+
+plus-is : (a b : ℕ) → plus a b ≡ a + b
+plus-is zero b = omega arith
+plus-is (suc a) b = omega (arith, plus-is a b)
+
+iterations-plus : (a b : ℕ) (f : Matcher) (s : MatchState) → iterations (plus a b) f s ≡ (iterations a f then_ iterations b f) s
+iterations-plus zero b f s = sym (append-nil (iterations b f s))
+iterations-plus (suc a) b f s =
+    flat_map-same (iterations (plus a b) f) (iterations a f then_ iterations b f) (λ t. iterations-plus a b f t) (f s)
+    ∙ flat_map-then (iterations a f) (iterations b f) (f s)
+
 -- a number of iterations, and then more of them
 pub iterations-add : (a b : ℕ) (f : Matcher) (s : MatchState) → iterations (a + b) f s ≡ (iterations a f then_ iterations b f) s
-iterations-add zero b f s = sym (append-nil (iterations b f s))
-iterations-add (suc a) b f s =
-    flat_map-same (iterations (a + b) f) (iterations a f then_ iterations b f) (λ t. iterations-add a b f t) (f s)
-    ∙ flat_map-then (iterations a f) (iterations b f) (f s)
+iterations-add a b f s = ap (λ (n : ℕ). iterations n f s) (sym (plus-is a b)) ∙ iterations-plus a b f s
 
 pub iterations-one : (f : Matcher) (s : MatchState) → f s ≡ iterations 1 f s
 iterations-one f s = sym (flat_map-stay (f s))
@@ -58,40 +72,56 @@ module _ (F : Matcher) (sole : (s : MatchState) → Sole s (F s)) where
   module _ (m : ℕ) where
     -- after the outcomes of one iteration, by what holds after each
     greedy-after : (k : ℕ) (s : MatchState) →
-        ((t : MatchState) → up_to true (suc k + m) F t ≡ flat_map (up_to true m F) (iterations (suc k) F t) ++ up_to true k F t) →
+        ((t : MatchState) → up_to true (suc (plus k m)) F t ≡ flat_map (up_to true m F) (iterations (suc k) F t) ++ up_to true k F t) →
         (states : List MatchState) → Sole s states →
-        flat_map (up_to true (suc k + m) F) states ++ s ∷ []
+        flat_map (up_to true (suc (plus k m)) F) states ++ s ∷ []
         ≡ flat_map (up_to true m F) (flat_map (iterations (suc k) F) states) ++ (flat_map (up_to true k F) states ++ s ∷ [])
-    greedy-after k s so_far [] none = refl
-    greedy-after k s so_far (t ∷ []) (one t moves) =
+    greedy-after k s so_far states none = refl
+    greedy-after k s so_far states (one t moves) =
         let A = flat_map (up_to true m F) (iterations (suc k) F t) in
         let B = up_to true k F t in
         ap (λ xs. xs ++ s ∷ []) (append-nil _ ∙ so_far t) ∙ append_assoc A B (s ∷ [])
         ∙ ap₂ (λ xs ys. flat_map (up_to true m F) xs ++ (ys ++ s ∷ [])) (sym (append-nil (iterations (suc k) F t))) (sym (append-nil B))
 
-    greedy-split : (k : ℕ) (s : MatchState) → up_to true (suc k + m) F s ≡ flat_map (up_to true m F) (iterations (suc k) F s) ++ up_to true k F s
+    greedy-split : (k : ℕ) (s : MatchState) → up_to true (suc (plus k m)) F s ≡ flat_map (up_to true m F) (iterations (suc k) F s) ++ up_to true k F s
     greedy-split zero s =
         greedy-more m s ∙ ap (λ states. flat_map (up_to true m F) states ++ s ∷ []) (iterations-one F s)
     greedy-split (suc k) s =
-        greedy-more (suc k + m) s ∙ greedy-after k s (greedy-split k) (F s) (sole s)
+        greedy-more (plus (suc k) m) s ∙ greedy-after k s (greedy-split k) (F s) (sole s)
         ∙ ap (λ xs. flat_map (up_to true m F) (iterations (suc (suc k)) F s) ++ xs) (sym (greedy-more k s))
 
     lazy-after : (k : ℕ) (s : MatchState) →
-        ((t : MatchState) → up_to false (suc k + m) F t ≡ up_to false k F t ++ flat_map (up_to false m F) (iterations (suc k) F t)) →
+        ((t : MatchState) → up_to false (suc (plus k m)) F t ≡ up_to false k F t ++ flat_map (up_to false m F) (iterations (suc k) F t)) →
         (states : List MatchState) → Sole s states →
-        s ∷ flat_map (up_to false (suc k + m) F) states
+        s ∷ flat_map (up_to false (suc (plus k m)) F) states
         ≡ (s ∷ flat_map (up_to false k F) states) ++ flat_map (up_to false m F) (flat_map (iterations (suc k) F) states)
-    lazy-after k s so_far [] none = refl
-    lazy-after k s so_far (t ∷ []) (one t moves) =
+    lazy-after k s so_far states none = refl
+    lazy-after k s so_far states (one t moves) =
         ap (λ xs. s ∷ xs) (append-nil _ ∙ so_far t)
         ∙ ap₂ (λ xs ys. (s ∷ ys) ++ flat_map (up_to false m F) xs) (sym (append-nil (iterations (suc k) F t))) (sym (append-nil (up_to false k F t)))
 
-    lazy-split : (k : ℕ) (s : MatchState) → up_to false (suc k + m) F s ≡ up_to false k F s ++ flat_map (up_to false m F) (iterations (suc k) F s)
+    lazy-split : (k : ℕ) (s : MatchState) → up_to false (suc (plus k m)) F s ≡ up_to false k F s ++ flat_map (up_to false m F) (iterations (suc k) F s)
     lazy-split zero s =
         lazy-more m s ∙ ap (λ states. s ∷ flat_map (up_to false m F) states) (iterations-one F s)
     lazy-split (suc k) s =
-        lazy-more (suc k + m) s ∙ lazy-after k s (lazy-split k) (F s) (sole s)
+        lazy-more (plus (suc k) m) s ∙ lazy-after k s (lazy-split k) (F s) (sole s)
         ∙ ap (λ xs. xs ++ flat_map (up_to false m F) (iterations (suc (suc k)) F s)) (sym (lazy-more k s))
+
+    number : (k : ℕ) → suc (plus k m) ≡ k + 1 + m
+    number k = omega (arith, plus-is k m)
+
+    one_more : (k : ℕ) → suc k ≡ k + 1
+    one_more k = omega arith
+
+    pub split-greedy : (k : ℕ) (s : MatchState) → up_to true (k + 1 + m) F s ≡ flat_map (up_to true m F) (iterations (k + 1) F s) ++ up_to true k F s
+    split-greedy k s =
+        ap (λ (n : ℕ). up_to true n F s) (sym (number k)) ∙ greedy-split k s
+        ∙ ap (λ (n : ℕ). flat_map (up_to true m F) (iterations n F s) ++ up_to true k F s) (one_more k)
+
+    pub split-lazy : (k : ℕ) (s : MatchState) → up_to false (k + 1 + m) F s ≡ up_to false k F s ++ flat_map (up_to false m F) (iterations (k + 1) F s)
+    split-lazy k s =
+        ap (λ (n : ℕ). up_to false n F s) (sym (number k)) ∙ lazy-split k s
+        ∙ ap (λ (n : ℕ). up_to false k F s ++ flat_map (up_to false m F) (iterations n F s)) (one_more k)
 
 -- ---- one character
 
@@ -152,27 +182,36 @@ loop-steps setting bytes d q t s =
     ap (λ (f : Matcher). (iterations q.min f then_ up_to q.greedy (extra_iterations (length bytes + 1) q) f) s)
     (iteration-none 0 0 (le_refl 0) (steps setting bytes d t))
 
+-- without groups an iteration is the body
+pub compiled_plain : (a b : Code) (i : Iterations) (f : Matching) (next at : ℕ) → i.end ≤ i.start → Compiled a b (any_number i.greedy (iterating i f)) next at →
+    Compiled a b (any_number i.greedy f) next at
+compiled_plain a b i f next at empty is =
+    compiled_same a b (any_number i.greedy (iterating i f)) (any_number i.greedy f) next at
+    (λ d setting bytes s inside.
+    ap (λ (h : Matcher). up_to i.greedy (length bytes + 1) h s) (iteration-none i.start i.end empty (f d setting bytes)))
+    is
+
 module _ (leaf' : Tree) (takes : takes_one leaf' ≡ true) where
   -- at most m + k + 1 characters: k + 1 of them, and after them at most m, or else at most k
   pub compiled_split : (a b c e : Code) (greedy : Bool) (m k : ℕ) (next rest other first at : ℕ) → Compiled a b (optional greedy m (matching leaf')) next rest →
-      Compiled a b (optional greedy k (matching leaf')) next other → Compiled b c (exactly (suc k) (matching leaf')) rest first →
-      Pushed c e (preferred greedy first other) at → Compiled a e (optional greedy (suc k + m) (matching leaf')) next at
+      Compiled a b (optional greedy k (matching leaf')) next other → Compiled b c (exactly (k + 1) (matching leaf')) rest first →
+      Pushed c e (preferred greedy first other) at → Compiled a e (optional greedy (k + 1 + m) (matching leaf')) next at
   compiled_split a b c e true m k next rest other first at is is' more pushed =
-      compiled_same a e (λ d setting bytes. (exactly (suc k) (matching leaf') d setting bytes then_ optional true m (matching leaf') d setting bytes) or_ optional true k (matching leaf') d setting bytes)
-      (optional true (suc k + m) (matching leaf')) next at
-      (λ d setting bytes s inside. sym (greedy-split (matching leaf' d setting bytes) (takes_one-sole setting bytes d leaf' takes) m k s))
-      (compiled_or a c e (λ d setting bytes. exactly (suc k) (matching leaf') d setting bytes then_ optional true m (matching leaf') d setting bytes)
+      compiled_same a e (λ d setting bytes. (exactly (k + 1) (matching leaf') d setting bytes then_ optional true m (matching leaf') d setting bytes) or_ optional true k (matching leaf') d setting bytes)
+      (optional true (k + 1 + m) (matching leaf')) next at
+      (λ d setting bytes s inside. sym (split-greedy (matching leaf' d setting bytes) (takes_one-sole setting bytes d leaf' takes) m k s))
+      (compiled_or a c e (λ d setting bytes. exactly (k + 1) (matching leaf') d setting bytes then_ optional true m (matching leaf') d setting bytes)
       (optional true k (matching leaf')) next first other at
-      (compiled_then a b c (exactly (suc k) (matching leaf')) (optional true m (matching leaf')) next rest first is more)
+      (compiled_then a b c (exactly (k + 1) (matching leaf')) (optional true m (matching leaf')) next rest first is more)
       (compiled_later a b c (optional true k (matching leaf')) next other more.grown is') pushed)
   compiled_split a b c e false m k next rest other first at is is' more pushed =
-      compiled_same a e (λ d setting bytes. optional false k (matching leaf') d setting bytes or_ (exactly (suc k) (matching leaf') d setting bytes then_ optional false m (matching leaf') d setting bytes))
-      (optional false (suc k + m) (matching leaf')) next at
-      (λ d setting bytes s inside. sym (lazy-split (matching leaf' d setting bytes) (takes_one-sole setting bytes d leaf' takes) m k s))
-      (compiled_or a c e (optional false k (matching leaf')) (λ d setting bytes. exactly (suc k) (matching leaf') d setting bytes then_ optional false m (matching leaf') d setting bytes)
+      compiled_same a e (λ d setting bytes. optional false k (matching leaf') d setting bytes or_ (exactly (k + 1) (matching leaf') d setting bytes then_ optional false m (matching leaf') d setting bytes))
+      (optional false (k + 1 + m) (matching leaf')) next at
+      (λ d setting bytes s inside. sym (split-lazy (matching leaf' d setting bytes) (takes_one-sole setting bytes d leaf' takes) m k s))
+      (compiled_or a c e (optional false k (matching leaf')) (λ d setting bytes. exactly (k + 1) (matching leaf') d setting bytes then_ optional false m (matching leaf') d setting bytes)
       next other first at
       (compiled_later a b c (optional false k (matching leaf')) next other more.grown is')
-      (compiled_then a b c (exactly (suc k) (matching leaf')) (optional false m (matching leaf')) next rest first is more) pushed)
+      (compiled_then a b c (exactly (k + 1) (matching leaf')) (optional false m (matching leaf')) next rest first is more) pushed)
 
   -- one instruction
   pub compiled_characters : (a b : Code) (n next at : ℕ) → next < length a.ops → Pushed a b (part (exactly' n leaf') next) at →

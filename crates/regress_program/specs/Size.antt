@@ -36,7 +36,7 @@ size_of_exactly n = (n + 63) / 64
 
 -- At most n characters, where `most` is at least n. An odd number is split: half + 1 or none, and then at most half. Of an
 -- even number there are one and then at most n - 1, or none.
-pub size_of_up_to : (most n : ℕ) → ℕ
+unfoldable pub size_of_up_to : (most n : ℕ) → ℕ
 size_of_up_to zero n = 0
 size_of_up_to (suc most) n =
     if n == 0 then 0

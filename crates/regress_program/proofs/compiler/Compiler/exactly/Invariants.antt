@@ -1,4 +1,4 @@
-use Rattle.std.proofs.Common.{◌≡◌, ℕ, ◌+◌, ◌-◌, ◌≤◌}
+use Rattle.std.proofs.Common.{◌≡◌, ◌+◌, ◌-◌, ◌≤◌}
 use Rattle.regress_tree.specs.Tree.{tree}
 use Rattle.regress_program.specs.CodeOf.{code_of}
 use Rattle.regress_program.specs.Compiled.{exactly, matching, Compiled}
