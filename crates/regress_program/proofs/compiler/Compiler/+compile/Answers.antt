@@ -1,5 +1,5 @@
 -- Each kind of node.
-use Rattle.std.proofs.Common.{rules, true, ◌≡◌, ℕ, ◌+◌, ◌-◌, ◌*◌, [], ◌∷◌, ◌++◌, length, refl, sym, ap, ap₂, subst, ◌∙◌, le_refl, le_trans, arith}
+use Rattle.std.proofs.Common.{rules, true, ◌≡◌, ◌≤◌, ℕ, ◌+◌, ◌-◌, ◌*◌, [], ◌∷◌, ◌++◌, length, refl, sym, ap, ap₂, subst, ◌∙◌, le_refl, le_trans, arith}
 use Rattle.std.proofs.lemmas.Result.{IfOk-weaker}
 use Rattle.std.proofs.lemmas.List.{length-map, length_push, map-append, map-set, nil_from_length}
 use Rattle.regress_tree.proofs.lemmas.Nodes.{tree-Empty, tree-Goal, tree-Alt, tree-CaptureGroup, tree-LookaroundAssertion}
