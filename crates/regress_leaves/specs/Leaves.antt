@@ -4,7 +4,7 @@ use Rattle.regress_prefilter.specs.OneCharacter.{test_of}
 use Rattle.regress_tree.specs.Matching.{steps}
 use Rattle.regress_tree.specs.Reading.{Direction, Read, of_bytes}
 use Rattle.regress_tree.specs.Steps.{MatchState, Matcher, one_character}
-use Rattle.regress_tree.specs.Tree.{Leaf, back_ref, string_set, Tree, leaf}
+use Rattle.regress_tree.specs.Tree.{Leaf, back_ref, string_set, loop_one, Tree, leaf, wrapped}
 use Rattle.regress_leaves.specs.Subject.{Subject}
 
 -- the state moved to a position, or no outcome
@@ -44,3 +44,7 @@ one_of d bytes t = one_character d (of_bytes bytes) (test_of t)
 -- From the position the part has one outcome, which moves to `to` and sets no group, or none, whatever the captures are.
 abbrev pub GoesTo : Subject → (position : ℕ) → Tree → Option ℕ → Type 0
 GoesTo u position t to = (s : MatchState) → s.position ≡ position → steps u.setting u.bytes u.direction t s ≡ put s to
+
+-- exactly n characters that a leaf matches, as a loop
+abbrev pub exactly : ℕ → Tree → Tree
+exactly n t = wrapped (loop_one (record { min = n; max = Some n; greedy = true })) t

@@ -1,14 +1,15 @@
 //! What leaves match.
-ghost use Rattle.std.specs.Prelude.{◌≡◌, ◌<◌, [], ◌∷◌, true, None, drop, length, nat_eq, option_map, slice_index, if◌then◌else◌};
+ghost use Rattle.std.specs.Prelude.{◌≡◌, ◌<◌, [], ◌∷◌, true, None, Some, drop, length, nat_eq, option_map, slice_index, if◌then◌else◌};
 ghost use Rattle.std.specs.List.{starts_with};
 ghost use Rattle.regress_base.specs.Listing.{lists};
 ghost use Rattle.regress_base.specs.Table.{denotes};
+ghost use Rattle.regress_base.specs.declared.types.Quantifier.{Quantifier};
 ghost use Rattle.regress_tree.specs.Assertions.{at_anchor, at_boundary, is_line_terminator, is_word_character, passes};
 ghost use Rattle.regress_tree.specs.Matching.{steps};
 ghost use Rattle.regress_tree.specs.Reading.{backwards, forwards, of_bytes, direction_if};
 ghost use Rattle.regress_tree.specs.References.{all_of, back_reference, in_order};
 ghost use Rattle.regress_tree.specs.Steps.{MatchState, these_bytes};
-ghost use Rattle.regress_tree.specs.Tree.{tree};
+ghost use Rattle.regress_tree.specs.Tree.{loop_one, tree, wrapped};
 ghost use Rattle.regress_unicode.specs.TableOf.{table_of};
 ghost use Rattle.regress_prefilter.specs.OneCharacter.{sole_character, takes_one, test_of};
 ghost use Rattle.regress_leaves.specs.Leaves.{put, read_of, is_simple, GoesTo, one_of};
@@ -123,6 +124,25 @@ pub fn one_character(
 {
     let (c, to) = next_read(text, rules.backwards, position)?;
     if accepts(node, c) { Some(to) } else { None }
+}
+
+/// Returns the position after exactly `count` characters, each of which the leaf accepts, in the direction of matching, or
+/// `None` if there are fewer. The leaf matches one character.
+pub fn exactly(
+    text: &str,
+    rules: MatchContext<'_>,
+    node: &Node,
+    count: usize,
+    position: usize,
+) -> Option<usize>
+    ensures { takes_one (tree node.now) ≡ true → (q : Quantifier) → q.min ≡ count → q.max ≡ Some q.min →
+        GoesTo (subject rules.entry text.now) position (wrapped (loop_one q) (tree node.now)) result }
+{
+    let mut here = position;
+    for _i in 0..count {
+        here = simple_leaf(text, rules, node, here)?;
+    }
+    Some(here)
 }
 
 /// Returns whether a node is a leaf that matches exactly one character.

@@ -5,12 +5,14 @@ use Rattle.regress_base.specs.Table.{denotes}
 use Rattle.regress_tree.specs.Matching.{steps}
 use Rattle.regress_tree.specs.Reading.{Direction, forwards, backwards, Reading, Read, next_character, of_bytes}
 use Rattle.regress_tree.specs.References.{all_of, back_reference, in_order, match_again}
+use Rattle.regress_tree.specs.Repetition.{iterations}
 use Rattle.regress_tree.specs.Setting.{Setting}
 use Rattle.regress_tree.specs.Steps.{CaptureSpan, MatchState, Matcher, moved, one_character, these_bytes, hold_at}
 use Rattle.regress_tree.specs.Strings.{any_string}
-use Rattle.regress_tree.specs.Tree.{empty, goal, char, byte_sequence, byte_set, char_set, match_any, match_any_except_line_terminator, anchor, word_boundary, bracket, back_ref, string_set, Tree, leaf, cat, alt, wrapped}
-use Rattle.regress_leaves.proofs.lemmas.Leaves.{any-nil, any-cons}
+use Rattle.regress_tree.specs.Tree.{empty, goal, char, byte_sequence, byte_set, char_set, match_any, match_any_except_line_terminator, anchor, word_boundary, bracket, back_ref, string_set, capture_group, loop, loop_one, lookaround, Tree, leaf, cat, alt, wrapped}
+use Rattle.regress_leaves.proofs.lemmas.Leaves.{any-nil, any-cons, counted-steps}
 use Rattle.regress_program.specs.Shape.{IsPart}
+use Rattle.regress_program.proofs.PartLemmas.{part_if_one}
 
 abbrev pub Has : List (Option CaptureSpan) → MatchState → Type 0
 Has cs t = t.captures ≡ cs
@@ -70,6 +72,12 @@ any_one-keeps d r same string s =
     (All-append (Has s.captures) (all_of d r same (in_order d string) s) (any_string d r same [] s) (all_of-keeps d r same (in_order d string) s)
     (subst (All (Has s.captures)) (sym (any-nil d r same s)) (All-nil (Has s.captures))))
 
+iterations-keeps : (n : ℕ) (f : Matcher) → Keeps f → Keeps (iterations n f)
+iterations-keeps zero f keeps s = one_has s.captures s refl
+iterations-keeps (suc n) f keeps s =
+    flat_map-all (Has s.captures) (Has s.captures) (Has s.captures) (iterations n f) (f s) (keeps s) (keeps s)
+    (λ t is is'. subst (λ x. All (Has x) (iterations n f t)) is (iterations-keeps n f keeps t))
+
 module _ (setting : Setting) (bytes : List ℕ) (d : Direction) where
   pub part-keeps : (t : Tree) → IsPart t → Keeps (steps setting bytes d t)
   part-keeps (leaf empty) is s = one_has s.captures s refl
@@ -89,4 +97,9 @@ module _ (setting : Setting) (bytes : List ℕ) (d : Direction) where
   part-keeps (leaf (string_set (string ∷ another ∷ strings) icase)) is s = absurd is
   part-keeps (cat parts) is s = absurd is
   part-keeps (alt left right) is s = absurd is
-  part-keeps (wrapped w body) is s = absurd is
+  part-keeps (wrapped (loop_one q) body) is s =
+      subst (All (Has s.captures)) (sym (counted-steps setting bytes d q body s is.0))
+      (iterations-keeps q.min (steps setting bytes d body) (part-keeps body (part_if_one body is.1)) s)
+  part-keeps (wrapped (capture_group id name) body) is s = absurd is
+  part-keeps (wrapped (loop q start end) body) is s = absurd is
+  part-keeps (wrapped (lookaround negate looks_back start end) body) is s = absurd is

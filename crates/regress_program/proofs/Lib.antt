@@ -4,9 +4,11 @@ mod CaptureLemmas
 mod ChangedLemmas
 mod CodeLemmas
 mod CompileLemmas
+mod CountLemmas
 mod FlowLemmas
 mod KeepLemmas
 mod LocalLemmas
+mod PartLemmas
 mod PutLemmas
 mod RangeLemmas
 mod RepeatLemmas

@@ -1,18 +1,20 @@
 -- A part that is no back reference has at most one outcome, which depends on the position alone.
-use Rattle.std.proofs.Common.{◌≡◌, ℕ, ◌+◌, ◌-◌, Bool, true, false, ◌&&◌, List, [], ◌∷◌, ◌++◌, drop, flat_map, length, nat_eq, nat_le, Option, Some, None, if◌then◌else◌, refl, ap, ◌∙◌, append-nil}
+use Rattle.std.proofs.Common.{◌≡◌, ℕ, zero, suc, ◌+◌, ◌-◌, Bool, true, false, ◌&&◌, List, [], ◌∷◌, ◌++◌, drop, flat_map, length, nat_eq, nat_le, Option, Some, None, if◌then◌else◌, refl, ap, ◌∙◌, append-nil}
 use Rattle.std.specs.List.{starts_with}
 use Rattle.regress_base.specs.Table.{denotes}
 use Rattle.regress_tree.specs.Matching.{steps}
 use Rattle.regress_tree.specs.Reading.{Direction, forwards, backwards, Reading, Read, next_character, of_bytes}
 use Rattle.regress_tree.specs.References.{all_of, in_order}
+use Rattle.regress_tree.specs.Repetition.{iterations}
 use Rattle.regress_tree.specs.Setting.{Setting}
 use Rattle.regress_tree.specs.Steps.{MatchState, Matcher, stay, ◌then_◌, moved, one_character, these_bytes, hold_at}
 use Rattle.regress_tree.specs.Strings.{any_string}
-use Rattle.regress_tree.specs.Tree.{empty, goal, char, byte_sequence, byte_set, char_set, match_any, match_any_except_line_terminator, anchor, word_boundary, bracket, back_ref, string_set, Tree, leaf, cat, alt, wrapped}
+use Rattle.regress_tree.specs.Tree.{empty, goal, char, byte_sequence, byte_set, char_set, match_any, match_any_except_line_terminator, anchor, word_boundary, bracket, back_ref, string_set, capture_group, loop, loop_one, lookaround, Tree, leaf, cat, alt, wrapped}
 use Rattle.regress_leaves.specs.Leaves.{put}
-use Rattle.regress_leaves.proofs.lemmas.Leaves.{any-nil, any-cons}
+use Rattle.regress_leaves.proofs.lemmas.Leaves.{any-nil, any-cons, counted-steps}
 use Rattle.regress_program.specs.Linear.{is_back_ref}
 use Rattle.regress_program.specs.Shape.{IsPart}
+use Rattle.regress_program.proofs.PartLemmas.{part_if_one, plain_if_one}
 
 -- From the position the outcome moves to `to`, or there is none, whatever the captures are.
 pub record Puts (f : Matcher) (position : ℕ) : Type 0 where
@@ -98,25 +100,37 @@ puts-any_one d r same string p =
           ∙ append-nil _ ∙ one.goes s at;
     }
 
-module _ (setting : Setting) (bytes : List ℕ) (d : Direction) (p : ℕ) where
+puts-iterations : (n : ℕ) (f : Matcher) → ((p : ℕ) → Puts f p) → (p : ℕ) → Puts (iterations n f) p
+puts-iterations zero f puts p = puts-stay p
+puts-iterations (suc n) f puts p = puts-then f (iterations n f) p (puts p) (puts-iterations n f puts)
+
+module _ (setting : Setting) (bytes : List ℕ) (d : Direction) where
   -- a part
-  pub puts-part : (t : Tree) → IsPart t → is_back_ref t ≡ false → Puts (steps setting bytes d t) p
-  puts-part (leaf empty) is plain = puts-stay p
-  puts-part (leaf goal) is plain = puts-stay p
-  puts-part (leaf (char c)) is plain = puts-one_character p d (of_bytes bytes) _
-  puts-part (leaf (byte_sequence written)) is plain = puts-these_bytes p d bytes written
-  puts-part (leaf (byte_set members)) is plain = puts-one_character p d (of_bytes bytes) _
-  puts-part (leaf (char_set members)) is plain = puts-one_character p d (of_bytes bytes) _
-  puts-part (leaf match_any) is plain = puts-one_character p d (of_bytes bytes) _
-  puts-part (leaf match_any_except_line_terminator) is plain = puts-one_character p d (of_bytes bytes) _
-  puts-part (leaf (anchor kind multiline)) is plain = puts-hold_at p _
-  puts-part (leaf (word_boundary invert unicode_icase)) is plain = puts-hold_at p _
-  puts-part (leaf (bracket invert intervals)) is plain = puts-one_character p d (of_bytes bytes) _
-  puts-part (leaf (back_ref group icase)) is plain = cc
-  puts-part (leaf (string_set [] icase)) is plain = absurd is
-  puts-part (leaf (string_set (string ∷ []) icase)) is plain =
+  puts-at : (t : Tree) → IsPart t → is_back_ref t ≡ false → (p : ℕ) → Puts (steps setting bytes d t) p
+  puts-at (leaf empty) is plain p = puts-stay p
+  puts-at (leaf goal) is plain p = puts-stay p
+  puts-at (leaf (char c)) is plain p = puts-one_character p d (of_bytes bytes) _
+  puts-at (leaf (byte_sequence written)) is plain p = puts-these_bytes p d bytes written
+  puts-at (leaf (byte_set members)) is plain p = puts-one_character p d (of_bytes bytes) _
+  puts-at (leaf (char_set members)) is plain p = puts-one_character p d (of_bytes bytes) _
+  puts-at (leaf match_any) is plain p = puts-one_character p d (of_bytes bytes) _
+  puts-at (leaf match_any_except_line_terminator) is plain p = puts-one_character p d (of_bytes bytes) _
+  puts-at (leaf (anchor kind multiline)) is plain p = puts-hold_at p _
+  puts-at (leaf (word_boundary invert unicode_icase)) is plain p = puts-hold_at p _
+  puts-at (leaf (bracket invert intervals)) is plain p = puts-one_character p d (of_bytes bytes) _
+  puts-at (leaf (back_ref group icase)) is plain p = cc
+  puts-at (leaf (string_set [] icase)) is plain p = absurd is
+  puts-at (leaf (string_set (string ∷ []) icase)) is plain p =
       puts-any_one d (of_bytes bytes) (denotes setting.table icase setting.flags.unicode) string p
-  puts-part (leaf (string_set (string ∷ another ∷ strings) icase)) is plain = absurd is
-  puts-part (cat parts) is plain = absurd is
-  puts-part (alt left right) is plain = absurd is
-  puts-part (wrapped w body) is plain = absurd is
+  puts-at (leaf (string_set (string ∷ another ∷ strings) icase)) is plain p = absurd is
+  puts-at (cat parts) is plain p = absurd is
+  puts-at (alt left right) is plain p = absurd is
+  puts-at (wrapped (loop_one q) body) is plain p =
+      let all = puts-iterations q.min (steps setting bytes d body) (puts-at body (part_if_one body is.1) (plain_if_one body is.1)) p in
+      record { to = all.to; goes = λ s at. counted-steps setting bytes d q body s is.0 ∙ all.goes s at }
+  puts-at (wrapped (capture_group id name) body) is plain p = absurd is
+  puts-at (wrapped (loop q start end) body) is plain p = absurd is
+  puts-at (wrapped (lookaround negate looks_back start end) body) is plain p = absurd is
+
+  pub puts-part : (p : ℕ) (t : Tree) → IsPart t → is_back_ref t ≡ false → Puts (steps setting bytes d t) p
+  puts-part p t is plain = puts-at t is plain p

@@ -42,6 +42,10 @@ Matching = Direction → Setting → List ℕ → Matcher
 abbrev pub matching : Tree → Matching
 matching t d setting bytes = steps setting bytes d t
 
+-- exactly n iterations
+abbrev pub exactly : ℕ → Matching → Matching
+exactly n f d setting bytes = iterations n (f d setting bytes)
+
 -- at most n optional iterations
 abbrev pub optional : (greedy : Bool) → ℕ → Matching → Matching
 optional greedy n f d setting bytes = up_to greedy n (f d setting bytes)

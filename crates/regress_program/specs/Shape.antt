@@ -1,7 +1,8 @@
 -- The shape of programs: which instructions an instruction may name, so that every match ends.
-use Rattle.std.specs.Prelude.{◌≡◌, ℕ, ◌-◌, ◌≤◌, ◌<◌, List, [], ◌∷◌, length, slice_get, Some, take}
+use Rattle.std.specs.Prelude.{◌≡◌, ℕ, ◌-◌, ◌≤◌, ◌<◌, true, List, [], ◌∷◌, length, slice_get, Some, take}
+use Rattle.regress_prefilter.specs.OneCharacter.{takes_one}
 use Rattle.regress_tree.specs.Reading.{forwards}
-use Rattle.regress_tree.specs.Tree.{Leaf, string_set, Tree, leaf}
+use Rattle.regress_tree.specs.Tree.{Leaf, string_set, loop_one, Tree, leaf, wrapped}
 use Rattle.regress_program.specs.Program.{Op, accept, fail, part, split, begin_loop, repeat, end_loop, unsets, begin_group, end_group, look, Routine}
 
 -- The leaf has at most one outcome. It sets no group.
@@ -11,8 +12,10 @@ IsPartLeaf (string_set (string ∷ []) icase) = Unit {0}
 IsPartLeaf (string_set (string ∷ another ∷ strings) icase) = ⊥
 IsPartLeaf l = Unit {0}
 
+-- The tree is such a leaf, or exactly so many characters.
 abbrev pub IsPart : Tree → Type 0
 IsPart (leaf l) = IsPartLeaf l
+IsPart (wrapped (loop_one q) body) = (q.max ≡ Some q.min) × (takes_one body ≡ true)
 IsPart t = ⊥
 
 -- The instruction i of `high` names only earlier ones, but for the body of a loop that goes on. A lookaround names an

@@ -5,7 +5,7 @@ use Rattle.std.proofs.Math.Bool.{Bool-set}
 use Rattle.std.proofs.Props.{props}
 use mathlib.Core.HLevel.{collapsible→set}
 use Rattle.regress_tree.specs.Reading.{Direction, forwards, backwards}
-use Rattle.regress_tree.specs.Tree.{empty, goal, char, byte_sequence, byte_set, char_set, match_any, match_any_except_line_terminator, anchor, word_boundary, bracket, back_ref, string_set, Tree, leaf, cat, alt, wrapped}
+use Rattle.regress_tree.specs.Tree.{empty, goal, char, byte_sequence, byte_set, char_set, match_any, match_any_except_line_terminator, anchor, word_boundary, bracket, back_ref, string_set, capture_group, loop, loop_one, lookaround, Tree, leaf, cat, alt, wrapped}
 use Rattle.regress_program.specs.Program.{Op, accept, fail, part, split, begin_loop, repeat, end_loop, unsets, begin_group, end_group, look, Routine}
 use Rattle.regress_program.specs.Shape.{IsPart, Fits, IsForwards, IsRoutine, IsProgram}
 
@@ -27,7 +27,10 @@ part-prop (leaf (string_set (string ∷ []) icase)) = hlevel props
 part-prop (leaf (string_set (string ∷ another ∷ strings) icase)) = hlevel props
 part-prop (cat parts) = hlevel props
 part-prop (alt left right) = hlevel props
-part-prop (wrapped w body) = hlevel props
+part-prop (wrapped (loop_one q) body) = hlevel props
+part-prop (wrapped (capture_group id name) body) = hlevel props
+part-prop (wrapped (loop q start end) body) = hlevel props
+part-prop (wrapped (lookaround negate looks_back start end) body) = hlevel props
 
 pub fits-prop : (earlier : List Routine) (high i : ℕ) (op : Op) → IsProp (Fits earlier high i op)
 fits-prop earlier high i accept = hlevel props

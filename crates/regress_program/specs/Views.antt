@@ -1,5 +1,6 @@
 -- Instructions and routines as plain data.
 use Rattle.std.specs.Prelude.{[], ◌∷◌, List, map}
+use Rattle.regress_leaves.specs.Leaves.{exactly}
 use Rattle.regress_tree.specs.Reading.{direction_if}
 use Rattle.regress_tree.specs.Tree.{tree, leaf, string_set}
 use Rattle.regress_program.specs.Program.{Op, accept, fail, part, split, begin_loop, repeat, end_loop, unsets, begin_group, end_group, look, Routine}
@@ -12,6 +13,7 @@ abbrev pub op_of : Instruction → Op
 op_of insts.Accept = accept
 op_of insts.Fail = fail
 op_of (insts.Leaf node next) = part (tree node.now) next
+op_of (insts.Characters node count next) = part (exactly count (tree node.now)) next
 op_of (insts.Text characters icase next) = part (leaf (string_set (characters.now ∷ []) icase)) next
 op_of (insts.Split first second) = split first second
 op_of (insts.BeginLoop greedy body next) = begin_loop greedy body next

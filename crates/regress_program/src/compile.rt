@@ -133,14 +133,7 @@ impl<'a> Compiler<'a> {
                 };
                 self.repeat(loopee, iterations, *quant, next)
             }
-            Node::Loop1CharBody { loopee, quant } => {
-                let iterations = Iterations {
-                    start: 0,
-                    end: 0,
-                    greedy: quant.greedy,
-                };
-                self.repeat(loopee, iterations, *quant, next)
-            }
+            Node::Loop1CharBody { loopee, quant } => self.repeat_one(loopee, *quant, next),
             Node::LookaroundAssertion {
                 negate,
                 backwards,

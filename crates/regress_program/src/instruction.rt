@@ -16,6 +16,15 @@ pub enum Instruction<'a> {
         /// The instruction after it.
         next: usize,
     },
+    /// Matches characters that each match a leaf, exactly this number of them.
+    Characters {
+        /// The leaf, which matches one character.
+        node: &'a Node,
+        /// The number of characters.
+        count: usize,
+        /// The instruction after it.
+        next: usize,
+    },
     /// Matches one string of a set of strings.
     Text {
         /// The code points of the string.

@@ -2,6 +2,7 @@
 #![tactic(auto)]
 
 mod capturing;
+mod characters;
 mod claims;
 mod compile;
 mod compiler;

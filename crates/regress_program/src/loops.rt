@@ -1,14 +1,16 @@
 //! Compiles loops.
-ghost use Rattle.std.specs.Prelude.{◌≡◌, ◌<◌, IfOk, IfErr, None, length};
-ghost use Rattle.regress_tree.specs.Tree.{tree};
+ghost use Rattle.std.specs.Prelude.{◌≡◌, ◌<◌, IfOk, IfErr, None, length, true};
+ghost use Rattle.regress_prefilter.specs.OneCharacter.{takes_one};
+ghost use Rattle.regress_tree.specs.Tree.{loop_one, tree, wrapped};
 ghost use Rattle.regress_program.specs.CodeOf.{iterating, looping, iteration_size, Emits, Spends};
 ghost use Rattle.regress_program.specs.Compiled.{matching, optional, any_number};
-ghost use Rattle.regress_program.specs.Size.{size_of_optional, size_of_extra, size_of_loop};
+ghost use Rattle.regress_program.specs.Size.{size, size_of_characters, size_of_optional, size_of_extra, size_of_loop};
 ghost use Rattle.regress_program.specs.declared.fault.CompileFault.TheVariants.{TooLong};
 
 use crate::compiler::Compiler;
 use crate::fault::CompileFault;
 use crate::instruction::Instruction;
+use regress_leaves::leaves::takes_one;
 use regress_tree::ir::{Node, Quantifier};
 
 /// The iterations of a loop: the half-open range of the ids of the groups inside, and whether the loop is greedy.
@@ -43,6 +45,59 @@ impl<'a> Compiler<'a> {
             entry = self.iteration(body, iterations, entry)?;
         }
         Ok(entry)
+    }
+
+    /// Compiles a loop over a body that matches one character.
+    #[cycle(compile)]
+    pub(crate) fn repeat_one(
+        &mut self,
+        body: &'a Node,
+        quantifier: Quantifier,
+        next: usize,
+    ) -> Result<usize, CompileFault>
+        requires { next < length self.old.instructions.items }
+        ensures emits { IfOk result (Emits self.old self.new (matching (wrapped (loop_one quantifier) (tree body.now))) next) }
+        ensures spends { IfOk result (λ _. Spends self.old self.new (size (wrapped (loop_one quantifier) (tree body.now)))) }
+        ensures too_long { IfErr result (λ fault. fault ≡ TooLong → self.old.left < size (wrapped (loop_one quantifier) (tree body.now))) }
+    {
+        let iterations = Iterations {
+            start: 0,
+            end: 0,
+            greedy: quantifier.greedy,
+        };
+        if takes_one(body) {
+            self.repeat_character(body, iterations, quantifier, next)
+        } else {
+            self.repeat(body, iterations, quantifier, next)
+        }
+    }
+
+    /// Compiles a loop over a leaf that matches one character.
+    #[cycle(compile)]
+    fn repeat_character(
+        &mut self,
+        leaf: &'a Node,
+        iterations: Iterations,
+        quantifier: Quantifier,
+        next: usize,
+    ) -> Result<usize, CompileFault>
+        requires below { next < length self.old.instructions.items }
+        requires one { takes_one (tree leaf.now) ≡ true }
+        requires without_groups { iterations ≡ record { start = 0; end = 0; greedy = quantifier.greedy } }
+        ensures emits { IfOk result (Emits self.old self.new (matching (wrapped (loop_one quantifier) (tree leaf.now))) next) }
+        ensures spends { IfOk result (λ _. Spends self.old self.new (size_of_characters quantifier)) }
+        ensures too_long { IfErr result (λ fault. fault ≡ TooLong → self.old.left < size_of_characters quantifier) }
+    {
+        let entry = match quantifier.max {
+            None => self.any_number(leaf, iterations, next)?,
+            Some(max) => self.up_to(
+                leaf,
+                quantifier.greedy,
+                max.saturating_sub(quantifier.min),
+                next,
+            )?,
+        };
+        self.exactly(leaf, quantifier.min, entry)
     }
 
     /// Compiles any number of optional iterations. The body is compiled once, and goes on at an instruction before it.

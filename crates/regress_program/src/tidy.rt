@@ -178,6 +178,7 @@ fn followers(instruction: &Instruction<'_>) -> (Option<usize>, Option<usize>)
             (Some(body), Some(next))
         }
         Instruction::Leaf { next, .. }
+        | Instruction::Characters { next, .. }
         | Instruction::Text { next, .. }
         | Instruction::EndLoop { next }
         | Instruction::Unset { next, .. }

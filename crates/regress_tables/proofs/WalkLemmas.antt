@@ -240,6 +240,7 @@ pub accepts-only : (i : Instruction) → op_of i ≡ accept → i ≡ insts.Acce
 accepts-only insts.Accept is = refl
 accepts-only insts.Fail is = cc
 accepts-only (insts.Leaf node next) is = cc
+accepts-only (insts.Characters node count next) is = cc
 accepts-only (insts.Text characters icase next) is = cc
 accepts-only (insts.Split first second) is = cc
 accepts-only (insts.BeginLoop greedy body next) is = cc

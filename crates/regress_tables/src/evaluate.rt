@@ -12,7 +12,7 @@ ghost use Rattle.regress_tables.specs.Evaluated.{CanEvaluate, reached_cell};
 ghost use Rattle.regress_tables.specs.Table.{AreRight, AreTables, IsRight, TellsOf, has_outcome};
 
 use crate::table::Table;
-use regress_leaves::leaves::{all_of, simple_leaf};
+use regress_leaves::leaves::{all_of, exactly, simple_leaf};
 use regress_leaves::rules::MatchContext;
 use regress_program::instruction::{Instruction, Routine};
 use regress_tree::ir::Node;
@@ -53,6 +53,10 @@ pub(crate) fn evaluate(
             let to = leaf_end(input.text, input.rules, node, position);
             reached(table, next, moved, position, to)
         }
+        Instruction::Characters { node, count, next } => {
+            let to = exactly(input.text, input.rules, node, count, position);
+            reached(table, next, moved, position, to)
+        }
         Instruction::Text {
             characters,
             icase,
@@ -82,8 +86,8 @@ pub(crate) fn evaluate(
     }
 }
 
-/// Returns the position at which a leaf ends, or `None` if it fails. It is no back reference, and a set of strings has
-/// only one.
+/// Returns the position at which a leaf, or exactly so many characters, end, or `None` if they fail. It is no back
+/// reference, and a set of strings has only one.
 pub(crate) fn leaf_end(
     text: &str,
     rules: MatchContext<'_>,
@@ -99,6 +103,9 @@ pub(crate) fn leaf_end(
             alternatives,
             icase,
         } => all_of(text, rules, *icase, &alternatives[0], position),
+        Node::Loop1CharBody { loopee, quant } => {
+            exactly(text, rules, loopee, quant.min, position)
+        }
         _ => simple_leaf(text, rules, node, position),
     }
 }

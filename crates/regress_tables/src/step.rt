@@ -15,7 +15,7 @@ ghost use Rattle.regress_tables.specs.Walked.{CanWalk, Leads, StepsAt, at_of, pl
 use crate::evaluate::{Input, leaf_end};
 use crate::table::Table;
 use crate::walker::Walker;
-use regress_leaves::leaves::all_of;
+use regress_leaves::leaves::{all_of, exactly};
 use regress_program::instruction::Instruction;
 use regress_program::ranges::{GroupRange, changed_by};
 use std::alloc::AllocError;
@@ -60,6 +60,10 @@ pub(crate) fn step(
         Instruction::Fail => return Ok(false),
         Instruction::Leaf { node, next } => {
             let to = leaf_end(input.text, input.rules, node, position);
+            return Ok(walker.reach(next, to));
+        }
+        Instruction::Characters { node, count, next } => {
+            let to = exactly(input.text, input.rules, node, count, position);
             return Ok(walker.reach(next, to));
         }
         Instruction::Text {

@@ -1,11 +1,20 @@
 -- What leaves match, in the form in which the code computes it.
-use Rattle.std.proofs.Common.{◌≡◌, ℕ, ◌+◌, ◌-◌, ◌≤◌, ◌<◌, Bool, true, false, ◌&&◌, List, [], ◌∷◌, ◌++◌, flat_map, length, drop, get_or, Option, Some, None, refl, sym, ap, ap₂, ◌∙◌, arith, append-nil, if◌then◌else◌, nat_eq, nat_le}
+use Rattle.std.proofs.Common.{◌≡◌, ℕ, suc, ◌+◌, ◌-◌, ◌≤◌, ◌<◌, Bool, true, false, ◌&&◌, List, [], ◌∷◌, ◌++◌, flat_map, length, drop, get_or, Option, Some, None, refl, sym, ap, ap₂, ◌∙◌, arith, append-nil, if◌then◌else◌, nat_eq, nat_le, le_refl}
 use Rattle.std.specs.List.{starts_with}
 use Rattle.std.proofs.lemmas.List.{drop_more, length-reverse}
+use Rattle.regress_base.specs.declared.types.Quantifier.{Quantifier}
+use Rattle.regress_tree.specs.Matching.{steps}
 use Rattle.regress_tree.specs.Reading.{Direction, forwards, backwards, Reading, Read, next_character}
 use Rattle.regress_tree.specs.References.{all_of, in_order}
+use Rattle.regress_tree.specs.Repetition.{iterations, extra_iterations, repeat_matcher, up_to}
+use Rattle.regress_tree.specs.Setting.{Setting}
 use Rattle.regress_tree.specs.Strings.{any_string}
-use Rattle.regress_tree.specs.Steps.{MatchState, one_character, moved, these_bytes, hold_at}
+use Rattle.regress_tree.specs.Steps.{MatchState, Matcher, ◌then_◌, one_character, moved, these_bytes, hold_at}
+use Rattle.regress_tree.specs.Tree.{empty, goal, char, byte_sequence, byte_set, char_set, match_any, match_any_except_line_terminator, anchor, word_boundary, bracket, back_ref, string_set, loop_one, Tree, leaf, cat, alt, wrapped}
+use Rattle.regress_tree.proofs.lemmas.Groups.{iteration-none}
+use Rattle.regress_tree.proofs.lemmas.Outcomes.{flat_map-stay}
+use Rattle.regress_prefilter.specs.OneCharacter.{takes_one}
+use Rattle.regress_leaves.specs.Leaves.{exactly, is_simple}
 
 module _ (d : Direction) (r : Reading) where
   -- a test of one character: at the end of the input, a failed test, a passed test
@@ -122,3 +131,59 @@ pub any-cons : (d : Direction) (r : Reading) (same : ℕ → ℕ → Bool) (stri
     any_string d r same (string ∷ strings) s ≡ all_of d r same (in_order d string) s ++ any_string d r same strings s
 unfolding any_string
 any-cons d r same string strings s = refl
+
+-- ---- characters in a row
+
+-- Exactly n iterations of a body without groups.
+pub counted-steps : (setting : Setting) (bytes : List ℕ) (d : Direction) (q : Quantifier) (t : Tree) (s : MatchState) → q.max ≡ Some q.min →
+    steps setting bytes d (wrapped (loop_one q) t) s ≡ iterations q.min (steps setting bytes d t) s
+unfolding repeat_matcher
+counted-steps setting bytes d q t s is =
+    let none : extra_iterations (length bytes + 1) q ≡ 0 = rw is (omega arith) in
+    ap (λ (f : Matcher). (iterations q.min f then_ up_to q.greedy (extra_iterations (length bytes + 1) q) f) s)
+    (iteration-none 0 0 (le_refl 0) (steps setting bytes d t))
+    ∙ ap (λ (k : ℕ). (iterations q.min (steps setting bytes d t) then_ up_to q.greedy k (steps setting bytes d t)) s) none
+    ∙ flat_map-stay (iterations q.min (steps setting bytes d t) s)
+
+pub exactly-steps : (setting : Setting) (bytes : List ℕ) (d : Direction) (n : ℕ) (t : Tree) (s : MatchState) →
+    steps setting bytes d (exactly n t) s ≡ iterations n (steps setting bytes d t) s
+exactly-steps setting bytes d n t s = counted-steps setting bytes d (record { min = n; max = Some n; greedy = true }) t s refl
+
+-- The remaining iterations, by the outcome of the next one.
+module _ (f : Matcher) (n i here : ℕ) (s : MatchState) (so_far : iterations (n - i) f (record s { position = here }) ≡ iterations n f s) where
+  one_more : i < n → iterations (suc (n - (i + 1))) f (record s { position = here }) ≡ iterations n f s
+  one_more within =
+      let number : suc (n - (i + 1)) ≡ n - i = omega (arith, within) in
+      ap (λ (k : ℕ). iterations k f (record s { position = here })) number ∙ so_far
+
+  pub iterations_none : i < n → f (record s { position = here }) ≡ [] → iterations n f s ≡ []
+  iterations_none within none = sym (one_more within) ∙ ap (flat_map (iterations (n - (i + 1)) f)) none
+
+  pub iterations_some : i < n → (to : ℕ) → f (record s { position = here }) ≡ record s { position = to } ∷ [] →
+      iterations (n - (i + 1)) f (record s { position = to }) ≡ iterations n f s
+  iterations_some within to some =
+      sym (append-nil (iterations (n - (i + 1)) f (record s { position = to })))
+      ∙ sym (ap (flat_map (iterations (n - (i + 1)) f)) some) ∙ one_more within
+
+  pub iterations_all : n ≤ i → iterations n f s ≡ record s { position = here } ∷ []
+  iterations_all past =
+      let number : n - i ≡ 0 = omega (arith, past) in
+      sym so_far ∙ ap (λ (k : ℕ). iterations k f (record s { position = here })) number
+
+pub simple_if_one : (t : Tree) → takes_one t ≡ true → is_simple t ≡ true
+simple_if_one (leaf empty) is = refl
+simple_if_one (leaf goal) is = refl
+simple_if_one (leaf (char c)) is = refl
+simple_if_one (leaf (byte_sequence bytes)) is = refl
+simple_if_one (leaf (byte_set members)) is = refl
+simple_if_one (leaf (char_set members)) is = refl
+simple_if_one (leaf match_any) is = refl
+simple_if_one (leaf match_any_except_line_terminator) is = refl
+simple_if_one (leaf (anchor kind multiline)) is = refl
+simple_if_one (leaf (word_boundary invert unicode_icase)) is = refl
+simple_if_one (leaf (bracket invert intervals)) is = refl
+simple_if_one (leaf (back_ref group icase)) is = cc
+simple_if_one (leaf (string_set ss icase)) is = cc
+simple_if_one (cat parts) is = cc
+simple_if_one (alt left right) is = cc
+simple_if_one (wrapped w body) is = cc

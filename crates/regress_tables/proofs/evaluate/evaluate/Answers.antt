@@ -1,4 +1,6 @@
-use Rattle.std.proofs.Common.{◌≡◌, [], ◌∷◌, ap, subst, arith, false}
+use Rattle.std.proofs.Common.{◌≡◌, [], ◌∷◌, Some, true, refl, ap, subst, arith, false}
+use Rattle.regress_base.specs.declared.types.Quantifier.{Quantifier}
+use Rattle.regress_leaves.specs.Leaves.{exactly}
 use Rattle.regress_leaves.specs.Subject.{subject}
 use Rattle.regress_tree.specs.Matching.{steps}
 use Rattle.regress_tree.specs.Reading.{direction_if}
@@ -17,6 +19,16 @@ reached-requires-clause-to c =
     let can = c.requires.can in
     reached-within u.bytes u.direction _ c.args.position _ _ (Stays-tree u.setting u.bytes u.direction (tree c.in-Leaf.node.now))
     (omega (arith, can.length, can.next.position_in)) can.length c.leaf_end-to.ensures
+
+pub reached-requires-in-Characters-clause-to : goal.reached-requires-in-Characters-clause-to
+reached-requires-in-Characters-clause-to c =
+    let q : Quantifier = record { min = c.in-Characters.count; max = Some c.in-Characters.count; greedy = true } in
+    let whole = subst (Fits _ _ _) (ap op_of c.in-Characters.is) c.requires.can.fits in
+    let goes = c.exactly-to.ensures whole.0.1 q refl refl in
+    let u = subject c.args.input.rules c.args.input.text.now in
+    let can = c.requires.can in
+    reached-within u.bytes u.direction _ c.args.position _ _ (Stays-tree u.setting u.bytes u.direction (exactly c.in-Characters.count (tree c.in-Characters.node.now)))
+    (omega (arith, can.length, can.next.position_in)) can.length goes
 
 pub reached-requires-in-Text-clause-to : goal.reached-requires-in-Text-clause-to
 reached-requires-in-Text-clause-to c =
@@ -49,6 +61,19 @@ returns-in-Leaf c = λ outs tables right.
     (tree c.in-Leaf.node.now) c.in-Leaf.next c.leaf_end-to.result _ (ap op_of c.in-Leaf.is)
     (omega (arith, can.length, can.next.position_in)) can.length (ap direction_if can.backwards)
     c.leaf_end-to.ensures c.reached.ensures
+
+pub returns-in-Characters : goal.returns-in-Characters
+returns-in-Characters c = λ outs tables right.
+    let q : Quantifier = record { min = c.in-Characters.count; max = Some c.in-Characters.count; greedy = true } in
+    let whole = subst (Fits _ _ _) (ap op_of c.in-Characters.is) c.requires.can.fits in
+    let goes = c.exactly-to.ensures whole.0.1 q refl refl in
+    let u = subject c.args.input.rules c.args.input.text.now in
+    let body_of = matcher_of u.setting u.bytes (program_of c.args.input.routines.now) outs in
+    let can = c.requires.can in
+    part_yields u.setting u.bytes u.direction body_of (outs _) c.args.table.now right can.pc c.args.moved c.args.position can.next _ _ can.fits
+    (exactly c.in-Characters.count (tree c.in-Characters.node.now)) c.in-Characters.next c.exactly-to.result _ (ap op_of c.in-Characters.is)
+    (omega (arith, can.length, can.next.position_in)) can.length (ap direction_if can.backwards)
+    goes c.reached-in-Characters.ensures
 
 pub returns-in-Text : goal.returns-in-Text
 returns-in-Text c = λ outs tables right.

@@ -1,5 +1,7 @@
 use Rattle.std.proofs.Common.{◌≡◌, Bool, true, [], ◌∷◌, List, length, flat_map, Some, if◌then◌else◌, refl, sym, ap, ◌∙◌, subst, arith}
 use Rattle.std.proofs.lemmas.Bool.{and_parts}
+use Rattle.regress_base.specs.declared.types.Quantifier.{Quantifier}
+use Rattle.regress_leaves.specs.Leaves.{exactly}
 use Rattle.regress_leaves.specs.Subject.{subject}
 use Rattle.regress_tree.specs.Reading.{direction_if}
 use Rattle.regress_tree.specs.Steps.{MatchState}
@@ -29,6 +31,19 @@ returns-in-Leaf-clause-below c = λ yields.
     let fits = subst (Fits _ t.width a.pc) (ap op_of c.in-Leaf.is) can.fits in
     part-below t a can.pc can.position u.setting u.bytes u.direction (tree c.in-Leaf.node.now) c.in-Leaf.next c.leaf_end-to.result c.reach.result
     (place_of c.reach.new.self) fits.1 can.length (ap direction_if can.backwards) c.leaf_end-to.ensures (c.reach.ensures.at unknown) yields
+
+pub returns-in-Characters-clause-below : goal.returns-in-Characters-clause-below
+returns-in-Characters-clause-below c = λ yields.
+    let q : Quantifier = record { min = c.in-Characters.count; max = Some c.in-Characters.count; greedy = true } in
+    let whole = subst (Fits _ _ _) (ap op_of c.in-Characters.is) c.requires.can.fits in
+    let goes = c.exactly-to.ensures whole.0.1 q refl refl in
+    let u = subject c.args.input.rules c.args.input.text.now in
+    let t = c.args.table.now in
+    let a = place_of c.args.walker.now in
+    let can = c.requires.can in
+    let fits = subst (Fits _ t.width a.pc) (ap op_of c.in-Characters.is) can.fits in
+    part-below t a can.pc can.position u.setting u.bytes u.direction (exactly c.in-Characters.count (tree c.in-Characters.node.now)) c.in-Characters.next c.exactly-to.result c.reach-in-Characters.result
+    (place_of c.reach-in-Characters.new.self) fits.1 can.length (ap direction_if can.backwards) goes (c.reach-in-Characters.ensures.at unknown) yields
 
 pub returns-in-Text-clause-below : goal.returns-in-Text-clause-below
 returns-in-Text-clause-below c = λ yields.
@@ -116,6 +131,12 @@ returns-in-Leaf-clause-clean c = λ r is goes.
     follow-one c.args.input c.args.walker.now c.reach.new.self (op_of c.args.instruction) c.requires.tabled c.requires.at r is (part (tree c.in-Leaf.node.now) c.in-Leaf.next) 0 c.in-Leaf.next
     (ap op_of c.in-Leaf.is) refl tt
     (reaches-pc c.in-Leaf.next (place_of c.args.walker.now) (place_of c.reach.new.self) c.reach.result c.leaf_end-to.result (c.reach.ensures.at unknown) goes) c.reach.ensures.slots
+
+pub returns-in-Characters-clause-clean : goal.returns-in-Characters-clause-clean
+returns-in-Characters-clause-clean c = λ r is goes.
+    follow-one c.args.input c.args.walker.now c.reach-in-Characters.new.self (op_of c.args.instruction) c.requires.tabled c.requires.at r is (part (exactly c.in-Characters.count (tree c.in-Characters.node.now)) c.in-Characters.next) 0 c.in-Characters.next
+    (ap op_of c.in-Characters.is) refl tt
+    (reaches-pc c.in-Characters.next (place_of c.args.walker.now) (place_of c.reach-in-Characters.new.self) c.reach-in-Characters.result c.exactly-to.result (c.reach-in-Characters.ensures.at unknown) goes) c.reach-in-Characters.ensures.slots
 
 pub returns-in-Text-clause-clean : goal.returns-in-Text-clause-clean
 returns-in-Text-clause-clean c = λ r is goes.
@@ -211,6 +232,22 @@ returns-in-Leaf-clause-leads c = λ outs solution full right other some.
     let is : outcomes (op_of c.args.instruction) ≡ outcomes (op_of (insts.Leaf c.in-Leaf.node c.in-Leaf.next)) = ap (λ x. outcomes (op_of x)) c.in-Leaf.is in
     part-leads (outs i) (outcomes (op_of c.args.instruction)) c.in-Leaf.next c.leaf_end-to.result c.reach.result a (at_of capture_of c.reach.new.self)
     (is ∙ ap (flat_map (λ s. outs i (reach c.in-Leaf.next a s))) (c.leaf_end-to.ensures a.state refl)) (c.reach.ensures.at capture_of) some
+
+pub returns-in-Characters-clause-leads : goal.returns-in-Characters-clause-leads
+returns-in-Characters-clause-leads c = λ outs solution full right other some.
+    let q : Quantifier = record { min = c.in-Characters.count; max = Some c.in-Characters.count; greedy = true } in
+    let whole = subst (Fits _ _ _) (ap op_of c.in-Characters.is) c.requires.can.fits in
+    let goes = c.exactly-to.ensures whole.0.1 q refl refl in
+    let u = subject c.args.input.rules c.args.input.text.now in
+    let capture_of = capture_in u.setting u.bytes (program_of c.args.input.routines.now) outs (length c.args.walker.now.slots.items) in
+    let a = at_of capture_of c.args.walker.now in
+    let program = program_of c.args.input.routines.now in
+    let i = length c.args.input.tables.now in
+    let body_of = matcher_of u.setting u.bytes program outs in
+    let outcomes : Op → List MatchState = λ o. outcomes_by u.setting u.bytes u.direction body_of (outs i) o a in
+    let is : outcomes (op_of c.args.instruction) ≡ outcomes (op_of (insts.Characters c.in-Characters.node c.in-Characters.count c.in-Characters.next)) = ap (λ x. outcomes (op_of x)) c.in-Characters.is in
+    part-leads (outs i) (outcomes (op_of c.args.instruction)) c.in-Characters.next c.exactly-to.result c.reach-in-Characters.result a (at_of capture_of c.reach-in-Characters.new.self)
+    (is ∙ ap (flat_map (λ s. outs i (reach c.in-Characters.next a s))) (goes a.state refl)) (c.reach-in-Characters.ensures.at capture_of) some
 
 pub returns-in-Text-clause-leads : goal.returns-in-Text-clause-leads
 returns-in-Text-clause-leads c = λ outs solution full right other some.

@@ -1,5 +1,5 @@
 -- Each kind of node.
-use Rattle.std.proofs.Common.{rules, true, ◌≡◌, ℕ, ◌+◌, ◌-◌, ◌*◌, [], ◌∷◌, ◌++◌, length, refl, sym, ap, ap₂, subst, ◌∙◌, le_refl, le_trans, arith}
+use Rattle.std.proofs.Common.{rules, true, ◌≡◌, ◌≤◌, ℕ, ◌+◌, ◌-◌, ◌*◌, [], ◌∷◌, ◌++◌, length, refl, sym, ap, ap₂, subst, ◌∙◌, le_refl, le_trans, arith}
 use Rattle.std.proofs.lemmas.Result.{IfOk-weaker}
 use Rattle.std.proofs.lemmas.List.{length-map, length_push, map-append, map-set, nil_from_length}
 use Rattle.regress_tree.proofs.lemmas.Nodes.{tree-Empty, tree-Goal, tree-Alt, tree-CaptureGroup, tree-LookaroundAssertion}
@@ -12,11 +12,13 @@ use Rattle.regress_program.specs.Alternatives.{HasLeft, Waiting}
 use Rattle.regress_program.specs.CodeOf.{code_of, iterating, iteration_size, Spends}
 use Rattle.regress_program.specs.Compiled.{matching, optional, any_number, extra, after_iterations, Compiled}
 use Rattle.regress_program.specs.Iterates.{Iterates}
+use Rattle.regress_program.specs.declared.loops.Iterations.{Iterations}
 use Rattle.regress_program.specs.Size.{size, size_of_optional, size_of_loop}
 use Rattle.regress_program.specs.Views.{op_of, ops_of, routine_of, program_of}
 use Rattle.regress_program.proofs.AlternativeLemmas.{waiting_none, waiting_push, waiting_pop, waiting_later, waiting_done, compiled_alternative}
 use Rattle.regress_program.proofs.CodeLemmas.{Grown-same, Grown-then, Grown-push}
 use Rattle.regress_program.proofs.CompileLemmas.{compiled_part, compiled_group, compiled_unset, compiled_without_groups, compiled_earlier, compiled_later}
+use Rattle.regress_program.proofs.CountLemmas.{compiled_counted, compiled_plain}
 use Rattle.regress_program.proofs.RepeatLemmas.{iterates_last, iterates_more, compiled_optional, compiled_any_number, compiled_mandatory, compiled_no_mandatory, compiled_unbounded, compiled_bounded, compiled_repeated}
 use Rattle.regress_program.proofs.RoutineLemmas.{compiled_look, has_routine}
 use Rattle.regress_program.proofs.SizeLemmas.{too_long, copies-more, loop-unbounded, loop-bounded, parts-more, parts-within}
@@ -25,7 +27,7 @@ use Rattle.regress_program.proofs.lemmas.Onward.{Stays-iteration, Stays-tree}
 use Rattle.regress_program.specs.declared.instruction.Instruction.TheVariants as insts
 use Rattle.regress_program.specs.declared.instruction.Routine as declared
 use Rattle.std.specs.Vec.{with_item}
-use Rattle.regress_program.proofs.compiler.Compiler.+compile.Goals.{repeat-in-None+in_ok-entry-in-None, repeat-in-Some+in_ok-entry-in-Some}
+use Rattle.regress_program.proofs.compiler.Compiler.+compile.Goals.{repeat-in-None+in_ok-entry-in-None, repeat-in-Some+in_ok-entry-in-Some, repeat_character-in-None+in_ok-entry-in-None, repeat_character-in-Some+in_ok-entry-in-Some}
 use Rattle.regress_program.proofs.compiler.Compiler.+compile.Goals as goal
 
 -- ---- loops
@@ -162,6 +164,37 @@ repeat-returns-clause-emits t c =
     (matching (tree c.args.body.now)) c.args.next l.entry
     (subst (λ k. Compiled (code_of c.args.self.now) (code_of l.self) (after_iterations k f (extra c.args.quantifier f)) c.args.next l.entry) all
     l.invariant.compiled)
+
+-- ---- loops over one character
+
+pub repeat_character-returns-clause-emits : goal.repeat_character-returns-clause-emits
+repeat_character-returns-clause-emits t c =
+    let a = code_of c.args.self.now in
+    let b = code_of c.match-quantifier.self in
+    let f = matching (tree c.args.leaf.now) in
+    let q = c.args.quantifier in
+    let none : c.args.iterations.end ≤ c.args.iterations.start = rw c.requires.without_groups (omega arith) in
+    let optional_part : Compiled a b (extra q f) c.args.next c.match-quantifier.entry =
+    elim c.match-quantifier.branch [
+      | repeat_character-in-None+in_ok-entry-in-None w ↦
+          (let e = code_of w.any_number.new.self in
+          let n = w.in_ok-entry-in-None.entry in
+          let plain = compiled_plain a e c.args.iterations f c.args.next n none w.in_ok-entry-in-None.ensures.emits in
+          subst (λ s. Compiled a (code_of s) (extra q f) c.args.next c.match-quantifier.entry) (sym w.self-is)
+          (subst (λ k. Compiled a e (extra q f) c.args.next k) (sym w.entry-is)
+          (compiled_unbounded a e q f c.args.next n w.in-None.is
+          (subst (λ g. Compiled a e (any_number g f) c.args.next n) (ap (λ (i : Iterations). i.greedy) c.requires.without_groups) plain))))
+      | repeat_character-in-Some+in_ok-entry-in-Some w ↦
+          (let e = code_of w.up_to.new.self in
+          let n = w.in_ok-entry-in-Some.entry in
+          subst (λ s. Compiled a (code_of s) (extra q f) c.args.next c.match-quantifier.entry) (sym w.self-is)
+          (subst (λ k. Compiled a e (extra q f) c.args.next k) (sym w.entry-is)
+          (compiled_bounded a e q f c.args.next n w.in-Some.max w.in-Some.is (λ d setting bytes. Stays-tree setting bytes d (tree c.args.leaf.now))
+          (subst (λ k. Compiled a e (optional q.greedy k f) c.args.next n) w.saturating_sub.ensures w.in_ok-entry-in-Some.ensures.emits))))
+    ] in
+    IfOk-weaker c.exactly.result _ _
+    (λ at more. compiled_counted (tree c.args.leaf.now) c.requires.one a b (code_of c.exactly.new.self) q c.args.next c.match-quantifier.entry at optional_part more)
+    c.exactly.ensures.emits
 
 -- ---- lookarounds
 

@@ -1,0 +1,119 @@
+//! Compiles loops over one character.
+ghost use Rattle.std.specs.Prelude.{◌≡◌, ◌<◌, true, IfOk, IfErr, length};
+ghost use Rattle.regress_prefilter.specs.OneCharacter.{takes_one};
+ghost use Rattle.regress_tree.specs.Tree.{tree};
+ghost use Rattle.regress_program.specs.CodeOf.{Emits, EmitsOne, Spends};
+ghost use Rattle.regress_program.specs.Compiled.{exactly, matching, optional};
+ghost use Rattle.regress_program.specs.Pushed.{preferred};
+ghost use Rattle.regress_program.specs.Size.{size_of_exactly, size_of_up_to};
+ghost use Rattle.regress_program.specs.declared.fault.CompileFault.TheVariants.{TooLong};
+
+use crate::compiler::Compiler;
+use crate::fault::CompileFault;
+use crate::instruction::Instruction;
+use regress_tree::ir::Node;
+
+/// The largest number of characters that one instruction matches, so that a step takes constant time.
+const MOST: usize = 64;
+
+impl<'a> Compiler<'a> {
+    /// Compiles exactly `count` characters that match a leaf, the last ones first.
+    ///
+    /// # Preconditions
+    /// The leaf matches one character.
+    pub(crate) fn exactly(
+        &mut self,
+        leaf: &'a Node,
+        count: usize,
+        next: usize,
+    ) -> Result<usize, CompileFault>
+        requires below { next < length self.old.instructions.items }
+        requires one { takes_one (tree leaf.now) ≡ true }
+        ensures emits { IfOk result (Emits self.old self.new (exactly count (matching (tree leaf.now))) next) }
+        ensures spends { IfOk result (λ _. Spends self.old self.new (size_of_exactly count)) }
+        ensures too_long { IfErr result (λ fault. fault ≡ TooLong → self.old.left < size_of_exactly count) }
+    {
+        let mut entry = next;
+        let mut left = count;
+        while left > 0 {
+            let part = left.min(MOST);
+            entry = self.characters(leaf, part, entry)?;
+            left -= part;
+        }
+        Ok(entry)
+    }
+
+    /// Compiles at most `count` characters that match a leaf.
+    ///
+    /// An odd number is split in half: of 2 h + 1 characters the first h + 1 or none, and after them at most h. Of an even
+    /// number it is the first one and after it at most one less, or none. So there are two instructions for each bit of
+    /// the number, and one for 64 characters.
+    ///
+    /// # Preconditions
+    /// The leaf matches one character.
+    pub(crate) fn up_to(
+        &mut self,
+        leaf: &'a Node,
+        greedy: bool,
+        count: usize,
+        next: usize,
+    ) -> Result<usize, CompileFault>
+        requires below { next < length self.old.instructions.items }
+        requires one { takes_one (tree leaf.now) ≡ true }
+        ensures emits { IfOk result (Emits self.old self.new (optional greedy count (matching (tree leaf.now))) next) }
+        ensures spends { IfOk result (λ _. Spends self.old self.new (size_of_up_to count count)) }
+        ensures too_long { IfErr result (λ fault. fault ≡ TooLong → self.old.left < size_of_up_to count count) }
+    {
+        if count == 0 {
+            return Ok(next);
+        }
+        if count % 2 == 0 {
+            let rest = self.up_to(leaf, greedy, count - 1, next)?;
+            let first = self.exactly(leaf, 1, rest)?;
+            self.prefer(greedy, first, next)
+        } else {
+            let rest = self.up_to(leaf, greedy, count / 2, next)?;
+            let first = self.exactly(leaf, count / 2 + 1, rest)?;
+            self.prefer(greedy, first, rest)
+        }
+    }
+
+    /// Compiles a number of characters that match a leaf, as one instruction.
+    fn characters(
+        &mut self,
+        leaf: &'a Node,
+        count: usize,
+        next: usize,
+    ) -> Result<usize, CompileFault>
+        requires below { next < length self.old.instructions.items }
+        requires one { takes_one (tree leaf.now) ≡ true }
+        ensures emits { IfOk result (Emits self.old self.new (exactly count (matching (tree leaf.now))) next) }
+        ensures spends { IfOk result (λ _. Spends self.old self.new 1) }
+        ensures too_long { IfErr result (λ fault. fault ≡ TooLong → self.old.left ≡ 0) }
+    {
+        if count == 1 {
+            self.push(Instruction::Leaf { node: leaf, next })
+        } else {
+            self.push(Instruction::Characters {
+                node: leaf,
+                count,
+                next,
+            })
+        }
+    }
+
+    /// Emits a choice of two alternatives. If `greedy`, the first is preferred, otherwise the second.
+    fn prefer(&mut self, greedy: bool, first: usize, second: usize) -> Result<usize, CompileFault>
+        ensures emits { IfOk result (EmitsOne self.old self.new (preferred greedy first second)) }
+        ensures too_long { IfErr result (λ fault. fault ≡ TooLong → self.old.left ≡ 0) }
+    {
+        if greedy {
+            self.push(Instruction::Split { first, second })
+        } else {
+            self.push(Instruction::Split {
+                first: second,
+                second: first,
+            })
+        }
+    }
+}
