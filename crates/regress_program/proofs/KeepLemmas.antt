@@ -1,5 +1,5 @@
 -- A part changes no capture.
-use Rattle.std.proofs.Common.{◌≡◌, ℕ, ◌+◌, ◌-◌, Bool, true, false, List, [], ◌∷◌, flat_map, length, Option, Some, None, All, get_or, if◌then◌else◌, refl, sym, subst}
+use Rattle.std.proofs.Common.{◌≡◌, ℕ, zero, suc, ◌+◌, ◌-◌, Bool, true, false, List, [], ◌∷◌, flat_map, length, Option, Some, None, All, get_or, if◌then◌else◌, refl, sym, subst}
 use Rattle.std.proofs.lemmas.List.Elements.{All-nil, All-cons, All-head, All-tail, All-append}
 use Rattle.regress_base.specs.Table.{denotes}
 use Rattle.regress_tree.specs.Matching.{steps}
