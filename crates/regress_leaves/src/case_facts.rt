@@ -1,5 +1,5 @@
 //! What is precomputed about case mappings.
-ghost use Rattle.std.specs.Prelude.{◌≡◌, ◌↔◌, true, IsTrue};
+ghost use Rattle.std.specs.Prelude.{◌≡◌, ◌↔◌, true, false, IsTrue};
 ghost use Rattle.std.specs.Char.{to_ascii_lowercase, to_ascii_uppercase};
 ghost use Rattle.regress_unicode.specs.TableOf.{table_of};
 ghost use Rattle.regress_leaves.specs.Known.{AreFactsOf, HasAsciiFold, HasAsciiUppercase};
@@ -18,7 +18,7 @@ pub struct CaseFacts {
 
 impl CaseFacts {
     /// Returns what a pattern with these flags can use. With the flag `u` it is about the simple case folding, also
-    /// without `i`, which a modifier may set; else it is about the upper case.
+    /// without `i`, which a modifier may set. With `i` alone it is about the upper case.
     ///
     /// # Complexity
     /// At most one lookup for each ASCII character.
@@ -62,12 +62,20 @@ fn has_ascii_uppercase(tables: &Tables) -> bool
 pub(crate) fn to_ascii_lowercase(c: u32) -> u32
     ensures { result ≡ to_ascii_lowercase c }
 {
-    if matches!(c, 0x41..=0x5A) { c + 0x20 } else { c }
+    if matches!(c, 0x41..=0x5A) {
+        c + 0x20
+    } else {
+        c
+    }
 }
 
 /// Returns the capital letter of an ASCII small letter, and any other character itself.
 pub(crate) fn to_ascii_uppercase(c: u32) -> u32
     ensures { result ≡ to_ascii_uppercase c }
 {
-    if matches!(c, 0x61..=0x7A) { c - 0x20 } else { c }
+    if matches!(c, 0x61..=0x7A) {
+        c - 0x20
+    } else {
+        c
+    }
 }
