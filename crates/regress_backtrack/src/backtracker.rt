@@ -19,7 +19,6 @@ use regress_leaves::known::Known;
 use regress_leaves::rules::MatchContext;
 use regress_program::Match;
 use regress_program::groups::unset_groups;
-use regress_unicode::Tables;
 use std::alloc::{AllocError, Global};
 use std::mem;
 
@@ -43,24 +42,24 @@ impl<'c, 'x> Backtracker<'c, 'x> {
     ghost use Rattle.regress_backtrack.specs.Backtracker.{AreOutcomes, SameRuns, outcomes_at, run_code, run_tables, run_text, tree_outcomes_at};
     ghost use Rattle.regress_backtrack.specs.declared.outcome.Outcome.TheVariants.{OutOfSteps};
 
-    /// Returns a backtracker for a program and a text.
+    /// Returns a backtracker for a program and a text, under case mappings.
     ///
     /// # Errors
     /// Returns [`AllocError`] if an allocation fails.
     pub fn new(
         alloc: Global,
         code: &'c Code,
-        tables: &'x Tables,
+        known: Known<'x>,
         text: &'x str,
     ) -> Result<Backtracker<'c, 'x>, AllocError>
         ensures code { IfOk result (λ b. run_code b ≡ code.now) }
-        ensures tables { IfOk result (λ b. run_tables b ≡ tables.now) }
+        ensures tables { IfOk result (λ b. run_tables b ≡ known.entry.tables.now) }
         ensures text { IfOk result (λ b. run_text b ≡ text.now) }
     {
         let machine = Machine::new(alloc, code.groups)?;
         Ok(Backtracker {
             code,
-            known: Known::new(tables, code.flags),
+            known,
             text,
             machine,
             unset: true,

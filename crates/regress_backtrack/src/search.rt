@@ -14,7 +14,6 @@ use crate::input::front_at;
 use crate::outcome::{Found, Outcome};
 use regress_leaves::known::Known;
 use regress_prefilter::candidates::next_candidate_from;
-use regress_unicode::Tables;
 use std::alloc::{AllocError, Global};
 
 impl Code {
@@ -36,21 +35,21 @@ impl Code {
     pub fn find(
         &self,
         alloc: Global,
-        tables: &Tables,
+        known: Known<'_>,
         text: &str,
         from: usize,
         steps: u64,
     ) -> Result<Found, AllocError>
         ensures solved { IfOk result (λ found. (outs : ℕ → Out) →
-            IsSolution (setting_with self.now tables.now) text.now (code_routines self.now) outs →
-            Finds text.now (outcomes_from self.now tables.now text.now outs) from found.outcome) }
+            IsSolution (setting_with self.now known.entry.tables.now) text.now (code_routines self.now) outs →
+            Finds text.now (outcomes_from self.now known.entry.tables.now text.now outs) from found.outcome) }
         ensures finds { IfOk result (λ found. (t : Tree) → IsPattern (code_routines self.now) t →
-            Finds text.now (tree_outcomes_from self.now tables.now text.now t) from found.outcome) }
+            Finds text.now (tree_outcomes_from self.now known.entry.tables.now text.now t) from found.outcome) }
         ensures steps { IfOk result (λ found. found.steps ≤ steps) }
         ensures out_of_steps { IfOk result (λ found. found.outcome ≡ OutOfSteps → found.steps ≡ steps) }
     {
         let mut left = steps;
-        let mut backtracker = Backtracker::new(alloc, self, tables, text)?;
+        let mut backtracker = Backtracker::new(alloc, self, known, text)?;
         let outcome = backtracker.find(alloc, from, &mut left)?;
         Ok(Found {
             outcome,
@@ -71,22 +70,22 @@ impl Code {
     pub fn match_at(
         &self,
         alloc: Global,
-        tables: &Tables,
+        known: Known<'_>,
         text: &str,
         position: usize,
         steps: u64,
     ) -> Result<Found, AllocError>
         requires { position ≤ length text.now }
         ensures solved { IfOk result (λ found. (outs : ℕ → Out) →
-            IsSolution (setting_with self.now tables.now) text.now (code_routines self.now) outs →
-            IsFirst position (outcomes_from self.now tables.now text.now outs position) found.outcome) }
+            IsSolution (setting_with self.now known.entry.tables.now) text.now (code_routines self.now) outs →
+            IsFirst position (outcomes_from self.now known.entry.tables.now text.now outs position) found.outcome) }
         ensures first { IfOk result (λ found. (t : Tree) → IsPattern (code_routines self.now) t →
-            IsFirst position (tree_outcomes_from self.now tables.now text.now t position) found.outcome) }
+            IsFirst position (tree_outcomes_from self.now known.entry.tables.now text.now t position) found.outcome) }
         ensures steps { IfOk result (λ found. found.steps ≤ steps) }
         ensures out_of_steps { IfOk result (λ found. found.outcome ≡ OutOfSteps → found.steps ≡ steps) }
     {
         let mut left = steps;
-        let mut backtracker = Backtracker::new(alloc, self, tables, text)?;
+        let mut backtracker = Backtracker::new(alloc, self, known, text)?;
         let outcome = backtracker.match_at(alloc, position, &mut left)?;
         Ok(Found {
             outcome,

@@ -1,14 +1,23 @@
--- What a search precomputes about a case folding table.
-use Rattle.std.specs.Prelude.{◌≡◌, ℕ, Bool, true}
+-- What is precomputed about case mappings.
+use Rattle.std.specs.Prelude.{◌≡◌, ℕ, ◌<◌, true}
+use Rattle.std.specs.Char.{to_ascii_lowercase, to_ascii_uppercase}
 use Rattle.std.proofs.Props.{props}
-use Rattle.regress_base.specs.Classes.{word_characters}
-use Rattle.regress_base.specs.Intervals.{is_member}
 use Rattle.regress_base.specs.Table.{Table}
+use Rattle.regress_leaves.specs.declared.case_facts.CaseFacts.{CaseFacts}
 
--- each word character folds to a word character
-abbrev pub WordsFoldToWords : Table → Type 0
-WordsFoldToWords table = (c : ℕ) → is_member word_characters c ≡ true → is_member word_characters (table.fold c) ≡ true
+-- the simple case folding of an ASCII character is its small letter, if it is a capital letter, and else itself
+abbrev pub HasAsciiFold : Table → Type 0
+HasAsciiFold table = (c : ℕ) → c < 0x80 → table.fold c ≡ to_ascii_lowercase c
+
+-- the upper case of an ASCII character is its capital letter, if it is a small letter, and else itself
+abbrev pub HasAsciiUppercase : Table → Type 0
+HasAsciiUppercase table = (c : ℕ) → c < 0x80 → table.uppercase c ≡ to_ascii_uppercase c
+
+-- What is said of the table is true.
+pub record AreFactsOf (table : Table) (facts : CaseFacts) : Type 0 where
+  pub fold : facts.ascii_fold ≡ true → HasAsciiFold table
+  pub uppercase : facts.ascii_uppercase ≡ true → HasAsciiUppercase table
 
 -- The property has at most one proof.
-pub WordsFoldToWords-prop : (known : Bool) (table : Table) → IsProp (known ≡ true → WordsFoldToWords table)
-WordsFoldToWords-prop known table = hlevel props
+pub AreFactsOf-prop : (table : Table) (facts : CaseFacts) → IsProp (AreFactsOf table facts)
+AreFactsOf-prop table facts = hlevel props

@@ -8,7 +8,6 @@ ghost use Rattle.regress_unicode.specs.TableOf.{table_of};
 
 use crate::known::Known;
 use crate::rules::MatchContext;
-use regress_unicode::{fold, uppercase};
 
 /// Returns whether the character `x` of the text matches `c` of a backreference or a string: the same character, or
 /// with `icase` one with the same canonical form (Canonicalize).
@@ -22,9 +21,9 @@ pub fn denotes(rules: MatchContext<'_>, icase: bool, c: u32, x: u32) -> bool
         return false;
     }
     if rules.flags.unicode {
-        fold(x, rules.known.tables) == fold(c, rules.known.tables)
+        rules.known.fold(x) == rules.known.fold(c)
     } else {
-        uppercase(x, rules.known.tables) == uppercase(c, rules.known.tables)
+        rules.known.uppercase(x) == rules.known.uppercase(c)
     }
 }
 
@@ -66,12 +65,13 @@ fn folds_to_word(known: Known<'_>, c: u32) -> bool
     if is_word(c) {
         return true;
     }
-    let image = fold(c, known.tables);
-    if known.words_fold_to_words {
+    let image = known.fold(c);
+    if known.facts.ascii_fold {
+        // each word character folds to a word character
         return is_word(image);
     }
     for m in 0x30..0x7B {
-        if is_word(m) && fold(m, known.tables) == image {
+        if is_word(m) && known.fold(m) == image {
             return true;
         }
     }

@@ -1,44 +1,60 @@
-//! What a search precomputes about the case mappings.
-ghost use Rattle.std.specs.Prelude.{◌≡◌, true};
+//! The case mappings, with what a search knows of them.
+ghost use Rattle.std.specs.Prelude.{◌≡◌};
 ghost use Rattle.regress_unicode.specs.TableOf.{table_of};
-ghost use Rattle.regress_leaves.specs.Known.{WordsFoldToWords, WordsFoldToWords-prop};
+ghost use Rattle.regress_leaves.specs.Known.{AreFactsOf, AreFactsOf-prop};
 
-use crate::characters::is_word;
+use crate::case_facts::{CaseFacts, to_ascii_lowercase, to_ascii_uppercase};
 use regress_base::types::Flags;
-use regress_unicode::{Tables, fold};
+use regress_unicode::{Tables, fold, uppercase};
 
 /// The case mappings, with what is precomputed about them.
 #[derive(Clone, Copy)]
 pub struct Known<'t> {
     /// The case mappings.
     pub tables: &'t Tables,
-    /// Whether each word character is known to fold to a word character. Then a character is in the closure of the word
-    /// characters if its own folding is a word character.
-    pub words_fold_to_words: bool,
-    ghost words: { words_fold_to_words ≡ true → WordsFoldToWords (table_of tables.now) } by { WordsFoldToWords-prop words_fold_to_words (table_of tables.now) },
+    /// What is precomputed about them.
+    pub(crate) facts: CaseFacts,
+    ghost holds: { AreFactsOf (table_of tables.now) facts } by { AreFactsOf-prop (table_of tables.now) facts },
 }
 
 impl<'t> Known<'t> {
-    /// Returns the tables with what a pattern with these flags can use. Word characters are folded only with the flag
-    /// `u`.
+    /// Returns the tables with what a pattern with these flags can use. [`Known::with_facts`] does not compute it anew.
     pub fn new(tables: &'t Tables, flags: Flags) -> Known<'t>
         ensures { result.tables.now ≡ tables.now }
     {
-        Known {
-            tables,
-            words_fold_to_words: flags.unicode && words_fold_to_words(tables),
-        }
+        Known::with_facts(tables, CaseFacts::find(tables, flags))
     }
-}
 
-/// Returns whether each word character folds to a word character.
-fn words_fold_to_words(tables: &Tables) -> bool
-    ensures { result ≡ true → WordsFoldToWords (table_of tables.now) }
-{
-    for c in 0x30..0x7B {
-        if is_word(c) && !is_word(fold(c, tables)) {
-            return false;
+    /// Returns the tables with what was found of them before.
+    ///
+    /// # Preconditions
+    /// The facts are of these tables.
+    pub fn with_facts(tables: &'t Tables, facts: CaseFacts) -> Known<'t>
+        requires { AreFactsOf (table_of tables.now) facts }
+        ensures { result.tables.now ≡ tables.now }
+    {
+        Known { tables, facts }
+    }
+
+    /// Returns the simple case folding of `c`.
+    pub fn fold(self, c: u32) -> u32
+        ensures { result ≡ (table_of self.entry.tables.now).fold c }
+    {
+        if self.facts.ascii_fold && c < 0x80 {
+            to_ascii_lowercase(c)
+        } else {
+            fold(c, self.tables)
         }
     }
-    true
+
+    /// Returns the upper case of `c`, if it is one code point, and else `c`.
+    pub fn uppercase(self, c: u32) -> u32
+        ensures { result ≡ (table_of self.entry.tables.now).uppercase c }
+    {
+        if self.facts.ascii_uppercase && c < 0x80 {
+            to_ascii_uppercase(c)
+        } else {
+            uppercase(c, self.tables)
+        }
+    }
 }

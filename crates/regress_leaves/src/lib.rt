@@ -1,6 +1,7 @@
 //! What the leaves of a tree match in a text, and the decoding of the text.
 #![tactic(auto)]
 
+pub mod case_facts;
 pub mod characters;
 pub mod known;
 pub mod leaves;

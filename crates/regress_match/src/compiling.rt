@@ -14,6 +14,7 @@ ghost use Rattle.regress_match.specs.Matcher.{IsFactorOf, IsFindFactorOf, IsNonl
 use crate::limits::Limits;
 use crate::matcher::Matcher;
 use regress_backtrack::Code;
+use regress_leaves::case_facts::CaseFacts;
 use regress_program::CompileFault;
 use regress_program::groups::group_count;
 use regress_tree::ir::Regex;
@@ -50,10 +51,12 @@ impl Matcher {
         let groups = group_count(&regex.node);
         let code = compiled(alloc, &regex, tables, groups, limits.instructions)?;
         let within = code.instructions() <= limits.tables;
+        let facts = CaseFacts::find(tables, regex.flags);
         let tables = Arc::try_clone(tables)?;
         Ok(Matcher {
             regex,
             tables,
+            facts,
             code,
             within,
         })

@@ -214,7 +214,7 @@ fn runs_of<'m>(
 {
     match kept {
         Some(backtracker) => Ok(backtracker),
-        None => Backtracker::new(alloc, &matcher.code, &matcher.tables, text),
+        None => Backtracker::new(alloc, &matcher.code, matcher.known(), text),
     }
 }
 

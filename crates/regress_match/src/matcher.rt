@@ -2,9 +2,12 @@
 ghost use Rattle.std.specs.Arc.{arc_value};
 ghost use Rattle.regress_tree.specs.Tree.{tree};
 ghost use Rattle.regress_unicode.specs.TableOf.{table_of};
+ghost use Rattle.regress_leaves.specs.Known.{AreFactsOf, AreFactsOf-prop};
 ghost use Rattle.regress_match.specs.Compiled.{IsCodeOf, IsCodeOf-prop};
 
 use regress_backtrack::Code;
+use regress_leaves::case_facts::CaseFacts;
+use regress_leaves::known::Known;
 use regress_tree::ir::Regex;
 use regress_unicode::Tables;
 use std::sync::Arc;
@@ -15,8 +18,22 @@ use std::sync::Arc;
 pub struct Matcher {
     pub(crate) regex: Regex,
     pub(crate) tables: Arc<Tables>,
+    /// What is precomputed about the case mappings.
+    pub(crate) facts: CaseFacts,
     pub(crate) code: Code,
     /// Whether the program is within the limit on tables.
     pub(crate) within: bool,
     ghost compiled: { IsCodeOf (record { flags = regex.flags; table = table_of (arc_value tables) }) (tree regex.node) (arc_value tables) code } by { IsCodeOf-prop (record { flags = regex.flags; table = table_of (arc_value tables) }) (tree regex.node) (arc_value tables) code },
+    ghost holds: { AreFactsOf (table_of (arc_value tables)) facts } by { AreFactsOf-prop (table_of (arc_value tables)) facts },
+}
+
+impl Matcher {
+    ghost use Rattle.std.specs.Prelude.{◌≡◌};
+
+    /// Returns the case mappings, with what is precomputed about them.
+    pub(crate) fn known(&self) -> Known<'_>
+        ensures { result.tables.now ≡ arc_value self.now.tables }
+    {
+        Known::with_facts(&self.tables, self.facts)
+    }
 }

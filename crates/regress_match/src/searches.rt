@@ -128,7 +128,7 @@ impl Matcher {
         ensures limited { IfOk result (λ found. IsLimited steps found.outcome found.steps) }
     {
         self.code
-            .match_at(alloc, &self.tables, text, position, steps)
+            .match_at(alloc, self.known(), text, position, steps)
     }
 
     /// Returns a search for the non-overlapping matches that start at the byte offset `from` or later.

@@ -19,7 +19,10 @@ matcher_is_send =
       tree_is_send,
       (
         search (sendable, crosses, core.crosses, maps.crosses) depth 40 fits 20000,
-        (search (sendable, crosses, core.crosses, maps.crosses, send-Node) depth 40 fits 20000, (search sendable, tt)),
+        (
+          search sendable,
+          (search (sendable, crosses, core.crosses, maps.crosses, send-Node) depth 40 fits 20000, (search sendable, tt)),
+        ),
       ),
     )
 

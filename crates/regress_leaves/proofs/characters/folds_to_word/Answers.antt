@@ -5,7 +5,7 @@ use Rattle.regress_base.specs.Table.{is_in_closure}
 use Rattle.regress_base.proofs.lemmas.Literals.{same_tests}
 use Rattle.regress_unicode.specs.TableOf.{table_of}
 use Rattle.regress_unicode.proofs.lemmas.Closures.{closure_from, closure_gives}
-use Rattle.regress_leaves.proofs.WordLemmas.{word_range}
+use Rattle.regress_leaves.proofs.WordLemmas.{word_range, words_fold_to_words}
 use Rattle.regress_leaves.proofs.characters.folds_to_word.Goals as goal
 
 false_is : (b : Bool) → (b ≡ true → ⊥) → false ≡ b
@@ -50,4 +50,4 @@ returns-then-known c =
     (c.args.known.tables.now.sound.lawful.fold.idempotent c.args.c))
     (λ e.
     let found = closure_gives table word_characters c.args.c e in
-    image-is ∙ ap (is_member word_characters) (sym found.3) ∙ c.args.known.words c.if-known.true found.1 found.2)
+    image-is ∙ ap (is_member word_characters) (sym found.3) ∙ words_fold_to_words table (c.args.known.holds.fold c.if-known.true) found.1 found.2)

@@ -1,0 +1,8 @@
+-- The smaller characters are mapped as in ASCII.
+use Rattle.std.proofs.Common.{◌≡◌, ◌<◌, ℕ}
+use Rattle.std.specs.Char.{to_ascii_uppercase}
+use Rattle.regress_unicode.specs.TableOf.{table_of}
+use Rattle.regress_leaves.proofs.case_facts.has_ascii_uppercase.Given as goal
+
+abbrev pub invariant-loop-c : goal.invariant-loop-c
+invariant-loop-c l = (k : ℕ) → k < l.c → (table_of l.tables).uppercase k ≡ to_ascii_uppercase k
