@@ -8,6 +8,7 @@ mod ChangedLemmas
 mod CleanLemmas
 mod CodeLemmas
 mod CompileLemmas
+mod CostLemmas
 mod EvaluateLemmas
 mod FillLemmas
 mod FirstLemmas
@@ -25,6 +26,7 @@ mod RunLemmas
 mod SearchLemmas
 mod SizeLemmas
 mod SlotLemmas
+mod SolveLemmas
 mod StepLemmas
 mod TellsLemmas
 mod TidyLemmas

@@ -1,4 +1,5 @@
 -- Lemmas about the definitions of this crate, for use by other crates.
+pub mod Costs
 pub mod Onward
 pub mod Reasons
 pub mod Solutions

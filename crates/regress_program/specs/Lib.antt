@@ -4,6 +4,7 @@ pub mod Bits
 pub mod Claims
 pub mod CodeOf
 pub mod Compiled
+pub mod Cost
 pub mod Evaluated
 pub mod Filled
 pub mod Found
