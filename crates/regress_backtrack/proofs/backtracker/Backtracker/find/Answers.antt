@@ -2,11 +2,12 @@ use Rattle.std.proofs.Common.{rules, arith, ◌≤◌, ◌<◌, ℕ, length, sym
 use Rattle.std.specs.Str.{IsCharBoundary}
 use Rattle.regress_program.specs.Found.{NoneBefore}
 use Rattle.regress_program.specs.Program.{Out}
-use Rattle.regress_backtrack.specs.Backtracker.{AreOutcomes, outcomes_at, run_text}
+use Rattle.regress_backtrack.specs.Backtracker.{AreOutcomes, cost_at, outcomes_at, run_text}
 use Rattle.regress_backtrack.specs.Searched.{IsFirst}
 use Rattle.regress_backtrack.specs.declared.outcome.Outcome.TheVariants as outcomes
 use Rattle.regress_backtrack.proofs.CandidateLemmas.{none_after, none_before}
-use Rattle.regress_backtrack.proofs.SearchLemmas.{SameRuns-trans, found_leftmost, none_more, not_true, same_solved, tree_finds}
+use Rattle.regress_backtrack.proofs.CostLemmas.{tried_on, tried_part}
+use Rattle.regress_backtrack.proofs.SearchLemmas.{SameRuns-trans, found_leftmost, none_more, not_true, same_solved, same_taken, tree_finds}
 use Rattle.regress_backtrack.proofs.backtracker.Backtracker.find.Goals as goal
 use Rattle.regress_backtrack.proofs.backtracker.Backtracker.find.Goals.{then-is_char_boundary+in_ok-found+in-NoMatch, else-is_char_boundary}
 
@@ -67,6 +68,11 @@ loop-from-preserved c =
             none_more text (outcomes_at a outs) c.args.from k (none outs are)
             (λ on. subst (IsFirst k (outcomes_at a outs k)) w.in-NoMatch.is
             (same_solved a b (λ states. IsFirst k states w.in_ok-found.field-0) k so_far.same w.in_ok-found.ensures.solved outs are));
+        costs = λ outs costs are.
+            let before = so_far.costs outs costs are in
+            let taken = same_taken a b k c.saturating_sub.result w.match_at.new.left outs costs so_far.same (w.in_ok-found.ensures.costs outs costs) are in
+            let on = tried_on (cost_at a costs) c.args.from c.loop-from.from k so_far.from within.0 in
+            omega (arith, before, taken, on, w.left-is, c.saturating_sub.ensures);
       }
       | else-is_char_boundary w ↦ record {
         same = rw w.self-is so_far.same;
@@ -75,5 +81,17 @@ loop-from-preserved c =
         solved = λ outs are.
             none_more text (outcomes_at a outs) c.args.from k (none outs are)
             (λ on. absurd (not_true c.is_char_boundary.result w.if-is_char_boundary.false (c.is_char_boundary.ensures.test.1 on)));
+        costs = λ outs costs are.
+            let before = so_far.costs outs costs are in
+            let on = tried_on (cost_at a costs) c.args.from c.loop-from.from k so_far.from within.0 in
+            omega (arith, before, on, w.left-is, c.saturating_sub.ensures);
       }
     ]
+
+-- ---- the cost of the search
+
+pub returns-clause-costs : goal.returns-clause-costs
+returns-clause-costs c = λ outs costs are.
+    let a = c.args.self.now in
+    let before = c.loop-from.invariant.costs outs costs are in
+    ?
