@@ -223,10 +223,6 @@ module _ (f : ℕ → ℕ) (from : ℕ) where
       let one = one_more (n + m) in
       omega (arith, before, here, one)
 
-  -- nothing is tried at first
-  pub tried_none : tried (from - from) ≡ 0
-  tried_none = let same : from - from ≡ 0 = omega arith in ap tried same
-
   -- some byte offsets are passed over, and a run starts at the next one
   pub tried_on : (here k : ℕ) → from ≤ here → here ≤ k → tried (here - from) + (((k - here) + 1) + f k) ≤ tried ((k + 1) - from)
   tried_on here k low le =
@@ -240,10 +236,18 @@ module _ (f : ℕ → ℕ) (from : ℕ) where
       let end = ap tried last in
       omega (arith, passed, so_far, one, run, end)
 
-  -- the cost up to a byte offset is at most that of all
+  -- the cost of the first ones is at most that of more
   pub tried_part : (n m : ℕ) → n ≤ m → tried n ≤ tried m
   tried_part n m le =
       let more = at_least n (m - n) in
       let all : n + (m - n) ≡ m = omega (arith, le) in
       let end = ap tried all in
       omega (arith, more, end)
+
+  -- the cost of a search that ends with the run at k
+  pub searched : (here k end left left1 left2 left3 : ℕ) → from ≤ here → here ≤ k → k ≤ end → left ≤ left1 + tried (here - from) →
+      left2 ≡ left1 - ((k - here) + 1) → left2 ≤ left3 + f k → left ≤ left3 + tried (end + 1 - from)
+  searched here k end left left1 left2 left3 low le high before skipped taken =
+      let on = tried_on here k low le in
+      let all = tried_part ((k + 1) - from) (end + 1 - from) (omega (arith, high)) in
+      omega (arith, before, skipped, taken, on, all)

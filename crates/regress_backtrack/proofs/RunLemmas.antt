@@ -132,10 +132,10 @@ begins-same input is m captures start' setting bytes outs clear none same =
     ∙ ap (λ ps. flat_map (outs input.index) (at (record { pc = input.first; moved = true; position = start' }) (groups_of m) ∷ ps)) (sym (points-none m clear))
 
 pub begins_cost : (input : Input) (is : IsInput input) (m : Machine) (captures : List (Option CaptureSpan)) (start' : ℕ) (setting : Setting) (bytes : List ℕ)
-    (costs : ℕ → Cost) → m.stack.entries.items ≡ [] → m.stack.begins.items ≡ [] → m.captures.items ≡ captures →
-    cost_of setting bytes (code_routines input.code.now) costs input.index (state captures start')
-    ≡ costs input.index (at (record { pc = input.first; moved = true; position = start' }) (groups_of m)) + points_cost (costs input.index) m
-begins_cost input is m captures start' setting bytes costs clear none same =
+    (costs : ℕ → Cost) (left : ℕ) → m.stack.entries.items ≡ [] → m.stack.begins.items ≡ [] → m.captures.items ≡ captures →
+    left + (costs input.index (at (record { pc = input.first; moved = true; position = start' }) (groups_of m)) + points_cost (costs input.index) m)
+    ≤ left + cost_of setting bytes (code_routines input.code.now) costs input.index (state captures start')
+begins_cost input is m captures start' setting bytes costs left clear none same =
     let here = ap (costs input.index) (begins_at input is m captures start' setting bytes none same) in
     let rest = ap (sum_by (costs input.index)) (points-none m clear) in
     omega (arith, here, rest)

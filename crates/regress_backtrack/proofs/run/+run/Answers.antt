@@ -196,9 +196,9 @@ run-loop-left-init t c =
           begins-same c.args.input.now c.requires.input _ c.args.machine.now.captures.items c.args.start
           (subject c.args.input.now.rules c.args.input.now.text.now).setting c.args.input.now.text.now outs c.clear.ensures.entries c.clear.ensures.begins refl;
       costs = λ outs costs has.
-          let begins = begins_cost c.args.input.now c.requires.input _ c.args.machine.now.captures.items c.args.start
-          (subject c.args.input.now.rules c.args.input.now.text.now).setting c.args.input.now.text.now costs c.clear.ensures.entries c.clear.ensures.begins refl in
-          omega (arith, begins);
+          begins_cost c.args.input.now c.requires.input _ c.args.machine.now.captures.items c.args.start
+          (subject c.args.input.now.rules c.args.input.now.text.now).setting c.args.input.now.text.now costs c.args.left.now c.clear.ensures.entries
+          c.clear.ensures.begins refl;
     }
 
 pub run-advance-requires : goal.run-advance-requires

@@ -11,6 +11,7 @@ abbrev pub invariant-loop-from : goal.invariant-loop-from
 invariant-loop-from l = record {
   same : SameRuns l.fn.self l.self;
   from : l.fn.from ≤ l.from;
+  high : l.from - l.fn.from ≤ length (run_text l.fn.self) + 1 - l.fn.from;
   left : l.left ≤ l.fn.left;
   solved : (outs : ℕ → Out) → AreOutcomes l.fn.self outs → NoneBefore (run_text l.fn.self) (outcomes_at l.fn.self outs) l.fn.from l.from;
   costs : (outs : ℕ → Out) (costs : ℕ → Cost) → AreCosts l.fn.self outs costs →
