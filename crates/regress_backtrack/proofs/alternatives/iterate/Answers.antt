@@ -46,7 +46,7 @@ returns-in-Some-clause-costs c = λ outs costs has.
     let again : Place = record { pc = c.args.looping.body; moved = false; position = c.args.here.position } in
     let after : Place = record { pc = c.args.looping.next; moved = c.args.here.moved; position = c.args.here.position } in
     let taken : c.args.left.now + (cost (at c.in-Some.to (groups_of m')) + points_cost cost m')
-        ≤ c.sweep.new.left + ((cost (at again g) + cost (at after g)) + points_cost cost m) =
+    ≤ c.sweep.new.left + ((cost (at again g) + cost (at after g)) + points_cost cost m) =
     (rw c.in-Some.is at c.in_ok-to.ensures.costs) outs costs has in
     taken
 

@@ -16,7 +16,7 @@ loop-second-preserved c =
     subst (λ o. IfSome o (λ (k : ℕ). (outs : ℕ → Out) (g : Groups) → Solve input outs → outs input.index (at (record here { pc = k }) g) ≡ outs input.index (at here g)))
     c.in-Some.is c.other_alternative.ensures.same in
     let less : (outs : ℕ → Out) (costs : ℕ → Cost) (g : Groups) → HasCost input outs costs →
-        costs input.index (at (record here { pc = c.in-Some.second }) g) ≤ costs input.index (at here g) =
+    costs input.index (at (record here { pc = c.in-Some.second }) g) ≤ costs input.index (at here g) =
     subst (λ o. IfSome o (λ (k : ℕ). (outs : ℕ → Out) (costs : ℕ → Cost) (g : Groups) → HasCost input outs costs →
     costs input.index (at (record here { pc = k }) g) ≤ costs input.index (at here g))) c.in-Some.is c.other_alternative.ensures.costs in
     record {
