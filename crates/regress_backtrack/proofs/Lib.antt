@@ -1,6 +1,7 @@
 pub mod OwnedLemmas
 pub mod PassLemmas
 pub mod CandidateLemmas
+pub mod CostLemmas
 pub mod FrontLemmas
 pub mod LeafLemmas
 pub mod MachineLemmas

@@ -4,10 +4,12 @@ use Rattle.std.proofs.lemmas.Option.{slice_get_within}
 use Rattle.regress_base.specs.ByteBitmap.{contains}
 use Rattle.regress_base.specs.declared.bytesearch.bitmap.ByteBitmap.{ByteBitmap}
 use Rattle.regress_leaves.specs.Subject.{subject}
+use Rattle.regress_program.specs.Cost.{Cost}
 use Rattle.regress_program.specs.Program.{Out, goto, matcher_of}
 use Rattle.regress_tree.specs.Reading.{direction_if}
 use Rattle.regress_tree.specs.Steps.{MatchState}
 use Rattle.regress_backtrack.specs.Code.{code_routines}
+use Rattle.regress_backtrack.specs.Costs.{HasCost}
 use Rattle.regress_backtrack.specs.declared.front.Front.{Front}
 use Rattle.regress_backtrack.specs.declared.front.Front.TheVariants as kinds
 use Rattle.regress_backtrack.specs.declared.input.Input.{Input}
@@ -18,6 +20,7 @@ use Rattle.regress_backtrack.specs.Fronts.{IsOutside, next_to}
 use Rattle.regress_backtrack.specs.Machine.{Groups, at}
 use Rattle.regress_backtrack.specs.Next.{IsInput, Solve}
 use Rattle.regress_backtrack.specs.Passes.{AreCounts, ArePassed, IsBeside, IsPreferred, is_excluded, is_passed}
+use Rattle.regress_backtrack.proofs.CostLemmas.{second_cost}
 use Rattle.regress_backtrack.proofs.RunLemmas.{solved}
 
 -- an instruction that is passed over, with what it names
@@ -121,6 +124,24 @@ module _ (input : Input) (is : IsInput input) (p : Place) (b : ℕ)
       let last = passed_by input.fronts.now input.instructions.now b (pc - n) (slice_get input.instructions.now (pc - n)) refl (all n (omega arith)) in
       let number : pc - suc n ≡ (pc - n) - 1 = omega arith in
       ap outs_from number ∙ one_passed (pc - n) last ∙ all_passed pc n (λ j lt. all j (omega (arith, lt)))
+
+-- the cost of a place is at least that of one that is reached by passing over choices
+pub passed_cost : (input : Input) → IsInput input → (p : Place) (b : ℕ) (outs : ℕ → Out) (costs : ℕ → Cost) → HasCost input outs costs → (g : Groups) →
+    p.position ≤ length input.text.now → (pc count : ℕ) → ArePassed input.fronts.now input.instructions.now b pc count →
+    costs input.index (at (record p { pc = pc - count }) g) ≤ costs input.index (at (record p { pc = pc }) g)
+passed_cost input is p b outs costs has g le pc zero all =
+    let same : pc - zero ≡ pc = omega arith in
+    let here = ap (λ k. costs input.index (at (record p { pc = k }) g)) same in
+    omega (arith, here)
+passed_cost input is p b outs costs has g le pc (suc n) all =
+    let last = passed_by input.fronts.now input.instructions.now b (pc - n) (slice_get input.instructions.now (pc - n)) refl (all n (omega arith)) in
+    let i = insts.Split last.first ((pc - n) - 1) in
+    let one = second_cost input is outs costs has g (record p { pc = pc - n }) last.first ((pc - n) - 1)
+    (slice_get_within input.instructions.now (pc - n) i last.is) last.is le in
+    let more = passed_cost input is p b outs costs has g le pc n (λ j lt. all j (omega (arith, lt))) in
+    let number : pc - suc n ≡ (pc - n) - 1 = omega arith in
+    let here = ap (λ k. costs input.index (at (record p { pc = k }) g)) number in
+    omega (arith, one, more, here)
 
 -- ---- counts
 

@@ -1,5 +1,5 @@
 -- Runs and lookarounds.
-use Rattle.std.proofs.Common.{◌≡◌, ℕ, ◌<◌, ◌≤◌, ◌==◌, Bool, true, false, not, ◌||◌, List, [], ◌∷◌, ◌++◌, flat_map, length, take, Option, Some, All, slice_get, option_map, refl, sym, ap, ap₂, ◌∙◌, subst, append-nil, arith, reverse}
+use Rattle.std.proofs.Common.{◌≡◌, ℕ, ◌+◌, sum_by, ◌<◌, ◌≤◌, ◌==◌, Bool, true, false, not, ◌||◌, List, [], ◌∷◌, ◌++◌, flat_map, length, take, Option, Some, All, slice_get, option_map, refl, sym, ap, ap₂, ◌∙◌, subst, append-nil, arith, reverse}
 use Rattle.std.proofs.lemmas.List.{length-map}
 use Rattle.std.proofs.lemmas.List.Elements.{All-nil, All-cons}
 use Rattle.std.proofs.lemmas.Option.{slice_get-map}
@@ -9,9 +9,11 @@ use Rattle.regress_tree.specs.Reading.{Direction}
 use Rattle.regress_tree.specs.Setting.{Setting}
 use Rattle.regress_tree.specs.Steps.{MatchState, Matcher, CaptureSpan}
 use Rattle.regress_backtrack.specs.declared.instruction.Instruction.{Instruction}
+use Rattle.regress_program.specs.Cost.{Cost, IsCost, cost_after, cost_of}
 use Rattle.regress_program.specs.Program.{Out, Routine, reach, start, matcher_of, outcomes_by, outcomes_at, IsSolution}
 use Rattle.regress_program.specs.Shape.{Fits, IsProgram}
 use Rattle.regress_backtrack.specs.Code.{code_routines}
+use Rattle.regress_backtrack.specs.Costs.{cost_ahead, points_cost}
 use Rattle.regress_backtrack.specs.Views.{op_in}
 use Rattle.regress_backtrack.specs.declared.input.Input.{Input}
 use Rattle.regress_backtrack.specs.declared.machine.Machine.{Machine}
@@ -110,27 +112,50 @@ begins-inside input is m start' program clear le =
     All-cons (Inside input) (at p (groups_of m)) (points m) (record { pc = omega (arith, is.first, entry, width); position = le })
     (subst (All (Inside input)) (sym (points-none m clear)) (All-nil (Inside input)))
 
+-- where a run starts
+begins_at : (input : Input) (is : IsInput input) (m : Machine) (captures : List (Option CaptureSpan)) (start' : ℕ) (setting : Setting) (bytes : List ℕ) →
+    m.stack.begins.items ≡ [] → m.captures.items ≡ captures →
+    start setting bytes (slice_get (code_routines input.code.now) input.index) (state captures start')
+    ≡ at (record { pc = input.first; moved = true; position = start' }) (groups_of m)
+begins_at input is m captures start' setting bytes none same =
+    ap (λ o. start setting bytes o (state captures start')) is.is
+    ∙ ap (λ k. record { pc = k; moved = true; state = state captures start'; begins = [] }) (sym is.first)
+    ∙ ap₂ (λ cs bs. record { pc = input.first; moved = true; state = state cs start'; begins = reverse bs }) (sym same) (sym none)
+
 pub begins-same : (input : Input) (is : IsInput input) (m : Machine) (captures : List (Option CaptureSpan)) (start' : ℕ) (setting : Setting) (bytes : List ℕ)
     (outs : ℕ → Out) → m.stack.entries.items ≡ [] → m.stack.begins.items ≡ [] → m.captures.items ≡ captures →
     matcher_of setting bytes (code_routines input.code.now) outs input.index (state captures start')
     ≡ flat_map (outs input.index) (at (record { pc = input.first; moved = true; position = start' }) (groups_of m) ∷ points m)
 begins-same input is m captures start' setting bytes outs clear none same =
-    ap (λ o. outs input.index (start setting bytes o (state captures start'))) is.is
-    ∙ ap (λ k. outs input.index (record { pc = k; moved = true; state = state captures start'; begins = [] })) (sym is.first)
-    ∙ ap₂ (λ cs bs. outs input.index (record { pc = input.first; moved = true; state = state cs start'; begins = reverse bs })) (sym same) (sym none)
+    ap (outs input.index) (begins_at input is m captures start' setting bytes none same)
     ∙ sym (append-nil _)
     ∙ ap (λ ps. flat_map (outs input.index) (at (record { pc = input.first; moved = true; position = start' }) (groups_of m) ∷ ps)) (sym (points-none m clear))
 
--- the result of a run for an equal input
+pub begins_cost : (input : Input) (is : IsInput input) (m : Machine) (captures : List (Option CaptureSpan)) (start' : ℕ) (setting : Setting) (bytes : List ℕ)
+    (costs : ℕ → Cost) (left : ℕ) → m.stack.entries.items ≡ [] → m.stack.begins.items ≡ [] → m.captures.items ≡ captures →
+    left + (costs input.index (at (record { pc = input.first; moved = true; position = start' }) (groups_of m)) + points_cost (costs input.index) m)
+    ≤ left + cost_of setting bytes (code_routines input.code.now) costs input.index (state captures start')
+begins_cost input is m captures start' setting bytes costs left clear none same =
+    let here = ap (costs input.index) (begins_at input is m captures start' setting bytes none same) in
+    let rest = ap (sum_by (costs input.index)) (points-none m clear) in
+    omega (arith, here, rest)
+
+-- what is so of a run for an equal input
+pub same_run : (P : Setting → List ℕ → List Routine → ℕ → List (Option CaptureSpan) → Type 0) (s s' : Setting) (b b' : List ℕ) (p p' : List Routine)
+    (i i' : ℕ) (cs cs' : List (Option CaptureSpan)) → P s' b' p' i' cs' → s' ≡ s → b' ≡ b → p' ≡ p → i' ≡ i → cs' ≡ cs → P s b p i cs
+same_run P s s' b b' p p' i i' cs cs' holds es eb ep ei ec =
+    subst (λ x. P x b p i cs) es
+    (subst (λ x. P s' x p i cs) eb (subst (λ x. P s' b' x i cs) ep (subst (λ x. P s' b' p' x cs) ei (subst (λ x. P s' b' p' i' x) ec holds))))
+
 pub same_answers : (m : Machine) (r : Response) (outs : ℕ → Out) (k : ℕ) (s s' : Setting) (b b' : List ℕ) (p p' : List Routine) (i i' : ℕ)
     (cs cs' : List (Option CaptureSpan)) → (IsSolution s' b' p' outs → Answers (matcher_of s' b' p' outs i' (state cs' k)) m r) →
     s' ≡ s → b' ≡ b → p' ≡ p → i' ≡ i → cs' ≡ cs → IsSolution s b p outs → Answers (matcher_of s b p outs i (state cs k)) m r
-same_answers m r outs k s s' b b' p p' i i' cs cs' answers es eb ep ei ec =
-    subst (λ x. IsSolution x b p outs → Answers (matcher_of x b p outs i (state cs k)) m r) es
-    (subst (λ x. IsSolution s' x p outs → Answers (matcher_of s' x p outs i (state cs k)) m r) eb
-    (subst (λ x. IsSolution s' b' x outs → Answers (matcher_of s' b' x outs i (state cs k)) m r) ep
-    (subst (λ x. IsSolution s' b' p' outs → Answers (matcher_of s' b' p' outs x (state cs k)) m r) ei
-    (subst (λ x. IsSolution s' b' p' outs → Answers (matcher_of s' b' p' outs i' (state x k)) m r) ec answers))))
+same_answers m r outs k = same_run (λ s b p i cs. IsSolution s b p outs → Answers (matcher_of s b p outs i (state cs k)) m r)
+
+pub same_cost : (left left' : ℕ) (outs : ℕ → Out) (costs : ℕ → Cost) (k : ℕ) (s s' : Setting) (b b' : List ℕ) (p p' : List Routine) (i i' : ℕ)
+    (cs cs' : List (Option CaptureSpan)) → (IsCost s' b' p' outs costs → left ≤ left' + cost_of s' b' p' costs i' (state cs' k)) →
+    s' ≡ s → b' ≡ b → p' ≡ p → i' ≡ i → cs' ≡ cs → IsCost s b p outs costs → left ≤ left' + cost_of s b p costs i (state cs k)
+same_cost left left' outs costs k = same_run (λ s b p i cs. IsCost s b p outs costs → left ≤ left' + cost_of s b p costs i (state cs k))
 
 -- a run that fails where it starts has no outcome
 pub fails_answers : (input : Input) → IsInput input → (m : Machine) (captures : List (Option CaptureSpan)) (k : ℕ) (outs : ℕ → Out) →
@@ -187,6 +212,37 @@ module _ (out : Out) (m m' : Machine) (same : points m' ≡ points m) (begins : 
       fails _ n is (ap (looked false (state m.captures.items p.position)) answers)
   look_goes negate body inner responses.OutOfSteps n answers captures none is =
       subst (Goes out m m' _) (sym is) tt
+
+  -- on from the lookaround
+  goes_cost : (cost : Cost) (states : List MatchState) (n : Next) → n ≡ nexts.On (record p { pc = next }) → states ≡ state m'.captures.items p.position ∷ [] →
+      cost_ahead cost m' n ≤ cost_after cost next (at p (groups_of m)) states + points_cost cost m
+  goes_cost cost states n is found =
+      let a = at p (groups_of m) in
+      let here = ap cost (reach-after (state m'.captures.items p.position) refl) in
+      let one = ap (cost_after cost next a) found in
+      let rest = ap (sum_by cost) same in
+      subst (λ x. cost_ahead cost m' x ≤ cost_after cost next a states + points_cost cost m) (sym is) (omega (arith, here, one, rest))
+
+  stops_cost : (cost : Cost) (k : ℕ) (n : Next) → n ≡ nexts.Back → cost_ahead cost m' n ≤ k + points_cost cost m
+  stops_cost cost k n is =
+      let rest = ap (sum_by cost) same in
+      subst (λ x. cost_ahead cost m' x ≤ k + points_cost cost m) (sym is) (omega (arith, rest))
+
+  pub look_cost : (cost : Cost) (negate : Bool) (body : Matcher) (inner : Machine) (r : Response) (n : Next) →
+      Answers (body (state m.captures.items p.position)) inner r → m'.captures.items ≡ inner.captures.items →
+      (r ≡ responses.NoMatch → inner.captures.items ≡ m.captures.items) → IsAfter r negate (record p { pc = next }) n →
+      cost_ahead cost m' n
+      ≤ cost_after cost next (at p (groups_of m)) (lookaround_matcher negate body (state m.captures.items p.position)) + points_cost cost m
+  unfolding lookaround_matcher
+  look_cost cost true body inner (responses.Matched k) n answers captures none is = stops_cost cost _ n is
+  look_cost cost false body inner (responses.Matched k) n answers captures none is =
+      goes_cost cost _ n is (ap (looked false (state m.captures.items p.position)) answers.1 ∙ ap (λ cs. state cs p.position ∷ []) (sym captures))
+  look_cost cost true body inner responses.NoMatch n answers captures none is =
+      goes_cost cost _ n is (ap (looked true (state m.captures.items p.position)) answers ∙ ap (λ cs. state cs p.position ∷ []) (sym (captures ∙ none refl)))
+  look_cost cost false body inner responses.NoMatch n answers captures none is = stops_cost cost _ n is
+  look_cost cost negate body inner responses.OutOfSteps n answers captures none is =
+      subst (λ x. cost_ahead cost m' x ≤ cost_after cost next (at p (groups_of m)) (lookaround_matcher negate body (state m.captures.items p.position))
+      + points_cost cost m) (sym is) (omega arith)
 
 -- the points after a lookaround
 pub look_inside : (input : Input) (m m' : Machine) (r : Response) (negate : Bool) (p : Place) (n : Next) → points m' ≡ points m → IsAfter r negate p n →

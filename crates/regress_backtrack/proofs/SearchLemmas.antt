@@ -9,6 +9,7 @@ use Rattle.regress_tree.specs.Tree.{Tree}
 use Rattle.regress_unicode.specs.declared.Tables.{Tables}
 use Rattle.regress_program.specs.Compiled.{IsPattern}
 use Rattle.regress_program.specs.declared.found.Match.{Match}
+use Rattle.regress_program.specs.Cost.{Cost, IsCost, cost_of}
 use Rattle.regress_program.specs.Found.{IsLeftmost, NoneBefore, no_groups, start_of, state_of}
 use Rattle.regress_program.specs.Program.{Out, IsSolution, matcher_of}
 use Rattle.regress_program.proofs.lemmas.Solutions.{solution}
@@ -20,12 +21,12 @@ use Rattle.regress_backtrack.specs.declared.outcome.Outcome.{Outcome}
 use Rattle.regress_backtrack.specs.declared.outcome.Outcome.TheVariants as outcomes
 use Rattle.regress_backtrack.specs.declared.run.Response.{Response}
 use Rattle.regress_backtrack.specs.declared.run.Response.TheVariants as responses
-use Rattle.regress_backtrack.specs.Backtracker.{AreOutcomes, SameRuns, outcomes_at, run_code, run_tables, run_text, tree_outcomes_at}
-use Rattle.regress_backtrack.specs.Code.{code_groups, code_routines, outcomes_from, setting_with, tree_outcomes_from}
+use Rattle.regress_backtrack.specs.Backtracker.{AreCosts, AreOutcomes, SameRuns, cost_at, outcomes_at, run_code, run_tables, run_text, tree_outcomes_at}
+use Rattle.regress_backtrack.specs.Code.{code_groups, code_routines, cost_from, outcomes_from, setting_with, tree_outcomes_from}
 use Rattle.regress_backtrack.specs.Machine.{state}
 use Rattle.regress_backtrack.specs.Run.{Answers}
 use Rattle.regress_backtrack.specs.Searched.{Finds, IsFirst, IsFor}
-use Rattle.regress_backtrack.proofs.RunLemmas.{same_answers}
+use Rattle.regress_backtrack.proofs.RunLemmas.{same_answers, same_cost}
 
 -- what is so for each solution is so for each tree of the program
 pub of_tree : (code : Code) (tables : Tables) (text : List ℕ) (k : ℕ) → k ≤ length text → (P : List MatchState → Type 0) →
@@ -57,42 +58,43 @@ tree_finds b origin outcome all t pattern =
     same_finds (run_text b) (outcomes_at b some.0) (tree_outcomes_at b t) origin outcome
     (λ k le. pattern.means setting (run_text b) some.0 some.1 (no_groups (code_groups (run_code b)) k) le) (all some.0 some.1)
 
--- the result of a run, for another run of the same program in the same text
+-- what is so of a program, case mappings and a text is so of equal ones
+pub same_parts : (P : Code → Tables → List ℕ → Type 0) (c c' : Code) (t t' : Tables) (x x' : List ℕ) → c' ≡ c → t' ≡ t → x' ≡ x → P c' t' x' → P c t x
+same_parts P c c' t t' x x' ec et ex holds = subst (λ y. P y t x) ec (subst (λ y. P c' y x) et (subst (P c' t') ex holds))
+
+-- what is so of a run is so of another run of the same program in the same text
+pub same_runs : (P : Code → Tables → List ℕ → Type 0) (a b : Backtracker) → SameRuns a b → P (run_code b) (run_tables b) (run_text b) →
+    P (run_code a) (run_tables a) (run_text a)
+same_runs P a b same = same_parts P _ _ _ _ _ _ same.code same.tables same.text
+
 pub same_solved : (a b : Backtracker) (P : List MatchState → Type 0) (k : ℕ) → SameRuns a b →
     ((outs : ℕ → Out) → AreOutcomes b outs → P (outcomes_at b outs k)) → (outs : ℕ → Out) → AreOutcomes a outs → P (outcomes_at a outs k)
-same_solved a b P k same holds outs =
-    subst (λ x. IsSolution (setting_with x (run_tables a)) (run_text a) (code_routines x) outs → P (outcomes_from x (run_tables a) (run_text a) outs k)) same.code
-    (subst (λ x. IsSolution (setting_with (run_code b) x) (run_text a) (code_routines (run_code b)) outs → P (outcomes_from (run_code b) x (run_text a) outs k))
-    same.tables
-    (subst (λ x. IsSolution (setting_with (run_code b) (run_tables b)) x (code_routines (run_code b)) outs →
-    P (outcomes_from (run_code b) (run_tables b) x outs k)) same.text (holds outs)))
+same_solved a b P k =
+    same_runs (λ c t x. (outs : ℕ → Out) → IsSolution (setting_with c t) x (code_routines c) outs → P (outcomes_from c t x outs k)) a b
 
 pub same_first : (a b : Backtracker) (P : List MatchState → Type 0) (k : ℕ) → SameRuns a b →
     ((t : Tree) → IsPattern (code_routines (run_code b)) t → P (tree_outcomes_at b t k)) → (t : Tree) → IsPattern (code_routines (run_code a)) t →
     P (tree_outcomes_at a t k)
-same_first a b P k same holds t =
-    subst (λ x. IsPattern (code_routines x) t → P (tree_outcomes_from x (run_tables a) (run_text a) t k)) same.code
-    (subst (λ x. IsPattern (code_routines (run_code b)) t → P (tree_outcomes_from (run_code b) x (run_text a) t k)) same.tables
-    (subst (λ x. IsPattern (code_routines (run_code b)) t → P (tree_outcomes_from (run_code b) (run_tables b) x t k)) same.text (holds t)))
+same_first a b P k = same_runs (λ c t x. (tree : Tree) → IsPattern (code_routines c) tree → P (tree_outcomes_from c t x tree k)) a b
+
+pub same_taken : (a b : Backtracker) (k left left' : ℕ) (outs : ℕ → Out) (costs : ℕ → Cost) → SameRuns a b →
+    (AreCosts b outs costs → left ≤ left' + cost_at b costs k) → AreCosts a outs costs → left ≤ left' + cost_at a costs k
+same_taken a b k left left' outs costs =
+    same_runs (λ c t x. IsCost (setting_with c t) x (code_routines c) outs costs → left ≤ left' + cost_from c t x costs k) a b
 
 -- the result of a run, for its program, case mappings and text
 pub for_solution : (b : Backtracker) (code : Code) (tables : Tables) (text : List ℕ) (P : List ℕ → (ℕ → List MatchState) → Type 0) →
     run_code b ≡ code → run_tables b ≡ tables → run_text b ≡ text → ((outs : ℕ → Out) → AreOutcomes b outs → P (run_text b) (outcomes_at b outs)) →
     (outs : ℕ → Out) → IsSolution (setting_with code tables) text (code_routines code) outs → P text (outcomes_from code tables text outs)
-for_solution b code tables text P ec et ex holds outs =
-    subst (λ x. IsSolution (setting_with x tables) text (code_routines x) outs → P text (outcomes_from x tables text outs)) ec
-    (subst (λ x. IsSolution (setting_with (run_code b) x) text (code_routines (run_code b)) outs → P text (outcomes_from (run_code b) x text outs)) et
-    (subst (λ x. IsSolution (setting_with (run_code b) (run_tables b)) x (code_routines (run_code b)) outs →
-    P x (outcomes_from (run_code b) (run_tables b) x outs)) ex (holds outs)))
+for_solution b code tables text P =
+    same_parts (λ c t x. (outs : ℕ → Out) → IsSolution (setting_with c t) x (code_routines c) outs → P x (outcomes_from c t x outs)) _ _ _ _ _ _
 
 pub for_tree : (b : Backtracker) (code : Code) (tables : Tables) (text : List ℕ) (P : List ℕ → (ℕ → List MatchState) → Type 0) →
     run_code b ≡ code → run_tables b ≡ tables → run_text b ≡ text →
     ((t : Tree) → IsPattern (code_routines (run_code b)) t → P (run_text b) (tree_outcomes_at b t)) →
     (t : Tree) → IsPattern (code_routines code) t → P text (tree_outcomes_from code tables text t)
-for_tree b code tables text P ec et ex holds t =
-    subst (λ x. IsPattern (code_routines x) t → P text (tree_outcomes_from x tables text t)) ec
-    (subst (λ x. IsPattern (code_routines (run_code b)) t → P text (tree_outcomes_from (run_code b) x text t)) et
-    (subst (λ x. IsPattern (code_routines (run_code b)) t → P x (tree_outcomes_from (run_code b) (run_tables b) x t)) ex (holds t)))
+for_tree b code tables text P =
+    same_parts (λ c t x. (tree : Tree) → IsPattern (code_routines c) tree → P x (tree_outcomes_from c t x tree)) _ _ _ _ _ _
 
 pub SameRuns-trans : (a b c : Backtracker) → SameRuns a b → SameRuns b c → SameRuns a c
 SameRuns-trans a b c one two = record {
@@ -110,6 +112,16 @@ pub run_solved : (b : Backtracker) (input : Input) (captures : List (Option Capt
 run_solved b input captures k m r is unset answers outs =
     same_answers m r outs k (setting_with (run_code b) (run_tables b)) _ (run_text b) _ (code_routines (run_code b)) _ (length (code_routines (run_code b)) - 1) _
     (replicate (code_groups (run_code b)) None) _ (answers outs) is.setting is.same_text (ap code_routines is.code) is.index unset
+
+-- the cost of a run from the input for the pattern, with every group unset
+pub run_cost : (b : Backtracker) (input : Input) (captures : List (Option CaptureSpan)) (k left left' : ℕ) (outs : ℕ → Out) (costs : ℕ → Cost) →
+    IsFor (run_code b) (run_tables b) (run_text b) input → captures ≡ replicate (code_groups (run_code b)) None →
+    (IsCost (subject input.rules input.text.now).setting input.text.now (code_routines input.code.now) outs costs →
+    left ≤ left' + cost_of (subject input.rules input.text.now).setting input.text.now (code_routines input.code.now) costs input.index (state captures k)) →
+    AreCosts b outs costs → left ≤ left' + cost_at b costs k
+run_cost b input captures k left left' outs costs is unset taken =
+    same_cost left left' outs costs k (setting_with (run_code b) (run_tables b)) _ (run_text b) _ (code_routines (run_code b)) _
+    (length (code_routines (run_code b)) - 1) _ (replicate (code_groups (run_code b)) None) _ taken is.setting is.same_text (ap code_routines is.code) is.index unset
 
 -- the match that is found at a position, if no earlier position has an outcome
 pub found_leftmost : (text : List ℕ) (at : ℕ → List MatchState) (origin k : ℕ) (found : Match) → origin ≤ k → IsCharBoundary text k →

@@ -3,10 +3,11 @@ use Rattle.std.specs.Prelude.{◌≡◌, ℕ, List}
 use Rattle.regress_tree.specs.Steps.{MatchState}
 use Rattle.regress_tree.specs.Tree.{Tree}
 use Rattle.regress_unicode.specs.declared.Tables.{Tables}
+use Rattle.regress_program.specs.Cost.{Cost, IsCost}
 use Rattle.regress_program.specs.Program.{IsSolution, Out}
 use Rattle.regress_backtrack.specs.declared.backtracker.Backtracker.{Backtracker}
 use Rattle.regress_backtrack.specs.declared.code.Code.{Code}
-use Rattle.regress_backtrack.specs.Code.{code_routines, outcomes_from, setting_with, tree_outcomes_from}
+use Rattle.regress_backtrack.specs.Code.{code_routines, cost_from, outcomes_from, search_cost, setting_with, tree_outcomes_from}
 
 -- the program that is run
 abbrev pub run_code : Backtracker → Code
@@ -37,3 +38,15 @@ outcomes_at b = outcomes_from (run_code b) (run_tables b) (run_text b)
 -- the outcomes of a tree from there
 abbrev pub tree_outcomes_at : Backtracker → Tree → (position : ℕ) → List MatchState
 tree_outcomes_at b = tree_outcomes_from (run_code b) (run_tables b) (run_text b)
+
+-- These are the costs of the instructions of the program in the text, where `outs` are their outcomes.
+abbrev pub AreCosts : Backtracker → (ℕ → Out) → (ℕ → Cost) → Type 0
+AreCosts b outs costs = IsCost (setting_with (run_code b) (run_tables b)) (run_text b) (code_routines (run_code b)) outs costs
+
+-- the cost of a run from a position with every group unset, by those of the instructions
+abbrev pub cost_at : Backtracker → (ℕ → Cost) → (position : ℕ) → ℕ
+cost_at b = cost_from (run_code b) (run_tables b) (run_text b)
+
+-- the cost of a search from there on
+abbrev pub search_cost_at : Backtracker → (ℕ → Cost) → (from : ℕ) → ℕ
+search_cost_at b = search_cost (run_code b) (run_tables b) (run_text b)

@@ -1,6 +1,7 @@
 pub mod Backtracker
 pub mod Candidates
 pub mod Code
+pub mod Costs
 pub mod Fronts
 pub mod Machine
 pub mod Next

@@ -1,6 +1,8 @@
 //! Alternatives, and the iterations of loops.
-ghost use Rattle.std.specs.Prelude.{◌≡◌, ◌≤◌, ◌<◌, ◌++◌, ℕ, All, IfOk, IfSome, false, flat_map, length, true};
+ghost use Rattle.std.specs.Prelude.{◌≡◌, ◌≤◌, ◌<◌, ◌+◌, ◌++◌, ℕ, All, IfOk, IfSome, false, flat_map, length, true};
+ghost use Rattle.regress_program.specs.Cost.{Cost};
 ghost use Rattle.regress_program.specs.Program.{Out, either};
+ghost use Rattle.regress_backtrack.specs.Costs.{HasCost, cost_ahead, points_cost};
 ghost use Rattle.regress_backtrack.specs.Machine.{Groups, at, groups_of, points, rewound};
 ghost use Rattle.regress_backtrack.specs.Next.{Fails, Inside, IsInput, Leads, Solve, ahead};
 ghost use Rattle.regress_backtrack.specs.Passes.{ArePassed, IsBeside};
@@ -48,6 +50,9 @@ pub fn fork(
         out machine.new next)) }
     ensures inside { IfOk result (λ next. All (Inside input.now) (points machine.old) → All (Inside input.now) (ahead machine.new next)) }
     ensures rewound { IfOk result (λ _. rewound machine.new ≡ rewound machine.old) }
+    ensures costs { IfOk result (λ next. (outs : ℕ → Out) (costs : ℕ → Cost) → HasCost input.now outs costs → (let cost = costs input.now.index in
+        cost_ahead cost machine.new next ≤ (cost (at first (groups_of machine.old)) + cost (at second (groups_of machine.old)))
+        + points_cost cost machine.old)) }
     ensures goes { IfOk result (λ next. next ≡ OutOfSteps → ⊥) }
 {
     if fails(input, first) {
@@ -90,6 +95,11 @@ pub fn iterate(
     ensures inside { IfOk result (λ to. All (Inside input.now) (points machine.old) → All (Inside input.now) (ahead machine.new to)) }
     ensures rewound { IfOk result (λ _. rewound machine.new ≡ rewound machine.old) }
     ensures left { IfOk result (λ _. left.new ≤ left.old) }
+    ensures costs { IfOk result (λ to. (outs : ℕ → Out) (costs : ℕ → Cost) → HasCost input.now outs costs → (let cost = costs input.now.index in
+        let again : Place = record { pc = looping.body; moved = false; position = here.position } in
+        let after : Place = record here { pc = looping.next } in
+        left.old + cost_ahead cost machine.new to
+        ≤ left.new + ((cost (at again (groups_of machine.old)) + cost (at after (groups_of machine.old))) + points_cost cost machine.old))) }
     ensures goes { IfOk result (λ to. to ≡ OutOfSteps → ⊥) }
 {
     let again = Place {
@@ -123,6 +133,8 @@ fn pass_over(input: &Input<'_, '_>, place: Place) -> Place
     ensures pc { result.pc < length input.now.instructions.now }
     ensures position { result.position ≡ place.position }
     ensures same { (outs : ℕ → Out) (g : Groups) → Solve input.now outs → outs input.now.index (at result g) ≡ outs input.now.index (at place g) }
+    ensures costs { (outs : ℕ → Out) (costs : ℕ → Cost) (g : Groups) → HasCost input.now outs costs →
+        costs input.now.index (at result g) ≤ costs input.now.index (at place g) }
 {
     let mut here = place;
     while let Some(second) = other_alternative(input, here) {
@@ -144,6 +156,8 @@ fn other_alternative(input: &Input<'_, '_>, place: Place) -> Option<usize>
     ensures earlier { IfSome result (λ other. other < place.pc) }
     ensures same { IfSome result (λ other. (outs : ℕ → Out) (g : Groups) → Solve input.now outs →
         outs input.now.index (at (record place { pc = other }) g) ≡ outs input.now.index (at place g)) }
+    ensures costs { IfSome result (λ other. (outs : ℕ → Out) (costs : ℕ → Cost) (g : Groups) → HasCost input.now outs costs →
+        costs input.now.index (at (record place { pc = other }) g) ≤ costs input.now.index (at place g)) }
 {
     let Some(count) = passed_at(input, place) else {
         return next_alternative(input, place);
@@ -198,6 +212,8 @@ fn next_alternative(input: &Input<'_, '_>, place: Place) -> Option<usize>
     ensures earlier { IfSome result (λ second. second < place.pc) }
     ensures same { IfSome result (λ second. (outs : ℕ → Out) (g : Groups) → Solve input.now outs →
         outs input.now.index (at (record place { pc = second }) g) ≡ outs input.now.index (at place g)) }
+    ensures costs { IfSome result (λ second. (outs : ℕ → Out) (costs : ℕ → Cost) (g : Groups) → HasCost input.now outs costs →
+        costs input.now.index (at (record place { pc = second }) g) ≤ costs input.now.index (at place g)) }
 {
     let Instruction::Split { first, second } = instruction_at(input, place.pc) else {
         return None;

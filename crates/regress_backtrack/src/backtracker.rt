@@ -1,9 +1,10 @@
 //! Runs from many positions of a text.
-ghost use Rattle.std.specs.Prelude.{◌≡◌, ◌≤◌, ℕ, IfOk, List, None, length, replicate, true};
+ghost use Rattle.std.specs.Prelude.{◌≡◌, ◌≤◌, ◌+◌, ℕ, IfOk, List, None, length, replicate, true};
 ghost use Rattle.std.proofs.Props.{props};
 ghost use Rattle.regress_tree.specs.Steps.{MatchState};
 ghost use Rattle.regress_tree.specs.Tree.{Tree};
 ghost use Rattle.regress_program.specs.Compiled.{IsPattern};
+ghost use Rattle.regress_program.specs.Cost.{Cost};
 ghost use Rattle.regress_program.specs.Program.{Out};
 ghost use Rattle.regress_backtrack.specs.Code.{code_groups, code_routines};
 ghost use Rattle.regress_backtrack.specs.Run.{Answers};
@@ -39,7 +40,7 @@ pub struct Backtracker<'c, 'x> {
 }
 
 impl<'c, 'x> Backtracker<'c, 'x> {
-    ghost use Rattle.regress_backtrack.specs.Backtracker.{AreOutcomes, SameRuns, outcomes_at, run_code, run_tables, run_text, tree_outcomes_at};
+    ghost use Rattle.regress_backtrack.specs.Backtracker.{AreCosts, AreOutcomes, SameRuns, cost_at, outcomes_at, run_code, run_tables, run_text, tree_outcomes_at};
     ghost use Rattle.regress_backtrack.specs.declared.outcome.Outcome.TheVariants.{OutOfSteps};
 
     /// Returns a backtracker for a program and a text, under case mappings.
@@ -90,6 +91,8 @@ impl<'c, 'x> Backtracker<'c, 'x> {
         ensures first { IfOk result (λ outcome. (t : Tree) → IsPattern (code_routines (run_code self.old)) t →
             IsFirst position (tree_outcomes_at self.old t position) outcome) }
         ensures left { IfOk result (λ _. left.new ≤ left.old) }
+        ensures costs { IfOk result (λ _. (outs : ℕ → Out) (costs : ℕ → Cost) → AreCosts self.old outs costs →
+            left.old ≤ left.new + cost_at self.old costs position) }
         ensures spent { IfOk result (λ outcome. outcome ≡ OutOfSteps → left.new ≡ 0) }
         ensures same { SameRuns self.old self.new }
     {
@@ -131,6 +134,8 @@ impl<'c, 'x> Backtracker<'c, 'x> {
         ensures first { IfOk result (λ response. (t : Tree) → IsPattern (code_routines (run_code self.old)) t →
             Answers (tree_outcomes_at self.old t position) self.new.machine response) }
         ensures left { IfOk result (λ _. left.new ≤ left.old) }
+        ensures costs { IfOk result (λ _. (outs : ℕ → Out) (costs : ℕ → Cost) → AreCosts self.old outs costs →
+            left.old ≤ left.new + cost_at self.old costs position) }
         ensures spent { IfOk result (λ response. response ≡ responses.OutOfSteps → left.new ≡ 0) }
         ensures same { SameRuns self.old self.new }
     {

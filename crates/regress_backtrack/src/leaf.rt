@@ -1,8 +1,9 @@
 //! What leaves match, back references among them.
-ghost use Rattle.std.specs.Prelude.{◌≡◌, ◌≤◌, ◌-◌, None, get_or};
+ghost use Rattle.std.specs.Prelude.{◌≡◌, ◌≤◌, ◌+◌, ◌-◌, None, get_or};
 ghost use Rattle.regress_base.specs.Table.{denotes};
 ghost use Rattle.regress_leaves.specs.Leaves.{put};
 ghost use Rattle.regress_leaves.specs.Subject.{subject};
+ghost use Rattle.regress_program.specs.Cost.{compared, length_of};
 ghost use Rattle.regress_program.specs.Shape.{IsPart};
 ghost use Rattle.regress_tree.specs.Matching.{steps};
 ghost use Rattle.regress_tree.specs.Reading.{of_bytes};
@@ -34,6 +35,7 @@ pub fn leaf_end(
     ensures to { let u = subject rules.entry text.now in
         steps u.setting u.bytes u.direction (tree node.now) (state captures.now position) ≡ put (state captures.now position) result }
     ensures left { left.new ≤ left.old }
+    ensures costs { left.old ≤ left.new + compared (tree node.now) (state captures.now position) }
 {
     match node {
         Node::BackRef { group, icase } => {
@@ -73,6 +75,7 @@ fn match_again(
     ensures to { (s : MatchState) → s.position ≡ position → (let u = subject rules.entry text.now in
         put s result ≡ match_again u.direction (of_bytes u.bytes) (denotes u.setting.table icase u.setting.flags.unicode) span s) }
     ensures left { left.new ≤ left.old }
+    ensures costs { left.old ≤ left.new + length_of span }
 {
     let Some(span) = span else {
         return Some(position);

@@ -1,9 +1,11 @@
 //! Runs of routines, within a step limit.
-ghost use Rattle.std.specs.Prelude.{◌≡◌, ◌≤◌, ◌<◌, ◌∷◌, ◌++◌, [], ℕ, All, IfOk, IfSome, MatchOption, flat_map, if◌then◌else◌, length, take, true};
+ghost use Rattle.std.specs.Prelude.{◌≡◌, ◌≤◌, ◌<◌, ◌+◌, ◌∷◌, ◌++◌, [], ℕ, All, IfOk, IfSome, MatchOption, flat_map, if◌then◌else◌, length, take, true};
 ghost use Rattle.regress_leaves.specs.Subject.{subject};
+ghost use Rattle.regress_program.specs.Cost.{Cost, IsCost, cost_of};
 ghost use Rattle.regress_program.specs.Program.{IsSolution, Out, goto, look, matcher_of, outcomes_by};
 ghost use Rattle.regress_program.specs.Shape.{IsProgram};
 ghost use Rattle.regress_backtrack.specs.Code.{code_routines};
+ghost use Rattle.regress_backtrack.specs.Costs.{HasCost, cost_ahead, op_cost, points_cost};
 ghost use Rattle.regress_backtrack.specs.Machine.{at, groups_of, points, rewound, state};
 ghost use Rattle.regress_backtrack.specs.Next.{Inside, IsInput, Leads, Solve, ahead};
 ghost use Rattle.regress_backtrack.specs.Run.{Answers, IsAfter};
@@ -71,6 +73,10 @@ pub fn run(
     ensures undo { IfOk result (λ _. (rewound machine.new).captures ≡ machine.old.captures.items) }
     ensures none { IfOk result (λ response. response ≡ NoMatch → machine.new.captures.items ≡ machine.old.captures.items) }
     ensures left { IfOk result (λ _. left.new ≤ left.old) }
+    ensures costs { IfOk result (λ _. (outs : ℕ → Out) (costs : ℕ → Cost) → (let u = subject input.now.rules input.now.text.now in
+        let program = code_routines input.now.code.now in
+        IsCost u.setting u.bytes program outs costs →
+        left.old ≤ left.new + cost_of u.setting u.bytes program costs input.now.index (state machine.old.captures.items start))) }
     ensures spent { IfOk result (λ response. response ≡ OutOfSteps → left.new ≡ 0) }
 {
     machine.stack.clear();
@@ -118,6 +124,8 @@ fn resume(input: &Input<'_, '_>, machine: &mut Machine) -> Result<Option<Place>,
     ensures inside { IfOk result (λ to. IfSome to (λ p. All (Inside input.now) (points machine.old) →
         All (Inside input.now) (at p (groups_of machine.new) ∷ points machine.new))) }
     ensures rewound { IfOk result (λ _. rewound machine.new ≡ rewound machine.old) }
+    ensures costs { IfOk result (λ to. IfSome to (λ p. (cost : Cost) →
+        cost (at p (groups_of machine.new)) + points_cost cost machine.new ≤ points_cost cost machine.old)) }
     ensures all { IfOk result (λ to. MatchOption to (groups_of machine.new ≡ rewound machine.old) (λ _. Unit)) }
 {
     while let Some(to) = machine.backtrack()? {
@@ -148,6 +156,8 @@ fn advance(
     ensures inside { IfOk result (λ next. All (Inside input.now) (points machine.old) → All (Inside input.now) (ahead machine.new next)) }
     ensures rewound { IfOk result (λ _. rewound machine.new ≡ rewound machine.old) }
     ensures left { IfOk result (λ _. left.new ≤ left.old) }
+    ensures costs { IfOk result (λ next. (outs : ℕ → Out) (costs : ℕ → Cost) → HasCost input.now outs costs → (let cost = costs input.now.index in
+        left.old + 1 + cost_ahead cost machine.new next ≤ left.new + (cost (at here (groups_of machine.old)) + points_cost cost machine.old))) }
     ensures spent { IfOk result (λ next. next ≡ nexts.OutOfSteps → left.new ≡ 0) }
 {
     let instruction = instruction_at(input, here.pc);
@@ -192,6 +202,9 @@ fn look(
         All (Inside input.now) (points machine.old) → All (Inside input.now) (ahead machine.new next)) }
     ensures rewound { IfOk result (λ _. rewound machine.new ≡ rewound machine.old) }
     ensures left { IfOk result (λ _. left.new ≤ left.old) }
+    ensures costs { IfOk result (λ next. (outs : ℕ → Out) (costs : ℕ → Cost) → HasCost input.now outs costs → (let cost = costs input.now.index in
+        left.old + cost_ahead cost machine.new next ≤ left.new + (op_cost input.now outs costs
+        (look looking.negate looking.routine looking.next) (at here (groups_of machine.old)) + points_cost cost machine.old))) }
     ensures spent { IfOk result (λ next. next ≡ nexts.OutOfSteps → left.new ≡ 0) }
 {
     let after = Place {

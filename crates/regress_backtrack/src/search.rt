@@ -1,10 +1,11 @@
 //! Searching a text from left to right.
-ghost use Rattle.std.specs.Prelude.{◌≡◌, ◌≤◌, ◌<◌, [], ℕ, IfOk, IfSome, MatchOption, length};
+ghost use Rattle.std.specs.Prelude.{◌≡◌, ◌≤◌, ◌<◌, ◌+◌, [], ℕ, IfOk, IfSome, MatchOption, length};
 ghost use Rattle.regress_tree.specs.Tree.{Tree};
 ghost use Rattle.regress_program.specs.Compiled.{IsPattern};
+ghost use Rattle.regress_program.specs.Cost.{Cost, IsCost};
 ghost use Rattle.regress_program.specs.Program.{IsSolution, Out};
-ghost use Rattle.regress_backtrack.specs.Backtracker.{AreOutcomes, SameRuns, outcomes_at, run_code, run_text, tree_outcomes_at};
-ghost use Rattle.regress_backtrack.specs.Code.{code_routines, outcomes_from, setting_with, tree_outcomes_from};
+ghost use Rattle.regress_backtrack.specs.Backtracker.{AreCosts, AreOutcomes, SameRuns, outcomes_at, run_code, run_text, search_cost_at, tree_outcomes_at};
+ghost use Rattle.regress_backtrack.specs.Code.{code_routines, cost_from, outcomes_from, search_cost, setting_with, tree_outcomes_from};
 ghost use Rattle.regress_backtrack.specs.Searched.{Finds, IsFirst};
 ghost use Rattle.regress_backtrack.specs.declared.outcome.Outcome.TheVariants.{OutOfSteps};
 
@@ -26,6 +27,9 @@ impl Code {
     /// and with 0 steps for each `from` in `text`. A step that is begun is completed, even if it counts more than
     /// remains. If the first bytes show that no match begins in the rest of the text, that rest counts nothing.
     ///
+    /// A search takes at most the steps of one that follows every outcome from every byte offset. So with more steps than
+    /// those, of which each program has a finite number in each text, the result is not [`Outcome::OutOfSteps`].
+    ///
     /// So the limit bounds the time: it is at most `steps` and the length of `text` together, times a factor that depends
     /// only on the program. The memory is at most `steps` times such a factor. Recursion is as deep as lookarounds are
     /// nested.
@@ -46,6 +50,12 @@ impl Code {
         ensures finds { IfOk result (λ found. (t : Tree) → IsPattern (code_routines self.now) t →
             Finds text.now (tree_outcomes_from self.now known.entry.tables.now text.now t) from found.outcome) }
         ensures steps { IfOk result (λ found. found.steps ≤ steps) }
+        ensures costs { IfOk result (λ found. (outs : ℕ → Out) (costs : ℕ → Cost) →
+            IsCost (setting_with self.now tables.now) text.now (code_routines self.now) outs costs →
+            found.steps ≤ search_cost self.now tables.now text.now costs from) }
+        ensures has_cost { IfOk result (λ _. (outs : ℕ → Out) →
+            IsSolution (setting_with self.now tables.now) text.now (code_routines self.now) outs →
+            (costs : ℕ → Cost) × IsCost (setting_with self.now tables.now) text.now (code_routines self.now) outs costs) }
         ensures out_of_steps { IfOk result (λ found. found.outcome ≡ OutOfSteps → found.steps ≡ steps) }
     {
         let mut left = steps;
@@ -82,6 +92,9 @@ impl Code {
         ensures first { IfOk result (λ found. (t : Tree) → IsPattern (code_routines self.now) t →
             IsFirst position (tree_outcomes_from self.now known.entry.tables.now text.now t position) found.outcome) }
         ensures steps { IfOk result (λ found. found.steps ≤ steps) }
+        ensures costs { IfOk result (λ found. (outs : ℕ → Out) (costs : ℕ → Cost) →
+            IsCost (setting_with self.now tables.now) text.now (code_routines self.now) outs costs →
+            found.steps ≤ cost_from self.now tables.now text.now costs position) }
         ensures out_of_steps { IfOk result (λ found. found.outcome ≡ OutOfSteps → found.steps ≡ steps) }
     {
         let mut left = steps;
@@ -114,6 +127,8 @@ impl Backtracker<'_, '_> {
         ensures finds { IfOk result (λ outcome. (t : Tree) → IsPattern (code_routines (run_code self.old)) t →
             Finds (run_text self.old) (tree_outcomes_at self.old t) from outcome) }
         ensures left { IfOk result (λ _. left.new ≤ left.old) }
+        ensures costs { IfOk result (λ _. (outs : ℕ → Out) (costs : ℕ → Cost) → AreCosts self.old outs costs →
+            left.old ≤ left.new + search_cost_at self.old costs from) }
         ensures spent { IfOk result (λ outcome. outcome ≡ OutOfSteps → left.new ≡ 0) }
         ensures same { SameRuns self.old self.new }
     {

@@ -1,13 +1,16 @@
 //! One instruction.
-ghost use Rattle.std.specs.Prelude.{◌≡◌, ◌≤◌, ◌++◌, ◌||◌, ◌==◌, ℕ, All, IfOk, MatchOption, false, flat_map, length, not, slice_get};
+ghost use Rattle.std.specs.Prelude.{◌≡◌, ◌≤◌, ◌+◌, ◌++◌, ◌||◌, ◌==◌, ℕ, All, IfOk, MatchOption, false, flat_map, length, not, slice_get};
+ghost use Rattle.std.specs.Int.{abs_diff};
 ghost use Rattle.regress_leaves.specs.Leaves.{put};
 ghost use Rattle.regress_leaves.specs.Subject.{subject};
 ghost use Rattle.regress_tree.specs.Matching.{steps};
 ghost use Rattle.regress_tree.specs.Steps.{Matcher};
 ghost use Rattle.regress_tree.specs.Tree.{tree};
+ghost use Rattle.regress_program.specs.Cost.{Cost, compared};
 ghost use Rattle.regress_program.specs.Program.{Out, goto, matcher_of, outcomes_by};
 ghost use Rattle.regress_program.specs.Shape.{IsPart};
 ghost use Rattle.regress_backtrack.specs.Code.{code_routines};
+ghost use Rattle.regress_backtrack.specs.Costs.{HasCost, cost_ahead, op_cost, points_cost};
 ghost use Rattle.regress_backtrack.specs.Machine.{at, groups_of, points, rewound, state};
 ghost use Rattle.regress_backtrack.specs.Views.{op_in, part_of};
 ghost use Rattle.regress_backtrack.specs.Next.{CanStep, Inside, IsInput, Leads, Solve, ahead, is_look};
@@ -64,6 +67,9 @@ pub fn step(
     ensures inside { IfOk result (λ next. All (Inside input.now) (points machine.old) → All (Inside input.now) (ahead machine.new next)) }
     ensures rewound { IfOk result (λ _. rewound machine.new ≡ rewound machine.old) }
     ensures left { IfOk result (λ _. left.new ≤ left.old) }
+    ensures costs { IfOk result (λ next. (outs : ℕ → Out) (costs : ℕ → Cost) → HasCost input.now outs costs → (let cost = costs input.now.index in
+        left.old + cost_ahead cost machine.new next ≤ left.new + (op_cost input.now outs costs
+        (op_in input.now.code.now.tests.items instruction) (at here (groups_of machine.old)) + points_cost cost machine.old))) }
     ensures goes { IfOk result (λ next. next ≡ OutOfSteps → ⊥) }
 {
     match instruction {
@@ -128,6 +134,9 @@ fn match_leaf(
         (at here (groups_of machine.now)) ++ flat_map out (points machine.now)) out machine.now result) }
     ensures inside { All (Inside input.now) (points machine.now) → All (Inside input.now) (ahead machine.now result) }
     ensures left { left.new ≤ left.old }
+    ensures costs { (outs : ℕ → Out) (costs : ℕ → Cost) → (let cost = costs input.now.index in
+        left.old + cost_ahead cost machine.now result ≤ left.new + (op_cost input.now outs costs
+        (part_of (slice_get input.now.code.now.tests.items leaf) next) (at here (groups_of machine.now)) + points_cost cost machine.now)) }
     ensures goes { result ≡ OutOfSteps → ⊥ }
 {
     let Some(test) = test_at(input, leaf) else {
@@ -154,6 +163,7 @@ fn test_end(
     ensures to { let u = subject input.now.rules input.now.text.now in
         steps u.setting u.bytes u.direction (tree test.now.node) (state captures.now position) ≡ put (state captures.now position) result }
     ensures left { left.new ≤ left.old }
+    ensures costs { left.old ≤ left.new + compared (tree test.now.node) (state captures.now position) }
 {
     match test
         .start
@@ -186,6 +196,7 @@ fn reach(here: Place, next: usize, to: Option<usize>, left: &mut u64) -> Next
     ensures next { MatchOption to (result ≡ Back)
         (λ q. result ≡ On (record { pc = next; moved = here.moved || not (q == here.position); position = q })) }
     ensures left { left.new ≤ left.old }
+    ensures costs { MatchOption to (left.new ≡ left.old) (λ q. left.old ≤ left.new + abs_diff here.position q) }
 {
     match to {
         None => Next::Back,

@@ -1,6 +1,8 @@
 //! Loops over one character, whose iterations are run at once.
 ghost use Rattle.std.specs.Prelude.{◌≡◌, ◌≤◌, ◌<◌, ◌+◌, ◌++◌, ◌∷◌, ℕ, All, IfOk, IfSome, MatchOption, flat_map, length, false, true};
+ghost use Rattle.regress_program.specs.Cost.{Cost};
 ghost use Rattle.regress_program.specs.Program.{Out};
+ghost use Rattle.regress_backtrack.specs.Costs.{HasCost, points_cost};
 ghost use Rattle.regress_backtrack.specs.Machine.{at, groups_of, points, rewound};
 ghost use Rattle.regress_backtrack.specs.Next.{Inside, IsInput, Solve};
 ghost use Rattle.regress_backtrack.specs.Sweep.{AreIn, IsSwept};
@@ -57,6 +59,12 @@ pub fn sweep(
         All (Inside input.now) (points machine.old) → All (Inside input.now) (at to (groups_of machine.new) ∷ points machine.new))) }
     ensures rewound { IfOk result (λ _. rewound machine.new ≡ rewound machine.old) }
     ensures left { IfOk result (λ _. left.new ≤ left.old) }
+    ensures costs { IfOk result (λ found. MatchOption found (left.new ≡ left.old)
+        (λ to. (outs : ℕ → Out) (costs : ℕ → Cost) → HasCost input.now outs costs → (let cost = costs input.now.index in
+        let again : Place = record { pc = looping.body; moved = false; position = here.position } in
+        let after : Place = record here { pc = looping.next } in
+        left.old + (cost (at to (groups_of machine.new)) + points_cost cost machine.new)
+        ≤ left.new + ((cost (at again (groups_of machine.old)) + cost (at after (groups_of machine.old))) + points_cost cost machine.old)))) }
 {
     let Some(swept) = sole_leaf(input, looping) else {
         return Ok(None);

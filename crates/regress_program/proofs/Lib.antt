@@ -4,6 +4,7 @@ mod CaptureLemmas
 mod ChangedLemmas
 mod CodeLemmas
 mod CompileLemmas
+mod CostLemmas
 mod CountLemmas
 mod FlowLemmas
 mod KeepLemmas
@@ -15,6 +16,7 @@ mod RepeatLemmas
 mod RoutineLemmas
 mod RunLemmas
 mod SizeLemmas
+mod SolveLemmas
 mod TidyLemmas
 mod TurnLemmas
 mod ViewLemmas

@@ -3,6 +3,7 @@ pub mod Below
 pub mod Claims
 pub mod CodeOf
 pub mod Compiled
+pub mod Cost
 pub mod Found
 pub mod Isolated
 pub mod Iterates

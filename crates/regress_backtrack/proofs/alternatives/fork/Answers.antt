@@ -1,5 +1,6 @@
-use Rattle.std.proofs.Common.{◌++◌, flat_map, ap, sym, ◌∙◌}
+use Rattle.std.proofs.Common.{arith, ◌++◌, flat_map, ap, sym, ◌∙◌}
 use Rattle.regress_backtrack.specs.Machine.{groups_of, points}
+use Rattle.regress_backtrack.proofs.CostLemmas.{chosen_cost}
 use Rattle.regress_backtrack.proofs.RunLemmas.{only_first, only_second}
 use Rattle.regress_backtrack.proofs.alternatives.fork.Goals as goal
 
@@ -13,3 +14,12 @@ returns-then-fails-clause-leads c = λ outs solve.
 
 pub returns-then-fails-2-clause-leads : goal.returns-then-fails-2-clause-leads
 returns-then-fails-2-clause-leads c = λ outs solve. only_first _ _ _ (c.fails-2.ensures c.if-fails-2.true outs (groups_of c.args.machine.now) solve)
+
+pub returns-then-fails-clause-costs : goal.returns-then-fails-clause-costs
+returns-then-fails-clause-costs c = λ outs costs has.
+    let le = c.pass_over.ensures.costs outs costs (groups_of c.args.machine.now) has in
+    omega (arith, le)
+
+pub returns-clause-costs : goal.returns-clause-costs
+returns-clause-costs c = λ outs costs has.
+    chosen_cost (costs c.args.input.now.index) c.args.machine.now c.choose.new.self c.args.first c.args.second c.in_ok-choose.ensures

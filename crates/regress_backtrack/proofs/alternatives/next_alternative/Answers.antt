@@ -3,6 +3,7 @@ use Rattle.regress_leaves.specs.Subject.{subject}
 use Rattle.regress_program.specs.Program.{goto}
 use Rattle.regress_backtrack.specs.declared.instruction.Instruction.TheVariants as insts
 use Rattle.regress_backtrack.specs.Machine.{at}
+use Rattle.regress_backtrack.proofs.CostLemmas.{second_cost}
 use Rattle.regress_backtrack.proofs.RunLemmas.{can_step, solved}
 use Rattle.regress_backtrack.proofs.alternatives.next_alternative.Goals as goal
 
@@ -24,3 +25,8 @@ returns-then-fails-clause-same c = λ outs g solve.
     sym
     (solved input c.requires.input p i c.requires.pc read u.setting u.bytes outs u.direction g solve c.requires.input.direction c.requires.position
     ∙ ap (λ xs. xs ++ outs input.index (goto c.in-Split.second (at p g))) (c.fails.ensures c.if-fails.true outs g solve))
+
+pub returns-then-fails-clause-costs : goal.returns-then-fails-clause-costs
+returns-then-fails-clause-costs c = λ outs costs g has.
+    let read = c.instruction_at.ensures ∙ ap Some c.in-Split.is in
+    second_cost c.args.input.now c.requires.input outs costs has g c.args.place c.in-Split.first c.in-Split.second c.requires.pc read c.requires.position

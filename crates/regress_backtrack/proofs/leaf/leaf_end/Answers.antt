@@ -6,6 +6,7 @@ use Rattle.regress_leaves.specs.Subject.{subject}
 use Rattle.regress_tree.specs.declared.ir.node.Node.{the_lemmas}
 use Rattle.regress_tree.specs.Matching.{steps}
 use Rattle.regress_tree.specs.Tree.{back_ref, tree, leaf, string_set}
+use Rattle.regress_program.specs.Cost.{compared, length_of}
 use Rattle.regress_program.specs.Shape.{IsPart}
 use Rattle.regress_backtrack.proofs.LeafLemmas.{back_again, sole_of, one_string}
 use Rattle.regress_backtrack.specs.Machine.{state}
@@ -46,3 +47,12 @@ pub returns-in_default-clause-to : goal.returns-in_default-clause-to
 returns-in_default-clause-to c =
     let simple : is_simple (tree c.args.node.now) ≡ true = first_of (search (rules, the_lemmas), grind (arith, the_lemmas, c.requires)) in
     c.simple_leaf.ensures simple (state c.args.captures.now c.args.position) refl
+
+pub returns-in-BackRef-clause-costs : goal.returns-in-BackRef-clause-costs
+returns-in-BackRef-clause-costs c =
+    let s = state c.args.captures.now c.args.position in
+    let is : tree c.args.node.now ≡ leaf (back_ref c.in-BackRef.group c.in-BackRef.icase) = search (rules, the_lemmas) in
+    let taken = c.match_again.ensures.costs in
+    let length = ap length_of c.capture_of-span.ensures in
+    let total = ap (λ t. compared t s) is in
+    omega (arith, taken, length, total)

@@ -1,18 +1,21 @@
-use Rattle.std.proofs.Common.{◌≡◌, ◌++◌, ◌∷◌, [], All, IfSome, MatchOption, true, flat_map, length, reverse, refl, sym, ap, ◌∙◌, subst, arith}
+use Rattle.std.proofs.Common.{◌≡◌, ◌+◌, ◌≤◌, ◌++◌, ◌∷◌, [], All, IfSome, MatchOption, true, flat_map, length, reverse, refl, sym, ap, ◌∙◌, subst, arith}
 use Rattle.std.proofs.lemmas.List.{length-take}
 use Rattle.std.proofs.lemmas.List.Elements.{All-head, All-tail}
 use Rattle.regress_leaves.specs.Subject.{subject}
+use Rattle.regress_program.specs.Cost.{Cost}
 use Rattle.regress_program.specs.Program.{matcher_of, outcomes_by}
 use Rattle.regress_program.specs.Shape.{IsProgram}
 use Rattle.regress_backtrack.specs.Code.{code_routines}
+use Rattle.regress_backtrack.specs.Costs.{cost_ahead, op_cost, points_cost}
 use Rattle.regress_backtrack.specs.Views.{op_in}
 use Rattle.regress_backtrack.specs.Machine.{Groups, at, changes_of, groups_of, points, rewound, state}
 use Rattle.regress_backtrack.specs.declared.run.Response.TheVariants as responses
 use Rattle.regress_backtrack.specs.Next.{Fails, Inside}
 use Rattle.regress_backtrack.specs.Run.{Answers}
+use Rattle.regress_backtrack.proofs.CostLemmas.{costed}
 use Rattle.regress_backtrack.proofs.MachineLemmas.{left-lookaround, rewound-none}
 use Rattle.regress_backtrack.proofs.StepLemmas.{Goes, not_look, ok_map}
-use Rattle.regress_backtrack.proofs.RunLemmas.{fails_answers, can_step, advanced, look_fits, on_same, back_same, accept_same, on_all, back_all, begins-inside, begins-same, same_answers, look_goes, look_inside}
+use Rattle.regress_backtrack.proofs.RunLemmas.{fails_answers, can_step, advanced, look_fits, on_same, back_same, accept_same, on_all, back_all, begins-inside, begins-same, begins_cost, same_answers, same_cost, look_cost, look_goes, look_inside}
 use Rattle.regress_backtrack.proofs.run.+run.Goals as goal
 
 -- ---- one instruction
@@ -81,6 +84,12 @@ advance-returns-in_default t c =
       inside = c.step.ensures.inside;
       rewound = c.step.ensures.rewound;
       left = c.step.ensures.left;
+      costs = ok_map c.step.result _ _
+          (λ next taken. λ outs costs has.
+          let here = costed input c.requires.input outs costs has (groups_of m) c.args.here i c.requires.inside.pc read c.requires.inside.position in
+          let all = taken outs costs has in
+          omega (arith, here, all))
+          c.step.ensures.costs;
       spent = ok_map c.step.result _ _ (λ next goes. λ out. absurd (goes out)) c.step.ensures.goes;
     }
 
@@ -186,6 +195,10 @@ run-loop-left-init t c =
       same = λ outs solution.
           begins-same c.args.input.now c.requires.input _ c.args.machine.now.captures.items c.args.start
           (subject c.args.input.now.rules c.args.input.now.text.now).setting c.args.input.now.text.now outs c.clear.ensures.entries c.clear.ensures.begins refl;
+      costs = λ outs costs has.
+          begins_cost c.args.input.now c.requires.input _ c.args.machine.now.captures.items c.args.start
+          (subject c.args.input.now.rules c.args.input.now.text.now).setting c.args.input.now.text.now costs c.args.left.now c.clear.ensures.entries
+          c.clear.ensures.begins refl;
     }
 
 pub run-advance-requires : goal.run-advance-requires
@@ -215,6 +228,11 @@ run-loop-left-preserved-in-On t c =
       same = λ outs solution.
           so_far.same outs solution
           ∙ on_same (flat_map (outs input.index) (a ∷ points m)) (outs input.index) m' n c.in-On.to c.in-On.is (c.in_ok-to.ensures.leads outs solution);
+      costs = λ outs costs has.
+          let before = so_far.costs outs costs has in
+          let taken = c.in_ok-to.ensures.costs outs costs has in
+          let on = ap (cost_ahead (costs input.index) m') c.in-On.is in
+          omega (arith, before, taken, on);
     }
 
 pub run-loop-left-smaller-in-On : goal.run-loop-left-smaller-in-On
@@ -244,6 +262,14 @@ run-loop-left-preserved t c =
           ∙ back_same (flat_map (outs input.index) (a ∷ points m)) (outs input.index) m' n c.in-Back.is (c.in_ok-to.ensures.leads outs solution)
           ∙ subst (λ o. MatchOption o (flat_map (outs input.index) (points m') ≡ []) (λ p. flat_map (outs input.index) (points m')
           ≡ flat_map (outs input.index) (at p (groups_of m'') ∷ points m''))) c.in-Some.is (c.in_ok-to-in-Back.ensures.leads outs solution);
+      costs = λ outs costs has.
+          let cost = costs input.index in
+          let before = so_far.costs outs costs has in
+          let taken = c.in_ok-to.ensures.costs outs costs has in
+          let back = ap (cost_ahead cost m') c.in-Back.is in
+          let less = subst (λ o. IfSome o (λ p. (cost : Cost) → cost (at p (groups_of m'')) + points_cost cost m'' ≤ points_cost cost m')) c.in-Some.is
+          c.in_ok-to-in-Back.ensures.costs cost in
+          omega (arith, before, taken, back, less);
     }
 
 pub run-returns-in-None-clause-answers : goal.run-returns-in-None-clause-answers
@@ -291,3 +317,87 @@ run-returns-in-OutOfSteps-clause-undo t c = captures-same _ _ c.in_ok-to.ensures
 
 pub run-returns-clause-undo : goal.run-returns-clause-undo
 run-returns-clause-undo t c = c.loop-left.invariant.undo
+
+-- ---- the cost
+
+pub advance-returns-in-Look-clause-costs : goal.advance-returns-in-Look-clause-costs
+advance-returns-in-Look-clause-costs t c =
+    let input = c.args.input.now in
+    let m = c.args.machine.now in
+    let p = c.args.here in
+    let i = c.instruction_at-instruction.result in
+    let read = c.instruction_at-instruction.ensures in
+    ok_map c.look.result _ _
+    (λ next taken. λ outs costs has.
+    let here = costed input c.requires.input outs costs has (groups_of m) p i c.requires.inside.pc read c.requires.inside.position in
+    let is = ap (λ x. op_cost input outs costs (op_in input.code.now.tests.items x) (at p (groups_of m))) c.in-Look.is in
+    let all = taken outs costs has in
+    omega (arith, here, is, all))
+    c.look.ensures.costs
+
+pub look-returns-then-fails-clause-costs : goal.look-returns-then-fails-clause-costs
+look-returns-then-fails-clause-costs t c = λ outs costs has.
+    let input = c.args.input.now in
+    let u = subject input.rules input.text.now in
+    let m = c.args.machine.now in
+    let inside = c.input_for-inside.ensures in
+    let body = matcher_of u.setting u.bytes (code_routines input.code.now) outs c.args.looking.routine in
+    let none : Fails c.input_for-inside.result (record { pc = c.input_for-inside.result.first; moved = true; position = c.args.here.position }) =
+    subst (Fails c.input_for-inside.result) c.start_place.ensures (c.fails.ensures c.if-fails.true) in
+    let answers : Answers (body (state m.captures.items c.args.here.position)) m responses.NoMatch =
+    same_answers m responses.NoMatch outs c.args.here.position _ _ _ _ _ _ _ _ _ _
+    (fails_answers c.input_for-inside.result inside.input m m.captures.items c.args.here.position outs none) inside.setting
+    inside.text
+    (ap code_routines inside.code) inside.index refl has.outcomes in
+    let ahead = look_cost (outs input.index) m m refl refl c.args.here c.args.looking.next (costs input.index) c.args.looking.negate body m responses.NoMatch
+    c.on_if.result answers refl (λ none. refl) c.on_if.ensures in
+    omega (arith, ahead)
+
+pub look-returns-clause-costs : goal.look-returns-clause-costs
+look-returns-clause-costs t c = λ outs costs has.
+    let input = c.args.input.now in
+    let u = subject input.rules input.text.now in
+    let m = c.args.machine.now in
+    let inner = c.run.new.machine in
+    let m' = c.leave.new.self in
+    let inside = c.input_for-inside.ensures in
+    let body = matcher_of u.setting u.bytes (code_routines input.code.now) outs c.args.looking.routine in
+    let kept = left-lookaround m inner m' (c.in_ok-response.ensures.undo ∙ c.enter-outer.ensures.captures)
+    (c.in_ok-leave.ensures.entries ∙ ap (λ s. s.entries.items ++ changes_of inner.stack.entries.items) c.enter-outer.ensures.stack)
+    (c.in_ok-leave.ensures.begins ∙ ap (λ s. s.begins.items) c.enter-outer.ensures.stack) c.in_ok-leave.ensures.captures in
+    let answers : Answers (body (state m.captures.items c.args.here.position)) inner c.in_ok-response.response =
+    same_answers inner c.in_ok-response.response outs c.args.here.position _ _ _ _ _ _ _ _ _ _ (c.in_ok-response.ensures.answers outs) inside.setting
+    inside.text
+    (ap code_routines inside.code) inside.index c.enter-outer.ensures.captures has.outcomes in
+    let ahead = look_cost (outs input.index) m m' kept.points (ap reverse (c.in_ok-leave.ensures.begins ∙ ap (λ s. s.begins.items) c.enter-outer.ensures.stack))
+    c.args.here c.args.looking.next (costs input.index) c.args.looking.negate body inner c.in_ok-response.response
+    c.next_after.result answers c.in_ok-leave.ensures.captures (λ none. c.in_ok-response.ensures.none none ∙ c.enter-outer.ensures.captures)
+    c.next_after.ensures in
+    let taken = same_cost c.args.left.now c.run.new.left outs costs c.args.here.position _ _ _ _ _ _ _ _ _ _ (c.in_ok-response.ensures.costs outs costs)
+    inside.setting inside.text (ap code_routines inside.code) inside.index c.enter-outer.ensures.captures has in
+    omega (arith, ahead, taken)
+
+-- ---- the cost of a run
+
+pub run-returns-in-None-clause-costs : goal.run-returns-in-None-clause-costs
+run-returns-in-None-clause-costs t c = λ outs costs has.
+    let before = c.loop-left.invariant.costs outs costs has in
+    let taken = c.in_ok-to.ensures.costs outs costs has in
+    omega (arith, before, taken)
+
+pub run-returns-in-Accept-clause-costs : goal.run-returns-in-Accept-clause-costs
+run-returns-in-Accept-clause-costs t c = λ outs costs has.
+    let before = c.loop-left.invariant.costs outs costs has in
+    let taken = c.in_ok-to.ensures.costs outs costs has in
+    omega (arith, before, taken)
+
+pub run-returns-in-OutOfSteps-clause-costs : goal.run-returns-in-OutOfSteps-clause-costs
+run-returns-in-OutOfSteps-clause-costs t c = λ outs costs has.
+    let before = c.loop-left.invariant.costs outs costs has in
+    let taken = c.in_ok-to.ensures.costs outs costs has in
+    omega (arith, before, taken)
+
+pub run-returns-clause-costs : goal.run-returns-clause-costs
+run-returns-clause-costs t c = λ outs costs has.
+    let before = c.loop-left.invariant.costs outs costs has in
+    omega (arith, before)

@@ -1,8 +1,11 @@
--- The outcomes of the routine are those from the present place, and then those from the backtrack points.
+-- The outcomes of the routine are those from the present place, and then those from the backtrack points. So are the costs,
+-- with the steps that were taken.
 use Rattle.std.proofs.Common.{◌≡◌, ◌+◌, ◌*◌, ◌≤◌, ◌∷◌, ℕ, All, flat_map}
 use Rattle.regress_leaves.specs.Subject.{subject}
+use Rattle.regress_program.specs.Cost.{Cost, cost_of}
 use Rattle.regress_program.specs.Program.{IsSolution, Out, matcher_of}
 use Rattle.regress_backtrack.specs.Code.{code_routines}
+use Rattle.regress_backtrack.specs.Costs.{HasCost, points_cost}
 use Rattle.regress_backtrack.specs.Machine.{at, groups_of, points, rewound, state}
 use Rattle.regress_backtrack.specs.Next.{Inside}
 use Rattle.regress_backtrack.proofs.run.+run.Given as goal
@@ -25,6 +28,10 @@ invariant-run-loop-left l = record {
       matcher_of (subject l.input.rules l.input.text.now).setting l.input.text.now (code_routines l.input.code.now) outs l.input.index
       (state l.fn.machine.captures.items l.start)
       ≡ flat_map (outs l.input.index) (at l.here (groups_of l.machine) ∷ points l.machine);
+  costs : (outs : ℕ → Out) (costs : ℕ → Cost) → HasCost l.input outs costs →
+      l.fn.left + (costs l.input.index (at l.here (groups_of l.machine)) + points_cost (costs l.input.index) l.machine)
+      ≤ l.left + cost_of (subject l.input.rules l.input.text.now).setting l.input.text.now (code_routines l.input.code.now) costs l.input.index
+      (state l.fn.machine.captures.items l.start);
 }
 
 abbrev pub decreases-run-loop-left : goal.decreases-run-loop-left

@@ -3,6 +3,7 @@ use Rattle.std.proofs.Common.{rules, arith, ◌≡◌, ◌∷◌, ◌++◌, All,
 use Rattle.std.proofs.lemmas.List.Elements.{All-tail}
 use Rattle.regress_backtrack.specs.Machine.{at, groups_of, points}
 use Rattle.regress_backtrack.specs.Next.{Inside}
+use Rattle.regress_backtrack.proofs.CostLemmas.{back_cost}
 use Rattle.regress_backtrack.proofs.run.resume.Goals as goal
 
 pub returns-then-not-fails-clause-inside : goal.returns-then-not-fails-clause-inside
@@ -10,6 +11,14 @@ returns-then-not-fails-clause-inside c = λ all.
     let m' = c.backtrack.new.self in
     let back : points c.loop-to.machine ≡ at c.in-Some.to (groups_of m') ∷ points m' = rw c.in-Some.is at c.in_ok-to.ensures.points in
     subst (All (Inside c.args.input.now)) back (c.loop-to.invariant.inside all)
+
+pub returns-then-not-fails-clause-costs : goal.returns-then-not-fails-clause-costs
+returns-then-not-fails-clause-costs c = λ cost.
+    let m' = c.backtrack.new.self in
+    let back : points c.loop-to.machine ≡ at c.in-Some.to (groups_of m') ∷ points m' = rw c.in-Some.is at c.in_ok-to.ensures.points in
+    let so_far = c.loop-to.invariant.costs cost in
+    let one = back_cost cost c.loop-to.machine m' c.in-Some.to back in
+    omega (arith, so_far, one)
 
 pub loop-to-preserved : goal.loop-to-preserved
 loop-to-preserved c =
@@ -26,4 +35,8 @@ loop-to-preserved c =
           (c.fails.ensures known outs (groups_of m') solve);
       inside = λ all. All-tail (Inside input) to (points m') (subst (All (Inside input)) back (c.loop-to.invariant.inside all));
       rewound = c.in_ok-to.ensures.rewound ∙ c.loop-to.invariant.rewound;
+      costs = λ cost.
+          let so_far = c.loop-to.invariant.costs cost in
+          let one = back_cost cost c.loop-to.machine m' c.in-Some.to back in
+          omega (arith, so_far, one);
     }

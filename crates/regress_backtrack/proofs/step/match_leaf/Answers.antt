@@ -1,9 +1,11 @@
-use Rattle.std.proofs.Common.{◌≡◌, slice_get, subst}
+use Rattle.std.proofs.Common.{◌≡◌, ◌+◌, ◌≤◌, slice_get, subst}
 use Rattle.regress_leaves.specs.Leaves.{put}
 use Rattle.regress_leaves.specs.Subject.{subject}
+use Rattle.regress_program.specs.Cost.{compared}
 use Rattle.regress_tree.specs.Matching.{steps}
 use Rattle.regress_tree.specs.Tree.{tree}
 use Rattle.regress_backtrack.specs.Machine.{state}
+use Rattle.regress_backtrack.proofs.CostLemmas.{leaf_cost}
 use Rattle.regress_backtrack.proofs.StepLemmas.{leaf_inside}
 use Rattle.regress_backtrack.proofs.step.match_leaf.Goals as goal
 
@@ -16,3 +18,17 @@ returns-clause-inside c =
     u.direction c.in-Some.ensures c.requires
     (subst (λ cs. steps u.setting u.bytes u.direction (tree t.node) (state cs c.args.here.position) ≡ put (state cs c.args.here.position) c.test_end-to.result)
     c.deref.ensures.value c.test_end-to.ensures.to) c.reach.ensures.next
+
+pub returns-clause-costs : goal.returns-clause-costs
+returns-clause-costs c = λ outs costs.
+    let input = c.args.input.now in
+    let u = subject input.rules input.text.now in
+    let m = c.args.machine.now in
+    let t = c.in-Some.test.now in
+    let p = c.args.here in
+    leaf_cost input outs costs m p c.args.next c.reach.result c.args.left.now c.test_end-to.new.left c.reach.new.left
+    (slice_get input.code.now.tests.items c.args.leaf) t c.test_end-to.result c.in-Some.ensures
+    (subst (λ cs. steps u.setting u.bytes u.direction (tree t.node) (state cs p.position) ≡ put (state cs p.position) c.test_end-to.result)
+    c.deref.ensures.value c.test_end-to.ensures.to) c.reach.ensures.next
+    (subst (λ cs. c.args.left.now ≤ c.test_end-to.new.left + compared (tree t.node) (state cs p.position)) c.deref.ensures.value c.test_end-to.ensures.costs)
+    c.reach.ensures.costs

@@ -1,7 +1,8 @@
-use Rattle.std.proofs.Common.{ℕ, [], ◌++◌, flat_map, if◌then◌else◌, ap, subst, sym}
+use Rattle.std.proofs.Common.{arith, ℕ, ◌+◌, [], ◌++◌, flat_map, if◌then◌else◌, ap, subst, sym}
 use Rattle.regress_leaves.specs.Subject.{subject}
 use Rattle.regress_program.specs.Program.{Out, either, enter, goto, matcher_of, outcomes_by}
 use Rattle.regress_backtrack.specs.Code.{code_routines}
+use Rattle.regress_backtrack.specs.Costs.{op_cost}
 use Rattle.regress_backtrack.specs.Machine.{at, groups_of, points}
 use Rattle.regress_backtrack.specs.Next.{Leads}
 use Rattle.regress_backtrack.specs.Views.{op_in}
@@ -80,3 +81,50 @@ returns-then-here-clause-leads c =
     (subst (λ moved. Leads ((if moved then either (outs input.index) c.in-Repeat.greedy (enter c.in-Repeat.body a) (goto c.in-Repeat.next a) else [])
     ++ flat_map (outs input.index) (points m)) (outs input.index) c.iterate-then-here.new.machine next) (sym c.if-here.true) (leads outs solve)))
     c.iterate-then-here.ensures.leads
+
+-- ---- the cost
+
+pub returns-in-Leaf-clause-costs : goal.returns-in-Leaf-clause-costs
+returns-in-Leaf-clause-costs c = λ outs costs has.
+    let input = c.args.input.now in
+    let a = at c.args.here (groups_of c.args.machine.now) in
+    let is = ap (λ i. op_cost input outs costs (op_in input.code.now.tests.items i) a) c.in-Leaf.is in
+    let taken = c.match_leaf.ensures.costs outs costs in
+    omega (arith, is, taken)
+
+pub returns-in-Split-clause-costs : goal.returns-in-Split-clause-costs
+returns-in-Split-clause-costs c =
+    let input = c.args.input.now in
+    let g = groups_of c.args.machine.now in
+    ok_map c.fork.result _ _
+    (λ next less. λ outs costs has.
+    let is = ap (λ i. op_cost input outs costs (op_in input.code.now.tests.items i) (at c.args.here g)) c.in-Split.is in
+    let first = ap (λ p. costs input.index (at p g)) c.goto.ensures in
+    let second = ap (λ p. costs input.index (at p g)) c.goto-in-Split.ensures in
+    let taken = less outs costs has in
+    omega (arith, is, first, second, taken))
+    c.fork.ensures.costs
+
+pub returns-in-BeginLoop-clause-costs : goal.returns-in-BeginLoop-clause-costs
+returns-in-BeginLoop-clause-costs c =
+    let input = c.args.input.now in
+    let a = at c.args.here (groups_of c.args.machine.now) in
+    ok_map c.iterate.result _ _
+    (λ next less. λ outs costs has.
+    let is = ap (λ i. op_cost input outs costs (op_in input.code.now.tests.items i) a) c.in-BeginLoop.is in
+    let taken = less outs costs has in
+    omega (arith, is, taken))
+    c.iterate.ensures.costs
+
+pub returns-then-here-clause-costs : goal.returns-then-here-clause-costs
+returns-then-here-clause-costs c =
+    let input = c.args.input.now in
+    let a = at c.args.here (groups_of c.args.machine.now) in
+    ok_map c.iterate-then-here.result _ _
+    (λ next less. λ outs costs has.
+    let cost = costs input.index in
+    let is = ap (λ i. op_cost input outs costs (op_in input.code.now.tests.items i) a) c.in-Repeat.is in
+    let moved = ap (λ b. if b then cost (enter c.in-Repeat.body a) + cost (goto c.in-Repeat.next a) else 0) c.if-here.true in
+    let taken = less outs costs has in
+    omega (arith, is, moved, taken))
+    c.iterate-then-here.ensures.costs

@@ -2,6 +2,7 @@ use Rattle.std.proofs.Common.{◌≡◌, ◌+◌, ◌-◌, ◌≤◌, ◌++◌, 
 use Rattle.regress_backtrack.specs.declared.machine.Place.{Place}
 use Rattle.regress_backtrack.specs.Machine.{at, groups_of, range_points}
 use Rattle.regress_backtrack.specs.Sweep.{AreIn}
+use Rattle.regress_backtrack.proofs.CostLemmas.{iterations_cost, swept_ahead}
 use Rattle.regress_backtrack.proofs.SweepLemmas.{iterations, swept_inside, swept_leads}
 use Rattle.regress_backtrack.proofs.sweep.sweep.Goals as goal
 
@@ -35,3 +36,24 @@ returns-clause-inside c =
     let within : here.position + count ≤ length c.args.input.now.text.now = c.count_of-count.ensures.within in
     swept_inside c.args.input.now c.args.machine.now c.choose_range.new.self first to (count - 1) c.in_ok-choose_range.ensures c.requires.next
     (omega (arith, within)) c.in-Some.ensures.turn_in within
+
+pub returns-clause-costs : goal.returns-clause-costs
+returns-clause-costs c = λ outs costs has.
+    let input = c.args.input.now in
+    let here = c.args.here in
+    let m = c.args.machine.now in
+    let g = groups_of m in
+    let set = c.in-Some.swept.set.now in
+    let turn = c.in-Some.swept.turn in
+    let count = c.count_of-count.result in
+    let more = count - 1 in
+    let same : count ≡ suc more = omega (arith, c.if-count-eq0.false) in
+    let are : AreIn set input.text.now here.position (suc more) = λ k lt. c.count_of-count.ensures.are_in k (omega (arith, lt, same)) in
+    let first : Place = record { pc = c.args.looping.next; moved = here.moved; position = here.position } in
+    let to : Place = record { pc = turn; moved = true; position = here.position + count } in
+    let cost = costs input.index in
+    let before = cost (at (record { pc = c.args.looping.body; moved = false; position = here.position }) g) + cost (at first g) in
+    let all = iterations_cost input c.requires.input c.args.looping set turn c.in-Some.ensures c.requires.body outs costs has g here more are in
+    let end = ap (λ n. cost (at (record { pc = turn; moved = true; position = here.position + n }) g)) same in
+    let ahead = swept_ahead cost m c.choose_range.new.self first to more before c.in_ok-choose_range.ensures (omega (arith, all, end)) in
+    omega (arith, ahead, same, c.saturating_sub.ensures)

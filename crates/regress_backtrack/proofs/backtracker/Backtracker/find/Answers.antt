@@ -1,12 +1,13 @@
-use Rattle.std.proofs.Common.{rules, arith, ◌≤◌, ◌<◌, ℕ, length, sym, ap, subst, IfSome, MatchOption}
+use Rattle.std.proofs.Common.{rules, arith, ◌+◌, ◌-◌, ◌≤◌, ◌<◌, ℕ, length, sym, ap, subst, IfSome, MatchOption}
 use Rattle.std.specs.Str.{IsCharBoundary}
 use Rattle.regress_program.specs.Found.{NoneBefore}
 use Rattle.regress_program.specs.Program.{Out}
-use Rattle.regress_backtrack.specs.Backtracker.{AreOutcomes, outcomes_at, run_text}
+use Rattle.regress_backtrack.specs.Backtracker.{AreOutcomes, cost_at, outcomes_at, run_text}
 use Rattle.regress_backtrack.specs.Searched.{IsFirst}
 use Rattle.regress_backtrack.specs.declared.outcome.Outcome.TheVariants as outcomes
 use Rattle.regress_backtrack.proofs.CandidateLemmas.{none_after, none_before}
-use Rattle.regress_backtrack.proofs.SearchLemmas.{SameRuns-trans, found_leftmost, none_more, not_true, same_solved, tree_finds}
+use Rattle.regress_backtrack.proofs.CostLemmas.{searched, tried_on, tried_part}
+use Rattle.regress_backtrack.proofs.SearchLemmas.{SameRuns-trans, found_leftmost, none_more, not_true, same_solved, same_taken, tree_finds}
 use Rattle.regress_backtrack.proofs.backtracker.Backtracker.find.Goals as goal
 use Rattle.regress_backtrack.proofs.backtracker.Backtracker.find.Goals.{then-is_char_boundary+in_ok-found+in-NoMatch, else-is_char_boundary}
 
@@ -62,18 +63,72 @@ loop-from-preserved c =
       | then-is_char_boundary+in_ok-found+in-NoMatch w ↦ record {
         same = rw w.self-is (SameRuns-trans a b w.match_at.new.self so_far.same w.match_at.ensures.same);
         from = omega (arith, so_far.from, within.0);
+        high = omega (arith, within.1);
         left = omega (arith, w.left-is, w.in_ok-found.ensures.left, c.saturating_sub.ensures, so_far.left);
         solved = λ outs are.
             none_more text (outcomes_at a outs) c.args.from k (none outs are)
             (λ on. subst (IsFirst k (outcomes_at a outs k)) w.in-NoMatch.is
             (same_solved a b (λ states. IsFirst k states w.in_ok-found.field-0) k so_far.same w.in_ok-found.ensures.solved outs are));
+        costs = λ outs costs are.
+            let before = so_far.costs outs costs are in
+            let taken = same_taken a b k c.saturating_sub.result w.match_at.new.left outs costs so_far.same (w.in_ok-found.ensures.costs outs costs) are in
+            let on = tried_on (cost_at a costs) c.args.from c.loop-from.from k so_far.from within.0 in
+            omega (arith, before, taken, on, w.left-is, c.saturating_sub.ensures);
       }
       | else-is_char_boundary w ↦ record {
         same = rw w.self-is so_far.same;
         from = omega (arith, so_far.from, within.0);
+        high = omega (arith, within.1);
         left = omega (arith, w.left-is, c.saturating_sub.ensures, so_far.left);
         solved = λ outs are.
             none_more text (outcomes_at a outs) c.args.from k (none outs are)
             (λ on. absurd (not_true c.is_char_boundary.result w.if-is_char_boundary.false (c.is_char_boundary.ensures.test.1 on)));
+        costs = λ outs costs are.
+            let before = so_far.costs outs costs are in
+            let on = tried_on (cost_at a costs) c.args.from c.loop-from.from k so_far.from within.0 in
+            omega (arith, before, on, w.left-is, c.saturating_sub.ensures);
       }
     ]
+
+-- ---- the cost of the search
+
+pub returns-clause-costs : goal.returns-clause-costs
+returns-clause-costs c = λ outs costs are.
+    let a = c.args.self.now in
+    let before = c.loop-from.invariant.costs outs costs are in
+    let all = tried_part (cost_at a costs) c.args.from (c.loop-from.from - c.args.from) (length (run_text a) + 1 - c.args.from) c.loop-from.invariant.high in
+    omega (arith, before, all)
+
+pub returns-then-left-eq0-clause-costs : goal.returns-then-left-eq0-clause-costs
+returns-then-left-eq0-clause-costs c = λ outs costs are.
+    let a = c.args.self.now in
+    let before = c.loop-from.invariant.costs outs costs are in
+    let all = tried_part (cost_at a costs) c.args.from (c.loop-from.from - c.args.from) (length (run_text a) + 1 - c.args.from) c.loop-from.invariant.high in
+    omega (arith, before, all)
+
+pub returns-in_default-clause-costs : goal.returns-in_default-clause-costs
+returns-in_default-clause-costs c = λ outs costs are.
+    let a = c.args.self.now in
+    let before = c.loop-from.invariant.costs outs costs are in
+    let all = tried_part (cost_at a costs) c.args.from (c.loop-from.from - c.args.from) (length (run_text a) + 1 - c.args.from) c.loop-from.invariant.high in
+    omega (arith, before, all)
+
+pub returns-in-Matched-clause-costs : goal.returns-in-Matched-clause-costs
+returns-in-Matched-clause-costs c = λ outs costs are.
+    let a = c.args.self.now in
+    let k = c.in-Some.position in
+    let within = subst (λ r. IfSome r (λ (p : ℕ). (c.loop-from.from ≤ p) × (p ≤ length (run_text a)))) c.in-Some.is c.next_start.ensures.within in
+    let so_far = c.loop-from.invariant in
+    searched (cost_at a costs) c.args.from c.loop-from.from k (length (run_text a)) c.args.left.now c.loop-from.left c.saturating_sub.result
+    c.match_at.new.left so_far.from within.0 within.1 (so_far.costs outs costs are) (omega (arith, c.saturating_sub.ensures))
+    (same_taken a c.loop-from.self k c.saturating_sub.result c.match_at.new.left outs costs so_far.same (c.in_ok-found.ensures.costs outs costs) are)
+
+pub returns-in-OutOfSteps-clause-costs : goal.returns-in-OutOfSteps-clause-costs
+returns-in-OutOfSteps-clause-costs c = λ outs costs are.
+    let a = c.args.self.now in
+    let k = c.in-Some.position in
+    let within = subst (λ r. IfSome r (λ (p : ℕ). (c.loop-from.from ≤ p) × (p ≤ length (run_text a)))) c.in-Some.is c.next_start.ensures.within in
+    let so_far = c.loop-from.invariant in
+    searched (cost_at a costs) c.args.from c.loop-from.from k (length (run_text a)) c.args.left.now c.loop-from.left c.saturating_sub.result
+    c.match_at.new.left so_far.from within.0 within.1 (so_far.costs outs costs are) (omega (arith, c.saturating_sub.ensures))
+    (same_taken a c.loop-from.self k c.saturating_sub.result c.match_at.new.left outs costs so_far.same (c.in_ok-found.ensures.costs outs costs) are)

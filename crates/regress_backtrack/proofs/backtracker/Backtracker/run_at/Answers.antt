@@ -3,7 +3,7 @@ use Rattle.regress_program.specs.Shape.{IsProgram}
 use Rattle.regress_backtrack.specs.Backtracker.{run_code, run_tables, run_text}
 use Rattle.regress_backtrack.specs.Code.{code_groups, code_routines}
 use Rattle.regress_backtrack.specs.Run.{Answers}
-use Rattle.regress_backtrack.proofs.SearchLemmas.{of_tree, run_solved, same_first, same_solved}
+use Rattle.regress_backtrack.proofs.SearchLemmas.{of_tree, run_cost, run_solved, same_first, same_solved, same_taken}
 use Rattle.regress_backtrack.proofs.backtracker.Backtracker.run_at.Goals as goal
 
 pub run-requires : goal.run-requires
@@ -37,3 +37,12 @@ returns-clause-first c =
     same_first c.args.self.now b (λ states. Answers states m r) c.args.position c.unset_all.ensures.same
     (of_tree (run_code b) (run_tables b) (run_text b) c.args.position le (λ states. Answers states m r)
     (run_solved b c.input_of-input.result b.machine.captures.items c.args.position m r c.input_of-input.ensures unset c.in_ok-response.ensures.answers))
+
+pub returns-clause-costs : goal.returns-clause-costs
+returns-clause-costs c = λ outs costs.
+    let b = c.unset_all.new.self in
+    let unset : b.machine.captures.items ≡ replicate (code_groups (run_code b)) None =
+    c.in_ok-unset_all.ensures.unset ∙ ap (λ code. replicate (code_groups code) None) (sym c.unset_all.ensures.same.code) in
+    same_taken c.args.self.now b c.args.position c.args.left.now c.run.new.left outs costs c.unset_all.ensures.same
+    (run_cost b c.input_of-input.result b.machine.captures.items c.args.position c.args.left.now c.run.new.left outs costs c.input_of-input.ensures unset
+    (c.in_ok-response.ensures.costs outs costs))

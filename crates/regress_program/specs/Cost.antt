@@ -1,0 +1,62 @@
+-- The cost of a program: the steps of a run that follows every outcome.
+use Rattle.std.specs.Prelude.{◌≡◌, ℕ, ◌+◌, ◌-◌, ◌≤◌, ◌<◌, List, ◌∷◌, length, slice_get, get_or, sum_by, Option, Some, None, if◌then◌else◌}
+use Rattle.std.specs.Int.{abs_diff}
+use Rattle.regress_tree.specs.Lookaround.{lookaround_matcher}
+use Rattle.regress_tree.specs.Matching.{steps}
+use Rattle.regress_tree.specs.Reading.{Direction}
+use Rattle.regress_tree.specs.Repetition.{unset}
+use Rattle.regress_tree.specs.Setting.{Setting}
+use Rattle.regress_tree.specs.Steps.{CaptureSpan, MatchState, Matcher}
+use Rattle.regress_tree.specs.Tree.{Tree, leaf, back_ref}
+use Rattle.regress_program.specs.Program.{Out, At, Routine, Op, accept, fail, part, split, begin_loop, repeat, end_loop, unsets, begin_group, end_group, look, goto, enter, reach, ended, start, matcher_of, IsSolution}
+
+-- the cost from wherever a routine is
+abbrev pub Cost : Type 0
+Cost = At → ℕ
+
+-- the length of a capture
+abbrev pub length_of : Option CaptureSpan → ℕ
+length_of None = 0
+length_of (Some span) = abs_diff span.0 span.1
+
+-- the length of the capture that a back reference is compared with
+abbrev pub compared : Tree → MatchState → ℕ
+compared (leaf (back_ref group icase)) s = length_of (get_or s.captures (group - 1) None)
+compared t s = 0
+
+-- the cost of what follows an instruction, from these outcomes of it: 1 for each byte, and the cost from there
+abbrev pub cost_after : Cost → (next : ℕ) → At → List MatchState → ℕ
+cost_after cost next a = sum_by (λ to. abs_diff a.state.position to.position + cost (reach next a to))
+
+module _ (setting : Setting) (bytes : List ℕ) where
+  -- what an instruction costs besides 1, by the costs of the instructions after it, and by the matchers and the costs of
+  -- the other routines
+  module _ (d : Direction) (body_of : ℕ → Matcher) (body_cost : ℕ → MatchState → ℕ) (cost : Cost) where
+    abbrev pub cost_by : Op → Cost
+    cost_by accept a = 0
+    cost_by fail a = 0
+    cost_by (part t next) a = compared t a.state + cost_after cost next a (steps setting bytes d t a.state)
+    cost_by (split first second) a = cost (goto first a) + cost (goto second a)
+    cost_by (begin_loop greedy body next) a = cost (enter body a) + cost (goto next a)
+    cost_by (repeat greedy body next) a = if a.moved then cost (enter body a) + cost (goto next a) else 0
+    cost_by (end_loop next) a = if a.moved then cost (goto next a) else 0
+    cost_by (unsets start end next) a = cost (record a { pc = next; state = unset start end a.state })
+    cost_by (begin_group next) a = cost (record a { pc = next; begins = a.state.position ∷ a.begins })
+    cost_by (end_group id next) a = cost (ended id next a a.begins)
+    cost_by (look negate routine next) a =
+        body_cost routine a.state + cost_after cost next a (lookaround_matcher negate (body_of routine) a.state)
+
+    abbrev pub cost_at : Option Op → Cost
+    cost_at None a = 0
+    cost_at (Some op) a = 1 + cost_by op a
+
+  -- the cost of a run of each routine, by the costs in each
+  abbrev pub cost_of : List Routine → (ℕ → Cost) → ℕ → MatchState → ℕ
+  cost_of program costs i s = costs i (start setting bytes (slice_get program i) s)
+
+  -- Inside the text `costs` are the costs of the program, where `outs` are its outcomes.
+  pub record IsCost (program : List Routine) (outs : ℕ → Out) (costs : ℕ → Cost) : Type 0 where
+    pub outcomes : IsSolution setting bytes program outs
+    pub same : (i : ℕ) (r : Routine) → slice_get program i ≡ Some r → (a : At) → a.pc < length r.ops →
+        a.state.position ≤ length bytes → costs i a
+        ≡ cost_at r.direction (matcher_of setting bytes program outs) (cost_of program costs) (costs i) (slice_get r.ops a.pc) a
