@@ -1,5 +1,5 @@
 -- Fronts: where instructions have no outcome.
-use Rattle.std.proofs.Common.{◌≡◌, ℕ, ◌+◌, ◌-◌, ◌≤◌, ◌<◌, ◌==◌, ◌||◌, Bool, true, false, List, [], ◌∷◌, ◌++◌, flat_map, length, get_or, Some, option_map, slice_get, if◌then◌else◌, refl, sym, ap, ap₂, ◌∙◌, subst, append-nil, arith, inl, inr}
+use Rattle.std.proofs.Common.{◌≡◌, ℕ, zero, suc, ◌+◌, ◌-◌, ◌≤◌, ◌<◌, ◌==◌, ◌||◌, Bool, true, false, List, [], ◌∷◌, ◌++◌, flat_map, length, get_or, Some, option_map, slice_get, if◌then◌else◌, refl, sym, ap, ap₂, ◌∙◌, subst, append-nil, arith, inl, inr}
 use Rattle.std.proofs.lemmas.Bool.{cases_eq, cases_lt, false≢true}
 use Rattle.std.proofs.lemmas.Option.{slice_get-map, slice_get_within}
 use Rattle.regress_base.specs.ByteBitmap.{contains}
@@ -10,12 +10,16 @@ use Rattle.regress_tree.specs.Assertions.{at_anchor}
 use Rattle.regress_tree.specs.Lookaround.{looked, lookaround_matcher}
 use Rattle.regress_tree.specs.Matching.{steps}
 use Rattle.regress_tree.specs.Reading.{Direction, forwards, backwards, of_bytes, read_before}
+use Rattle.regress_tree.specs.Repetition.{iterations}
 use Rattle.regress_tree.specs.Setting.{Setting}
-use Rattle.regress_tree.specs.Steps.{MatchState, Matcher, hold_at}
+use Rattle.regress_tree.specs.Steps.{MatchState, Matcher, hold_at, ◌then_◌}
 use Rattle.regress_tree.specs.Tree.{Tree, leaf, anchor}
+use Rattle.regress_tree.proofs.lemmas.Outcomes.{flat_map-then}
 use Rattle.regress_prefilter.specs.FirstSets.{BeginsWithByteOf}
 use Rattle.regress_prefilter.specs.OneCharacter.{takes_one, test_of}
+use Rattle.regress_leaves.specs.Leaves.{exactly}
 use Rattle.regress_leaves.proofs.ReadingLemmas.{ascii_after, ascii_before}
+use Rattle.regress_leaves.proofs.lemmas.Leaves.{exactly-steps}
 use Rattle.regress_program.specs.Program.{At, Out, Solves, either, ended, outcomes_at, outcomes_by, reach}
 use Rattle.regress_backtrack.specs.declared.instruction.Instruction.{Instruction}
 use Rattle.regress_backtrack.specs.declared.test.Test.{Test}
@@ -184,3 +188,14 @@ ascii_outside set all t takes tests others setting text backwards s out =
 pub bytes_outside : (set : ByteBitmap) (t : Tree) → BeginsWithByteOf set t → (setting : Setting) (text : List ℕ) (s : MatchState) →
     IsOutside forwards set text s.position → steps setting text forwards t s ≡ []
 bytes_outside set t begins setting text s out = bytes_fail set t setting text s begins (no_member set text s.position out.out)
+
+-- Several characters begin with one.
+module _ (front : Front) (setting : Setting) (d : Direction) (text : List ℕ) (t : Tree) (s : MatchState)
+    (first : (g : Matcher) → Bounds front d text s.position (flat_map g (steps setting text d t s))) where
+  pub exactly_bounds : (count : ℕ) → 0 < count → (g : Matcher) → Bounds front d text s.position (flat_map g (steps setting text d (exactly count t) s))
+  exactly_bounds zero more g = let bad : ⊥ = omega (arith, more) in absurd bad
+  exactly_bounds (suc n) more g =
+      let f = steps setting text d t in
+      subst (Bounds front d text s.position)
+      (flat_map-then (iterations n f) g (f s) ∙ ap (flat_map g) (sym (exactly-steps setting text d (suc n) t s)))
+      (first (iterations n f then_ g))

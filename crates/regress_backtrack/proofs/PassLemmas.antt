@@ -70,6 +70,7 @@ passed_by fronts instructions b pc None here is = let bad : ⊥ = cc in absurd b
 passed_by fronts instructions b pc (Some insts.Accept) here is = let bad : ⊥ = cc in absurd bad
 passed_by fronts instructions b pc (Some insts.Fail) here is = let bad : ⊥ = cc in absurd bad
 passed_by fronts instructions b pc (Some (insts.Leaf leaf next)) here is = let bad : ⊥ = cc in absurd bad
+passed_by fronts instructions b pc (Some (insts.Characters leaf count next)) here is = let bad : ⊥ = cc in absurd bad
 passed_by fronts instructions b pc (Some (insts.BeginLoop greedy body next)) here is = let bad : ⊥ = cc in absurd bad
 passed_by fronts instructions b pc (Some (insts.Repeat greedy body next)) here is = let bad : ⊥ = cc in absurd bad
 passed_by fronts instructions b pc (Some (insts.EndLoop next)) here is = let bad : ⊥ = cc in absurd bad

@@ -6,14 +6,14 @@ use Rattle.regress_tree.specs.Reading.{Direction}
 use Rattle.regress_tree.specs.Setting.{Setting}
 use Rattle.regress_tree.specs.Steps.{MatchState}
 use Rattle.regress_tree.specs.Tree.{Tree, tree}
-use Rattle.regress_leaves.specs.Leaves.{put}
+use Rattle.regress_leaves.specs.Leaves.{exactly, put}
 use Rattle.regress_backtrack.specs.declared.instruction.Instruction.{Instruction}
 use Rattle.regress_backtrack.specs.declared.instruction.Instruction.TheVariants as insts
 use Rattle.regress_backtrack.specs.declared.test.Test.{Test}
 use Rattle.regress_program.specs.Program.{Out, At}
 use Rattle.regress_program.specs.Shape.{Fits}
 use Rattle.regress_program.specs.Stays.{IsReached}
-use Rattle.regress_backtrack.specs.Views.{op_in, part_of}
+use Rattle.regress_backtrack.specs.Views.{characters_of, op_in, part_of}
 use Rattle.regress_program.proofs.lemmas.Onward.{Stays-tree}
 use Rattle.regress_backtrack.specs.declared.input.Input.{Input}
 use Rattle.regress_backtrack.specs.declared.machine.Machine.{Machine}
@@ -77,16 +77,29 @@ module _ (input : Input) (m : Machine) (o : Option Test) (next : ℕ) (p : Place
       let lt : next < length input.instructions.now = omega (arith, fits.1, can.pc) in
       part_inside input m m setting d (tree t.node) next p to n ends is refl lt can.position
 
+  pub characters_inside : (t : Test) (count : ℕ) (to : Option ℕ) (setting : Setting) (d : Direction) → o ≡ Some t → CanStep input (characters_of o count next) p →
+      steps setting input.text.now d (exactly count (tree t.node)) (state m.captures.items p.position) ≡ put (state m.captures.items p.position) to →
+      Reaches next p n to → Remains input m m n
+  characters_inside t count to setting d some can ends is =
+      let fits = subst (λ x. Fits (take input.index (code_routines input.code.now)) (length input.instructions.now) p.pc (characters_of x count next)) some can.fits in
+      let lt : next < length input.instructions.now = omega (arith, fits.1, can.pc) in
+      part_inside input m m setting d (exactly count (tree t.node)) next p to n ends is refl lt can.position
+
 -- an instruction with a leaf is no lookaround
 part_no_look : (t : Option Test) (next : ℕ) → is_look (part_of t next) ≡ false
 part_no_look None next = refl
 part_no_look (Some t) next = refl
+
+characters_no_look : (t : Option Test) (count next : ℕ) → is_look (characters_of t count next) ≡ false
+characters_no_look None count next = refl
+characters_no_look (Some t) count next = refl
 
 pub not_look : (tests : List Test) (i : Instruction) → ((negate : Bool) (routine next : ℕ) → i ≡ insts.Look negate routine next → ⊥) →
     is_look (op_in tests i) ≡ false
 not_look tests insts.Accept not = refl
 not_look tests insts.Fail not = refl
 not_look tests (insts.Leaf leaf next) not = part_no_look (slice_get tests leaf) next
+not_look tests (insts.Characters leaf count next) not = characters_no_look (slice_get tests leaf) count next
 not_look tests (insts.Split first second) not = refl
 not_look tests (insts.BeginLoop greedy body next) not = refl
 not_look tests (insts.Repeat greedy body next) not = refl

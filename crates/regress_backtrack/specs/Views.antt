@@ -2,6 +2,7 @@
 use Rattle.std.specs.Prelude.{ℕ, List, map, Option, Some, None, slice_get}
 use Rattle.regress_tree.specs.Reading.{direction_if}
 use Rattle.regress_tree.specs.Tree.{tree}
+use Rattle.regress_leaves.specs.Leaves.{exactly}
 use Rattle.regress_program.specs.Program.{Op, accept, fail, part, split, begin_loop, repeat, end_loop, unsets, begin_group, end_group, look, Routine}
 use Rattle.regress_backtrack.specs.declared.instruction.Instruction.{Instruction}
 use Rattle.regress_backtrack.specs.declared.instruction.Instruction.TheVariants as insts
@@ -13,11 +14,17 @@ abbrev pub part_of : Option Test → (next : ℕ) → Op
 part_of None next = fail
 part_of (Some t) next = part (tree t.node) next
 
+-- what an instruction does that matches a number of characters with this leaf; one with no leaf fails
+abbrev pub characters_of : Option Test → (count next : ℕ) → Op
+characters_of None count next = fail
+characters_of (Some t) count next = part (exactly count (tree t.node)) next
+
 -- what an instruction does, with these leaves
 abbrev pub op_in : List Test → Instruction → Op
 op_in tests insts.Accept = accept
 op_in tests insts.Fail = fail
 op_in tests (insts.Leaf leaf next) = part_of (slice_get tests leaf) next
+op_in tests (insts.Characters leaf count next) = characters_of (slice_get tests leaf) count next
 op_in tests (insts.Split first second) = split first second
 op_in tests (insts.BeginLoop greedy body next) = begin_loop greedy body next
 op_in tests (insts.Repeat greedy body next) = repeat greedy body next

@@ -63,6 +63,13 @@ fn front_of(tests: &[Test], known: &[Front], instruction: Instruction, backwards
                 Front::Any
             }
         }
+        Instruction::Characters { leaf, count, .. } => {
+            if count > 0 && leaf < tests.len() {
+                leaf_front(&tests[leaf], Front::Any, backwards)
+            } else {
+                Front::Any
+            }
+        }
         Instruction::Split { first, second } => {
             front_at(known, first).or(front_at(known, second))
         }

@@ -18,6 +18,15 @@ pub enum Instruction {
         /// The instruction after it.
         next: usize,
     },
+    /// Matches characters that each match a leaf, exactly this number of them.
+    Characters {
+        /// The index of the leaf, which matches one character.
+        leaf: usize,
+        /// The number of characters.
+        count: usize,
+        /// The instruction after it.
+        next: usize,
+    },
     /// Tries two alternatives in order.
     Split {
         /// The preferred alternative.

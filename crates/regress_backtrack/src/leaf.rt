@@ -12,16 +12,17 @@ ghost use Rattle.regress_tree.specs.Steps.{MatchState};
 ghost use Rattle.regress_tree.specs.Tree.{tree};
 ghost use Rattle.regress_backtrack.specs.Machine.{state};
 
-use regress_leaves::leaves::{all_of, simple_leaf};
+use regress_leaves::leaves::{all_of, exactly, simple_leaf};
 use regress_leaves::references;
 use regress_leaves::rules::MatchContext;
 use regress_tree::ir::Node;
 
-/// Returns the position at which a leaf ends, or `None` if it fails. The bytes of the capture that a back reference is
-/// compared with are subtracted from the remaining steps.
+/// Returns the position at which a leaf, or a fixed number of characters, ends, or `None` if it fails. The bytes of the
+/// capture that a back reference is compared with are subtracted from the remaining steps.
 ///
 /// # Preconditions
-/// The node is a leaf, and no set of strings unless it has exactly one string.
+/// The node is a leaf, and no set of strings unless it has exactly one string; or a loop over one character whose minimum
+/// is its maximum.
 #[inline(always)]
 pub fn leaf_end(
     text: &str,
@@ -46,6 +47,9 @@ pub fn leaf_end(
             alternatives,
             icase,
         } => all_of(text, rules, *icase, &alternatives[0], position),
+        Node::Loop1CharBody { loopee, quant } => {
+            exactly(text, rules, loopee, quant.min, position)
+        }
         _ => simple_leaf(text, rules, node, position),
     }
 }

@@ -3,7 +3,7 @@ ghost use Rattle.std.specs.Prelude.{◌≡◌, IfOk, slice_get};
 ghost use Rattle.regress_program.specs.Search.{groups_of, routines_of, setting_of};
 ghost use Rattle.regress_program.specs.Views.{op_of, ops_of, program_of};
 ghost use Rattle.regress_backtrack.specs.Code.{code_groups, code_routines, setting_with};
-ghost use Rattle.regress_backtrack.specs.Views.{op_in, ops_in, part_of, program_in};
+ghost use Rattle.regress_backtrack.specs.Views.{characters_of, op_in, ops_in, part_of, program_in};
 
 use crate::code::Code;
 use crate::instruction::{Instruction, Routine};
@@ -86,6 +86,7 @@ fn lend<'c>(tests: &'c [Test], instruction: Instruction) -> BorrowedInstruction<
         Instruction::Accept => BorrowedInstruction::Accept,
         Instruction::Fail => BorrowedInstruction::Fail,
         Instruction::Leaf { leaf, next } => lend_leaf(tests, leaf, next),
+        Instruction::Characters { leaf, count, next } => lend_characters(tests, leaf, count, next),
         Instruction::Split { first, second } => BorrowedInstruction::Split { first, second },
         Instruction::BeginLoop { greedy, body, next } => {
             BorrowedInstruction::BeginLoop { greedy, body, next }
@@ -116,6 +117,27 @@ fn lend_leaf<'c>(tests: &'c [Test], leaf: usize, next: usize) -> BorrowedInstruc
     if leaf < tests.len() {
         BorrowedInstruction::Leaf {
             node: &tests[leaf].node,
+            next,
+        }
+    } else {
+        BorrowedInstruction::Fail
+    }
+}
+
+/// Returns an instruction that matches exactly `count` characters with a leaf, or one that fails if there is no leaf with
+/// this index.
+fn lend_characters<'c>(
+    tests: &'c [Test],
+    leaf: usize,
+    count: usize,
+    next: usize,
+) -> BorrowedInstruction<'c>
+    ensures { op_of result ≡ characters_of (slice_get tests.now leaf) count next }
+{
+    if leaf < tests.len() {
+        BorrowedInstruction::Characters {
+            node: &tests[leaf].node,
+            count,
             next,
         }
     } else {

@@ -2,6 +2,7 @@
 ghost use Rattle.std.specs.Prelude.{◌≡◌, ◌≤◌, ◌<◌, [], ◌∷◌, Err, IfOk, length, min};
 ghost use Rattle.regress_tree.specs.Tree.{leaf, string_set, tree};
 ghost use Rattle.regress_tree.specs.WellFormed.{captures};
+ghost use Rattle.regress_leaves.specs.Leaves.{exactly};
 ghost use Rattle.regress_program.specs.Compiled.{IsPattern, total};
 ghost use Rattle.regress_program.specs.Program.{part};
 ghost use Rattle.regress_program.specs.Search.{groups_of, routines_of, setting_of};
@@ -170,6 +171,9 @@ fn own_instruction(
 {
     Ok(match instruction {
         BorrowedInstruction::Leaf { node, next } => own_leaf(node.try_clone(alloc)?, next, tests)?,
+        BorrowedInstruction::Characters { node, count, next } => {
+            own_characters(node.try_clone(alloc)?, count, next, tests)?
+        }
         BorrowedInstruction::Text {
             characters,
             icase,
@@ -212,6 +216,25 @@ fn own_leaf(node: Node, next: usize, tests: &mut Vec<Test>) -> Result<Instructio
     let start = start_of(&node);
     tests.push(Test { node, start })?;
     Ok(Instruction::Leaf { leaf, next })
+}
+
+/// Returns an instruction that matches exactly `count` characters with a leaf, which is added.
+///
+/// # Errors
+/// Returns [`AllocError`] if an allocation fails.
+fn own_characters(
+    node: Node,
+    count: usize,
+    next: usize,
+    tests: &mut Vec<Test>,
+) -> Result<Instruction, AllocError>
+    ensures grown { IfOk result (λ _. Grown tests.old.items tests.new.items) }
+    ensures means { IfOk result (λ owned. Means op_in tests.new.items owned (part (exactly count (tree node)) next)) }
+{
+    let leaf = tests.len();
+    let start = start_of(&node);
+    tests.push(Test { node, start })?;
+    Ok(Instruction::Characters { leaf, count, next })
 }
 
 /// Returns a set of this string.

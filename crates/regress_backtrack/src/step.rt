@@ -1,7 +1,8 @@
 //! One instruction.
-ghost use Rattle.std.specs.Prelude.{◌≡◌, ◌≤◌, ◌+◌, ◌++◌, ◌||◌, ◌==◌, ℕ, All, IfOk, MatchOption, false, flat_map, length, not, slice_get};
+ghost use Rattle.std.specs.Prelude.{◌≡◌, ◌≤◌, ◌+◌, ◌++◌, ◌||◌, ◌==◌, ℕ, All, IfOk, MatchOption, false, flat_map, length, not, slice_get, true};
 ghost use Rattle.std.specs.Int.{abs_diff};
-ghost use Rattle.regress_leaves.specs.Leaves.{put};
+ghost use Rattle.regress_prefilter.specs.OneCharacter.{takes_one};
+ghost use Rattle.regress_leaves.specs.Leaves.{GoesTo, exactly, put};
 ghost use Rattle.regress_leaves.specs.Subject.{subject};
 ghost use Rattle.regress_tree.specs.Matching.{steps};
 ghost use Rattle.regress_tree.specs.Steps.{Matcher};
@@ -12,7 +13,7 @@ ghost use Rattle.regress_program.specs.Shape.{IsPart};
 ghost use Rattle.regress_backtrack.specs.Code.{code_routines};
 ghost use Rattle.regress_backtrack.specs.Costs.{HasCost, cost_ahead, op_cost, points_cost};
 ghost use Rattle.regress_backtrack.specs.Machine.{at, groups_of, points, rewound, state};
-ghost use Rattle.regress_backtrack.specs.Views.{op_in, part_of};
+ghost use Rattle.regress_backtrack.specs.Views.{characters_of, op_in, part_of};
 ghost use Rattle.regress_backtrack.specs.Next.{CanStep, Inside, IsInput, Leads, Solve, ahead, is_look};
 ghost use Rattle.regress_backtrack.specs.declared.step.Next.TheVariants.{Back, On, OutOfSteps};
 
@@ -22,6 +23,7 @@ use crate::instruction::Instruction;
 use crate::leaf::leaf_end;
 use crate::machine::{Machine, Place};
 use crate::test::Test;
+use regress_leaves::leaves::simple_leaf;
 use std::alloc::AllocError;
 
 /// What follows an instruction.
@@ -77,6 +79,9 @@ pub fn step(
         Instruction::Fail => Ok(Next::Back),
         Instruction::Leaf { leaf, next } => {
             Ok(match_leaf(input, leaf, next, here, machine, left))
+        }
+        Instruction::Characters { leaf, count, next } => {
+            Ok(match_characters(input, leaf, count, next, here, left))
         }
         Instruction::Split { first, second } => {
             fork(input, goto(first, here), goto(second, here), machine)
@@ -178,6 +183,73 @@ fn test_end(
             captures,
             left,
         ),
+    }
+}
+
+/// Matches exactly `count` characters with a leaf, and goes on at the instruction `next`. Backtracks if they fail, or if
+/// there is no leaf with this index.
+///
+/// # Preconditions
+/// The instruction of `here` is the one that matches them.
+fn match_characters(
+    input: &Input<'_, '_>,
+    leaf: usize,
+    count: usize,
+    next: usize,
+    here: Place,
+    left: &mut u64,
+) -> Next
+    requires { CanStep input.now (characters_of (slice_get input.now.code.now.tests.items leaf) count next) here }
+    ensures leads { (machine : Machine) (body_of : ℕ → Matcher) (out : Out) → (let u = subject input.now.rules input.now.text.now in
+        Leads (outcomes_by u.setting u.bytes u.direction body_of out (characters_of (slice_get input.now.code.now.tests.items leaf) count next)
+        (at here (groups_of machine)) ++ flat_map out (points machine)) out machine result) }
+    ensures inside { (machine : Machine) → All (Inside input.now) (points machine) → All (Inside input.now) (ahead machine result) }
+    ensures left { left.new ≤ left.old }
+    ensures goes { result ≡ OutOfSteps → ⊥ }
+{
+    let Some(test) = test_at(input, leaf) else {
+        return Next::Back;
+    };
+    let to = characters_end(input, test, count, here.position);
+    reach(here, next, to, left)
+}
+
+/// Returns the position after exactly `count` characters, each of which matches a leaf, or `None` if there are fewer.
+///
+/// # Preconditions
+/// The leaf matches one character.
+#[inline(always)]
+fn characters_end(
+    input: &Input<'_, '_>,
+    test: &Test,
+    count: usize,
+    position: usize,
+) -> Option<usize>
+    requires { takes_one (tree test.now.node) ≡ true }
+    ensures { GoesTo (subject input.now.rules input.now.text.now) position (exactly count (tree test.now.node)) result }
+{
+    let mut end = position;
+    for _i in 0..count {
+        end = character_end(input, test, end)?;
+    }
+    Some(end)
+}
+
+/// Returns the position after one character that matches a leaf, or `None` if it fails.
+///
+/// # Preconditions
+/// The leaf matches one character.
+#[inline(always)]
+fn character_end(input: &Input<'_, '_>, test: &Test, position: usize) -> Option<usize>
+    requires { takes_one (tree test.now.node) ≡ true }
+    ensures { GoesTo (subject input.now.rules input.now.text.now) position (tree test.now.node) result }
+{
+    match test
+        .start
+        .ascii_end(input.text, input.rules.backwards, position)
+    {
+        Some(to) => to,
+        None => simple_leaf(input.text, input.rules, &test.node, position),
     }
 }
 

@@ -1,10 +1,11 @@
 use Rattle.std.proofs.Common.{◌≡◌, Some, slice_get, refl, sym, subst}
 use Rattle.std.proofs.lemmas.Option.{slice_get_read}
 use Rattle.regress_tree.specs.Reading.{direction_if}
+use Rattle.regress_tree.specs.Tree.{tree}
 use Rattle.regress_program.specs.Program.{goto, outcomes_by, reach}
 use Rattle.regress_backtrack.specs.Fronts.{Bounds}
-use Rattle.regress_backtrack.specs.Views.{op_in, part_of}
-use Rattle.regress_backtrack.proofs.FrontLemmas.{cond_bounds, ended_bounds, look_bounds, reach_bounds}
+use Rattle.regress_backtrack.specs.Views.{characters_of, op_in, part_of}
+use Rattle.regress_backtrack.proofs.FrontLemmas.{cond_bounds, ended_bounds, exactly_bounds, look_bounds, reach_bounds}
 use Rattle.regress_backtrack.proofs.front.front_of.Goals as goal
 
 pub returns-then-leaf-tests : goal.returns-then-leaf-tests
@@ -17,6 +18,22 @@ returns-then-leaf-tests c = λ setting text body_of out a are.
     (subst (λ o. Bounds c.leaf_front.result d text a.state.position (outcomes_by setting text d body_of out (part_of o c.in-Leaf.next) a)) (sym some)
     (c.leaf_front.ensures setting text a.state (λ t. out (reach c.in-Leaf.next a t))
     (reach_bounds c.front_at.result d text out c.in-Leaf.next (c.front_at.ensures d text out are) a)))
+
+pub returns-then-count-leaf : goal.returns-then-count-leaf
+returns-then-count-leaf c = λ setting text body_of out a are.
+    let d = direction_if c.args.backwards in
+    let tests = c.args.tests.now in
+    let leaf = c.in-Characters.leaf in
+    let count = c.in-Characters.count in
+    let next = c.in-Characters.next in
+    let front = c.leaf_front-then-count-leaf.result in
+    let test = c.index-tests-leaf-2.result in
+    let some : slice_get tests leaf ≡ Some test =
+    slice_get_read tests _ leaf test refl c.if-count-leaf.true.1 c.index-tests-leaf-2.is in
+    subst (λ i. Bounds front d text a.state.position (outcomes_by setting text d body_of out (op_in tests i) a)) (sym c.in-Characters.is)
+    (subst (λ o. Bounds front d text a.state.position (outcomes_by setting text d body_of out (characters_of o count next) a)) (sym some)
+    (exactly_bounds front setting d text (tree test.node) a.state
+    (λ g. c.leaf_front-then-count-leaf.ensures setting text a.state g (λ t same. tt)) count c.if-count-leaf.true.0 (λ t. out (reach next a t))))
 
 pub returns-in-EndLoop : goal.returns-in-EndLoop
 returns-in-EndLoop c = λ setting text body_of out a are.

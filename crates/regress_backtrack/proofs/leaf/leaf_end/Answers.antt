@@ -4,6 +4,7 @@ use Rattle.std.specs.Box.{boxed_slice_items}
 use Rattle.regress_leaves.specs.Leaves.{is_simple}
 use Rattle.regress_leaves.specs.Subject.{subject}
 use Rattle.regress_tree.specs.declared.ir.node.Node.{the_lemmas}
+use Rattle.regress_tree.proofs.lemmas.Nodes.{tree-Loop1CharBody}
 use Rattle.regress_tree.specs.Matching.{steps}
 use Rattle.regress_tree.specs.Tree.{back_ref, tree, leaf, string_set}
 use Rattle.regress_program.specs.Cost.{compared, length_of}
@@ -56,3 +57,12 @@ returns-in-BackRef-clause-costs c =
     let length = ap length_of c.capture_of-span.ensures in
     let total = ap (λ t. compared t s) is in
     omega (arith, taken, length, total)
+
+pub returns-in-Loop1CharBody-clause-to : goal.returns-in-Loop1CharBody-clause-to
+returns-in-Loop1CharBody-clause-to c =
+    let s = state c.args.captures.now c.args.position in
+    let u = subject c.args.rules c.args.text.now in
+    let q = c.in-Loop1CharBody.quant in
+    let is = ap tree c.in-Loop1CharBody.is ∙ tree-Loop1CharBody c.in-Loop1CharBody.loopee q in
+    let part = subst IsPart is c.requires in
+    ap (λ t. steps u.setting u.bytes u.direction t s) is ∙ (rw c.deref-in-Loop1CharBody.ensures at c.exactly.ensures) part.1 q refl part.0 s refl

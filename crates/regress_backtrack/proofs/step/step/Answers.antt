@@ -32,6 +32,17 @@ returns-in-Leaf-clause-leads c =
     (op_in input.code.now.tests.items i) (at c.args.here (groups_of m))) c.match_leaf.result)
     (sym c.in-Leaf.is) (c.match_leaf.ensures.leads (matcher_of u.setting u.bytes (code_routines input.code.now) outs) (outs input.index))
 
+pub returns-in-Characters-clause-leads : goal.returns-in-Characters-clause-leads
+returns-in-Characters-clause-leads c =
+    let input = c.args.input.now in
+    let u = subject input.rules input.text.now in
+    let m = c.args.machine.now in
+    λ outs solves.
+    subst (λ i. Goes (outs input.index) m m
+    (outcomes_by u.setting u.bytes u.direction (matcher_of u.setting u.bytes (code_routines input.code.now) outs) (outs input.index)
+    (op_in input.code.now.tests.items i) (at c.args.here (groups_of m))) c.match_characters.result)
+    (sym c.in-Characters.is) (c.match_characters.ensures.leads m (matcher_of u.setting u.bytes (code_routines input.code.now) outs) (outs input.index))
+
 pub returns-in-Split-clause-leads : goal.returns-in-Split-clause-leads
 returns-in-Split-clause-leads c =
     let input = c.args.input.now in

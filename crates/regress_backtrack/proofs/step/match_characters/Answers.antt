@@ -1,0 +1,14 @@
+use Rattle.std.proofs.Common.{slice_get, refl}
+use Rattle.regress_leaves.specs.Subject.{subject}
+use Rattle.regress_backtrack.specs.Machine.{state}
+use Rattle.regress_backtrack.proofs.StepLemmas.{characters_inside}
+use Rattle.regress_backtrack.proofs.step.match_characters.Goals as goal
+
+pub returns-clause-inside : goal.returns-clause-inside
+returns-clause-inside c = λ m.
+    let input = c.args.input.now in
+    let u = subject input.rules input.text.now in
+    let here = c.args.here in
+    characters_inside input m (slice_get input.code.now.tests.items c.args.leaf) c.args.next here c.reach.result c.in-Some.test.now c.args.count
+    c.characters_end-to.result u.setting u.direction c.in-Some.ensures c.requires
+    (c.characters_end-to.ensures (state m.captures.items here.position) refl) c.reach.ensures.next
