@@ -6,7 +6,7 @@ use Rattle.std.specs.Int.{abs_diff}
 use Rattle.std.specs.List.{range_with_len}
 use Rattle.regress_base.specs.ByteBitmap.{contains}
 use Rattle.regress_base.specs.declared.bytesearch.bitmap.ByteBitmap.{ByteBitmap}
-use Rattle.regress_leaves.specs.Leaves.{put}
+use Rattle.regress_leaves.specs.Leaves.{exactly, put}
 use Rattle.regress_leaves.specs.Subject.{subject}
 use Rattle.regress_leaves.proofs.ReadingLemmas.{ascii_after}
 use Rattle.regress_program.specs.Cost.{Cost, compared, cost_after, cost_at, cost_by, cost_of}
@@ -31,7 +31,7 @@ use Rattle.regress_backtrack.specs.Machine.{Chosen, Groups, Ranged, at, groups_o
 use Rattle.regress_backtrack.specs.Next.{IsInput}
 use Rattle.regress_backtrack.specs.Starts.{IsStart}
 use Rattle.regress_backtrack.specs.Sweep.{AreIn, IsSwept}
-use Rattle.regress_backtrack.specs.Views.{op_in, part_of}
+use Rattle.regress_backtrack.specs.Views.{characters_of, op_in, part_of}
 use Rattle.regress_backtrack.proofs.RunLemmas.{op-is, width-is}
 use Rattle.regress_backtrack.proofs.StartLemmas.{ascii_matches}
 use Rattle.regress_backtrack.proofs.StepLemmas.{Reaches}
@@ -81,6 +81,28 @@ module _ (input : Input) (outs : ℕ → Out) (costs : ℕ → Cost) (m : Machin
       subst (λ x. left + cost_ahead cost m x ≤ left2 + (op_cost input outs costs (part_of o next) a + points_cost cost m)) (sym is)
       (subst (λ x. left + (there + points_cost cost m) ≤ left2 + (op_cost input outs costs (part_of x next) a + points_cost cost m)) (sym some)
       (omega (arith, taken, moved, on)))
+
+  -- characters that end at a position
+  pub characters_cost : (o : Option Test) (t : Test) (count : ℕ) (to : Option ℕ) → o ≡ Some t →
+      (let u = subject input.rules input.text.now in
+      steps u.setting u.bytes u.direction (exactly count (tree t.node)) (state m.captures.items p.position) ≡ put (state m.captures.items p.position) to) →
+      Reaches next p n to → MatchOption to (left2 ≡ left) (λ (q : ℕ). left ≤ left2 + abs_diff p.position q) →
+      left + cost_ahead (costs input.index) m n
+      ≤ left2 + (op_cost input outs costs (characters_of o count next) (at p (groups_of m)) + points_cost (costs input.index) m)
+  characters_cost o t count None some ends is moved =
+      subst (λ x. left + cost_ahead (costs input.index) m x
+      ≤ left2 + (op_cost input outs costs (characters_of o count next) (at p (groups_of m)) + points_cost (costs input.index) m)) (sym is)
+      (subst (λ x. left + points_cost (costs input.index) m
+      ≤ left2 + (op_cost input outs costs (characters_of x count next) (at p (groups_of m)) + points_cost (costs input.index) m)) (sym some)
+      (omega (arith, moved)))
+  characters_cost o t count (Some q) some ends is moved =
+      let cost = costs input.index in
+      let a = at p (groups_of m) in
+      let there = cost (at (record { pc = next; moved = p.moved || not (q == p.position); position = q }) (groups_of m)) in
+      let on = ap (cost_after cost next a) ends in
+      subst (λ x. left + cost_ahead cost m x ≤ left2 + (op_cost input outs costs (characters_of o count next) a + points_cost cost m)) (sym is)
+      (subst (λ x. left + (there + points_cost cost m) ≤ left2 + (op_cost input outs costs (characters_of x count next) a + points_cost cost m)) (sym some)
+      (omega (arith, moved, on)))
 
 -- ---- loops over one character
 

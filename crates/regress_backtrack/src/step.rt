@@ -205,6 +205,9 @@ fn match_characters(
         (at here (groups_of machine)) ++ flat_map out (points machine)) out machine result) }
     ensures inside { (machine : Machine) → All (Inside input.now) (points machine) → All (Inside input.now) (ahead machine result) }
     ensures left { left.new ≤ left.old }
+    ensures costs { (machine : Machine) (outs : ℕ → Out) (costs : ℕ → Cost) → (let cost = costs input.now.index in
+        left.old + cost_ahead cost machine result ≤ left.new + (op_cost input.now outs costs
+        (characters_of (slice_get input.now.code.now.tests.items leaf) count next) (at here (groups_of machine)) + points_cost cost machine)) }
     ensures goes { result ≡ OutOfSteps → ⊥ }
 {
     let Some(test) = test_at(input, leaf) else {

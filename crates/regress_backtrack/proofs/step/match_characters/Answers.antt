@@ -1,6 +1,7 @@
 use Rattle.std.proofs.Common.{slice_get, refl}
 use Rattle.regress_leaves.specs.Subject.{subject}
 use Rattle.regress_backtrack.specs.Machine.{state}
+use Rattle.regress_backtrack.proofs.CostLemmas.{characters_cost}
 use Rattle.regress_backtrack.proofs.StepLemmas.{characters_inside}
 use Rattle.regress_backtrack.proofs.step.match_characters.Goals as goal
 
@@ -12,3 +13,11 @@ returns-clause-inside c = λ m.
     characters_inside input m (slice_get input.code.now.tests.items c.args.leaf) c.args.next here c.reach.result c.in-Some.test.now c.args.count
     c.characters_end-to.result u.setting u.direction c.in-Some.ensures c.requires
     (c.characters_end-to.ensures (state m.captures.items here.position) refl) c.reach.ensures.next
+
+pub returns-clause-costs : goal.returns-clause-costs
+returns-clause-costs c = λ m outs costs.
+    let input = c.args.input.now in
+    let here = c.args.here in
+    characters_cost input outs costs m here c.args.next c.reach.result c.args.left.now c.args.left.now c.reach.new.left
+    (slice_get input.code.now.tests.items c.args.leaf) c.in-Some.test.now c.args.count c.characters_end-to.result c.in-Some.ensures
+    (c.characters_end-to.ensures (state m.captures.items here.position) refl) c.reach.ensures.next c.reach.ensures.costs

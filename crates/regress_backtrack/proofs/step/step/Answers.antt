@@ -103,6 +103,14 @@ returns-in-Leaf-clause-costs c = λ outs costs has.
     let taken = c.match_leaf.ensures.costs outs costs in
     omega (arith, is, taken)
 
+pub returns-in-Characters-clause-costs : goal.returns-in-Characters-clause-costs
+returns-in-Characters-clause-costs c = λ outs costs has.
+    let input = c.args.input.now in
+    let a = at c.args.here (groups_of c.args.machine.now) in
+    let is = ap (λ i. op_cost input outs costs (op_in input.code.now.tests.items i) a) c.in-Characters.is in
+    let taken = c.match_characters.ensures.costs c.args.machine.now outs costs in
+    omega (arith, is, taken)
+
 pub returns-in-Split-clause-costs : goal.returns-in-Split-clause-costs
 returns-in-Split-clause-costs c =
     let input = c.args.input.now in
