@@ -28,8 +28,8 @@ impl Code {
     /// and with 0 steps for each `from` in `text`. A step that is begun is completed, even if it counts more than
     /// remains. If the first bytes show that no match begins in the rest of the text, that rest counts nothing.
     ///
-    /// A search takes at most the steps of one that follows every outcome from every byte offset. So with more steps than
-    /// those, of which each program has a finite number in each text, the result is not [`Outcome::OutOfSteps`].
+    /// A search takes at most its cost: the steps that following every outcome from every byte offset takes. Every program
+    /// has a cost in every text, and with more steps than that the result is not [`Outcome::OutOfSteps`].
     ///
     /// So the limit bounds the time: it is at most `steps` and the length of `text` together, times a factor that depends
     /// only on the program. The memory is at most `steps` times such a factor. Recursion is as deep as lookarounds are
