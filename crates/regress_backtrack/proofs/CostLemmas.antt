@@ -1,5 +1,5 @@
 -- The cost of what a run goes on with is at most the cost before.
-use Rattle.std.proofs.Common.{◌≡◌, ℕ, zero, suc, ◌+◌, ◌-◌, ◌≤◌, ◌<◌, ◌==◌, ◌||◌, Bool, true, false, not, List, [], ◌∷◌, ◌++◌, length, sum_by, slice_get, slice_index, Option, Some, None, MatchOption, refl, sym, ap, ap₂, ◌∙◌, subst, arith}
+use Rattle.std.proofs.Common.{◌≡◌, ℕ, zero, suc, ◌+◌, ◌-◌, ◌≤◌, ◌<◌, ◌==◌, ◌||◌, Bool, true, false, not, [], ◌∷◌, length, sum_by, slice_get, slice_index, Option, Some, None, MatchOption, refl, sym, ap, ap₂, ◌∙◌, subst, arith}
 use Rattle.std.proofs.lemmas.List.FromFn.{sum_by-map-range_with_len_more}
 use Rattle.std.proofs.lemmas.List.Sums.{sum-map, sum_by-append, sum_by-cons}
 use Rattle.std.specs.Int.{abs_diff}
@@ -9,11 +9,10 @@ use Rattle.regress_base.specs.declared.bytesearch.bitmap.ByteBitmap.{ByteBitmap}
 use Rattle.regress_leaves.specs.Leaves.{exactly, put}
 use Rattle.regress_leaves.specs.Subject.{subject}
 use Rattle.regress_leaves.proofs.ReadingLemmas.{ascii_after}
-use Rattle.regress_program.specs.Cost.{Cost, compared, cost_after, cost_at, cost_by, cost_of}
-use Rattle.regress_program.specs.Program.{At, matcher_of, reach, Out}
+use Rattle.regress_program.specs.Cost.{Cost, compared, cost_after, cost_at, cost_of}
+use Rattle.regress_program.specs.Program.{matcher_of, Out}
 use Rattle.regress_tree.specs.Matching.{steps}
 use Rattle.regress_tree.specs.Reading.{direction_if, forwards}
-use Rattle.regress_tree.specs.Steps.{MatchState}
 use Rattle.regress_tree.specs.Tree.{tree}
 use Rattle.regress_backtrack.specs.declared.alternatives.Looping.{Looping}
 use Rattle.regress_backtrack.specs.declared.input.Input.{Input}
@@ -23,7 +22,6 @@ use Rattle.regress_backtrack.specs.declared.machine.Machine.{Machine}
 use Rattle.regress_backtrack.specs.declared.machine.Place.{Place}
 use Rattle.regress_backtrack.specs.declared.start.Start.TheVariants as starts
 use Rattle.regress_backtrack.specs.declared.step.Next.{Next}
-use Rattle.regress_backtrack.specs.declared.step.Next.TheVariants as nexts
 use Rattle.regress_backtrack.specs.declared.test.Test.{Test}
 use Rattle.regress_backtrack.specs.Code.{code_routines}
 use Rattle.regress_backtrack.specs.Costs.{HasCost, cost_ahead, op_cost, points_cost}
@@ -209,10 +207,6 @@ chosen_cost cost m m' first second chosen =
     let here = ap (λ g. cost (at first g)) chosen.groups in
     let sum = ap (sum_by cost) chosen.points ∙ sum_by-cons cost (at second (groups_of m)) (points m) in
     omega (arith, here, sum)
-
--- the same backtrack points
-pub kept_cost : (cost : Cost) (m m' : Machine) (a b : At) → a ≡ b → points m' ≡ points m → cost a + points_cost cost m' ≡ cost b + points_cost cost m
-kept_cost cost m m' a b here same = ap₂ ◌+◌ (ap cost here) (ap (sum_by cost) same)
 
 -- the latest backtrack point
 pub back_cost : (cost : Cost) (m m' : Machine) (p : Place) → points m ≡ at p (groups_of m') ∷ points m' →

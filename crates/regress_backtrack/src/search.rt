@@ -27,8 +27,8 @@ impl Code {
     /// and with 0 steps for each `from` in `text`. A step that is begun is completed, even if it counts more than
     /// remains. If the first bytes show that no match begins in the rest of the text, that rest counts nothing.
     ///
-    /// A search takes at most the steps of one that follows every outcome from every byte offset. So with more steps than
-    /// those, of which each program has a finite number in each text, the result is not [`Outcome::OutOfSteps`].
+    /// A search takes at most its cost: the steps that following every outcome from every byte offset takes. Every program
+    /// has a cost in every text, and with more steps than that the result is not [`Outcome::OutOfSteps`].
     ///
     /// So the limit bounds the time: it is at most `steps` and the length of `text` together, times a factor that depends
     /// only on the program. The memory is at most `steps` times such a factor. Recursion is as deep as lookarounds are
@@ -51,11 +51,11 @@ impl Code {
             Finds text.now (tree_outcomes_from self.now known.entry.tables.now text.now t) from found.outcome) }
         ensures steps { IfOk result (λ found. found.steps ≤ steps) }
         ensures costs { IfOk result (λ found. (outs : ℕ → Out) (costs : ℕ → Cost) →
-            IsCost (setting_with self.now tables.now) text.now (code_routines self.now) outs costs →
-            found.steps ≤ search_cost self.now tables.now text.now costs from) }
+            IsCost (setting_with self.now known.entry.tables.now) text.now (code_routines self.now) outs costs →
+            found.steps ≤ search_cost self.now known.entry.tables.now text.now costs from) }
         ensures has_cost { IfOk result (λ _. (outs : ℕ → Out) →
-            IsSolution (setting_with self.now tables.now) text.now (code_routines self.now) outs →
-            (costs : ℕ → Cost) × IsCost (setting_with self.now tables.now) text.now (code_routines self.now) outs costs) }
+            IsSolution (setting_with self.now known.entry.tables.now) text.now (code_routines self.now) outs →
+            (costs : ℕ → Cost) × IsCost (setting_with self.now known.entry.tables.now) text.now (code_routines self.now) outs costs) }
         ensures out_of_steps { IfOk result (λ found. found.outcome ≡ OutOfSteps → found.steps ≡ steps) }
     {
         let mut left = steps;
@@ -93,8 +93,8 @@ impl Code {
             IsFirst position (tree_outcomes_from self.now known.entry.tables.now text.now t position) found.outcome) }
         ensures steps { IfOk result (λ found. found.steps ≤ steps) }
         ensures costs { IfOk result (λ found. (outs : ℕ → Out) (costs : ℕ → Cost) →
-            IsCost (setting_with self.now tables.now) text.now (code_routines self.now) outs costs →
-            found.steps ≤ cost_from self.now tables.now text.now costs position) }
+            IsCost (setting_with self.now known.entry.tables.now) text.now (code_routines self.now) outs costs →
+            found.steps ≤ cost_from self.now known.entry.tables.now text.now costs position) }
         ensures out_of_steps { IfOk result (λ found. found.outcome ≡ OutOfSteps → found.steps ≡ steps) }
     {
         let mut left = steps;

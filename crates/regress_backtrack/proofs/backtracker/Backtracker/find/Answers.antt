@@ -1,4 +1,4 @@
-use Rattle.std.proofs.Common.{rules, arith, ◌+◌, ◌-◌, ◌≤◌, ◌<◌, ℕ, length, sym, ap, subst, IfSome, MatchOption}
+use Rattle.std.proofs.Common.{rules, arith, ◌≤◌, ◌<◌, ℕ, length, sym, ap, subst, IfSome, MatchOption}
 use Rattle.std.specs.Str.{IsCharBoundary}
 use Rattle.regress_program.specs.Found.{NoneBefore}
 use Rattle.regress_program.specs.Program.{Out}
@@ -6,7 +6,7 @@ use Rattle.regress_backtrack.specs.Backtracker.{AreOutcomes, cost_at, outcomes_a
 use Rattle.regress_backtrack.specs.Searched.{IsFirst}
 use Rattle.regress_backtrack.specs.declared.outcome.Outcome.TheVariants as outcomes
 use Rattle.regress_backtrack.proofs.CandidateLemmas.{none_after, none_before}
-use Rattle.regress_backtrack.proofs.CostLemmas.{searched, tried_on, tried_part}
+use Rattle.regress_backtrack.proofs.CostLemmas.{searched, tried_on}
 use Rattle.regress_backtrack.proofs.SearchLemmas.{SameRuns-trans, found_leftmost, none_more, not_true, same_solved, same_taken, tree_finds}
 use Rattle.regress_backtrack.proofs.backtracker.Backtracker.find.Goals as goal
 use Rattle.regress_backtrack.proofs.backtracker.Backtracker.find.Goals.{then-is_char_boundary+in_ok-found+in-NoMatch, else-is_char_boundary}
@@ -63,7 +63,6 @@ loop-from-preserved c =
       | then-is_char_boundary+in_ok-found+in-NoMatch w ↦ record {
         same = rw w.self-is (SameRuns-trans a b w.match_at.new.self so_far.same w.match_at.ensures.same);
         from = omega (arith, so_far.from, within.0);
-        high = omega (arith, within.1);
         left = omega (arith, w.left-is, w.in_ok-found.ensures.left, c.saturating_sub.ensures, so_far.left);
         solved = λ outs are.
             none_more text (outcomes_at a outs) c.args.from k (none outs are)
@@ -74,11 +73,15 @@ loop-from-preserved c =
             let taken = same_taken a b k c.saturating_sub.result w.match_at.new.left outs costs so_far.same (w.in_ok-found.ensures.costs outs costs) are in
             let on = tried_on (cost_at a costs) c.args.from c.loop-from.from k so_far.from within.0 in
             omega (arith, before, taken, on, w.left-is, c.saturating_sub.ensures);
+        enough = λ outs costs are.
+            let taken = same_taken a b k c.saturating_sub.result w.match_at.new.left outs costs so_far.same (w.in_ok-found.ensures.costs outs costs) are in
+            let all = searched (cost_at a costs) c.args.from c.loop-from.from k (length text) c.args.left.now c.loop-from.left c.saturating_sub.result
+            w.match_at.new.left so_far.from within.0 within.1 (so_far.costs outs costs are) (omega (arith, c.saturating_sub.ensures)) taken in
+            omega (arith, all, w.left-is);
       }
       | else-is_char_boundary w ↦ record {
         same = rw w.self-is so_far.same;
         from = omega (arith, so_far.from, within.0);
-        high = omega (arith, within.1);
         left = omega (arith, w.left-is, c.saturating_sub.ensures, so_far.left);
         solved = λ outs are.
             none_more text (outcomes_at a outs) c.args.from k (none outs are)
@@ -87,31 +90,14 @@ loop-from-preserved c =
             let before = so_far.costs outs costs are in
             let on = tried_on (cost_at a costs) c.args.from c.loop-from.from k so_far.from within.0 in
             omega (arith, before, on, w.left-is, c.saturating_sub.ensures);
+        enough = λ outs costs are.
+            let all = searched (cost_at a costs) c.args.from c.loop-from.from k (length text) c.args.left.now c.loop-from.left c.saturating_sub.result
+            c.saturating_sub.result so_far.from within.0 within.1 (so_far.costs outs costs are) (omega (arith, c.saturating_sub.ensures)) (omega arith) in
+            omega (arith, all, w.left-is);
       }
     ]
 
 -- ---- the cost of the search
-
-pub returns-clause-costs : goal.returns-clause-costs
-returns-clause-costs c = λ outs costs are.
-    let a = c.args.self.now in
-    let before = c.loop-from.invariant.costs outs costs are in
-    let all = tried_part (cost_at a costs) c.args.from (c.loop-from.from - c.args.from) (length (run_text a) + 1 - c.args.from) c.loop-from.invariant.high in
-    omega (arith, before, all)
-
-pub returns-then-left-eq0-clause-costs : goal.returns-then-left-eq0-clause-costs
-returns-then-left-eq0-clause-costs c = λ outs costs are.
-    let a = c.args.self.now in
-    let before = c.loop-from.invariant.costs outs costs are in
-    let all = tried_part (cost_at a costs) c.args.from (c.loop-from.from - c.args.from) (length (run_text a) + 1 - c.args.from) c.loop-from.invariant.high in
-    omega (arith, before, all)
-
-pub returns-in_default-clause-costs : goal.returns-in_default-clause-costs
-returns-in_default-clause-costs c = λ outs costs are.
-    let a = c.args.self.now in
-    let before = c.loop-from.invariant.costs outs costs are in
-    let all = tried_part (cost_at a costs) c.args.from (c.loop-from.from - c.args.from) (length (run_text a) + 1 - c.args.from) c.loop-from.invariant.high in
-    omega (arith, before, all)
 
 pub returns-in-Matched-clause-costs : goal.returns-in-Matched-clause-costs
 returns-in-Matched-clause-costs c = λ outs costs are.

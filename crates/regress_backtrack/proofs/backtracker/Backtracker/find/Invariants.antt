@@ -3,7 +3,7 @@ use Rattle.std.proofs.Common.{◌≤◌, ◌+◌, ◌-◌, ℕ, length}
 use Rattle.regress_program.specs.Found.{NoneBefore}
 use Rattle.regress_program.specs.Cost.{Cost}
 use Rattle.regress_program.specs.Program.{Out}
-use Rattle.regress_backtrack.specs.Backtracker.{AreCosts, AreOutcomes, SameRuns, cost_at, outcomes_at, run_text}
+use Rattle.regress_backtrack.specs.Backtracker.{AreCosts, AreOutcomes, SameRuns, cost_at, outcomes_at, run_text, search_cost_at}
 use Rattle.regress_backtrack.proofs.CostLemmas.{tried}
 use Rattle.regress_backtrack.proofs.backtracker.Backtracker.find.Given as goal
 
@@ -11,11 +11,11 @@ abbrev pub invariant-loop-from : goal.invariant-loop-from
 invariant-loop-from l = record {
   same : SameRuns l.fn.self l.self;
   from : l.fn.from ≤ l.from;
-  high : l.from - l.fn.from ≤ length (run_text l.fn.self) + 1 - l.fn.from;
   left : l.left ≤ l.fn.left;
   solved : (outs : ℕ → Out) → AreOutcomes l.fn.self outs → NoneBefore (run_text l.fn.self) (outcomes_at l.fn.self outs) l.fn.from l.from;
   costs : (outs : ℕ → Out) (costs : ℕ → Cost) → AreCosts l.fn.self outs costs →
       l.fn.left ≤ l.left + tried (cost_at l.fn.self costs) l.fn.from (l.from - l.fn.from);
+  enough : (outs : ℕ → Out) (costs : ℕ → Cost) → AreCosts l.fn.self outs costs → l.fn.left ≤ l.left + search_cost_at l.fn.self costs l.fn.from;
 }
 
 abbrev pub decreases-loop-from : goal.decreases-loop-from
