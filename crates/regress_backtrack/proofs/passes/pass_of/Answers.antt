@@ -1,6 +1,6 @@
 use Rattle.std.proofs.Common.{IfSome, slice_get, subst}
 use Rattle.regress_backtrack.specs.Passes.{IsPreferred}
-use Rattle.regress_backtrack.proofs.PassLemmas.{more_counts, no_counts}
+use Rattle.regress_backtrack.proofs.PassLemmas.{more_counts}
 use Rattle.regress_backtrack.proofs.passes.pass_of.Goals as goal
 
 pub returns-in_ok-counts-in-Some : goal.returns-in_ok-counts-in-Some

@@ -1,4 +1,4 @@
-use Rattle.std.proofs.Common.{◌-◌, IfSome, length, slice_get, sym, ap, subst, arith}
+use Rattle.std.proofs.Common.{IfSome, length, sym, ap, subst, arith}
 use Rattle.std.proofs.lemmas.List.{length_push}
 use Rattle.std.proofs.lemmas.Option.{slice_get-get_or}
 use Rattle.regress_backtrack.specs.Passes.{AreCounts, ArePasses, IsPreferred}
