@@ -1,5 +1,5 @@
 -- Fronts: where instructions have no outcome.
-use Rattle.std.proofs.Common.{◌≡◌, ℕ, zero, suc, ◌+◌, ◌-◌, ◌≤◌, ◌<◌, ◌==◌, ◌||◌, Bool, true, false, List, [], ◌∷◌, ◌++◌, flat_map, length, get_or, Some, option_map, slice_get, if◌then◌else◌, refl, sym, ap, ap₂, ◌∙◌, subst, append-nil, arith, inl, inr}
+use Rattle.std.proofs.Common.{◌≡◌, ℕ, zero, suc, ◌+◌, ◌-◌, ◌≤◌, ◌<◌, ◌==◌, ◌||◌, Bool, true, false, List, [], ◌∷◌, flat_map, length, get_or, Some, option_map, slice_get, if◌then◌else◌, refl, sym, ap, ap₂, ◌∙◌, subst, append-nil, arith, inl, inr}
 use Rattle.std.proofs.lemmas.Bool.{cases_eq, cases_lt, false≢true}
 use Rattle.std.proofs.lemmas.Option.{slice_get-map, slice_get_within}
 use Rattle.regress_base.specs.ByteBitmap.{contains}
@@ -20,7 +20,7 @@ use Rattle.regress_prefilter.specs.OneCharacter.{takes_one, test_of}
 use Rattle.regress_leaves.specs.Leaves.{exactly}
 use Rattle.regress_leaves.proofs.ReadingLemmas.{ascii_after, ascii_before}
 use Rattle.regress_leaves.proofs.lemmas.Leaves.{exactly-steps}
-use Rattle.regress_program.specs.Program.{At, Out, Solves, either, ended, outcomes_at, outcomes_by, reach}
+use Rattle.regress_program.specs.Program.{At, Out, Solves, ended, outcomes_at, outcomes_by, reach}
 use Rattle.regress_backtrack.specs.declared.instruction.Instruction.{Instruction}
 use Rattle.regress_backtrack.specs.declared.test.Test.{Test}
 use Rattle.regress_backtrack.specs.Views.{op_in, ops_in}

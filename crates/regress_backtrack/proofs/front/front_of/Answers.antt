@@ -19,21 +19,21 @@ returns-then-leaf-tests c = λ setting text body_of out a are.
     (c.leaf_front.ensures setting text a.state (λ t. out (reach c.in-Leaf.next a t))
     (reach_bounds c.front_at.result d text out c.in-Leaf.next (c.front_at.ensures d text out are) a)))
 
-pub returns-then-count-leaf : goal.returns-then-count-leaf
-returns-then-count-leaf c = λ setting text body_of out a are.
+pub returns-then-leaf-tests-2 : goal.returns-then-leaf-tests-2
+returns-then-leaf-tests-2 c = λ setting text body_of out a are.
     let d = direction_if c.args.backwards in
     let tests = c.args.tests.now in
     let leaf = c.in-Characters.leaf in
     let count = c.in-Characters.count in
     let next = c.in-Characters.next in
-    let front = c.leaf_front-then-count-leaf.result in
-    let test = c.index-tests-leaf-2.result in
+    let front = c.leaf_front-then-leaf-tests-2.result in
+    let test = c.index-tests-leaf-then-leaf-tests-2.result in
     let some : slice_get tests leaf ≡ Some test =
-    slice_get_read tests _ leaf test refl c.if-count-leaf.true.1 c.index-tests-leaf-2.is in
+    slice_get_read tests _ leaf test refl c.if-leaf-tests-2.true c.index-tests-leaf-then-leaf-tests-2.is in
     subst (λ i. Bounds front d text a.state.position (outcomes_by setting text d body_of out (op_in tests i) a)) (sym c.in-Characters.is)
     (subst (λ o. Bounds front d text a.state.position (outcomes_by setting text d body_of out (characters_of o count next) a)) (sym some)
     (exactly_bounds front setting d text (tree test.node) a.state
-    (λ g. c.leaf_front-then-count-leaf.ensures setting text a.state g (λ t same. tt)) count c.if-count-leaf.true.0 (λ t. out (reach next a t))))
+    (λ g. c.leaf_front-then-leaf-tests-2.ensures setting text a.state g (λ t same. tt)) count c.if-count-gt0.true (λ t. out (reach next a t))))
 
 pub returns-in-EndLoop : goal.returns-in-EndLoop
 returns-in-EndLoop c = λ setting text body_of out a are.
