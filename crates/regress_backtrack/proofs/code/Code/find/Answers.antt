@@ -23,7 +23,7 @@ returns-clause-costs c = λ outs costs has.
     let made = c.in_ok-backtracker.ensures in
     let steps = c.args.steps in
     let left = c.find.new.left in
-    let taken : steps ≤ left + search_cost c.args.self.now c.args.tables.now c.args.text.now costs c.args.from =
+    let taken : steps ≤ left + search_cost c.args.self.now c.args.known.tables.now c.args.text.now costs c.args.from =
     same_parts (λ code tables text. IsCost (setting_with code tables) text (code_routines code) outs costs →
     steps ≤ left + search_cost code tables text costs c.args.from) _ _ _ _ _ _ made.code made.tables made.text (c.in_ok-outcome.ensures.costs outs costs) has in
     omega (arith, taken)
@@ -31,4 +31,4 @@ returns-clause-costs c = λ outs costs has.
 pub returns-clause-has_cost : goal.returns-clause-has_cost
 returns-clause-has_cost c =
     let code = c.args.self.now in
-    some_cost (setting_with code c.args.tables.now) c.args.text.now (code_routines code) code.is_program
+    some_cost (setting_with code c.args.known.tables.now) c.args.text.now (code_routines code) code.is_program
