@@ -12,7 +12,7 @@ IsPartLeaf (string_set (string ∷ []) icase) = Unit {0}
 IsPartLeaf (string_set (string ∷ another ∷ strings) icase) = ⊥
 IsPartLeaf l = Unit {0}
 
--- The tree is such a leaf, or exactly so many characters.
+-- The tree is such a leaf, or an exact number of characters.
 abbrev pub IsPart : Tree → Type 0
 IsPart (leaf l) = IsPartLeaf l
 IsPart (wrapped (loop_one q) body) = (q.max ≡ Some q.min) × (takes_one body ≡ true)

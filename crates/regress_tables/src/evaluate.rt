@@ -86,8 +86,8 @@ pub(crate) fn evaluate(
     }
 }
 
-/// Returns the position at which a leaf, or exactly so many characters, end, or `None` if they fail. It is no back
-/// reference, and a set of strings has only one.
+/// Returns the position at which a leaf ends, or a loop over one character with an exact count; `None` if it fails. It is
+/// no back reference, and a set of strings has only one.
 pub(crate) fn leaf_end(
     text: &str,
     rules: MatchContext<'_>,
