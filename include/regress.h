@@ -61,7 +61,8 @@ typedef struct regress_regex {
 
    - steps: the steps of a search that is not linear, by default a billion, about a minute at most.
    - nodes: the nodes of the tree of the pattern, as regress_front_node_bound_utf8 bounds them, by default a million.
-   - instructions: those of its program, where the body of a loop {n,m} counts m times, by default 250,000.
+   - instructions: those of its program, where the body of a loop {n,m} counts m times, or if it is one character, about
+     m / 64 times; by default 250,000.
    - tables: the number of instructions up to which a search may be linear, by default a thousand. It takes up to two
      bits of memory for each instruction and byte of the text. */
 typedef struct regress_limits {

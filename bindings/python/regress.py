@@ -79,8 +79,7 @@ class error(Exception):
         pattern: the pattern
         pos: the position of a syntax error in the pattern, else None
         kind: the kind of the syntax error, such as 'UnbalancedParenthesis' (docs/errors.md lists them); or 'Flags',
-            'TooLarge' if the pattern needs more nodes than allowed, or has too many instructions, where the body of a
-            loop {n,m} counts m times; or 'OutOfSteps'
+            'TooLarge' if the pattern needs more nodes than allowed, or its program more instructions; or 'OutOfSteps'
     """
 
     def __init__(self, msg, pattern=None, pos=None, kind=None):
@@ -99,7 +98,8 @@ def compile(pattern, flags='', *, steps=None, nodes=None, instructions=None, tab
         steps         the steps of one search that does not take linear time; a billion by default, which takes about a
                       minute at most
         nodes         the nodes of the tree of the pattern, as node_bound() bounds them; a million by default
-        instructions  those of its program, where the body of a loop {n,m} counts m times; 250,000 by default
+        instructions  those of its program, where the body of a loop {n,m} counts m times, or if it is one character,
+                      about m / 64 times; 250,000 by default
         tables        the instructions up to which a search may take linear time; a thousand by default. It takes up to
                       two bits of memory for each instruction and byte of the text
 

@@ -76,7 +76,7 @@ pub struct Options {
     /// default a million.
     pub nodes: usize,
     /// The number of instructions that the program of the pattern may have, where the body of a loop `{n,m}` counts m
-    /// times. By default 250,000.
+    /// times, or if it is one character, about m / 64 times. By default 250,000.
     pub instructions: usize,
     /// The number of instructions up to which a search may be linear. By default a thousand. It takes up to two bits of
     /// memory for each instruction and byte of the text.

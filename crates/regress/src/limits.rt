@@ -11,7 +11,7 @@ pub struct Options {
     /// the pattern is parsed. A million by default.
     pub nodes: usize,
     /// The number of instructions that the program of the pattern may have, where the body of a loop `{n,m}` counts m
-    /// times. 250,000 by default: up to some 100 MiB.
+    /// times, or if it is one character, about m / 64 times. 250,000 by default: up to some 100 MiB.
     pub instructions: usize,
     /// The number of instructions up to which a program is searched in linear time, where it can be. The tables that this
     /// needs take up to two bits for each instruction and byte of the text. A thousand by default, so at most 250 times

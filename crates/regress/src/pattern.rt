@@ -122,7 +122,7 @@ impl Regex {
     ///
     /// # Complexity
     /// As for `parse_and_optimize` of `regress_front`. If the pattern is too large, it is not parsed. Compiling takes time
-    /// and memory in proportion to the number of instructions, where the body of a loop `{n,m}` counts m times.
+    /// and memory in proportion to the number of instructions, as [`Options::instructions`] counts them.
     pub fn with_options(
         alloc: Global,
         pattern: &str,

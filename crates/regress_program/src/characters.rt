@@ -46,8 +46,8 @@ impl<'a> Compiler<'a> {
     /// Compiles at most `count` characters that match a leaf.
     ///
     /// An odd number is split in half: of 2 h + 1 characters the first h + 1 or none, and after them at most h. Of an even
-    /// number it is the first one and after it at most one less, or none. So there are two instructions for each bit of
-    /// the number, and one for 64 characters.
+    /// number it is the first one and after it at most one less, or none. So there are at most four instructions for each
+    /// bit of the number, and one for 64 characters.
     ///
     /// # Preconditions
     /// The leaf matches one character.

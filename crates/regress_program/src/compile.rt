@@ -55,8 +55,9 @@ impl<'n, 't> Program<'n, 't> {
     ///
     /// # Complexity
     /// Linear in the size of the tree, where a body counts as many times as it is copied: for each iteration up to the
-    /// minimum, and up to a maximum. Each copy emits an instruction, so there are at most `limit` copies. The recursion
-    /// is as deep as nodes are nested, where right sides of alternatives do not count.
+    /// minimum, and up to a maximum. Each copy emits an instruction, so there are at most `limit` copies. A body of one
+    /// character is not copied: up to 64 of its iterations are one instruction. The recursion is as deep as nodes are
+    /// nested, where right sides of alternatives do not count.
     pub fn compile(
         alloc: Global,
         regex: &'n Regex,
