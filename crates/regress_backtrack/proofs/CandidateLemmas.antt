@@ -14,7 +14,7 @@ use Rattle.regress_program.specs.Found as found
 use Rattle.regress_program.specs.Found.{NoneBefore}
 use Rattle.regress_program.specs.Program.{Routine}
 use Rattle.regress_backtrack.specs.Candidates.{BeginsAt, IsCandidate}
-use Rattle.regress_backtrack.proofs.StartLemmas.{bytes_fail}
+use Rattle.regress_leaves.proofs.lemmas.Starts.{bytes_fail}
 
 -- the tree has no match elsewhere
 tree_fails : (c : Candidates) (t : Tree) (setting : Setting) (text : List ℕ) (s : MatchState) → AreCandidates c t →

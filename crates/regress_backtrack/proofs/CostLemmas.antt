@@ -9,6 +9,7 @@ use Rattle.regress_base.specs.declared.bytesearch.bitmap.ByteBitmap.{ByteBitmap}
 use Rattle.regress_leaves.specs.Leaves.{exactly, put}
 use Rattle.regress_leaves.specs.Subject.{subject}
 use Rattle.regress_leaves.proofs.ReadingLemmas.{ascii_after}
+use Rattle.regress_program.specs.Found.{state}
 use Rattle.regress_program.specs.Cost.{Cost, compared, cost_after, cost_at, cost_of}
 use Rattle.regress_program.specs.Program.{matcher_of, Out}
 use Rattle.regress_tree.specs.Matching.{steps}
@@ -20,18 +21,18 @@ use Rattle.regress_backtrack.specs.declared.instruction.Instruction.{Instruction
 use Rattle.regress_backtrack.specs.declared.instruction.Instruction.TheVariants as insts
 use Rattle.regress_backtrack.specs.declared.machine.Machine.{Machine}
 use Rattle.regress_backtrack.specs.declared.machine.Place.{Place}
-use Rattle.regress_backtrack.specs.declared.start.Start.TheVariants as starts
+use Rattle.regress_leaves.specs.declared.start.Start.TheVariants as starts
 use Rattle.regress_backtrack.specs.declared.step.Next.{Next}
-use Rattle.regress_backtrack.specs.declared.test.Test.{Test}
+use Rattle.regress_leaves.specs.declared.test.Test.{Test}
 use Rattle.regress_backtrack.specs.Code.{code_routines}
 use Rattle.regress_backtrack.specs.Costs.{HasCost, cost_ahead, op_cost, points_cost}
-use Rattle.regress_backtrack.specs.Machine.{Chosen, Groups, Ranged, at, groups_of, points, range_points, state}
+use Rattle.regress_backtrack.specs.Machine.{Chosen, Groups, Ranged, at, groups_of, points, range_points}
 use Rattle.regress_backtrack.specs.Next.{IsInput}
-use Rattle.regress_backtrack.specs.Starts.{IsStart}
-use Rattle.regress_backtrack.specs.Sweep.{AreIn, IsSwept}
+use Rattle.regress_leaves.specs.Starts.{AreIn, IsStart}
+use Rattle.regress_backtrack.specs.Sweep.{IsSwept}
 use Rattle.regress_backtrack.specs.Views.{characters_of, op_in, part_of}
 use Rattle.regress_backtrack.proofs.RunLemmas.{op-is, width-is}
-use Rattle.regress_backtrack.proofs.StartLemmas.{ascii_matches}
+use Rattle.regress_leaves.proofs.lemmas.Starts.{ascii_matches}
 use Rattle.regress_backtrack.proofs.StepLemmas.{Reaches}
 
 module _ (input : Input) (is : IsInput input) (outs : ℕ → Out) (costs : ℕ → Cost) (has : HasCost input outs costs) (g : Groups) where

@@ -1,6 +1,5 @@
 -- Fronts: where instructions have no outcome.
-use Rattle.std.proofs.Common.{◌≡◌, ℕ, zero, suc, ◌+◌, ◌-◌, ◌≤◌, ◌<◌, ◌==◌, ◌||◌, Bool, true, false, List, [], ◌∷◌, flat_map, length, get_or, Some, option_map, slice_get, if◌then◌else◌, refl, sym, ap, ap₂, ◌∙◌, subst, append-nil, arith, inl, inr}
-use Rattle.std.proofs.lemmas.Bool.{cases_eq, cases_lt, false≢true}
+use Rattle.std.proofs.Common.{◌≡◌, ℕ, zero, suc, ◌+◌, ◌-◌, ◌≤◌, ◌<◌, ◌==◌, ◌||◌, Bool, true, false, List, [], ◌∷◌, flat_map, length, get_or, Some, option_map, slice_get, if◌then◌else◌, refl, sym, ap, ap₂, ◌∙◌, subst, append-nil, arith}
 use Rattle.std.proofs.lemmas.Option.{slice_get-map, slice_get_within}
 use Rattle.regress_base.specs.ByteBitmap.{contains}
 use Rattle.regress_base.specs.declared.bytesearch.bitmap.ByteBitmap.{ByteBitmap}
@@ -22,7 +21,7 @@ use Rattle.regress_leaves.proofs.ReadingLemmas.{ascii_after, ascii_before}
 use Rattle.regress_leaves.proofs.lemmas.Leaves.{exactly-steps}
 use Rattle.regress_program.specs.Program.{At, Out, Solves, ended, outcomes_at, outcomes_by, reach}
 use Rattle.regress_backtrack.specs.declared.instruction.Instruction.{Instruction}
-use Rattle.regress_backtrack.specs.declared.test.Test.{Test}
+use Rattle.regress_leaves.specs.declared.test.Test.{Test}
 use Rattle.regress_backtrack.specs.Views.{op_in, ops_in}
 use Rattle.regress_program.specs.Found.{no_groups}
 use Rattle.regress_program.specs.Program.{IsSolution, matcher_of, start}
@@ -33,38 +32,9 @@ use Rattle.regress_backtrack.specs.Code.{code_groups, code_routines, outcomes_fr
 use Rattle.regress_backtrack.specs.Searched.{IsFor}
 use Rattle.regress_backtrack.specs.declared.front.Front.{Front}
 use Rattle.regress_backtrack.specs.declared.front.Front.TheVariants as kinds
-use Rattle.regress_backtrack.specs.Fronts.{Bounds, IsFront, IsOutside}
-use Rattle.regress_backtrack.proofs.StartLemmas.{ascii_fails, bytes_fail, no_member}
-
-or_right : (a b : Bool) → (a || b) ≡ false → b ≡ false
-or_right true b is = let bad : ⊥ = cc in absurd bad
-or_right false b is = is
-
-or_true : (a : Bool) → (a || true) ≡ true
-or_true true = refl
-or_true false = refl
-
-is_same : (a b : ℕ) → a ≡ b → (a == b) ≡ true
-is_same a b is = grind arith
-
--- one more member
-pub kept_more : (f g h : ℕ → Bool) (v : ℕ) → ((b : ℕ) → g b ≡ (b == v || f b)) → ((b : ℕ) → f b ≡ false → h b ≡ false) → (b : ℕ) → g b ≡ false → h b ≡ false
-kept_more f g h v step kept b is = kept b (or_right _ _ (sym (step b) ∙ is))
-
-pub added_more : (f g : ℕ → Bool) (low n v : ℕ) → v ≡ low + n → ((b : ℕ) → g b ≡ (b == v || f b)) →
-    ((b : ℕ) → low ≤ b → b < low + n → f b ≡ true) → (b : ℕ) → low ≤ b → b < low + (n + 1) → g b ≡ true
-added_more f g low n v at step all b above below =
-    elim (cases_eq b v) [
-      | inl same ↦ step b ∙ ap (λ x. x || f b) (is_same b v same)
-      | inr other ↦ step b ∙ ap (λ x. b == v || x) (all b above (omega (arith, at, below, other))) ∙ or_true (b == v)
-    ]
-
-pub below_of : (f : ℕ → Bool) (low high : ℕ) → ((b : ℕ) → low ≤ b → b < high → f b ≡ true) → (b : ℕ) → b < high → f b ≡ false → b < low
-below_of f low high all b lt is =
-    elim (cases_lt b low) [
-      | inl below ↦ below
-      | inr above ↦ let bad : true ≡ false = sym (all b above lt) ∙ is in absurd (false≢true (sym bad))
-    ]
+use Rattle.regress_backtrack.specs.Fronts.{AreFrontsIn, Bounds, IsFront, IsOutside}
+use Rattle.regress_leaves.specs.Starts.{IsNextOutside}
+use Rattle.regress_leaves.proofs.lemmas.Starts.{ascii_fails, bytes_fail, no_member}
 
 -- no outcomes are bounded by each front
 pub none_bounds : (front : Front) (d : Direction) (text : List ℕ) (k : ℕ) → Bounds front d text k []
@@ -144,8 +114,9 @@ entry_bounds code tables text input for front is outs solution k =
     let s = no_groups (code_groups code) k in
     let here : slice_get program i ≡ Some r = ap₂ (λ c j. slice_get (code_routines c) j) (sym for.code) (sym for.index) ∙ for.is.is in
     let first : At = record { pc = r.entry; moved = true; state = s; begins = [] } in
+    let fronts : AreFrontsIn setting input.fronts.now r.direction r.ops = subst (λ x. AreFrontsIn x input.fronts.now r.direction r.ops) for.setting for.is.fronts in
     let bounds : Bounds front r.direction text k (outs i first) =
-    for.is.fronts setting text (matcher_of setting text program outs) (outs i) (solution i r here) input.first front is first (sym for.is.first) in
+    fronts text (matcher_of setting text program outs) (outs i) (solution i r here) input.first front is first (sym for.is.first) in
     subst (λ d. Bounds front d text k (outcomes_from code tables text outs k)) (code.forwards r here)
     (subst (Bounds front r.direction text k) (sym (ap (λ o. outs i (start setting text o s)) here)) bounds)
 
@@ -188,6 +159,10 @@ ascii_outside set all t takes tests others setting text backwards s out =
 pub bytes_outside : (set : ByteBitmap) (t : Tree) → BeginsWithByteOf set t → (setting : Setting) (text : List ℕ) (s : MatchState) →
     IsOutside forwards set text s.position → steps setting text forwards t s ≡ []
 bytes_outside set t begins setting text s out = bytes_fail set t setting text s begins (no_member set text s.position out.out)
+
+-- a string that is compared by canonical forms
+pub next_outside : (set : ByteBitmap) (text : List ℕ) (position : ℕ) → IsOutside forwards set text position → IsNextOutside set text position
+next_outside set text position out = record { before = out.before; byte = out.byte; out = out.out }
 
 -- Several characters begin with one.
 module _ (front : Front) (setting : Setting) (d : Direction) (text : List ℕ) (t : Tree) (s : MatchState)

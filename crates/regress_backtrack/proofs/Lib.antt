@@ -3,10 +3,8 @@ pub mod PassLemmas
 pub mod CandidateLemmas
 pub mod CostLemmas
 pub mod FrontLemmas
-pub mod LeafLemmas
 pub mod MachineLemmas
 pub mod StepLemmas
 pub mod RunLemmas
 pub mod SearchLemmas
-pub mod StartLemmas
 pub mod SweepLemmas

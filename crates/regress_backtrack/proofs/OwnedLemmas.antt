@@ -1,7 +1,7 @@
 -- Tables of leaves that grow.
-use Rattle.std.proofs.Common.{◌≡◌, ℕ, zero, suc, List, [], ◌∷◌, ◌++◌, length, slice_get, Some, sym, ap, ap₂, ◌∙◌, subst, append-nil, append_assoc}
+use Rattle.std.proofs.Common.{◌≡◌, ℕ, zero, suc, Bool, List, [], ◌∷◌, ◌++◌, length, slice_get, Some, sym, ap, ap₂, ◌∙◌, subst, append-nil, append_assoc}
 use Rattle.std.proofs.lemmas.List.{map-append}
-use Rattle.regress_backtrack.specs.declared.test.Test.{Test}
+use Rattle.regress_leaves.specs.declared.test.Test.{Test}
 use Rattle.regress_tree.specs.Reading.{direction_if}
 use Rattle.regress_backtrack.specs.declared.instruction.Routine as declared
 use Rattle.regress_backtrack.specs.Fronts.{AreFrontsOf, HaveFronts}
@@ -41,12 +41,13 @@ pushed P (z ∷ xs) y all last zero x is = all zero x is
 pushed P (z ∷ xs) y all last (suc i) x is = pushed (λ k v. P (suc k) v) xs y (λ k v h. all (suc k) v h) last i x is
 
 -- the fronts of one more routine
-pub fronts_more : (old new : List Test) (rs : List declared.Routine) (r : declared.Routine) → Grown old new →
-    ((more : List Test) → HaveFronts (old ++ more) rs) → KeepsFronts new r → (more : List Test) → HaveFronts (new ++ more) (rs ++ r ∷ [])
-fronts_more old new rs r grown have keeps = λ more.
-    pushed (λ i x. AreFrontsOf x.fronts.items (direction_if x.backwards) (ops_in (new ++ more) x.instructions.items)) rs r
-    (subst (λ tests. HaveFronts tests rs) (sym (ap (λ xs. xs ++ more) grown.is ∙ append_assoc old grown.added more)) (have (grown.added ++ more))) (keeps more)
+pub fronts_more : (folds : Bool) (old new : List Test) (rs : List declared.Routine) (r : declared.Routine) → Grown old new →
+    ((more : List Test) → HaveFronts folds (old ++ more) rs) → KeepsFronts folds new r → (more : List Test) → HaveFronts folds (new ++ more) (rs ++ r ∷ [])
+fronts_more folds old new rs r grown have keeps = λ more.
+    pushed (λ i x. AreFrontsOf folds x.fronts.items (direction_if x.backwards) (ops_in (new ++ more) x.instructions.items)) rs r
+    (subst (λ tests. HaveFronts folds tests rs) (sym (ap (λ xs. xs ++ more) grown.is ∙ append_assoc old grown.added more)) (have (grown.added ++ more))) (keeps more)
 
 -- with this table itself
-pub fronts_settled : (tests : List Test) (rs : List declared.Routine) → ((more : List Test) → HaveFronts (tests ++ more) rs) → HaveFronts tests rs
-fronts_settled tests rs have = subst (λ x. HaveFronts x rs) (append-nil tests) (have [])
+pub fronts_settled : (folds : Bool) (tests : List Test) (rs : List declared.Routine) → ((more : List Test) → HaveFronts folds (tests ++ more) rs) →
+    HaveFronts folds tests rs
+fronts_settled folds tests rs have = subst (λ x. HaveFronts folds x rs) (append-nil tests) (have [])

@@ -110,7 +110,7 @@ module _ (input : Input) (is : IsInput input) (p : Place) (b : ℕ)
       let u = subject input.rules input.text.now in
       let here : Place = record p { pc = pc } in
       let i = insts.Split passed.first (pc - 1) in
-      let fails = is.fronts u.setting input.text.now (matcher_of u.setting input.text.now (code_routines input.code.now) outs) (outs input.index)
+      let fails = is.fronts input.text.now (matcher_of u.setting input.text.now (code_routines input.code.now) outs) (outs input.index)
       (solve input.index is.routine is.is) passed.first (kinds.Bytes passed.set) passed.front (goto passed.first (at here g)) refl
       (outside passed.set passed.out) in
       let before : p.position < length input.text.now = beside.before in

@@ -9,6 +9,7 @@ use Rattle.regress_tree.specs.Reading.{Direction}
 use Rattle.regress_tree.specs.Setting.{Setting}
 use Rattle.regress_tree.specs.Steps.{MatchState, Matcher, CaptureSpan}
 use Rattle.regress_backtrack.specs.declared.instruction.Instruction.{Instruction}
+use Rattle.regress_program.specs.Found.{state}
 use Rattle.regress_program.specs.Cost.{Cost, IsCost, cost_after, cost_of}
 use Rattle.regress_program.specs.Program.{Out, Routine, reach, start, matcher_of, outcomes_by, outcomes_at, IsSolution}
 use Rattle.regress_program.specs.Shape.{Fits, IsProgram}
@@ -22,7 +23,7 @@ use Rattle.regress_backtrack.specs.declared.run.Response.{Response}
 use Rattle.regress_backtrack.specs.declared.run.Response.TheVariants as responses
 use Rattle.regress_backtrack.specs.declared.step.Next.{Next}
 use Rattle.regress_backtrack.specs.declared.step.Next.TheVariants as nexts
-use Rattle.regress_backtrack.specs.Machine.{Groups, at, groups_of, points, state}
+use Rattle.regress_backtrack.specs.Machine.{Groups, at, groups_of, points}
 use Rattle.regress_backtrack.specs.Next.{CanStep, Fails, IsInput, Inside, Solve, ahead, Leads}
 use Rattle.regress_backtrack.specs.Run.{Answers, IsAfter}
 use Rattle.regress_backtrack.specs.declared.instruction.Instruction.TheVariants as insts

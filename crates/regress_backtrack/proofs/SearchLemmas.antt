@@ -10,7 +10,7 @@ use Rattle.regress_unicode.specs.declared.Tables.{Tables}
 use Rattle.regress_program.specs.Compiled.{IsPattern}
 use Rattle.regress_program.specs.declared.found.Match.{Match}
 use Rattle.regress_program.specs.Cost.{Cost, IsCost, cost_of}
-use Rattle.regress_program.specs.Found.{IsLeftmost, NoneBefore, no_groups, start_of, state_of}
+use Rattle.regress_program.specs.Found.{IsLeftmost, NoneBefore, no_groups, start_of, state_of, state}
 use Rattle.regress_program.specs.Program.{Out, IsSolution, matcher_of}
 use Rattle.regress_program.proofs.lemmas.Solutions.{solution}
 use Rattle.regress_backtrack.specs.declared.backtracker.Backtracker.{Backtracker}
@@ -23,7 +23,6 @@ use Rattle.regress_backtrack.specs.declared.run.Response.{Response}
 use Rattle.regress_backtrack.specs.declared.run.Response.TheVariants as responses
 use Rattle.regress_backtrack.specs.Backtracker.{AreCosts, AreOutcomes, SameRuns, cost_at, outcomes_at, run_code, run_tables, run_text, tree_outcomes_at}
 use Rattle.regress_backtrack.specs.Code.{code_groups, code_routines, cost_from, outcomes_from, setting_with, tree_outcomes_from}
-use Rattle.regress_backtrack.specs.Machine.{state}
 use Rattle.regress_backtrack.specs.Run.{Answers}
 use Rattle.regress_backtrack.specs.Searched.{Finds, IsFirst, IsFor}
 use Rattle.regress_backtrack.proofs.RunLemmas.{same_answers, same_cost}

@@ -9,7 +9,8 @@ use Rattle.regress_tree.specs.Tree.{Tree, tree}
 use Rattle.regress_leaves.specs.Leaves.{exactly, put}
 use Rattle.regress_backtrack.specs.declared.instruction.Instruction.{Instruction}
 use Rattle.regress_backtrack.specs.declared.instruction.Instruction.TheVariants as insts
-use Rattle.regress_backtrack.specs.declared.test.Test.{Test}
+use Rattle.regress_leaves.specs.declared.test.Test.{Test}
+use Rattle.regress_program.specs.Found.{state}
 use Rattle.regress_program.specs.Program.{Out, At}
 use Rattle.regress_program.specs.Shape.{Fits}
 use Rattle.regress_program.specs.Stays.{IsReached}
@@ -20,7 +21,7 @@ use Rattle.regress_backtrack.specs.declared.machine.Machine.{Machine}
 use Rattle.regress_backtrack.specs.declared.machine.Place.{Place}
 use Rattle.regress_backtrack.specs.declared.step.Next.{Next}
 use Rattle.regress_backtrack.specs.declared.step.Next.TheVariants as nexts
-use Rattle.regress_backtrack.specs.Machine.{at, groups_of, points, state}
+use Rattle.regress_backtrack.specs.Machine.{at, groups_of, points}
 use Rattle.regress_backtrack.specs.Code.{code_routines}
 use Rattle.regress_backtrack.specs.Next.{CanStep, is_look, Inside, ahead, Leads}
 

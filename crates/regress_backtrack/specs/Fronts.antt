@@ -1,5 +1,5 @@
 -- The bytes next to a position at which instructions have outcomes.
-use Rattle.std.specs.Prelude.{◌≡◌, ℕ, ◌-◌, ◌<◌, false, List, [], length, slice_get, get_or, Some}
+use Rattle.std.specs.Prelude.{◌≡◌, ℕ, ◌-◌, ◌<◌, Bool, true, false, List, [], length, slice_get, get_or, Some}
 use Rattle.std.specs.Coded.{Unit-prop}
 use Rattle.std.proofs.Props.{props}
 use Rattle.regress_base.specs.ByteBitmap.{contains}
@@ -7,11 +7,12 @@ use Rattle.regress_base.specs.declared.bytesearch.bitmap.ByteBitmap.{ByteBitmap}
 use Rattle.regress_tree.specs.Reading.{Direction, direction_if, forwards, backwards}
 use Rattle.regress_tree.specs.Setting.{Setting}
 use Rattle.regress_tree.specs.Steps.{MatchState, Matcher}
+use Rattle.regress_leaves.specs.Known.{HasAsciiCase}
 use Rattle.regress_program.specs.Program.{At, Op, Out, Solves}
 use Rattle.regress_backtrack.specs.declared.front.Front.{Front}
 use Rattle.regress_backtrack.specs.declared.front.Front.TheVariants as kinds
 use Rattle.regress_backtrack.specs.declared.instruction.Routine as declared
-use Rattle.regress_backtrack.specs.declared.test.Test.{Test}
+use Rattle.regress_leaves.specs.declared.test.Test.{Test}
 use Rattle.regress_backtrack.specs.Views.{ops_in}
 
 -- the offset of the byte next to a position
@@ -39,20 +40,28 @@ IsFront front d text out pc = (a : At) → a.pc ≡ pc → Bounds front d text a
 abbrev pub AreFronts : List Front → Direction → (text : List ℕ) → Out → Type 0
 AreFronts fronts d text out = (pc : ℕ) (front : Front) → slice_get fronts pc ≡ Some front → IsFront front d text out pc
 
--- They are the fronts of the instructions of a routine.
-abbrev pub AreFrontsOf : List Front → Direction → List Op → Type 0
-AreFrontsOf fronts d ops = (setting : Setting) (text : List ℕ) (body_of : ℕ → Matcher) (out : Out) →
+-- They are the fronts of the instructions of a routine under these flags and case mappings.
+abbrev pub AreFrontsIn : Setting → List Front → Direction → List Op → Type 0
+AreFrontsIn setting fronts d ops = (text : List ℕ) (body_of : ℕ → Matcher) (out : Out) →
     Solves setting text d body_of out ops 0 (length ops) → AreFronts fronts d text out
 
+-- With `folds`, canonical forms of ASCII characters are those of ASCII.
+abbrev pub FoldsIf : (folds : Bool) → Setting → Type 0
+FoldsIf folds setting = folds ≡ true → HasAsciiCase setting
+
+-- They are its fronts in each such setting.
+abbrev pub AreFrontsOf : (folds : Bool) → List Front → Direction → List Op → Type 0
+AreFrontsOf folds fronts d ops = (setting : Setting) → FoldsIf folds setting → AreFrontsIn setting fronts d ops
+
 -- Each routine has its fronts.
-abbrev pub HaveFronts : List Test → List declared.Routine → Type 0
-HaveFronts tests routines = (i : ℕ) (r : declared.Routine) → slice_get routines i ≡ Some r →
-    AreFrontsOf r.fronts.items (direction_if r.backwards) (ops_in tests r.instructions.items)
+abbrev pub HaveFronts : (folds : Bool) → List Test → List declared.Routine → Type 0
+HaveFronts folds tests routines = (i : ℕ) (r : declared.Routine) → slice_get routines i ≡ Some r →
+    AreFrontsOf folds r.fronts.items (direction_if r.backwards) (ops_in tests r.instructions.items)
 
 Bounds-prop : (front : Front) (d : Direction) (text : List ℕ) (position : ℕ) (states : List MatchState) → IsProp (Bounds front d text position states)
 Bounds-prop kinds.Any d text position states = Unit-prop
 Bounds-prop (kinds.Bytes set) d text position states = hlevel props
 
 -- The property has at most one proof.
-pub HaveFronts-prop : (tests : List Test) (routines : List declared.Routine) → IsProp (HaveFronts tests routines)
-HaveFronts-prop tests routines = hlevel (props, Bounds-prop)
+pub HaveFronts-prop : (folds : Bool) (tests : List Test) (routines : List declared.Routine) → IsProp (HaveFronts folds tests routines)
+HaveFronts-prop folds tests routines = hlevel (props, Bounds-prop)

@@ -9,6 +9,5 @@ pub mod Owned
 pub mod Passes
 pub mod Run
 pub mod Searched
-pub mod Starts
 pub mod Sweep
 pub mod Views

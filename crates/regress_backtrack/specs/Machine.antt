@@ -1,6 +1,6 @@
 -- The backtrack stack: the points at which a run goes on after a failure, and the changes that are undone before.
 use Rattle.std.specs.Prelude.{◌≡◌, ℕ, zero, suc, ◌+◌, ◌-◌, List, [], ◌∷◌, ◌++◌, Option, drop, filter, reverse, slice_set, Bool, true, false}
-use Rattle.regress_tree.specs.Steps.{CaptureSpan, MatchState}
+use Rattle.regress_tree.specs.Steps.{CaptureSpan}
 use Rattle.regress_program.specs.Program.{At}
 use Rattle.regress_backtrack.specs.declared.machine.Place.{Place}
 use Rattle.regress_backtrack.specs.declared.machine.Entry.{Entry}
@@ -11,10 +11,6 @@ use Rattle.regress_backtrack.specs.declared.machine.Machine.{Machine}
 pub record Groups : Type 0 where
   pub captures : List (Option CaptureSpan)
   pub begins : List ℕ
-
--- the state at a position with these captures
-abbrev pub state : List (Option CaptureSpan) → (position : ℕ) → MatchState
-state captures position = record { position = position; captures = captures }
 
 -- at a place, with these groups
 abbrev pub at : Place → Groups → At

@@ -2,11 +2,12 @@
 use Rattle.std.specs.Prelude.{◌≡◌, ℕ, ◌≤◌, ◌<◌, Bool, true, false, List, [], ◌∷◌, flat_map, length, slice_get, Some, take}
 use Rattle.regress_tree.specs.Reading.{direction_if}
 use Rattle.regress_tree.specs.Steps.{MatchState}
+use Rattle.regress_program.specs.Found.{state}
 use Rattle.regress_program.specs.Program.{At, IsSolution, Op, look, Out, Routine}
 use Rattle.regress_program.specs.Shape.{Fits}
 use Rattle.regress_leaves.specs.Subject.{subject}
 use Rattle.regress_backtrack.specs.Code.{code_routines}
-use Rattle.regress_backtrack.specs.Fronts.{AreFrontsOf}
+use Rattle.regress_backtrack.specs.Fronts.{AreFrontsIn}
 use Rattle.regress_backtrack.specs.Passes.{ArePasses}
 use Rattle.regress_backtrack.specs.Views.{ops_in}
 use Rattle.regress_backtrack.specs.declared.input.Input.{Input}
@@ -14,7 +15,7 @@ use Rattle.regress_backtrack.specs.declared.machine.Machine.{Machine}
 use Rattle.regress_backtrack.specs.declared.machine.Place.{Place}
 use Rattle.regress_backtrack.specs.declared.step.Next.{Next}
 use Rattle.regress_backtrack.specs.declared.step.Next.TheVariants as nexts
-use Rattle.regress_backtrack.specs.Machine.{Groups, at, groups_of, points, state}
+use Rattle.regress_backtrack.specs.Machine.{Groups, at, groups_of, points}
 
 -- The instruction is a lookaround.
 abbrev pub is_look : Op → Bool
@@ -45,7 +46,7 @@ pub record IsInput (input : Input) : Type 0 where
   pub ops : ops_in input.code.now.tests.items input.instructions.now ≡ routine.ops
   pub direction : direction_if input.rules.backwards ≡ routine.direction
   pub first : input.first ≡ routine.entry
-  pub fronts : AreFrontsOf input.fronts.now routine.direction routine.ops
+  pub fronts : AreFrontsIn (subject input.rules input.text.now).setting input.fronts.now routine.direction routine.ops
   pub passes : ArePasses input.passes.now input.fronts.now input.instructions.now
 
 -- A run is at this instruction.

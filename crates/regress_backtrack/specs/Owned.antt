@@ -1,8 +1,8 @@
 -- Instructions whose leaves are kept in a table that grows.
-use Rattle.std.specs.Prelude.{◌≡◌, List, ◌++◌, map}
+use Rattle.std.specs.Prelude.{◌≡◌, Bool, List, ◌++◌, map}
 use Rattle.regress_tree.specs.Reading.{direction_if}
 use Rattle.regress_backtrack.specs.declared.instruction.Routine as declared
-use Rattle.regress_backtrack.specs.declared.test.Test.{Test}
+use Rattle.regress_leaves.specs.declared.test.Test.{Test}
 use Rattle.regress_backtrack.specs.Fronts.{AreFrontsOf}
 use Rattle.regress_backtrack.specs.Views.{ops_in}
 
@@ -20,5 +20,5 @@ abbrev pub each : {X Y : Type 0} → (view : List Test → X → Y) → List Tes
 each view tests = map (view tests)
 
 -- The routine has its fronts with these leaves, and any that are added.
-abbrev pub KeepsFronts : List Test → declared.Routine → Type 0
-KeepsFronts tests r = (more : List Test) → AreFrontsOf r.fronts.items (direction_if r.backwards) (ops_in (tests ++ more) r.instructions.items)
+abbrev pub KeepsFronts : (folds : Bool) → List Test → declared.Routine → Type 0
+KeepsFronts folds tests r = (more : List Test) → AreFrontsOf folds r.fronts.items (direction_if r.backwards) (ops_in (tests ++ more) r.instructions.items)

@@ -1,4 +1,5 @@
 -- The result of a run.
+use Rattle.regress_program.specs.Found.{state}
 use Rattle.std.specs.Prelude.{◌≡◌, Bool, not, List, [], ◌∷◌, if◌then◌else◌}
 use Rattle.regress_tree.specs.Steps.{MatchState}
 use Rattle.regress_backtrack.specs.declared.machine.Machine.{Machine}
@@ -7,7 +8,6 @@ use Rattle.regress_backtrack.specs.declared.run.Response.TheVariants as response
 use Rattle.regress_backtrack.specs.declared.machine.Place.{Place}
 use Rattle.regress_backtrack.specs.declared.step.Next.{Next}
 use Rattle.regress_backtrack.specs.declared.step.Next.TheVariants as nexts
-use Rattle.regress_backtrack.specs.Machine.{state}
 
 -- The result is the first of the outcomes, or that there is none. Out of steps it states nothing.
 abbrev pub Answers : List MatchState → Machine → Response → Type 0

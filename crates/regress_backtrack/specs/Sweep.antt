@@ -1,12 +1,11 @@
 -- Loops over one character, whose iterations are run at once.
-use Rattle.std.specs.Prelude.{◌≡◌, ℕ, ◌+◌, ◌<◌, true, false, List, length, slice_get, slice_index, Some}
-use Rattle.regress_base.specs.ByteBitmap.{contains}
+use Rattle.std.specs.Prelude.{◌≡◌, ℕ, ◌<◌, true, false, length, slice_get, Some}
 use Rattle.regress_base.specs.declared.bytesearch.bitmap.ByteBitmap.{ByteBitmap}
 use Rattle.regress_backtrack.specs.declared.alternatives.Looping.{Looping}
 use Rattle.regress_backtrack.specs.declared.input.Input.{Input}
 use Rattle.regress_backtrack.specs.declared.instruction.Instruction.TheVariants as insts
-use Rattle.regress_backtrack.specs.declared.start.Start.TheVariants as starts
-use Rattle.regress_backtrack.specs.declared.test.Test.{Test}
+use Rattle.regress_leaves.specs.declared.start.Start.TheVariants as starts
+use Rattle.regress_leaves.specs.declared.test.Test.{Test}
 
 -- The body of the greedy loop is a leaf that matches one character, forwards, and goes on at the end of an iteration.
 pub record IsSwept (input : Input) (looping : Looping) (set : ByteBitmap) (turn : ℕ) : Type 0 where
@@ -18,8 +17,3 @@ pub record IsSwept (input : Input) (looping : Looping) (set : ByteBitmap) (turn 
   pub is_test : slice_get input.code.now.tests.items leaf ≡ Some test
   pub starts : test.start ≡ starts.Ascii set
   pub forwards : input.rules.backwards ≡ false
-
--- The `count` bytes from a position on are ASCII characters of the set.
-abbrev pub AreIn : ByteBitmap → (text : List ℕ) → (position count : ℕ) → Type 0
-AreIn set text position count = (k : ℕ) → k < count →
-    (position + k < length text) × ((slice_index text (position + k) < 128) × (contains set (slice_index text (position + k)) ≡ true))

@@ -7,7 +7,7 @@ use Rattle.regress_program.specs.Program.{Op, accept, fail, part, split, begin_l
 use Rattle.regress_backtrack.specs.declared.instruction.Instruction.{Instruction}
 use Rattle.regress_backtrack.specs.declared.instruction.Instruction.TheVariants as insts
 use Rattle.regress_backtrack.specs.declared.instruction.Routine as declared
-use Rattle.regress_backtrack.specs.declared.test.Test.{Test}
+use Rattle.regress_leaves.specs.declared.test.Test.{Test}
 
 -- what an instruction with this leaf does; one with no leaf fails
 abbrev pub part_of : Option Test → (next : ℕ) → Op

@@ -143,7 +143,7 @@ impl<'c, 'x> Backtracker<'c, 'x> {
         self.unset = false;
         let input = input_of(self.code, self.known, self.text);
         let response = run(alloc, &input, position, &mut self.machine, left)?;
-        self.unset = is_no_match(response);
+        self.unset = matches!(response, Response::NoMatch);
         Ok(response)
     }
 
@@ -173,11 +173,4 @@ pub(crate) fn input_of<'c, 'x>(code: &'c Code, known: Known<'x>, text: &'x str) 
         backwards: false,
     };
     input_for(text, rules, code, code.routines.len() - 1)
-}
-
-/// Returns whether a run has found that there is no outcome.
-fn is_no_match(response: Response) -> bool
-    ensures { result ≡ true → response ≡ responses.NoMatch }
-{
-    matches!(response, Response::NoMatch)
 }

@@ -11,8 +11,8 @@ ghost use Rattle.regress_backtrack.specs.Passes.{HavePasses, HavePasses-prop};
 ghost use Rattle.regress_backtrack.specs.Views.{program_in};
 
 use crate::instruction::Routine;
-use crate::test::Test;
 use regress_base::types::Flags;
+use regress_leaves::test::Test;
 use regress_prefilter::candidates::Candidates;
 use regress_program::Nonlinear;
 
@@ -36,12 +36,14 @@ pub struct Code {
     pub(crate) table_groups: Option<usize>,
     /// Where matches can begin.
     pub(crate) candidates: Candidates,
+    /// Whether the fronts hold only where canonical forms of ASCII characters are those of ASCII.
+    pub(crate) folds: bool,
     ghost some: { 0 < length routines.items },
     ghost is_program: { IsProgram (program_in tests.items routines.items) } by { program-prop (program_in tests.items routines.items) },
     ghost forwards: { IsForwards (program_in tests.items routines.items) } by { forwards-prop (program_in tests.items routines.items) },
     ghost counted: { instructions ≡ min (total (program_in tests.items routines.items)) 18446744073709551615 },
     ghost begins: { BeginsAt candidates (program_in tests.items routines.items) } by { BeginsAt-prop candidates (program_in tests.items routines.items) },
-    ghost fronted: { HaveFronts tests.items routines.items } by { HaveFronts-prop tests.items routines.items },
+    ghost fronted: { HaveFronts folds tests.items routines.items } by { HaveFronts-prop folds tests.items routines.items },
     ghost passing: { HavePasses routines.items } by { HavePasses-prop routines.items },
     ghost linear_unless: { nonlinear ≡ reason (program_in tests.items routines.items) },
     ghost tabled: { table_groups ≡ groups_by_tables (program_in tests.items routines.items) },

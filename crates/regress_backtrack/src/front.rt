@@ -7,13 +7,13 @@ ghost use Rattle.regress_tree.specs.Setting.{Setting};
 ghost use Rattle.regress_tree.specs.Steps.{MatchState, Matcher};
 ghost use Rattle.regress_tree.specs.Tree.{tree};
 ghost use Rattle.regress_program.specs.Program.{At, Out, outcomes_by};
-ghost use Rattle.regress_backtrack.specs.Fronts.{AreFronts, AreFrontsOf, Bounds, IsFront, IsOutside};
+ghost use Rattle.regress_backtrack.specs.Fronts.{AreFronts, AreFrontsOf, Bounds, FoldsIf, IsFront};
 ghost use Rattle.regress_backtrack.specs.Views.{op_in, ops_in};
 
 use crate::instruction::Instruction;
-use crate::start::Start;
-use crate::test::Test;
 use regress_base::bytesearch::ByteBitmap;
+use regress_leaves::start::{Start, with_others};
+use regress_leaves::test::Test;
 use regress_tree::ir::Node;
 use std::alloc::{AllocError, Global};
 
@@ -27,7 +27,8 @@ pub enum Front {
     Bytes(ByteBitmap),
 }
 
-/// Returns the fronts of the instructions of a routine.
+/// Returns the fronts of the instructions of a routine. With `folds` they hold where canonical forms of ASCII characters
+/// are those of ASCII.
 ///
 /// # Errors
 /// Returns [`AllocError`] if an allocation fails.
@@ -36,20 +37,28 @@ pub fn fronts_of(
     tests: &[Test],
     instructions: &[Instruction],
     backwards: bool,
+    folds: bool,
 ) -> Result<Vec<Front>, AllocError>
-    ensures { IfOk result (λ fronts. AreFrontsOf fronts.items (direction_if backwards) (ops_in tests.now instructions.now)) }
+    ensures { IfOk result (λ fronts. AreFrontsOf folds fronts.items (direction_if backwards) (ops_in tests.now instructions.now)) }
 {
     let mut fronts = Vec::with_capacity(alloc, instructions.len())?;
     for instruction in instructions {
-        let front = front_of(tests, &fronts, *instruction, backwards);
+        let front = front_of(tests, &fronts, *instruction, backwards, folds);
         fronts.push(front)?;
     }
     Ok(fronts)
 }
 
 /// Returns the front of an instruction, by those of the instructions before it.
-fn front_of(tests: &[Test], known: &[Front], instruction: Instruction, backwards: bool) -> Front
-    ensures { (setting : Setting) (text : List ℕ) (body_of : ℕ → Matcher) (out : Out) (a : At) → AreFronts known.now (direction_if backwards) text out →
+fn front_of(
+    tests: &[Test],
+    known: &[Front],
+    instruction: Instruction,
+    backwards: bool,
+    folds: bool,
+) -> Front
+    ensures { (setting : Setting) → FoldsIf folds setting →
+        (text : List ℕ) (body_of : ℕ → Matcher) (out : Out) (a : At) → AreFronts known.now (direction_if backwards) text out →
         Bounds result (direction_if backwards) text a.state.position
         (outcomes_by setting text (direction_if backwards) body_of out (op_in tests.now instruction) a) }
 {
@@ -58,14 +67,14 @@ fn front_of(tests: &[Test], known: &[Front], instruction: Instruction, backwards
         Instruction::Fail => Front::Bytes(ByteBitmap::default()),
         Instruction::Leaf { leaf, next } => {
             if leaf < tests.len() {
-                leaf_front(&tests[leaf], front_at(known, next), backwards)
+                leaf_front(&tests[leaf], front_at(known, next), backwards, folds)
             } else {
                 Front::Any
             }
         }
         Instruction::Characters { leaf, count, .. } => {
             if count > 0 && leaf < tests.len() {
-                leaf_front(&tests[leaf], Front::Any, backwards)
+                leaf_front(&tests[leaf], Front::Any, backwards, folds)
             } else {
                 Front::Any
             }
@@ -96,8 +105,8 @@ fn front_at(known: &[Front], pc: usize) -> Front
 }
 
 /// Returns the front of a leaf, by that of the instruction after it.
-fn leaf_front(test: &Test, after: Front, backwards: bool) -> Front
-    ensures { (setting : Setting) (text : List ℕ) (s : MatchState) (g : Matcher) →
+fn leaf_front(test: &Test, after: Front, backwards: bool, folds: bool) -> Front
+    ensures { (setting : Setting) → FoldsIf folds setting → (text : List ℕ) (s : MatchState) (g : Matcher) →
         ((t : MatchState) → t.position ≡ s.position → Bounds after (direction_if backwards) text s.position (g t)) →
         Bounds result (direction_if backwards) text s.position (flat_map g (steps setting text (direction_if backwards) (tree test.now.node) s)) }
 {
@@ -108,6 +117,13 @@ fn leaf_front(test: &Test, after: Front, backwards: bool) -> Front
                 Front::Any
             } else {
                 Front::Bytes(*set)
+            }
+        }
+        Start::Folded(set) => {
+            if folds && !backwards {
+                Front::Bytes(*set)
+            } else {
+                Front::Any
             }
         }
         Start::Any => assertion_front(&test.node, after),
@@ -132,17 +148,6 @@ fn assertion_front(node: &Node, after: Front) -> Front
         Node::Empty | Node::Goal => after,
         _ => Front::Any,
     }
-}
-
-/// Returns the set with each byte that is not ASCII.
-fn with_others(set: ByteBitmap) -> ByteBitmap
-    ensures { (b : ℕ) → b < 256 → contains result b ≡ false → (b < 128) × (contains set b ≡ false) }
-{
-    let mut all = set;
-    for i in 0..128u8 {
-        all.set(128 + i);
-    }
-    all
 }
 
 impl Front {

@@ -1,7 +1,9 @@
 //! What a run of a routine reads.
-ghost use Rattle.std.specs.Prelude.{◌≡◌, ◌<◌, IfSome, MatchOption, None, Some, length, slice_get};
+ghost use Rattle.std.specs.Prelude.{◌≡◌, ◌<◌, IfSome, MatchOption, None, Some, length, slice_get, true};
 ghost use Rattle.regress_leaves.specs.Subject.{subject};
+ghost use Rattle.regress_unicode.specs.TableOf.{table_of};
 ghost use Rattle.regress_backtrack.specs.Code.{code_routines};
+ghost use Rattle.regress_backtrack.specs.Fronts.{FoldsIf};
 ghost use Rattle.regress_backtrack.specs.Next.{IsInput};
 ghost use Rattle.regress_backtrack.specs.Passes.{AreCounts};
 
@@ -9,8 +11,8 @@ use crate::code::Code;
 use crate::front::Front;
 use crate::instruction::Instruction;
 use crate::passes::Pass;
-use crate::test::Test;
 use regress_leaves::rules::MatchContext;
+use regress_leaves::test::Test;
 
 /// The text, the program, and the routine that is run.
 #[derive(Clone, Copy)]
@@ -51,7 +53,7 @@ pub fn input_for<'c, 'x>(
     ensures index { result.index ≡ index }
 {
     let routine = &code.routines[index];
-    Input {
+    let input = Input {
         text,
         rules: MatchContext {
             backwards: routine.backwards,
@@ -60,10 +62,27 @@ pub fn input_for<'c, 'x>(
         code,
         index,
         instructions: &routine.instructions,
-        fronts: &routine.fronts,
-        passes: &routine.passes,
+        fronts: &[],
+        passes: &[],
         first: routine.entry,
+    };
+    if has_fronts(code, rules) {
+        Input {
+            fronts: &routine.fronts,
+            passes: &routine.passes,
+            ..input
+        }
+    } else {
+        input
     }
+}
+
+/// Returns whether the fronts of a program hold under these flags and case mappings.
+#[inline(always)]
+fn has_fronts(code: &Code, rules: MatchContext<'_>) -> bool
+    ensures { result ≡ true → FoldsIf code.now.folds (record { flags = rules.entry.flags; table = table_of rules.entry.known.tables.now }) }
+{
+    !code.folds || rules.known.has_ascii_case(rules.flags)
 }
 
 /// Returns an instruction of the routine.

@@ -7,7 +7,7 @@ ghost use Rattle.regress_backtrack.specs.Views.{characters_of, op_in, ops_in, pa
 
 use crate::code::Code;
 use crate::instruction::{Instruction, Routine};
-use crate::test::Test;
+use regress_leaves::test::Test;
 use regress_program::Program;
 use regress_program::instruction::{
     Instruction as BorrowedInstruction, Routine as BorrowedRoutine,

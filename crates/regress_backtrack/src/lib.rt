@@ -2,13 +2,11 @@
 #![tactic(auto)]
 
 mod alternatives;
-mod ascii;
 mod backtracker;
 mod code;
 mod front;
 mod input;
 mod instruction;
-mod leaf;
 mod lent;
 mod machine;
 mod outcome;
@@ -16,10 +14,8 @@ mod owned;
 mod passes;
 mod run;
 mod search;
-mod start;
 mod step;
 mod sweep;
-mod test;
 
 pub use backtracker::Backtracker;
 pub use code::Code;

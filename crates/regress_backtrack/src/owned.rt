@@ -20,8 +20,8 @@ use crate::code::Code;
 use crate::front::fronts_of;
 use crate::instruction::{Instruction, Routine};
 use crate::passes::passes_of;
-use crate::start::start_of;
-use crate::test::Test;
+use regress_leaves::start::start_of;
+use regress_leaves::test::Test;
 use regress_prefilter::candidates::{Candidates, candidates_of};
 use regress_program::instruction::{
     Instruction as BorrowedInstruction, Routine as BorrowedRoutine,
@@ -76,17 +76,20 @@ fn own(alloc: Global, program: &Program<'_, '_>, candidates: Candidates) -> Resu
     ensures groups { IfOk result (λ code. code_groups code ≡ groups_of program.now) }
 {
     let mut tests = Vec::new(alloc);
-    let routines = own_routines(alloc, program.routines(), &mut tests)?;
+    let flags = program.rules(false).flags;
+    let folds = flags.icase;
+    let routines = own_routines(alloc, program.routines(), folds, &mut tests)?;
     let table_groups = program.table_groups(alloc)?;
     Ok(Code {
         tests,
         routines,
-        flags: program.rules(false).flags,
+        flags,
         groups: program.groups(),
         instructions: program.instructions(),
         nonlinear: program.nonlinear(),
         table_groups,
         candidates,
+        folds,
     })
 }
 
@@ -97,15 +100,16 @@ fn own(alloc: Global, program: &Program<'_, '_>, candidates: Candidates) -> Resu
 fn own_routines(
     alloc: Global,
     routines: &[BorrowedRoutine<'_>],
+    folds: bool,
     tests: &mut Vec<Test>,
 ) -> Result<Vec<Routine>, AllocError>
     ensures program { IfOk result (λ owned. program_in tests.new.items owned.items ≡ program_of routines.now) }
-    ensures fronts { IfOk result (λ owned. HaveFronts tests.new.items owned.items) }
+    ensures fronts { IfOk result (λ owned. HaveFronts folds tests.new.items owned.items) }
     ensures passes { IfOk result (λ owned. HavePasses owned.items) }
 {
     let mut owned = Vec::with_capacity(alloc, routines.len())?;
     for routine in routines {
-        let copy = own_routine(alloc, routine, tests)?;
+        let copy = own_routine(alloc, routine, folds, tests)?;
         owned.push(copy)?;
     }
     Ok(owned)
@@ -118,15 +122,16 @@ fn own_routines(
 fn own_routine(
     alloc: Global,
     routine: &BorrowedRoutine<'_>,
+    folds: bool,
     tests: &mut Vec<Test>,
 ) -> Result<Routine, AllocError>
     ensures grown { IfOk result (λ _. Grown tests.old.items tests.new.items) }
     ensures means { IfOk result (λ owned. Means routine_in tests.new.items owned (routine_of routine.now)) }
-    ensures fronts { IfOk result (KeepsFronts tests.new.items) }
+    ensures fronts { IfOk result (KeepsFronts folds tests.new.items) }
     ensures passes { IfOk result (λ owned. ArePasses owned.passes.items owned.fronts.items owned.instructions.items) }
 {
     let instructions = own_instructions(alloc, &routine.instructions, tests)?;
-    let fronts = fronts_of(alloc, tests, &instructions, routine.backwards)?;
+    let fronts = fronts_of(alloc, tests, &instructions, routine.backwards, folds)?;
     let passes = passes_of(alloc, &fronts, &instructions)?;
     Ok(Routine {
         instructions,

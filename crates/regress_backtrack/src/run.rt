@@ -1,12 +1,13 @@
 //! Runs of routines, within a step limit.
 ghost use Rattle.std.specs.Prelude.{◌≡◌, ◌≤◌, ◌<◌, ◌+◌, ◌∷◌, ◌++◌, [], ℕ, All, IfOk, IfSome, MatchOption, flat_map, if◌then◌else◌, length, take, true};
 ghost use Rattle.regress_leaves.specs.Subject.{subject};
+ghost use Rattle.regress_program.specs.Found.{state};
 ghost use Rattle.regress_program.specs.Cost.{Cost, IsCost, cost_of};
 ghost use Rattle.regress_program.specs.Program.{IsSolution, Out, goto, look, matcher_of, outcomes_by};
 ghost use Rattle.regress_program.specs.Shape.{IsProgram};
 ghost use Rattle.regress_backtrack.specs.Code.{code_routines};
 ghost use Rattle.regress_backtrack.specs.Costs.{HasCost, cost_ahead, op_cost, points_cost};
-ghost use Rattle.regress_backtrack.specs.Machine.{at, groups_of, points, rewound, state};
+ghost use Rattle.regress_backtrack.specs.Machine.{at, groups_of, points, rewound};
 ghost use Rattle.regress_backtrack.specs.Next.{Inside, IsInput, Leads, Solve, ahead};
 ghost use Rattle.regress_backtrack.specs.Run.{Answers, IsAfter};
 ghost use Rattle.regress_backtrack.specs.declared.run.Response.TheVariants.{NoMatch, OutOfSteps};

@@ -7,12 +7,13 @@ ghost use Rattle.regress_leaves.specs.Subject.{subject};
 ghost use Rattle.regress_tree.specs.Matching.{steps};
 ghost use Rattle.regress_tree.specs.Steps.{Matcher};
 ghost use Rattle.regress_tree.specs.Tree.{tree};
+ghost use Rattle.regress_program.specs.Found.{state};
 ghost use Rattle.regress_program.specs.Cost.{Cost, compared};
 ghost use Rattle.regress_program.specs.Program.{Out, goto, matcher_of, outcomes_by};
 ghost use Rattle.regress_program.specs.Shape.{IsPart};
 ghost use Rattle.regress_backtrack.specs.Code.{code_routines};
 ghost use Rattle.regress_backtrack.specs.Costs.{HasCost, cost_ahead, op_cost, points_cost};
-ghost use Rattle.regress_backtrack.specs.Machine.{at, groups_of, points, rewound, state};
+ghost use Rattle.regress_backtrack.specs.Machine.{at, groups_of, points, rewound};
 ghost use Rattle.regress_backtrack.specs.Views.{characters_of, op_in, part_of};
 ghost use Rattle.regress_backtrack.specs.Next.{CanStep, Inside, IsInput, Leads, Solve, ahead, is_look};
 ghost use Rattle.regress_backtrack.specs.declared.step.Next.TheVariants.{Back, On, OutOfSteps};
@@ -20,10 +21,10 @@ ghost use Rattle.regress_backtrack.specs.declared.step.Next.TheVariants.{Back, O
 use crate::alternatives::{Looping, fork, iterate};
 use crate::input::{Input, test_at};
 use crate::instruction::Instruction;
-use crate::leaf::leaf_end;
 use crate::machine::{Machine, Place};
-use crate::test::Test;
 use regress_leaves::leaves::simple_leaf;
+use regress_leaves::test::Test;
+use regress_program::leaf::leaf_end;
 use std::alloc::AllocError;
 
 /// What follows an instruction.

@@ -5,14 +5,15 @@ ghost use Rattle.regress_program.specs.Program.{Out};
 ghost use Rattle.regress_backtrack.specs.Costs.{HasCost, points_cost};
 ghost use Rattle.regress_backtrack.specs.Machine.{at, groups_of, points, rewound};
 ghost use Rattle.regress_backtrack.specs.Next.{Inside, IsInput, Solve};
-ghost use Rattle.regress_backtrack.specs.Sweep.{AreIn, IsSwept};
+ghost use Rattle.regress_backtrack.specs.Sweep.{IsSwept};
 
 use crate::alternatives::Looping;
 use crate::input::{Input, instruction_at, test_at};
 use crate::instruction::Instruction;
 use crate::machine::{Machine, Place};
-use crate::start::Start;
 use regress_base::bytesearch::ByteBitmap;
+use regress_leaves::ascii::count_of;
+use regress_leaves::start::Start;
 use std::alloc::AllocError;
 
 /// A loop over a leaf that matches one character.
@@ -111,18 +112,4 @@ fn sole_leaf<'c>(input: &Input<'c, '_>, looping: Looping) -> Option<Swept<'c>>
         Start::Ascii(set) => Some(Swept { set, turn }),
         _ => None,
     }
-}
-
-/// Returns the number of characters of the set from a position on.
-fn count_of(text: &str, set: &ByteBitmap, position: usize) -> usize
-    requires { position ≤ length text.now }
-    ensures are_in { AreIn set.now text.now position result }
-    ensures within { position + result ≤ length text.now }
-{
-    let bytes = text.as_bytes();
-    let mut end = position;
-    while end < bytes.len() && bytes[end].is_ascii() && set.contains(bytes[end]) {
-        end += 1;
-    }
-    end - position
 }

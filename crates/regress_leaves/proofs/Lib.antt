@@ -2,3 +2,4 @@ pub mod lemmas
 pub mod ReadingLemmas
 pub mod WordLemmas
 pub mod ReferenceLemmas
+pub mod StartSets

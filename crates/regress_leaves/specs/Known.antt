@@ -1,8 +1,9 @@
 -- What is precomputed about case mappings.
-use Rattle.std.specs.Prelude.{◌≡◌, ℕ, ◌<◌, true}
+use Rattle.std.specs.Prelude.{◌≡◌, ℕ, ◌<◌, true, false}
 use Rattle.std.specs.Char.{to_ascii_lowercase, to_ascii_uppercase}
 use Rattle.std.proofs.Props.{props}
 use Rattle.regress_base.specs.Table.{Table}
+use Rattle.regress_tree.specs.Setting.{Setting}
 use Rattle.regress_leaves.specs.declared.case_facts.CaseFacts.{CaseFacts}
 
 -- the simple case folding of an ASCII character is its small letter, if it is a capital letter, and else itself
@@ -12,6 +13,11 @@ HasAsciiFold table = (c : ℕ) → c < 0x80 → table.fold c ≡ to_ascii_lowerc
 -- the upper case of an ASCII character is its capital letter, if it is a small letter, and else itself
 abbrev pub HasAsciiUppercase : Table → Type 0
 HasAsciiUppercase table = (c : ℕ) → c < 0x80 → table.uppercase c ≡ to_ascii_uppercase c
+
+-- The canonical form of an ASCII character (Canonicalize) is that of ASCII, under the flags of the setting.
+pub record HasAsciiCase (setting : Setting) : Type 0 where
+  pub fold : setting.flags.unicode ≡ true → HasAsciiFold setting.table
+  pub uppercase : setting.flags.unicode ≡ false → HasAsciiUppercase setting.table
 
 -- What is said of the table is true.
 pub record AreFactsOf (table : Table) (facts : CaseFacts) : Type 0 where

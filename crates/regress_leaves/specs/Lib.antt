@@ -1,3 +1,4 @@
 pub mod Known
 pub mod Leaves
+pub mod Starts
 pub mod Subject

@@ -1,7 +1,7 @@
 //! The case mappings, with what a search knows of them.
-ghost use Rattle.std.specs.Prelude.{◌≡◌};
+ghost use Rattle.std.specs.Prelude.{◌≡◌, true};
 ghost use Rattle.regress_unicode.specs.TableOf.{table_of};
-ghost use Rattle.regress_leaves.specs.Known.{AreFactsOf, AreFactsOf-prop};
+ghost use Rattle.regress_leaves.specs.Known.{AreFactsOf, AreFactsOf-prop, HasAsciiCase};
 
 use crate::case_facts::{CaseFacts, to_ascii_lowercase, to_ascii_uppercase};
 use regress_base::types::Flags;
@@ -34,6 +34,18 @@ impl<'t> Known<'t> {
         ensures { result.tables.now ≡ tables.now }
     {
         Known { tables, facts }
+    }
+
+    /// Returns whether canonical forms under these flags are known to take each ASCII character to one of its ASCII cases,
+    /// the same for both (Canonicalize).
+    pub fn has_ascii_case(self, flags: Flags) -> bool
+        ensures { result ≡ true → HasAsciiCase (record { flags = flags; table = table_of self.entry.tables.now }) }
+    {
+        if flags.unicode {
+            self.facts.ascii_fold
+        } else {
+            self.facts.ascii_uppercase
+        }
     }
 
     /// Returns the simple case folding of `c`.

@@ -1,6 +1,7 @@
 //! What the leaves of a tree match in a text, and the decoding of the text.
 #![tactic(auto)]
 
+pub mod ascii;
 pub mod case_facts;
 pub mod characters;
 pub mod known;
@@ -8,3 +9,5 @@ pub mod leaves;
 pub mod reading;
 pub mod references;
 pub mod rules;
+pub mod start;
+pub mod test;

@@ -40,7 +40,8 @@ pub fn read_before(text: &str, position: usize) -> Option<(u32, usize)>
 }
 
 /// Returns the byte at an offset if it is an ASCII character, which is the fast case.
-fn ascii_at(text: &str, position: usize) -> Option<u8>
+#[inline(always)]
+pub(crate) fn ascii_at(text: &str, position: usize) -> Option<u8>
     ensures { IfSome result (λ b. (b < 128) × (position < length text.now) × (slice_index text.now position ≡ b)) }
 {
     let bytes = text.as_bytes();

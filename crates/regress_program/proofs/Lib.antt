@@ -8,6 +8,7 @@ mod CostLemmas
 mod CountLemmas
 mod FlowLemmas
 mod KeepLemmas
+mod LeafLemmas
 mod LocalLemmas
 mod PartLemmas
 mod PutLemmas

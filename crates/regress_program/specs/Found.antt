@@ -1,8 +1,12 @@
 -- What a match is, and what a search finds.
 use Rattle.std.specs.Prelude.{◌≡◌, ℕ, ◌≤◌, ◌<◌, List, [], ◌∷◌, Option, Some, None, replicate}
 use Rattle.std.specs.Str.{IsCharBoundary}
-use Rattle.regress_tree.specs.Steps.{MatchState}
+use Rattle.regress_tree.specs.Steps.{CaptureSpan, MatchState}
 use Rattle.regress_program.specs.declared.found.Match.{Match}
+
+-- the state at a position with these captures
+abbrev pub state : List (Option CaptureSpan) → (position : ℕ) → MatchState
+state captures position = record { position = position; captures = captures }
 
 -- the state at a position with n groups, all unset
 abbrev pub no_groups : (n position : ℕ) → MatchState

@@ -12,6 +12,7 @@ pub mod found;
 pub mod groups;
 mod inner;
 pub mod instruction;
+pub mod leaf;
 mod lookarounds;
 mod loops;
 mod nonlinear;

@@ -15,5 +15,5 @@ returns-in-Some c = λ known outs g solve.
     let front = c.in-Some.front.now in
     c.excludes.ensures known (outs input.index (at p g))
     (subst (λ d. Bounds front d input.text.now p.position (outs input.index (at p g))) (sym is.direction)
-    (is.fronts u.setting input.text.now (matcher_of u.setting input.text.now (code_routines input.code.now) outs) (outs input.index)
+    (is.fronts input.text.now (matcher_of u.setting input.text.now (code_routines input.code.now) outs) (outs input.index)
     (solve input.index is.routine is.is) p.pc front c.in-Some.ensures (at p g) refl))

@@ -9,18 +9,18 @@ use Rattle.regress_backtrack.proofs.FrontLemmas.{cond_bounds, ended_bounds, exac
 use Rattle.regress_backtrack.proofs.front.front_of.Goals as goal
 
 pub returns-then-leaf-tests : goal.returns-then-leaf-tests
-returns-then-leaf-tests c = λ setting text body_of out a are.
+returns-then-leaf-tests c = λ setting folds text body_of out a are.
     let d = direction_if c.args.backwards in
     let tests = c.args.tests.now in
     let some : slice_get tests c.in-Leaf.leaf ≡ Some c.index-tests-leaf.result =
     slice_get_read tests _ c.in-Leaf.leaf c.index-tests-leaf.result refl c.if-leaf-tests.true c.index-tests-leaf.is in
     subst (λ i. Bounds c.leaf_front.result d text a.state.position (outcomes_by setting text d body_of out (op_in tests i) a)) (sym c.in-Leaf.is)
     (subst (λ o. Bounds c.leaf_front.result d text a.state.position (outcomes_by setting text d body_of out (part_of o c.in-Leaf.next) a)) (sym some)
-    (c.leaf_front.ensures setting text a.state (λ t. out (reach c.in-Leaf.next a t))
+    (c.leaf_front.ensures setting folds text a.state (λ t. out (reach c.in-Leaf.next a t))
     (reach_bounds c.front_at.result d text out c.in-Leaf.next (c.front_at.ensures d text out are) a)))
 
 pub returns-then-leaf-tests-2 : goal.returns-then-leaf-tests-2
-returns-then-leaf-tests-2 c = λ setting text body_of out a are.
+returns-then-leaf-tests-2 c = λ setting folds text body_of out a are.
     let d = direction_if c.args.backwards in
     let tests = c.args.tests.now in
     let leaf = c.in-Characters.leaf in
@@ -33,10 +33,10 @@ returns-then-leaf-tests-2 c = λ setting text body_of out a are.
     subst (λ i. Bounds front d text a.state.position (outcomes_by setting text d body_of out (op_in tests i) a)) (sym c.in-Characters.is)
     (subst (λ o. Bounds front d text a.state.position (outcomes_by setting text d body_of out (characters_of o count next) a)) (sym some)
     (exactly_bounds front setting d text (tree test.node) a.state
-    (λ g. c.leaf_front-then-leaf-tests-2.ensures setting text a.state g (λ t same. tt)) count c.if-count-gt0.true (λ t. out (reach next a t))))
+    (λ g. c.leaf_front-then-leaf-tests-2.ensures setting folds text a.state g (λ t same. tt)) count c.if-count-gt0.true (λ t. out (reach next a t))))
 
 pub returns-in-EndLoop : goal.returns-in-EndLoop
-returns-in-EndLoop c = λ setting text body_of out a are.
+returns-in-EndLoop c = λ setting folds text body_of out a are.
     let d = direction_if c.args.backwards in
     let next = c.in-EndLoop.next in
     let front = c.front_at-in-EndLoop.result in
@@ -44,7 +44,7 @@ returns-in-EndLoop c = λ setting text body_of out a are.
     (cond_bounds front d text a.state.position a.moved (out (goto next a)) (c.front_at-in-EndLoop.ensures d text out are (goto next a) refl))
 
 pub returns-in-EndGroup : goal.returns-in-EndGroup
-returns-in-EndGroup c = λ setting text body_of out a are.
+returns-in-EndGroup c = λ setting folds text body_of out a are.
     let d = direction_if c.args.backwards in
     let next = c.in-EndGroup.next in
     let front = c.front_at-in-EndGroup.result in
@@ -52,7 +52,7 @@ returns-in-EndGroup c = λ setting text body_of out a are.
     (ended_bounds front d text out next (c.front_at-in-EndGroup.ensures d text out are) a c.in-EndGroup.id a.begins)
 
 pub returns-in-Look : goal.returns-in-Look
-returns-in-Look c = λ setting text body_of out a are.
+returns-in-Look c = λ setting folds text body_of out a are.
     let d = direction_if c.args.backwards in
     let next = c.in-Look.next in
     let front = c.front_at-in-Look.result in

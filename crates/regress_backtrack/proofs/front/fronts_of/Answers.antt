@@ -18,11 +18,11 @@ loop-instruction-preserved c =
     let so_far = c.loop-instruction.invariant in
     record {
       count = omega (arith, ap length c.in_ok-push.ensures.items, length_push known front, so_far.count);
-      are = λ setting text body_of out solves.
+      are = λ setting folds text body_of out solves.
           subst (λ fs. AreFronts fs d text out) (sym c.in_ok-push.ensures.items)
-          (pushed (λ pc f. IsFront f d text out pc) known front (so_far.are setting text body_of out solves)
+          (pushed (λ pc f. IsFront f d text out pc) known front (so_far.are setting folds text body_of out solves)
           (subst (IsFront front d text out) (sym so_far.count)
           (front_next tests xs i _ (slice_get-get_or xs i _ c.loop-instruction-test.true) setting text d body_of out solves front
-          (λ a. c.front_of-front.ensures setting text body_of out a
-          (subst (λ fs. AreFronts fs d text out) (sym c.deref.ensures.value) (so_far.are setting text body_of out solves))))));
+          (λ a. c.front_of-front.ensures setting folds text body_of out a
+          (subst (λ fs. AreFronts fs d text out) (sym c.deref.ensures.value) (so_far.are setting folds text body_of out solves))))));
     }

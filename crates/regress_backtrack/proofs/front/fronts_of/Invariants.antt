@@ -8,5 +8,5 @@ use Rattle.regress_backtrack.proofs.front.fronts_of.Given as goal
 abbrev pub invariant-loop-instruction : goal.invariant-loop-instruction
 invariant-loop-instruction l = record {
   count : length l.fronts.items ≡ l.instruction-index;
-  are : AreFrontsOf l.fronts.items (direction_if l.backwards) (ops_in l.tests l.instructions);
+  are : AreFrontsOf l.folds l.fronts.items (direction_if l.backwards) (ops_in l.tests l.instructions);
 }

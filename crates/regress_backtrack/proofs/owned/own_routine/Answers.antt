@@ -17,7 +17,7 @@ returns-clause-fronts c = λ more.
     let tests = c.own_instructions.new.tests.items in
     let instructions = c.in_ok-instructions.instructions.items in
     let means = c.in_ok-instructions.ensures.means in
-    subst (AreFrontsOf c.in_ok-fronts.fronts.items (direction_if c.args.routine.now.backwards))
+    subst (AreFrontsOf c.args.folds c.in_ok-fronts.fronts.items (direction_if c.args.routine.now.backwards))
     (ap₂ ops_in c.deref-2.ensures.value c.deref-3.ensures.value ∙ settled ops_in tests instructions _ means ∙ sym (means more)) c.in_ok-fronts.ensures
 
 pub returns-clause-passes : goal.returns-clause-passes

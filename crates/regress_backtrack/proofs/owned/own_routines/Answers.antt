@@ -24,8 +24,8 @@ loop-routine-preserved c =
           c.loop-routine.invariant.means c.in_ok-copy.ensures.means more
           ∙ sym last;
       fronts = λ more.
-          subst (HaveFronts (new ++ more)) (sym c.in_ok-push.ensures.items)
-          (fronts_more old new c.loop-routine.owned.items c.in_ok-copy.copy c.in_ok-copy.ensures.grown c.loop-routine.invariant.fronts
+          subst (HaveFronts c.args.folds (new ++ more)) (sym c.in_ok-push.ensures.items)
+          (fronts_more c.args.folds old new c.loop-routine.owned.items c.in_ok-copy.copy c.in_ok-copy.ensures.grown c.loop-routine.invariant.fronts
           c.in_ok-copy.ensures.fronts more);
       passes =
           subst HavePasses (sym c.in_ok-push.ensures.items)
@@ -34,7 +34,7 @@ loop-routine-preserved c =
     }
 
 pub returns-clause-fronts : goal.returns-clause-fronts
-returns-clause-fronts c = fronts_settled c.loop-routine.tests.items c.loop-routine.owned.items c.loop-routine.invariant.fronts
+returns-clause-fronts c = fronts_settled c.args.folds c.loop-routine.tests.items c.loop-routine.owned.items c.loop-routine.invariant.fronts
 
 pub returns-clause-program : goal.returns-clause-program
 returns-clause-program c =

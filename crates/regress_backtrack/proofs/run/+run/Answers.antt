@@ -2,13 +2,14 @@ use Rattle.std.proofs.Common.{◌≡◌, ◌+◌, ◌≤◌, ◌++◌, ◌∷◌
 use Rattle.std.proofs.lemmas.List.{length-take}
 use Rattle.std.proofs.lemmas.List.Elements.{All-head, All-tail}
 use Rattle.regress_leaves.specs.Subject.{subject}
+use Rattle.regress_program.specs.Found.{state}
 use Rattle.regress_program.specs.Cost.{Cost}
 use Rattle.regress_program.specs.Program.{matcher_of, outcomes_by}
 use Rattle.regress_program.specs.Shape.{IsProgram}
 use Rattle.regress_backtrack.specs.Code.{code_routines}
 use Rattle.regress_backtrack.specs.Costs.{cost_ahead, op_cost, points_cost}
 use Rattle.regress_backtrack.specs.Views.{op_in}
-use Rattle.regress_backtrack.specs.Machine.{Groups, at, changes_of, groups_of, points, rewound, state}
+use Rattle.regress_backtrack.specs.Machine.{Groups, at, changes_of, groups_of, points, rewound}
 use Rattle.regress_backtrack.specs.declared.run.Response.TheVariants as responses
 use Rattle.regress_backtrack.specs.Next.{Fails, Inside}
 use Rattle.regress_backtrack.specs.Run.{Answers}

@@ -1,6 +1,6 @@
+use Rattle.regress_program.specs.Found.{state}
 use Rattle.std.proofs.Common.{slice_get, refl}
 use Rattle.regress_leaves.specs.Subject.{subject}
-use Rattle.regress_backtrack.specs.Machine.{state}
 use Rattle.regress_backtrack.proofs.CostLemmas.{characters_cost}
 use Rattle.regress_backtrack.proofs.StepLemmas.{characters_inside}
 use Rattle.regress_backtrack.proofs.step.match_characters.Goals as goal

@@ -1,10 +1,10 @@
 use Rattle.std.proofs.Common.{◌≡◌, ◌+◌, ◌≤◌, slice_get, subst}
 use Rattle.regress_leaves.specs.Leaves.{put}
 use Rattle.regress_leaves.specs.Subject.{subject}
+use Rattle.regress_program.specs.Found.{state}
 use Rattle.regress_program.specs.Cost.{compared}
 use Rattle.regress_tree.specs.Matching.{steps}
 use Rattle.regress_tree.specs.Tree.{tree}
-use Rattle.regress_backtrack.specs.Machine.{state}
 use Rattle.regress_backtrack.proofs.CostLemmas.{leaf_cost}
 use Rattle.regress_backtrack.proofs.StepLemmas.{leaf_inside}
 use Rattle.regress_backtrack.proofs.step.match_leaf.Goals as goal

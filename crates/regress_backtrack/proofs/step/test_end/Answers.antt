@@ -1,7 +1,7 @@
+use Rattle.regress_program.specs.Found.{state}
 use Rattle.std.proofs.Common.{refl}
 use Rattle.regress_leaves.specs.Subject.{subject}
 use Rattle.regress_tree.specs.Tree.{tree}
-use Rattle.regress_backtrack.specs.Machine.{state}
 use Rattle.regress_backtrack.proofs.step.test_end.Goals as goal
 
 pub returns-in-Some-clause-to : goal.returns-in-Some-clause-to

@@ -1,7 +1,7 @@
 use Rattle.std.proofs.Common.{◌≡◌, ◌+◌, ◌-◌, ◌≤◌, ◌++◌, suc, true, false, flat_map, length, sym, ap, ◌∙◌, arith}
 use Rattle.regress_backtrack.specs.declared.machine.Place.{Place}
 use Rattle.regress_backtrack.specs.Machine.{at, groups_of, range_points}
-use Rattle.regress_backtrack.specs.Sweep.{AreIn}
+use Rattle.regress_leaves.specs.Starts.{AreIn}
 use Rattle.regress_backtrack.proofs.CostLemmas.{iterations_cost, swept_ahead}
 use Rattle.regress_backtrack.proofs.SweepLemmas.{iterations, swept_inside, swept_leads}
 use Rattle.regress_backtrack.proofs.sweep.sweep.Goals as goal

@@ -1,0 +1,77 @@
+-- What the next byte of a text tells of a leaf.
+use Rattle.std.proofs.Common.{arith, ◌≡◌, ℕ, ◌+◌, ◌<◌, ◌==◌, Bool, true, false, List, [], ◌∷◌, ◌++◌, get_or, Some, refl, sym, ap₂, ◌∙◌}
+use Rattle.std.proofs.lemmas.Bool.Decides.{nat_tests}
+use Rattle.std.specs.Char.{to_ascii_lowercase, to_ascii_uppercase}
+use Rattle.std.proofs.lemmas.Bool.{false≢true}
+use Rattle.regress_base.specs.ByteBitmap.{contains}
+use Rattle.regress_base.specs.declared.bytesearch.bitmap.ByteBitmap.{ByteBitmap}
+use Rattle.regress_base.specs.Positions.{IsMemberAt}
+use Rattle.regress_tree.specs.Matching.{steps}
+use Rattle.regress_tree.specs.Reading.{Direction, forwards, next_character, of_bytes}
+use Rattle.regress_tree.specs.Setting.{Setting}
+use Rattle.regress_tree.specs.Steps.{MatchState, dedup}
+use Rattle.regress_tree.specs.Tree.{Tree, leaf, string_set}
+use Rattle.regress_prefilter.specs.FirstSets.{BeginsWithByteOf}
+use Rattle.regress_prefilter.specs.OneCharacter.{takes_one, test_of}
+use Rattle.regress_prefilter.proofs.lemmas.OneCharacter.{takes_one-steps}
+use Rattle.regress_base.specs.Table.{denotes}
+use Rattle.regress_leaves.specs.Known.{HasAsciiCase}
+use Rattle.regress_leaves.specs.Starts.{BeginsFolded}
+use Rattle.regress_leaves.proofs.ReadingLemmas.{ascii_after}
+use Rattle.regress_leaves.proofs.lemmas.Leaves.{all_no, any-cons, any-nil, one_yes, one_no}
+
+none_distinct : (states : List MatchState) → dedup states ≡ [] → states ≡ []
+none_distinct [] is = refl
+none_distinct (s ∷ states) is = let bad : ⊥ = cc in absurd bad
+
+-- no match begins with another byte, or at the end of the text
+pub bytes_fail : (set : ByteBitmap) (t : Tree) (setting : Setting) (bytes : List ℕ) (s : MatchState) → BeginsWithByteOf set t →
+    (IsMemberAt (contains set) bytes s.position → ⊥) → steps setting bytes forwards t s ≡ []
+bytes_fail set t setting bytes s begins out = none_distinct _ (begins setting bytes s out)
+
+pub no_member : (set : ByteBitmap) (bytes : List ℕ) (k : ℕ) → contains set (get_or bytes k 0) ≡ false → IsMemberAt (contains set) bytes k → ⊥
+no_member set bytes k out is = false≢true (sym out ∙ is.member)
+
+module _ (set : ByteBitmap) (t : Tree) (takes : takes_one t ≡ true) (tests : (b : ℕ) → b < 128 → contains set b ≡ test_of t b) (setting : Setting)
+    (bytes : List ℕ) (d : Direction) (s : MatchState) where
+  -- at an ASCII character
+  pub ascii_matches : (b to : ℕ) → b < 128 → next_character d (of_bytes bytes) s.position ≡ Some (record { character = b; position = to }) →
+      contains set b ≡ true → steps setting bytes d t s ≡ record s { position = to } ∷ []
+  ascii_matches b to lt here in_set =
+      takes_one-steps setting bytes d t s takes
+      ∙ one_yes d (of_bytes bytes) (test_of t) s (record { character = b; position = to }) here (sym (tests b lt) ∙ in_set)
+
+  pub ascii_fails : (b to : ℕ) → b < 128 → next_character d (of_bytes bytes) s.position ≡ Some (record { character = b; position = to }) →
+      contains set b ≡ false → steps setting bytes d t s ≡ []
+  ascii_fails b to lt here out =
+      takes_one-steps setting bytes d t s takes
+      ∙ one_no d (of_bytes bytes) (test_of t) s (record { character = b; position = to }) here (sym (tests b lt) ∙ out)
+
+-- ---- a string that is compared by canonical forms
+
+other_lower : (b c : ℕ) → (to_ascii_lowercase b ≡ to_ascii_lowercase c → ⊥) → (to_ascii_lowercase b == to_ascii_lowercase c) ≡ false
+other_lower b c other = grind (arith, nat_tests, other)
+
+other_upper : (b c : ℕ) → (to_ascii_lowercase b ≡ to_ascii_lowercase c → ⊥) → (to_ascii_uppercase b == to_ascii_uppercase c) ≡ false
+other_upper b c other = grind (arith, nat_tests, other)
+
+-- ASCII characters that are not two cases of one letter have different canonical forms
+differs : (setting : Setting) → HasAsciiCase setting → (b c : ℕ) → b < 128 → c < 128 → (to_ascii_lowercase b ≡ to_ascii_lowercase c → ⊥) →
+    denotes setting.table true setting.flags.unicode c b ≡ false
+differs setting has b c low low' other = by setting.flags.unicode refl
+  where
+    by : (unicode : Bool) → setting.flags.unicode ≡ unicode → denotes setting.table true unicode c b ≡ false
+    by true is = ap₂ (λ x y. x == y) (has.fold is b low) (has.fold is c low') ∙ other_lower b c other
+    by false is = ap₂ (λ x y. x == y) (has.uppercase is b low) (has.uppercase is c low') ∙ other_upper b c other
+
+pub folded_fails : (set : ByteBitmap) (c : ℕ) (rest : List ℕ) → c < 128 →
+    ((b : ℕ) → b < 256 → contains set b ≡ false → (b < 128) × (to_ascii_lowercase b ≡ to_ascii_lowercase c → ⊥)) →
+    BeginsFolded set (leaf (string_set ((c ∷ rest) ∷ []) true))
+folded_fails set c rest low others setting bytes s has out =
+    let r = of_bytes bytes in
+    let same = denotes setting.table true setting.flags.unicode in
+    let b = get_or bytes s.position 0 in
+    let no = others b out.byte out.out in
+    any-cons forwards r same (c ∷ rest) [] s
+    ∙ ap₂ ◌++◌ (all_no forwards r same c rest s (record { character = b; position = s.position + 1 })
+    (ascii_after bytes s.position b no.0 out.before refl) (differs setting has b c no.0 low no.1)) (any-nil forwards r same s)

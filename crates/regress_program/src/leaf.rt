@@ -1,0 +1,89 @@
+//! What leaves match, back references among them.
+ghost use Rattle.std.specs.Prelude.{◌≡◌, ◌≤◌, ◌+◌, ◌-◌, None, get_or};
+ghost use Rattle.regress_base.specs.Table.{denotes};
+ghost use Rattle.regress_leaves.specs.Leaves.{put};
+ghost use Rattle.regress_leaves.specs.Subject.{subject};
+ghost use Rattle.regress_program.specs.Cost.{compared, length_of};
+ghost use Rattle.regress_program.specs.Found.{state};
+ghost use Rattle.regress_program.specs.Shape.{IsPart};
+ghost use Rattle.regress_tree.specs.Matching.{steps};
+ghost use Rattle.regress_tree.specs.Reading.{of_bytes};
+ghost use Rattle.regress_tree.specs.References.{match_again};
+ghost use Rattle.regress_tree.specs.Steps.{MatchState};
+ghost use Rattle.regress_tree.specs.Tree.{tree};
+
+use regress_leaves::leaves::{all_of, exactly, simple_leaf};
+use regress_leaves::references;
+use regress_leaves::rules::MatchContext;
+use regress_tree::ir::Node;
+
+/// Returns the position at which a leaf, or a fixed number of characters, ends, or `None` if it fails. The bytes of the
+/// capture that a back reference is compared with are subtracted from the remaining steps.
+///
+/// # Preconditions
+/// The node is a leaf, and no set of strings unless it has exactly one string; or a loop over one character whose minimum
+/// is its maximum.
+#[inline(always)]
+pub fn leaf_end(
+    text: &str,
+    rules: MatchContext<'_>,
+    node: &Node,
+    position: usize,
+    captures: &[Option<(usize, usize)>],
+    left: &mut u64,
+) -> Option<usize>
+    requires { IsPart (tree node.now) }
+    ensures to { let u = subject rules.entry text.now in
+        steps u.setting u.bytes u.direction (tree node.now) (state captures.now position) ≡ put (state captures.now position) result }
+    ensures left { left.new ≤ left.old }
+    ensures costs { left.old ≤ left.new + compared (tree node.now) (state captures.now position) }
+{
+    match node {
+        Node::BackRef { group, icase } => {
+            let span = capture_of(captures, *group);
+            match_again(text, rules, span, *icase, position, left)
+        }
+        Node::StringSet {
+            alternatives,
+            icase,
+        } => all_of(text, rules, *icase, &alternatives[0], position),
+        Node::Loop1CharBody { loopee, quant } => {
+            exactly(text, rules, loopee, quant.min, position)
+        }
+        _ => simple_leaf(text, rules, node, position),
+    }
+}
+
+/// Returns the capture of a group, which patterns number from 1.
+fn capture_of(captures: &[Option<(usize, usize)>], group: u32) -> Option<(usize, usize)>
+    ensures { result ≡ get_or captures.now (group - 1) None }
+{
+    let id = group.saturating_sub(1) as usize;
+    if id < captures.len() {
+        captures[id]
+    } else {
+        None
+    }
+}
+
+/// Returns the position after a copy of the span (BackreferenceMatcher), whose length is subtracted from the remaining
+/// steps. Without a span it is the position itself.
+fn match_again(
+    text: &str,
+    rules: MatchContext<'_>,
+    span: Option<(usize, usize)>,
+    icase: bool,
+    position: usize,
+    left: &mut u64,
+) -> Option<usize>
+    ensures to { (s : MatchState) → s.position ≡ position → (let u = subject rules.entry text.now in
+        put s result ≡ match_again u.direction (of_bytes u.bytes) (denotes u.setting.table icase u.setting.flags.unicode) span s) }
+    ensures left { left.new ≤ left.old }
+    ensures costs { left.old ≤ left.new + length_of span }
+{
+    let Some(span) = span else {
+        return Some(position);
+    };
+    *left = left.saturating_sub(span.1.abs_diff(span.0) as u64);
+    references::match_again(text, rules, icase, span, position)
+}
