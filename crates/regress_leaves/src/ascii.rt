@@ -45,6 +45,12 @@ fn ascii_before(text: &str, position: usize) -> Option<(u8, usize)>
 }
 
 /// Returns the number of characters of the set from a position on, all of which are ASCII.
+///
+/// # Preconditions
+/// The position is inside the text.
+///
+/// # Complexity
+/// Linear in the result.
 pub fn count_of(text: &str, set: &ByteBitmap, position: usize) -> usize
     requires { position ≤ length text.now }
     ensures are_in { AreIn set.now text.now position result }

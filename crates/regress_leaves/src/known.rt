@@ -36,8 +36,8 @@ impl<'t> Known<'t> {
         Known { tables, facts }
     }
 
-    /// Returns whether canonical forms under these flags are known to take each ASCII character to one of its ASCII cases,
-    /// the same for both (Canonicalize).
+    /// Returns whether the canonical form of each ASCII character (Canonicalize) is known to be its small letter with the
+    /// flag `u`, and without it its capital letter, or itself if it is no letter.
     pub fn has_ascii_case(self, flags: Flags) -> bool
         ensures { result ≡ true → HasAsciiCase (record { flags = flags; table = table_of self.entry.tables.now }) }
     {

@@ -20,111 +20,113 @@ use std::alloc::AllocError;
 use std::test::Fail;
 
 #[test]
-fn the_examples_of_texts_and_bytes_hold(rt: HostRuntime) -> Result<(), Fail> {
+fn the_characters_of_a_text_are_listed(rt: HostRuntime) -> Result<(), Fail> {
     let alloc = rt.alloc();
-    // the characters of a text are listed
-    {
-        let points = code_points(alloc, "aé😀")?;
-        assert_eq!(rt; points.as_slice(), [0x61, 0xE9, 0x1F600].as_slice());
-    }
-    // a string of bytes is found
-    {
-        let needle = Needle::new(b"na");
-        assert_eq!(rt; needle.find_in(b"banana"), Some(2));
-        assert_eq!(rt; needle.find_in(b"band"), None);
-    }
+    let points = code_points(alloc, "aé😀")?;
+    assert_eq!(rt; points.as_slice(), [0x61, 0xE9, 0x1F600].as_slice());
     Ok(())
 }
 
 #[test]
-fn the_examples_of_escaping_hold(rt: HostRuntime) -> Result<(), Fail> {
-    let alloc = rt.alloc();
-    // a text is escaped
-    {
-        let pattern = escape(alloc, "1+1 = 2?")?;
-        assert_eq!(rt; pattern.as_str(), "\\x31\\+1\\x20\\x3d\\x202\\?");
-    }
-    // each kind of escape (EncodeForRegExpEscape)
-    {
-        let line_feed = escape(alloc, "foo\nbar")?;
-        assert_eq!(rt; line_feed.as_str(), "\\x66oo\\nbar");
-        let separator = escape(alloc, "foo\u{2028}bar")?;
-        assert_eq!(rt; separator.as_str(), "\\x66oo\\u2028bar");
-        let emoji = escape(alloc, "foo😀_bar")?;
-        assert_eq!(rt; emoji.as_str(), "\\x66oo😀_bar");
-        let empty = escape(alloc, "")?;
-        assert_eq!(rt; empty.as_str(), "");
-    }
+fn a_string_of_bytes_is_found(rt: HostRuntime) -> Result<(), Fail> {
+    let needle = Needle::new(b"na");
+    assert_eq!(rt; needle.find_in(b"banana"), Some(2));
+    assert_eq!(rt; needle.find_in(b"band"), None);
     Ok(())
 }
 
 #[test]
-fn the_examples_of_sets_hold(rt: HostRuntime) -> Result<(), Fail> {
+fn a_text_is_escaped(rt: HostRuntime) -> Result<(), Fail> {
     let alloc = rt.alloc();
-    // intervals are added to a set
-    {
-        let mut set = CodePointSet::new(alloc);
-        set.add(Interval::new(0x61, 0x66))?;
-        set.add(Interval::new(0x67, 0x7A))?;
-        assert!(rt; set.contains(0x62));
-        // the two intervals touch, and are one
-        assert_eq!(rt; set.intervals(), [Interval::new(0x61, 0x7A)].as_slice());
-    }
-    // a set is intersected
-    {
-        let mut set = CodePointSet::new(alloc);
-        set.add(Interval::new(0x61, 0x66))?;
-        let mut other = CodePointSet::new(alloc);
-        other.add(Interval::new(0x65, 0x7A))?;
-        set.intersect(other.intervals())?;
-        assert_eq!(rt; set.intervals(), [Interval::new(0x65, 0x66)].as_slice());
-    }
-    // a set is inverted
-    {
-        let mut set = CodePointSet::new(alloc);
-        set.add(Interval::new(0, 0x60))?;
-        let inverted = set.inverted()?;
-        assert_eq!(rt;
-            inverted.intervals(),
-            [Interval::new(0x61, 0x10FFFF)].as_slice()
-        );
-    }
+    let pattern = escape(alloc, "1+1 = 2?")?;
+    assert_eq!(rt; pattern.as_str(), "\\x31\\+1\\x20\\x3d\\x202\\?");
     Ok(())
 }
 
 #[test]
-fn the_examples_of_tables_hold(rt: HostRuntime) -> Result<(), Fail> {
+fn each_kind_of_character_is_escaped(rt: HostRuntime) -> Result<(), Fail> {
     let alloc = rt.alloc();
-    // tables are made of parts
-    {
-        // the letters of ASCII and their cases
-        let folds = vec![in alloc; FoldRange::from(0x41, 26, 32, 1)]?;
-        let uppers = vec![in alloc; FoldRange::from(0x61, 26, -32, 1)]?;
-        let mut letters = CodePointSet::new(alloc);
-        letters.add(Interval::new(0x41, 0x5A))?;
-        letters.add(Interval::new(0x61, 0x7A))?;
-        let tables = Tables::new(
-            alloc,
-            folds,
-            uppers,
-            letters.try_clone(alloc)?,
-            letters,
-            Vec::new(alloc),
-            Vec::new(alloc),
-            Vec::new(alloc),
-            Vec::new(alloc),
-            Vec::new(alloc),
-        )?;
-        assert_eq!(rt; fold(0x41, &tables), 0x61);
-        assert!(rt; tables.id_start().contains(0x61));
-    }
-    // the small table has few properties
-    {
-        let tables = Tables::small(alloc)?;
-        assert_eq!(rt; fold(0x41, &tables), 0x61);
-        assert!(rt; tables.script(alloc, "Ogham")?.is_some());
-        assert!(rt; tables.script(alloc, "Greek")?.is_none());
-    }
+    let line_feed = escape(alloc, "foo\nbar")?;
+    assert_eq!(rt; line_feed.as_str(), "\\x66oo\\nbar");
+    let separator = escape(alloc, "foo\u{2028}bar")?;
+    assert_eq!(rt; separator.as_str(), "\\x66oo\\u2028bar");
+    let emoji = escape(alloc, "foo😀_bar")?;
+    assert_eq!(rt; emoji.as_str(), "\\x66oo😀_bar");
+    let empty = escape(alloc, "")?;
+    assert_eq!(rt; empty.as_str(), "");
+    Ok(())
+}
+
+#[test]
+fn intervals_are_added_to_a_set(rt: HostRuntime) -> Result<(), Fail> {
+    let alloc = rt.alloc();
+    let mut set = CodePointSet::new(alloc);
+    set.add(Interval::new(0x61, 0x66))?;
+    set.add(Interval::new(0x67, 0x7A))?;
+    assert!(rt; set.contains(0x62));
+    // the two intervals touch, and are one
+    assert_eq!(rt; set.intervals(), [Interval::new(0x61, 0x7A)].as_slice());
+    Ok(())
+}
+
+#[test]
+fn a_set_is_intersected(rt: HostRuntime) -> Result<(), Fail> {
+    let alloc = rt.alloc();
+    let mut set = CodePointSet::new(alloc);
+    set.add(Interval::new(0x61, 0x66))?;
+    let mut other = CodePointSet::new(alloc);
+    other.add(Interval::new(0x65, 0x7A))?;
+    set.intersect(other.intervals())?;
+    assert_eq!(rt; set.intervals(), [Interval::new(0x65, 0x66)].as_slice());
+    Ok(())
+}
+
+#[test]
+fn a_set_is_inverted(rt: HostRuntime) -> Result<(), Fail> {
+    let alloc = rt.alloc();
+    let mut set = CodePointSet::new(alloc);
+    set.add(Interval::new(0, 0x60))?;
+    let inverted = set.inverted()?;
+    assert_eq!(rt;
+        inverted.intervals(),
+        [Interval::new(0x61, 0x10FFFF)].as_slice()
+    );
+    Ok(())
+}
+
+#[test]
+fn tables_are_made_of_parts(rt: HostRuntime) -> Result<(), Fail> {
+    let alloc = rt.alloc();
+    // the letters of ASCII and their cases
+    let folds = vec![in alloc; FoldRange::from(0x41, 26, 32, 1)]?;
+    let uppers = vec![in alloc; FoldRange::from(0x61, 26, -32, 1)]?;
+    let mut letters = CodePointSet::new(alloc);
+    letters.add(Interval::new(0x41, 0x5A))?;
+    letters.add(Interval::new(0x61, 0x7A))?;
+    let tables = Tables::new(
+        alloc,
+        folds,
+        uppers,
+        letters.try_clone(alloc)?,
+        letters,
+        Vec::new(alloc),
+        Vec::new(alloc),
+        Vec::new(alloc),
+        Vec::new(alloc),
+        Vec::new(alloc),
+    )?;
+    assert_eq!(rt; fold(0x41, &tables), 0x61);
+    assert!(rt; tables.id_start().contains(0x61));
+    Ok(())
+}
+
+#[test]
+fn the_small_table_has_few_properties(rt: HostRuntime) -> Result<(), Fail> {
+    let alloc = rt.alloc();
+    let tables = Tables::small(alloc)?;
+    assert_eq!(rt; fold(0x41, &tables), 0x61);
+    assert!(rt; tables.script(alloc, "Ogham")?.is_some());
+    assert!(rt; tables.script(alloc, "Greek")?.is_none());
     Ok(())
 }
 
@@ -152,181 +154,202 @@ fn the_example_of_the_whole_table_holds(rt: HostRuntime) -> Result<(), Fail> {
 }
 
 #[test]
-fn the_examples_of_case_folding_hold(rt: HostRuntime) -> Result<(), Fail> {
+fn a_code_point_is_folded(rt: HostRuntime) -> Result<(), Fail> {
     let alloc = rt.alloc();
-    // a code point is folded
-    {
-        let tables = Tables::small(alloc)?;
-        // K, and KELVIN SIGN
-        assert_eq!(rt; fold(0x4B, &tables), 0x6B);
-        assert_eq!(rt; fold(0x212A, &tables), 0x6B);
-    }
-    // the upper case is one code point
-    {
-        let tables = Tables::small(alloc)?;
-        assert_eq!(rt; uppercase(0x6B, &tables), 0x4B);
-        // the upper case of LATIN SMALL LETTER SHARP S is two letters
-        assert_eq!(rt; uppercase(0xDF, &tables), 0xDF);
-    }
-    // a case folding is inverted
-    {
-        let tables = Tables::small(alloc)?;
-        // K, k and KELVIN SIGN
-        let points = unfold_char(alloc, 0x6B, &tables)?;
-        assert_eq!(rt; points.as_slice(), [0x4B, 0x6B, 0x212A].as_slice());
-    }
-    // a literal matches its class
-    {
-        let tables = Tables::small(alloc)?;
-        let folded = expand_code_point(alloc, 0x6B, true, true, &tables)?;
-        assert_eq!(rt; folded.as_slice(), [0x4B, 0x6B, 0x212A].as_slice());
-        // without the flag u: KELVIN SIGN is its own upper case
-        let upper = expand_code_point(alloc, 0x6B, true, false, &tables)?;
-        assert_eq!(rt; upper.as_slice(), [0x4B, 0x6B].as_slice());
-    }
-    // a set is closed under case folding
-    {
-        let tables = Tables::small(alloc)?;
-        let mut set = CodePointSet::new(alloc);
-        set.add_one(0x6B)?;
-        let closure = add_icase_code_points(set, &tables)?;
-        assert!(rt; closure.contains(0x4B));
-        assert!(rt; closure.contains(0x212A));
-    }
-    // literals are lowered
-    {
-        let tables = Tables::small(alloc)?;
-        let points = code_points(alloc, "12éK")?;
-        let pieces = lower_code_point_sequence(alloc, &points, true, false, &tables)?;
-        let printed = format!(in alloc; "{pieces:?}")?;
-        assert_eq!(rt;
-            printed.as_str(),
-            "[ByteSequence([49, 50]), CharSet([201, 233]), ByteSet([75, 107])]"
-        );
-    }
+    let tables = Tables::small(alloc)?;
+    // K, and KELVIN SIGN
+    assert_eq!(rt; fold(0x4B, &tables), 0x6B);
+    assert_eq!(rt; fold(0x212A, &tables), 0x6B);
     Ok(())
 }
 
 #[test]
-fn the_examples_of_nodes_hold(rt: HostRuntime) -> Result<(), Fail> {
+fn the_upper_case_is_one_code_point(rt: HostRuntime) -> Result<(), Fail> {
     let alloc = rt.alloc();
-    // nodes are tested
-    {
-        assert!(rt; Node::MatchAny.matches_exactly_one_char());
-        assert!(rt; !Node::Empty.matches_exactly_one_char());
-
-        assert!(rt; Node::make_always_fails(alloc).match_always_fails());
-        assert!(rt; !Node::Empty.match_always_fails());
-    }
-    // parts are reversed in a lookbehind
-    {
-        let parts = vec![in alloc; Node::Char { c: 0x61 }, Node::Char { c: 0x62 }]?;
-        let mut node = Node::Cat(parts);
-        // inside a lookbehind
-        let mut walk = Walk::root(false).looking(true);
-        node.reverse_cats(&mut walk);
-        let printed = node.to_string(alloc)?;
-        assert_eq!(rt; printed.as_str(), "Cat\n..'98'\n..'97'\n");
-    }
-    // a node is duplicated
-    {
-        let node = Node::Char { c: 0x61 };
-        let copy = node.try_duplicate(alloc, 100)?;
-        assert!(rt; matches!(&copy, Some(Node::Char { c: 0x61 })));
-        assert!(rt; node.try_duplicate(alloc, 101)?.is_none());
-    }
-    // a tree is well formed
-    {
-        let node = Node::CaptureGroup {
-            id: 1,
-            contents: Box::new(alloc, Node::Empty)?,
-            name: None,
-        };
-        let flags = Flags::default();
-        let regex = Regex { node, flags };
-        // the id of the first group is 0
-        assert!(rt; !regex.is_well_formed());
-    }
+    let tables = Tables::small(alloc)?;
+    assert_eq!(rt; uppercase(0x6B, &tables), 0x4B);
+    // the upper case of LATIN SMALL LETTER SHARP S is two letters
+    assert_eq!(rt; uppercase(0xDF, &tables), 0xDF);
     Ok(())
 }
 
 #[test]
-fn the_examples_of_walks_hold(rt: HostRuntime) -> Result<(), Fail> {
+fn a_case_folding_is_inverted(rt: HostRuntime) -> Result<(), Fail> {
     let alloc = rt.alloc();
-    // literals are counted
-    {
-        let tables = Tables::small(alloc)?;
-        let points = code_points(alloc, "ab*|.")?;
-        let regex = try_parse(alloc, &points, Flags::default(), &tables)?;
-        let mut literals = 0_usize;
-        walk(
-            false,
-            regex.flags.unicode,
-            &regex.node,
-            &mut |node: &Node, _walk: &mut Walk| {
-                if matches!(node, Node::Char { .. }) {
-                    literals = literals.wrapping_add(1);
-                }
-            },
-        );
-        assert_eq!(rt; literals, 2);
-    }
-    // a dot is made to match line terminators
-    {
-        let tables = Tables::small(alloc)?;
-        let points = code_points(alloc, "a.")?;
-        let mut regex = try_parse(alloc, &points, Flags::default(), &tables)?;
-        walk_mut(
-            true,
-            regex.flags.unicode,
-            &mut regex.node,
-            &mut |node: &mut Node, _walk: &mut Walk| {
-                if matches!(node, Node::MatchAnyExceptLineTerminator) {
-                    *node = Node::MatchAny;
-                }
-            },
-        );
-        let printed = regex.to_string(alloc)?;
-        assert_eq!(rt;
-            printed.as_str(),
-            "Cat\n..Cat\n....'97'\n....MatchAny\n..Goal\n"
-        );
-    }
+    let tables = Tables::small(alloc)?;
+    // K, k and KELVIN SIGN
+    let points = unfold_char(alloc, 0x6B, &tables)?;
+    assert_eq!(rt; points.as_slice(), [0x4B, 0x6B, 0x212A].as_slice());
     Ok(())
 }
 
 #[test]
-fn the_examples_of_parsing_hold(rt: HostRuntime) -> Result<(), Fail> {
+fn a_literal_matches_its_class(rt: HostRuntime) -> Result<(), Fail> {
     let alloc = rt.alloc();
-    // a pattern is parsed
-    {
-        let tables = Tables::small(alloc)?;
-        let points = code_points(alloc, "a|b")?;
-        let regex = try_parse(alloc, &points, Flags::default(), &tables)?;
-        let printed = regex.to_string(alloc)?;
-        assert_eq!(rt;
-            printed.as_str(),
-            "Cat\n..Alt\n....'97'\n....'98'\n..Goal\n"
-        );
-    }
-    // each node has a span
-    {
-        let tables = Tables::small(alloc)?;
-        let points = code_points(alloc, "a*")?;
-        let parsed = try_parse_with_spans(alloc, &points, Flags::default(), &tables)?;
-        // the letter, the loop, the end, and the whole pattern
-        assert_eq!(rt; parsed.spans.len(), 4);
-        assert_eq!(rt; parsed.spans[0], Span { start: 0, end: 1 });
-        assert_eq!(rt; parsed.spans[1], Span { start: 0, end: 2 });
-        assert_eq!(rt; parsed.spans[2], Span { start: 2, end: 2 });
-        assert_eq!(rt; parsed.spans[3], Span { start: 0, end: 2 });
-    }
-    // the nodes of a pattern are bounded
-    {
-        let points = code_points(alloc, "a|b")?;
-        // 3, one for each code point, and one more for the bar
-        assert_eq!(rt; node_bound(&points, Flags::default()), 7);
-    }
+    let tables = Tables::small(alloc)?;
+    let folded = expand_code_point(alloc, 0x6B, true, true, &tables)?;
+    assert_eq!(rt; folded.as_slice(), [0x4B, 0x6B, 0x212A].as_slice());
+    // without the flag u: KELVIN SIGN is its own upper case
+    let upper = expand_code_point(alloc, 0x6B, true, false, &tables)?;
+    assert_eq!(rt; upper.as_slice(), [0x4B, 0x6B].as_slice());
+    Ok(())
+}
+
+#[test]
+fn a_set_is_closed_under_case_folding(rt: HostRuntime) -> Result<(), Fail> {
+    let alloc = rt.alloc();
+    let tables = Tables::small(alloc)?;
+    let mut set = CodePointSet::new(alloc);
+    set.add_one(0x6B)?;
+    let closure = add_icase_code_points(set, &tables)?;
+    assert!(rt; closure.contains(0x4B));
+    assert!(rt; closure.contains(0x212A));
+    Ok(())
+}
+
+#[test]
+fn literals_are_lowered(rt: HostRuntime) -> Result<(), Fail> {
+    let alloc = rt.alloc();
+    let tables = Tables::small(alloc)?;
+    let points = code_points(alloc, "12éK")?;
+    let pieces = lower_code_point_sequence(alloc, &points, true, false, &tables)?;
+    let printed = format!(in alloc; "{pieces:?}")?;
+    assert_eq!(rt;
+        printed.as_str(),
+        "[ByteSequence([49, 50]), CharSet([201, 233]), ByteSet([75, 107])]"
+    );
+    Ok(())
+}
+
+#[test]
+fn nodes_are_tested(rt: HostRuntime) -> Result<(), Fail> {
+    let alloc = rt.alloc();
+    assert!(rt; Node::MatchAny.matches_exactly_one_char());
+    assert!(rt; !Node::Empty.matches_exactly_one_char());
+
+    assert!(rt; Node::make_always_fails(alloc).match_always_fails());
+    assert!(rt; !Node::Empty.match_always_fails());
+    Ok(())
+}
+
+#[test]
+fn parts_are_reversed_in_a_lookbehind(rt: HostRuntime) -> Result<(), Fail> {
+    let alloc = rt.alloc();
+    let parts = vec![in alloc; Node::Char { c: 0x61 }, Node::Char { c: 0x62 }]?;
+    let mut node = Node::Cat(parts);
+    // inside a lookbehind
+    let mut walk = Walk::root(false).looking(true);
+    node.reverse_cats(&mut walk);
+    let printed = node.to_string(alloc)?;
+    assert_eq!(rt; printed.as_str(), "Cat\n..'98'\n..'97'\n");
+    Ok(())
+}
+
+#[test]
+fn a_node_is_duplicated(rt: HostRuntime) -> Result<(), Fail> {
+    let alloc = rt.alloc();
+    let node = Node::Char { c: 0x61 };
+    let copy = node.try_duplicate(alloc, 100)?;
+    assert!(rt; matches!(&copy, Some(Node::Char { c: 0x61 })));
+    assert!(rt; node.try_duplicate(alloc, 101)?.is_none());
+    Ok(())
+}
+
+#[test]
+fn a_tree_is_well_formed(rt: HostRuntime) -> Result<(), Fail> {
+    let alloc = rt.alloc();
+    let node = Node::CaptureGroup {
+        id: 1,
+        contents: Box::new(alloc, Node::Empty)?,
+        name: None,
+    };
+    let flags = Flags::default();
+    let regex = Regex { node, flags };
+    // the id of the first group is 0
+    assert!(rt; !regex.is_well_formed());
+    Ok(())
+}
+
+#[test]
+fn literals_are_counted(rt: HostRuntime) -> Result<(), Fail> {
+    let alloc = rt.alloc();
+    let tables = Tables::small(alloc)?;
+    let points = code_points(alloc, "ab*|.")?;
+    let regex = try_parse(alloc, &points, Flags::default(), &tables)?;
+    let mut literals = 0_usize;
+    walk(
+        false,
+        regex.flags.unicode,
+        &regex.node,
+        &mut |node: &Node, _walk: &mut Walk| {
+            if matches!(node, Node::Char { .. }) {
+                literals = literals.wrapping_add(1);
+            }
+        },
+    );
+    assert_eq!(rt; literals, 2);
+    Ok(())
+}
+
+#[test]
+fn a_dot_is_made_to_match_line_terminators(rt: HostRuntime) -> Result<(), Fail> {
+    let alloc = rt.alloc();
+    let tables = Tables::small(alloc)?;
+    let points = code_points(alloc, "a.")?;
+    let mut regex = try_parse(alloc, &points, Flags::default(), &tables)?;
+    walk_mut(
+        true,
+        regex.flags.unicode,
+        &mut regex.node,
+        &mut |node: &mut Node, _walk: &mut Walk| {
+            if matches!(node, Node::MatchAnyExceptLineTerminator) {
+                *node = Node::MatchAny;
+            }
+        },
+    );
+    let printed = regex.to_string(alloc)?;
+    assert_eq!(rt;
+        printed.as_str(),
+        "Cat\n..Cat\n....'97'\n....MatchAny\n..Goal\n"
+    );
+    Ok(())
+}
+
+#[test]
+fn a_pattern_is_parsed(rt: HostRuntime) -> Result<(), Fail> {
+    let alloc = rt.alloc();
+    let tables = Tables::small(alloc)?;
+    let points = code_points(alloc, "a|b")?;
+    let regex = try_parse(alloc, &points, Flags::default(), &tables)?;
+    let printed = regex.to_string(alloc)?;
+    assert_eq!(rt;
+        printed.as_str(),
+        "Cat\n..Alt\n....'97'\n....'98'\n..Goal\n"
+    );
+    Ok(())
+}
+
+#[test]
+fn each_node_has_a_span(rt: HostRuntime) -> Result<(), Fail> {
+    let alloc = rt.alloc();
+    let tables = Tables::small(alloc)?;
+    let points = code_points(alloc, "a*")?;
+    let parsed = try_parse_with_spans(alloc, &points, Flags::default(), &tables)?;
+    // the letter, the loop, the end, and the whole pattern
+    assert_eq!(rt; parsed.spans.len(), 4);
+    assert_eq!(rt; parsed.spans[0], Span { start: 0, end: 1 });
+    assert_eq!(rt; parsed.spans[1], Span { start: 0, end: 2 });
+    assert_eq!(rt; parsed.spans[2], Span { start: 2, end: 2 });
+    assert_eq!(rt; parsed.spans[3], Span { start: 0, end: 2 });
+    Ok(())
+}
+
+#[test]
+fn the_nodes_of_a_pattern_are_bounded(rt: HostRuntime) -> Result<(), Fail> {
+    let alloc = rt.alloc();
+    let points = code_points(alloc, "a|b")?;
+    // 3, one for each code point, and one more for the bar
+    assert_eq!(rt; node_bound(&points, Flags::default()), 7);
     Ok(())
 }
 
@@ -369,36 +392,39 @@ impl Rewrite for Counter {
 }
 
 #[test]
-fn the_examples_of_rewriting_hold(rt: HostRuntime) -> Result<(), Fail> {
+fn a_rewrite_is_applied_to_each_node(rt: HostRuntime) -> Result<(), Fail> {
     let alloc = rt.alloc();
-    // a rewrite is applied to each node
-    {
-        let tables = Tables::small(alloc)?;
-        let points = code_points(alloc, "a|b")?;
-        let mut regex = try_parse(alloc, &points, Flags::default(), &tables)?;
-        let mut counter = Counter { nodes: 0 };
-        let changed = run_pass(&mut regex, &mut counter)?;
-        assert!(rt; !changed);
-        // the two letters, the alternation, the end, and the root
-        assert_eq!(rt; counter.nodes, 5);
-    }
-    // a tree is brought into normal form
-    {
-        let tables = Tables::small(alloc)?;
-        let points = code_points(alloc, "[ab]")?;
-        let mut regex = try_parse(alloc, &points, Flags::default(), &tables)?;
-        optimize(alloc, &mut regex)?;
-        let printed = regex.to_string(alloc)?;
-        assert_eq!(rt; printed.as_str(), "Cat\n..ByteSet2 0x61 0x62\n..Goal\n");
-    }
-    // a pattern is parsed and optimized
-    {
-        let tables = Tables::small(alloc)?;
-        let points = code_points(alloc, "abc")?;
-        let (regex, optimized) = parse_and_optimize(alloc, &points, Flags::default(), &tables)?;
-        optimized?;
-        let printed = regex.to_string(alloc)?;
-        assert_eq!(rt; printed.as_str(), "Cat\n..ByteSeq3 0x616263\n..Goal\n");
-    }
+    let tables = Tables::small(alloc)?;
+    let points = code_points(alloc, "a|b")?;
+    let mut regex = try_parse(alloc, &points, Flags::default(), &tables)?;
+    let mut counter = Counter { nodes: 0 };
+    let changed = run_pass(&mut regex, &mut counter)?;
+    assert!(rt; !changed);
+    // the two letters, the alternation, the end, and the root
+    assert_eq!(rt; counter.nodes, 5);
+    Ok(())
+}
+
+#[test]
+fn a_tree_is_brought_into_normal_form(rt: HostRuntime) -> Result<(), Fail> {
+    let alloc = rt.alloc();
+    let tables = Tables::small(alloc)?;
+    let points = code_points(alloc, "[ab]")?;
+    let mut regex = try_parse(alloc, &points, Flags::default(), &tables)?;
+    optimize(alloc, &mut regex)?;
+    let printed = regex.to_string(alloc)?;
+    assert_eq!(rt; printed.as_str(), "Cat\n..ByteSet2 0x61 0x62\n..Goal\n");
+    Ok(())
+}
+
+#[test]
+fn a_pattern_is_parsed_and_optimized(rt: HostRuntime) -> Result<(), Fail> {
+    let alloc = rt.alloc();
+    let tables = Tables::small(alloc)?;
+    let points = code_points(alloc, "abc")?;
+    let (regex, optimized) = parse_and_optimize(alloc, &points, Flags::default(), &tables)?;
+    optimized?;
+    let printed = regex.to_string(alloc)?;
+    assert_eq!(rt; printed.as_str(), "Cat\n..ByteSeq3 0x616263\n..Goal\n");
     Ok(())
 }

@@ -4,54 +4,94 @@ use regress::{
     Error, Flags, FlagsError, Nonlinear, Options, Regex, SearchError, Tables, escape, parse_flags,
 };
 use std::alloc::Global;
+use std::ops::Range;
 use std::sync::Arc;
 use std::test::Fail;
 
 #[test]
-fn a_regular_expression_describes_itself(rt: HostRuntime) -> Result<(), Fail> {
+fn a_regular_expression_has_the_source_and_the_flags_of_its_pattern(
+    rt: HostRuntime,
+) -> Result<(), Fail> {
     let alloc = rt.alloc();
-    let regex = Regex::with_flags(alloc, "(?<x>a)|(?<y>b)|(c)", "ig")?;
-    assert_eq!(rt; regex.source(), "(?<x>a)|(?<y>b)|(c)");
+    let regex = Regex::with_flags(alloc, "(?<x>a)|(c)", "ig")?;
+    assert_eq!(rt; regex.source(), "(?<x>a)|(c)");
     let text = format!(in alloc; "{regex}")?;
-    assert_eq!(rt; text.as_str(), "(?<x>a)|(?<y>b)|(c)");
+    assert_eq!(rt; text.as_str(), "(?<x>a)|(c)");
     assert!(rt; regex.flags().icase);
-    assert_eq!(rt; regex.group_count(), 3);
-    let mut names = regex.group_names();
-    assert_eq!(rt; names.next(), Some(Some("x")));
-    assert_eq!(rt; names.next(), Some(Some("y")));
-    assert_eq!(rt; names.next(), Some(None));
-    assert_eq!(rt; names.next(), None);
     Ok(())
 }
 
 #[test]
-fn a_regular_expression_searches(rt: HostRuntime) -> Result<(), Fail> {
+fn the_names_of_groups_are_listed(rt: HostRuntime) -> Result<(), Fail> {
     let alloc = rt.alloc();
-    let regex = Regex::with_flags(alloc, "(?<x>a)|(?<y>b)|(c)", "i")?;
+    let regex = Regex::new(alloc, "(?<x>a)|(?<y>b)|(c)")?;
+    assert_eq!(rt; regex.group_count(), 3);
+    let mut names = Vec::new(alloc);
+    for name in regex.group_names() {
+        names.push(name)?;
+    }
+    assert_eq!(rt; names.as_slice(), [Some("x"), Some("y"), None].as_slice());
+    Ok(())
+}
+
+#[test]
+fn a_text_is_tested_for_a_match(rt: HostRuntime) -> Result<(), Fail> {
+    let alloc = rt.alloc();
+    let regex = Regex::with_flags(alloc, "a|b", "i")?;
     assert!(rt; regex.is_match(alloc, "xB")?);
     assert!(rt; !regex.is_match(alloc, "x")?);
+    Ok(())
+}
+
+#[test]
+fn the_groups_of_a_match_are_listed(rt: HostRuntime) -> Result<(), Fail> {
+    let alloc = rt.alloc();
+    let regex = Regex::new(alloc, "(?<x>a)|(?<y>b)|(c)")?;
     match regex.find_at(alloc, "ab", 1)? {
         Some(found) => {
-            assert_eq!(rt; found.start(), 1);
-            assert_eq!(rt; found.named_group("y"), Some(1..2));
-            assert_eq!(rt; found.named_group("x"), None);
-            let mut groups = found.groups();
-            assert_eq!(rt; groups.next(), Some(Some(1..2)));
-            assert_eq!(rt; groups.next(), Some(None));
-            assert_eq!(rt; groups.next(), Some(Some(1..2)));
-            assert_eq!(rt; groups.next(), Some(None));
-            assert_eq!(rt; groups.next(), None);
-            let mut named = found.named_groups();
-            assert_eq!(rt; named.next(), Some(("x", None)));
-            assert_eq!(rt; named.next(), Some(("y", Some(1..2))));
-            assert_eq!(rt; named.next(), None);
+            let mut groups = Vec::new(alloc);
+            for group in found.groups() {
+                groups.push(group)?;
+            }
+            let wanted = [Some(1..2), None, Some(1..2), None];
+            assert_eq!(rt; groups.as_slice(), wanted.as_slice());
         }
         None => assert!(rt; false, "it matches"),
     }
-    let all = regex.find_all(alloc, "bxc")?;
-    assert_eq!(rt; all.len(), 2);
+    Ok(())
+}
+
+#[test]
+fn the_named_groups_of_a_match_are_listed(rt: HostRuntime) -> Result<(), Fail> {
+    let alloc = rt.alloc();
+    let regex = Regex::new(alloc, "(?<x>a)|(?<y>b)|(c)")?;
+    match regex.find_at(alloc, "ab", 1)? {
+        Some(found) => {
+            assert_eq!(rt; found.named_group("x"), None);
+            let mut named = Vec::new(alloc);
+            for group in found.named_groups() {
+                named.push(group)?;
+            }
+            let wanted = [("x", None), ("y", Some(1..2))];
+            assert_eq!(rt; named.as_slice(), wanted.as_slice());
+        }
+        None => assert!(rt; false, "it matches"),
+    }
+    Ok(())
+}
+
+#[test]
+fn matches_from_an_offset_on_are_found(rt: HostRuntime) -> Result<(), Fail> {
+    let alloc = rt.alloc();
+    let regex = Regex::new(alloc, "b|c")?;
+    assert_eq!(rt; regex.find_all(alloc, "bxc")?.len(), 2);
     assert_eq!(rt; regex.find_from(alloc, "bxc", 1).count(), 1);
-    assert_eq!(rt; escape(alloc, "(a")?.as_str(), "\\(a");
+    Ok(())
+}
+
+#[test]
+fn a_text_is_escaped(rt: HostRuntime) -> Result<(), Fail> {
+    assert_eq!(rt; escape(rt.alloc(), "(a")?.as_str(), "\\(a");
     Ok(())
 }
 
@@ -111,45 +151,49 @@ fn a_pattern_may_have_lone_surrogates(rt: HostRuntime) -> Result<(), Fail> {
 }
 
 #[test]
-fn a_regular_expression_has_limits(rt: HostRuntime) -> Result<(), Fail> {
-    let alloc = rt.alloc();
-    let tables = Arc::new(alloc, Tables::small(alloc)?)?;
-    match Regex::new(alloc, "a(") {
+fn a_syntax_error_has_a_position(rt: HostRuntime) -> Result<(), Fail> {
+    match Regex::new(rt.alloc(), "a(") {
         Err(Error::Syntax { position, .. }) => assert_eq!(rt; position, 1),
         _ => assert!(rt; false, "it is rejected"),
     }
-    let options = Options {
+    Ok(())
+}
+
+#[test]
+fn a_pattern_that_is_too_large_is_rejected(rt: HostRuntime) -> Result<(), Fail> {
+    let alloc = rt.alloc();
+    let tables = Arc::new(alloc, Tables::small(alloc)?)?;
+    let few_nodes = Options {
         nodes: 5,
         ..Options::default()
     };
-    match Regex::with_options(alloc, "abc", Flags::default(), options, &tables) {
-        Err(Error::TooLarge) => {}
-        _ => assert!(rt; false, "it is too large"),
-    }
-    let options = Options {
+    let few_instructions = Options {
         instructions: 5,
         ..Options::default()
     };
-    match Regex::with_options(alloc, "[ab]{5}", Flags::default(), options, &tables) {
-        Err(Error::TooLarge) => {}
-        _ => assert!(rt; false, "its program is too long"),
+    for (pattern, options) in [("abc", few_nodes), ("[ab]{5}", few_instructions)] {
+        let result = Regex::with_options(alloc, pattern, Flags::default(), options, &tables);
+        assert!(rt; matches!(result, Err(Error::TooLarge)), "{pattern}");
     }
-    let options = Options {
-        steps: 10,
-        tables: 0,
-        ..Options::default()
-    };
-    let regex = Regex::with_options(alloc, "(a*)*b", Flags::default(), options, &tables)?;
-    match regex.find(alloc, "aaaaaaaaaaaaaaaaaaaaaa") {
-        Err(SearchError::OutOfSteps) => {}
-        _ => assert!(rt; false, "it takes too many steps"),
-    }
+    Ok(())
+}
+
+#[test]
+fn a_search_by_backtracking_has_a_step_limit(rt: HostRuntime) -> Result<(), Fail> {
+    let alloc = rt.alloc();
+    let regex = limited(alloc, "(a*)*b", 10, 0)?;
+    assert!(rt; is_out_of_steps(alloc, &regex, MANY));
     assert_eq!(rt; regex.nonlinear(), Some(Nonlinear::TooManyInstructions));
-    let mut matches = regex.find_iter(alloc, "aaaaaaaaaaaaaaaaaaaaaa");
-    match matches.next() {
-        Some(Err(SearchError::OutOfSteps)) => {}
-        _ => assert!(rt; false, "it takes too many steps"),
-    }
+    Ok(())
+}
+
+#[test]
+fn an_iteration_ends_after_the_step_limit(rt: HostRuntime) -> Result<(), Fail> {
+    let alloc = rt.alloc();
+    let regex = limited(alloc, "(a*)*b", 10, 0)?;
+    let mut matches = regex.find_iter(alloc, MANY);
+    let first = matches.next();
+    assert!(rt; matches!(first, Some(Err(SearchError::OutOfSteps))));
     assert!(rt; matches.next().is_none());
     assert_eq!(rt; matches.steps(), 10);
     Ok(())
@@ -158,94 +202,93 @@ fn a_regular_expression_has_limits(rt: HostRuntime) -> Result<(), Fail> {
 #[test]
 fn a_linear_search_has_no_step_limit(rt: HostRuntime) -> Result<(), Fail> {
     let alloc = rt.alloc();
-    let tables = Arc::new(alloc, Tables::small(alloc)?)?;
-    let few = Options {
-        steps: 10,
-        ..Options::default()
-    };
-    let linear = Regex::with_options(alloc, "(a*)*b", Flags::default(), few, &tables)?;
-    assert!(rt; linear.is_linear());
-    assert_eq!(rt; linear.nonlinear(), None);
-    assert!(rt; linear.steps_per_character().is_some());
-    assert!(rt; !linear.is_match(alloc, "aaaaaaaaaaaaaaaaaaaaaaaaaaaaaaaaaaaaaaaaaaaa")?);
-    let with_reference = Regex::with_options(alloc, "(a*)*\\1b", Flags::default(), few, &tables)?;
-    assert!(rt; !with_reference.is_linear());
-    assert!(rt; with_reference.steps_per_character().is_none());
-    let looking = Regex::new(alloc, "(?=(a))")?;
-    assert_eq!(rt; looking.nonlinear(), Some(Nonlinear::CapturingLookaround));
-    assert!(rt; looking.is_find_linear());
-    assert!(rt; !with_reference.is_find_linear());
-    match with_reference.find(alloc, "aaaaaaaaaaaaaaaaaaaaaa") {
-        Err(SearchError::OutOfSteps) => {}
-        _ => assert!(rt; false, "it takes too many steps"),
-    }
+    let regex = limited(alloc, "(a*)*b", 10, 1000)?;
+    assert!(rt; regex.is_linear());
+    assert_eq!(rt; regex.nonlinear(), None);
+    assert!(rt; regex.steps_per_character().is_some());
+    assert!(rt; !regex.is_match(alloc, MANY)?);
     Ok(())
 }
 
-// In each of 3,000 iterations the lookahead matches all a's after it, some 4.5 million steps of backtracking. An iteration
-// unsets the group (RepeatMatcher, 22.2.2.3.1 of ECMA-262), so it has what the last one captures: the last a.
 #[test]
-fn a_lookahead_captures_in_linear_time(rt: HostRuntime) -> Result<(), Fail> {
+fn a_search_with_a_back_reference_is_not_linear(rt: HostRuntime) -> Result<(), Fail> {
     let alloc = rt.alloc();
-    let pattern = "(?:(?=(a*))a)*b";
-    let text = "a".repeat(alloc, 3000)?;
-    let ended = format!(in alloc; "{text}b")?;
-    let backtracking = with_few_steps(alloc, pattern, 0)?;
-    assert!(rt; !backtracking.is_find_linear());
-    assert!(rt; backtracking.find_steps_per_character().is_none());
-    assert!(rt;
-        matches!(
-            backtracking.find(alloc, &ended),
-            Err(SearchError::OutOfSteps)
-        )
-    );
-    let regex = with_few_steps(alloc, pattern, 1000)?;
+    let regex = limited(alloc, "(a*)*\\1b", 10, 1000)?;
+    assert!(rt; !regex.is_linear());
+    assert!(rt; !regex.is_find_linear());
+    assert!(rt; regex.steps_per_character().is_none());
+    assert!(rt; is_out_of_steps(alloc, &regex, MANY));
+    Ok(())
+}
+
+#[test]
+fn a_lookaround_that_captures_is_linear_for_one_match(rt: HostRuntime) -> Result<(), Fail> {
+    let regex = Regex::new(rt.alloc(), "(?=(a))")?;
+    assert_eq!(rt; regex.nonlinear(), Some(Nonlinear::CapturingLookaround));
     assert!(rt; regex.is_find_linear());
     assert!(rt; regex.find_steps_per_character().is_some());
-    assert!(rt; !regex.is_match(alloc, &text)?);
-    match regex.find(alloc, &ended)? {
-        Some(found) => {
-            assert_eq!(rt; found.range(), 0..3001);
-            assert_eq!(rt; found.group(1), Some(2999..3000));
-        }
-        None => assert!(rt; false, "it matches"),
-    }
     Ok(())
 }
 
-// In each of 3,000 iterations the lookbehind matches all a's before it, from right to left. In the last one it captures
-// all of them.
+// In each of 3,000 iterations the lookahead matches all a's after it, some 4.5 million steps of backtracking, and the
+// lookbehind all a's before it, from right to left. An iteration unsets the group (RepeatMatcher, 22.2.2.3.1 of ECMA-262),
+// so it has what the last iteration captures: the last a, and all of them.
 #[test]
-fn a_lookbehind_captures_in_linear_time(rt: HostRuntime) -> Result<(), Fail> {
+fn lookarounds_capture_in_linear_time(rt: HostRuntime) -> Result<(), Fail> {
     let alloc = rt.alloc();
-    let pattern = "(?:a(?<=(a*)))*b";
     let text = "a".repeat(alloc, 3000)?;
     let ended = format!(in alloc; "{text}b")?;
-    let backtracking = with_few_steps(alloc, pattern, 0)?;
-    assert!(rt;
-        matches!(
-            backtracking.find(alloc, &ended),
-            Err(SearchError::OutOfSteps)
-        )
-    );
-    let regex = with_few_steps(alloc, pattern, 1000)?;
-    assert!(rt; regex.is_find_linear());
-    assert!(rt; !regex.is_match(alloc, &text)?);
-    match regex.find(alloc, &ended)? {
-        Some(found) => {
-            assert_eq!(rt; found.range(), 0..3001);
-            assert_eq!(rt; found.group(1), Some(0..3000));
-        }
-        None => assert!(rt; false, "it matches"),
+    for (pattern, group) in [
+        ("(?:(?=(a*))a)*b", 2999..3000),
+        ("(?:a(?<=(a*)))*b", 0..3000),
+    ] {
+        let found = first_group(alloc, pattern, &ended)?;
+        assert_eq!(rt; found, Some((0..3001, Some(group))), "{pattern}");
+        assert_eq!(rt; first_group(alloc, pattern, &text)?, None, "{pattern}");
     }
     Ok(())
 }
 
-/// Compiles a pattern for searches of at most a million steps if they are not linear, with tables for programs of at most
+#[test]
+fn lookarounds_that_capture_take_quadratic_time_by_backtracking(
+    rt: HostRuntime,
+) -> Result<(), Fail> {
+    let alloc = rt.alloc();
+    let text = "a".repeat(alloc, 3000)?;
+    for pattern in ["(?:(?=(a*))a)*b", "(?:a(?<=(a*)))*b"] {
+        let regex = limited(alloc, pattern, 1_000_000, 0)?;
+        assert!(rt; regex.find_steps_per_character().is_none(), "{pattern}");
+        assert!(rt; is_out_of_steps(alloc, &regex, &text), "{pattern}");
+    }
+    Ok(())
+}
+
+/// A text on which nested loops backtrack exponentially.
+const MANY: &str = "aaaaaaaaaaaaaaaaaaaaaaaaaaaaaaaaaaaaaaaaaaaa";
+
+/// Returns the range of the first match and that of its first group, of a search in linear time.
+fn first_group(
+    alloc: Global,
+    pattern: &str,
+    text: &str,
+) -> Result<Option<(Range<usize>, Option<Range<usize>>)>, Fail> {
+    let regex = limited(alloc, pattern, 1_000_000, 1000)?;
+    match regex.find(alloc, text)? {
+        Some(found) => Ok(Some((found.range(), found.group(1)))),
+        None => Ok(None),
+    }
+}
+
+/// Returns whether a search is out of steps.
+fn is_out_of_steps(alloc: Global, regex: &Regex, text: &str) -> bool {
+    matches!(regex.find(alloc, text), Err(SearchError::OutOfSteps))
+}
+
+/// Compiles a pattern for searches of at most `steps` steps if they are not linear, with tables for programs of at most
 /// `tables` instructions.
-fn with_few_steps(alloc: Global, pattern: &str, tables: usize) -> Result<Regex, Fail> {
+fn limited(alloc: Global, pattern: &str, steps: u64, tables: usize) -> Result<Regex, Fail> {
     let options = Options {
-        steps: 1_000_000,
+        steps,
         tables,
         ..Options::default()
     };
