@@ -66,6 +66,11 @@ pub same_runs : (P : Code → Tables → List ℕ → Type 0) (a b : Backtracker
     P (run_code a) (run_tables a) (run_text a)
 same_runs P a b same = same_parts P _ _ _ _ _ _ same.code same.tables same.text
 
+-- an input for the same program and text
+pub same_input : (a b : Backtracker) → SameRuns a b → (input : Input) → IsFor (run_code a) (run_tables a) (run_text a) input →
+    IsFor (run_code b) (run_tables b) (run_text b) input
+same_input a b same input = same_parts (λ c t x. IsFor c t x input) _ _ _ _ _ _ (sym same.code) (sym same.tables) (sym same.text)
+
 pub same_solved : (a b : Backtracker) (P : List MatchState → Type 0) (k : ℕ) → SameRuns a b →
     ((outs : ℕ → Out) → AreOutcomes b outs → P (outcomes_at b outs k)) → (outs : ℕ → Out) → AreOutcomes a outs → P (outcomes_at a outs k)
 same_solved a b P k =

@@ -96,7 +96,38 @@ impl<'c, 'x> Backtracker<'c, 'x> {
         ensures spent { IfOk result (λ outcome. outcome ≡ OutOfSteps → left.new ≡ 0) }
         ensures same { SameRuns self.old self.new }
     {
-        let response = self.run_at(alloc, position, left)?;
+        let input = input_of(self.code, self.known, self.text);
+        self.match_in(alloc, &input, position, left)
+    }
+
+    /// Matches at exactly the byte offset `position`, as [`Backtracker::match_at`].
+    ///
+    /// # Preconditions
+    /// The input is for the pattern and the text of the backtracker, and the position is inside the text.
+    ///
+    /// # Errors
+    /// Returns [`AllocError`] if an allocation fails.
+    #[inline(always)]
+    pub(crate) fn match_in(
+        &mut self,
+        alloc: Global,
+        input: &Input<'_, '_>,
+        position: usize,
+        left: &mut u64,
+    ) -> Result<Outcome, AllocError>
+        requires input { IsFor (run_code self.old) (run_tables self.old) (run_text self.old) input.now }
+        requires position { position ≤ length (run_text self.old) }
+        ensures solved { IfOk result (λ outcome. (outs : ℕ → Out) → AreOutcomes self.old outs →
+            IsFirst position (outcomes_at self.old outs position) outcome) }
+        ensures first { IfOk result (λ outcome. (t : Tree) → IsPattern (code_routines (run_code self.old)) t →
+            IsFirst position (tree_outcomes_at self.old t position) outcome) }
+        ensures left { IfOk result (λ _. left.new ≤ left.old) }
+        ensures costs { IfOk result (λ _. (outs : ℕ → Out) (costs : ℕ → Cost) → AreCosts self.old outs costs →
+            left.old ≤ left.new + cost_at self.old costs position) }
+        ensures spent { IfOk result (λ outcome. outcome ≡ OutOfSteps → left.new ≡ 0) }
+        ensures same { SameRuns self.old self.new }
+    {
+        let response = self.run_at(alloc, input, position, left)?;
         Ok(self.outcome_of(alloc, response, position))
     }
 
@@ -125,10 +156,12 @@ impl<'c, 'x> Backtracker<'c, 'x> {
     fn run_at(
         &mut self,
         alloc: Global,
+        input: &Input<'_, '_>,
         position: usize,
         left: &mut u64,
     ) -> Result<Response, AllocError>
-        requires { position ≤ length (run_text self.old) }
+        requires input { IsFor (run_code self.old) (run_tables self.old) (run_text self.old) input.now }
+        requires position { position ≤ length (run_text self.old) }
         ensures solved { IfOk result (λ response. (outs : ℕ → Out) → AreOutcomes self.old outs →
             Answers (outcomes_at self.old outs position) self.new.machine response) }
         ensures first { IfOk result (λ response. (t : Tree) → IsPattern (code_routines (run_code self.old)) t →
@@ -141,8 +174,7 @@ impl<'c, 'x> Backtracker<'c, 'x> {
     {
         self.unset_all(alloc)?;
         self.unset = false;
-        let input = input_of(self.code, self.known, self.text);
-        let response = run(alloc, &input, position, &mut self.machine, left)?;
+        let response = run(alloc, input, position, &mut self.machine, left)?;
         self.unset = matches!(response, Response::NoMatch);
         Ok(response)
     }

@@ -1,17 +1,19 @@
 //! Searching a text from left to right.
 ghost use Rattle.std.specs.Prelude.{◌≡◌, ◌≤◌, ◌<◌, ◌+◌, [], ℕ, IfOk, IfSome, MatchOption, length};
 ghost use Rattle.regress_tree.specs.Tree.{Tree};
+ghost use Rattle.regress_unicode.specs.declared.Tables.{Tables};
 ghost use Rattle.regress_program.specs.Compiled.{IsPattern};
 ghost use Rattle.regress_program.specs.Cost.{Cost, IsCost};
 ghost use Rattle.regress_program.specs.Program.{IsSolution, Out};
 ghost use Rattle.regress_backtrack.specs.Backtracker.{AreCosts, AreOutcomes, SameRuns, outcomes_at, run_code, run_text, search_cost_at, tree_outcomes_at};
 ghost use Rattle.regress_backtrack.specs.Code.{code_routines, cost_from, outcomes_from, search_cost, setting_with, tree_outcomes_from};
-ghost use Rattle.regress_backtrack.specs.Searched.{Finds, IsFirst};
+ghost use Rattle.regress_backtrack.specs.Searched.{Finds, IsFirst, IsFor};
+ghost use Rattle.regress_backtrack.specs.declared.code.Code.{Code};
 ghost use Rattle.regress_backtrack.specs.declared.outcome.Outcome.TheVariants.{OutOfSteps};
 
 use crate::backtracker::{Backtracker, input_of};
 use crate::code::Code;
-use crate::input::front_at;
+use crate::input::{Input, front_at};
 use crate::outcome::{Found, Outcome};
 use regress_leaves::known::Known;
 use regress_prefilter::candidates::next_candidate_from;
@@ -133,20 +135,20 @@ impl Backtracker<'_, '_> {
         ensures same { SameRuns self.old self.new }
     {
         let code = self.code;
-        let known = self.known;
         let text = self.text;
+        let input = input_of(code, self.known, text);
         let mut from = from;
         while from <= text.len() {
             if *left == 0 {
                 return Ok(Outcome::OutOfSteps);
             }
-            let Some(position) = next_start(code, known, text, from) else {
+            let Some(position) = next_start(code, &input, text, from) else {
                 return Ok(Outcome::NoMatch);
             };
             // the bytes that are skipped, and the position that is tried
             *left = left.saturating_sub((position - from) as u64 + 1);
             if text.is_char_boundary(position) {
-                match self.match_at(alloc, position, left)? {
+                match self.match_in(alloc, &input, position, left)? {
                     Outcome::Matched(found) => return Ok(Outcome::Matched(found)),
                     Outcome::NoMatch => {}
                     Outcome::OutOfSteps => return Ok(Outcome::OutOfSteps),
@@ -162,29 +164,32 @@ impl Backtracker<'_, '_> {
 ///
 /// # Preconditions
 /// `from` is inside the text.
-fn next_start(code: &Code, known: Known<'_>, text: &str, from: usize) -> Option<usize>
+#[inline(always)]
+fn next_start(code: &Code, input: &Input<'_, '_>, text: &str, from: usize) -> Option<usize>
     requires { from ≤ length text.now }
     ensures within { IfSome result (λ position. (from ≤ position) × (position ≤ length text.now)) }
-    ensures passed { (outs : ℕ → Out) → IsSolution (setting_with code.now known.entry.tables.now) text.now (code_routines code.now) outs →
+    ensures passed { (tables : Tables) → IsFor code.now tables text.now input.now →
+        (outs : ℕ → Out) → IsSolution (setting_with code.now tables) text.now (code_routines code.now) outs →
         (k : ℕ) → from ≤ k → k ≤ length text.now → MatchOption result Unit (λ position. k < position) →
-        outcomes_from code.now known.entry.tables.now text.now outs k ≡ [] }
+        outcomes_from code.now tables text.now outs k ≡ [] }
 {
     match next_candidate_from(&code.candidates, text, from) {
-        Some(position) => Some(next_by_front(code, known, text, position)),
+        Some(position) => Some(next_by_front(input, text, position)),
         None => None,
     }
 }
 
 /// Returns the same by the front of the first instruction alone.
-fn next_by_front(code: &Code, known: Known<'_>, text: &str, from: usize) -> usize
+#[inline(always)]
+fn next_by_front(input: &Input<'_, '_>, text: &str, from: usize) -> usize
     requires { from ≤ length text.now }
     ensures low { from ≤ result }
     ensures high { result ≤ length text.now }
-    ensures passed { (outs : ℕ → Out) → IsSolution (setting_with code.now known.entry.tables.now) text.now (code_routines code.now) outs →
-        (k : ℕ) → from ≤ k → k < result → outcomes_from code.now known.entry.tables.now text.now outs k ≡ [] }
+    ensures passed { (code : Code) (tables : Tables) → IsFor code tables text.now input.now →
+        (outs : ℕ → Out) → IsSolution (setting_with code tables) text.now (code_routines code) outs →
+        (k : ℕ) → from ≤ k → k < result → outcomes_from code tables text.now outs k ≡ [] }
 {
-    let input = input_of(code, known, text);
-    match front_at(&input, input.first) {
+    match front_at(input, input.first) {
         Some(front) => front.next_from(text, from),
         None => from,
     }

@@ -7,19 +7,19 @@ use Rattle.regress_backtrack.proofs.CandidateLemmas.{passes, passes_all}
 use Rattle.regress_backtrack.proofs.search.next_start.Goals as goal
 
 pub returns-in-Some-clause-passed : goal.returns-in-Some-clause-passed
-returns-in-Some-clause-passed c = λ outs solution k low le lt.
+returns-in-Some-clause-passed c = λ tables for outs solution k low le lt.
     let code = c.args.code.now in
     let text = c.args.text.now in
     let position = c.in-Some.position in
     elim (cases_lt k position) [
-      | inl before ↦ code.begins (setting_with code c.args.known.tables.now) text outs solution (no_groups (code_groups code) k) le
+      | inl before ↦ code.begins (setting_with code tables) text outs solution (no_groups (code_groups code) k) le
           (passes text c.args.from code.candidates position (subst (Skips code.candidates text c.args.from) c.in-Some.is c.next_candidate_from.ensures.skips) k low before)
-      | inr after ↦ c.next_by_front.ensures.passed outs solution k after lt
+      | inr after ↦ c.next_by_front.ensures.passed code tables for outs solution k after lt
     ]
 
 pub returns-in-None-clause-passed : goal.returns-in-None-clause-passed
-returns-in-None-clause-passed c = λ outs solution k low le any.
+returns-in-None-clause-passed c = λ tables for outs solution k low le any.
     let code = c.args.code.now in
     let text = c.args.text.now in
-    code.begins (setting_with code c.args.known.tables.now) text outs solution (no_groups (code_groups code) k) le
+    code.begins (setting_with code tables) text outs solution (no_groups (code_groups code) k) le
     (passes_all text c.args.from code.candidates (subst (Skips code.candidates text c.args.from) c.in-None.is c.next_candidate_from.ensures.skips) k low)

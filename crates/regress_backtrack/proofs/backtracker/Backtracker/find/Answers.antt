@@ -2,19 +2,22 @@ use Rattle.std.proofs.Common.{rules, arith, ◌≤◌, ◌<◌, ℕ, length, sym
 use Rattle.std.specs.Str.{IsCharBoundary}
 use Rattle.regress_program.specs.Found.{NoneBefore}
 use Rattle.regress_program.specs.Program.{Out}
-use Rattle.regress_backtrack.specs.Backtracker.{AreOutcomes, cost_at, outcomes_at, run_text}
+use Rattle.regress_backtrack.specs.Backtracker.{AreOutcomes, cost_at, outcomes_at, run_tables, run_text}
 use Rattle.regress_backtrack.specs.Searched.{IsFirst}
 use Rattle.regress_backtrack.specs.declared.outcome.Outcome.TheVariants as outcomes
 use Rattle.regress_backtrack.proofs.CandidateLemmas.{none_after, none_before}
 use Rattle.regress_backtrack.proofs.CostLemmas.{searched, tried_on}
-use Rattle.regress_backtrack.proofs.SearchLemmas.{SameRuns-trans, found_leftmost, none_more, not_true, same_solved, same_taken, tree_finds}
+use Rattle.regress_backtrack.proofs.SearchLemmas.{SameRuns-trans, found_leftmost, none_more, not_true, same_input, same_solved, same_taken, tree_finds}
 use Rattle.regress_backtrack.proofs.backtracker.Backtracker.find.Goals as goal
 use Rattle.regress_backtrack.proofs.backtracker.Backtracker.find.Goals.{then-is_char_boundary+in_ok-found+in-NoMatch, else-is_char_boundary}
 
-pub match_at-requires : goal.match_at-requires
-match_at-requires c =
+pub match_in-requires : goal.match_in-requires
+match_in-requires c =
     let on : IsCharBoundary (run_text c.args.self.now) c.in-Some.position = search rules in
-    omega (arith, on.0, ap length c.loop-from.invariant.same.text)
+    record {
+      input = same_input c.args.self.now c.loop-from.self c.loop-from.invariant.same c.input_of-input.result c.input_of-input.ensures;
+      position = omega (arith, on.0, ap length c.loop-from.invariant.same.text);
+    }
 
 pub returns-clause-solved : goal.returns-clause-solved
 returns-clause-solved c = λ outs are p low on. c.loop-from.invariant.solved outs are p low (omega (arith, on.0, c.loop-from-test.false)) on
@@ -26,7 +29,7 @@ pub returns-in_default-clause-solved : goal.returns-in_default-clause-solved
 returns-in_default-clause-solved c = λ outs are.
     let a = c.args.self.now in
     none_after (run_text a) (outcomes_at a outs) c.args.from c.loop-from.from (c.loop-from.invariant.solved outs are)
-    (λ k low le. c.next_start.ensures.passed outs are k low le (subst (λ r. MatchOption r Unit (λ p. k < p)) (sym c.in_default.is) tt))
+    (λ k low le. c.next_start.ensures.passed (run_tables a) c.input_of-input.ensures outs are k low le (subst (λ r. MatchOption r Unit (λ p. k < p)) (sym c.in_default.is) tt))
 
 pub returns-in_default-clause-finds : goal.returns-in_default-clause-finds
 returns-in_default-clause-finds c = tree_finds c.args.self.now c.args.from outcomes.NoMatch (returns-in_default-clause-solved c)
@@ -42,7 +45,7 @@ returns-in-Matched-clause-solved c = λ outs are.
     (subst (IsFirst k (outcomes_at a outs k)) c.in-Matched.is
     (same_solved a b (λ states. IsFirst k states c.in_ok-found.field-0) k c.loop-from.invariant.same c.in_ok-found.ensures.solved outs are))
     (none_before (run_text a) (outcomes_at a outs) c.args.from c.loop-from.from (c.loop-from.invariant.solved outs are) k
-    (λ p low le lt. c.next_start.ensures.passed outs are p low le (subst (λ r. MatchOption r Unit (λ q. p < q)) (sym c.in-Some.is) lt)))
+    (λ p low le lt. c.next_start.ensures.passed (run_tables a) c.input_of-input.ensures outs are p low le (subst (λ r. MatchOption r Unit (λ q. p < q)) (sym c.in-Some.is) lt)))
 
 pub returns-in-Matched-clause-finds : goal.returns-in-Matched-clause-finds
 returns-in-Matched-clause-finds c =
@@ -58,10 +61,10 @@ loop-from-preserved c =
     let within = subst (λ r. IfSome r (λ (p : ℕ). (c.loop-from.from ≤ p) × (p ≤ length text))) c.in-Some.is c.next_start.ensures.within in
     let none : (outs : ℕ → Out) → AreOutcomes a outs → NoneBefore text (outcomes_at a outs) c.args.from k = λ outs are.
     none_before text (outcomes_at a outs) c.args.from c.loop-from.from (so_far.solved outs are) k
-    (λ p low le lt. c.next_start.ensures.passed outs are p low le (subst (λ r. MatchOption r Unit (λ q. p < q)) (sym c.in-Some.is) lt)) in
+    (λ p low le lt. c.next_start.ensures.passed (run_tables a) c.input_of-input.ensures outs are p low le (subst (λ r. MatchOption r Unit (λ q. p < q)) (sym c.in-Some.is) lt)) in
     elim c.if-is_char_boundary.branch [
       | then-is_char_boundary+in_ok-found+in-NoMatch w ↦ record {
-        same = rw w.self-is (SameRuns-trans a b w.match_at.new.self so_far.same w.match_at.ensures.same);
+        same = rw w.self-is (SameRuns-trans a b w.match_in.new.self so_far.same w.match_in.ensures.same);
         from = omega (arith, so_far.from, within.0);
         left = omega (arith, w.left-is, w.in_ok-found.ensures.left, c.saturating_sub.ensures, so_far.left);
         solved = λ outs are.
@@ -70,13 +73,13 @@ loop-from-preserved c =
             (same_solved a b (λ states. IsFirst k states w.in_ok-found.field-0) k so_far.same w.in_ok-found.ensures.solved outs are));
         costs = λ outs costs are.
             let before = so_far.costs outs costs are in
-            let taken = same_taken a b k c.saturating_sub.result w.match_at.new.left outs costs so_far.same (w.in_ok-found.ensures.costs outs costs) are in
+            let taken = same_taken a b k c.saturating_sub.result w.match_in.new.left outs costs so_far.same (w.in_ok-found.ensures.costs outs costs) are in
             let on = tried_on (cost_at a costs) c.args.from c.loop-from.from k so_far.from within.0 in
             omega (arith, before, taken, on, w.left-is, c.saturating_sub.ensures);
         enough = λ outs costs are.
-            let taken = same_taken a b k c.saturating_sub.result w.match_at.new.left outs costs so_far.same (w.in_ok-found.ensures.costs outs costs) are in
+            let taken = same_taken a b k c.saturating_sub.result w.match_in.new.left outs costs so_far.same (w.in_ok-found.ensures.costs outs costs) are in
             let all = searched (cost_at a costs) c.args.from c.loop-from.from k (length text) c.args.left.now c.loop-from.left c.saturating_sub.result
-            w.match_at.new.left so_far.from within.0 within.1 (so_far.costs outs costs are) (omega (arith, c.saturating_sub.ensures)) taken in
+            w.match_in.new.left so_far.from within.0 within.1 (so_far.costs outs costs are) (omega (arith, c.saturating_sub.ensures)) taken in
             omega (arith, all, w.left-is);
       }
       | else-is_char_boundary w ↦ record {
@@ -106,8 +109,8 @@ returns-in-Matched-clause-costs c = λ outs costs are.
     let within = subst (λ r. IfSome r (λ (p : ℕ). (c.loop-from.from ≤ p) × (p ≤ length (run_text a)))) c.in-Some.is c.next_start.ensures.within in
     let so_far = c.loop-from.invariant in
     searched (cost_at a costs) c.args.from c.loop-from.from k (length (run_text a)) c.args.left.now c.loop-from.left c.saturating_sub.result
-    c.match_at.new.left so_far.from within.0 within.1 (so_far.costs outs costs are) (omega (arith, c.saturating_sub.ensures))
-    (same_taken a c.loop-from.self k c.saturating_sub.result c.match_at.new.left outs costs so_far.same (c.in_ok-found.ensures.costs outs costs) are)
+    c.match_in.new.left so_far.from within.0 within.1 (so_far.costs outs costs are) (omega (arith, c.saturating_sub.ensures))
+    (same_taken a c.loop-from.self k c.saturating_sub.result c.match_in.new.left outs costs so_far.same (c.in_ok-found.ensures.costs outs costs) are)
 
 pub returns-in-OutOfSteps-clause-costs : goal.returns-in-OutOfSteps-clause-costs
 returns-in-OutOfSteps-clause-costs c = λ outs costs are.
@@ -116,5 +119,5 @@ returns-in-OutOfSteps-clause-costs c = λ outs costs are.
     let within = subst (λ r. IfSome r (λ (p : ℕ). (c.loop-from.from ≤ p) × (p ≤ length (run_text a)))) c.in-Some.is c.next_start.ensures.within in
     let so_far = c.loop-from.invariant in
     searched (cost_at a costs) c.args.from c.loop-from.from k (length (run_text a)) c.args.left.now c.loop-from.left c.saturating_sub.result
-    c.match_at.new.left so_far.from within.0 within.1 (so_far.costs outs costs are) (omega (arith, c.saturating_sub.ensures))
-    (same_taken a c.loop-from.self k c.saturating_sub.result c.match_at.new.left outs costs so_far.same (c.in_ok-found.ensures.costs outs costs) are)
+    c.match_in.new.left so_far.from within.0 within.1 (so_far.costs outs costs are) (omega (arith, c.saturating_sub.ensures))
+    (same_taken a c.loop-from.self k c.saturating_sub.result c.match_in.new.left outs costs so_far.same (c.in_ok-found.ensures.costs outs costs) are)

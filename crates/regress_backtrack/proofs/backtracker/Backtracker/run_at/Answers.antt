@@ -3,17 +3,17 @@ use Rattle.regress_program.specs.Shape.{IsProgram}
 use Rattle.regress_backtrack.specs.Backtracker.{run_code, run_tables, run_text}
 use Rattle.regress_backtrack.specs.Code.{code_groups, code_routines}
 use Rattle.regress_backtrack.specs.Run.{Answers}
-use Rattle.regress_backtrack.proofs.SearchLemmas.{of_tree, run_cost, run_solved, same_first, same_solved, same_taken}
+use Rattle.regress_backtrack.proofs.SearchLemmas.{of_tree, run_cost, run_solved, same_first, same_input, same_solved, same_taken}
 use Rattle.regress_backtrack.proofs.backtracker.Backtracker.run_at.Goals as goal
 
 pub run-requires : goal.run-requires
 run-requires c =
     let b = c.unset_all.new.self in
-    let is = c.input_of-input.ensures in
+    let is = same_input c.args.self.now b c.unset_all.ensures.same c.args.input.now c.requires.input in
     record {
       program = subst (λ code. IsProgram (code_routines code)) (sym is.code) b.code.now.is_program;
       input = is.is;
-      start = subst (λ x. c.args.position ≤ length x) (sym (is.same_text ∙ c.unset_all.ensures.same.text)) c.requires;
+      start = subst (λ x. c.args.position ≤ length x) (sym (is.same_text ∙ c.unset_all.ensures.same.text)) c.requires.position;
     }
 
 pub returns-clause-solved : goal.returns-clause-solved
@@ -24,7 +24,7 @@ returns-clause-solved c =
     let unset : b.machine.captures.items ≡ replicate (code_groups (run_code b)) None =
     c.in_ok-unset_all.ensures.unset ∙ ap (λ code. replicate (code_groups code) None) (sym c.unset_all.ensures.same.code) in
     same_solved c.args.self.now b (λ states. Answers states m r) c.args.position c.unset_all.ensures.same
-    (run_solved b c.input_of-input.result b.machine.captures.items c.args.position m r c.input_of-input.ensures unset c.in_ok-response.ensures.answers)
+    (run_solved b c.args.input.now b.machine.captures.items c.args.position m r (same_input c.args.self.now b c.unset_all.ensures.same c.args.input.now c.requires.input) unset c.in_ok-response.ensures.answers)
 
 pub returns-clause-first : goal.returns-clause-first
 returns-clause-first c =
@@ -33,10 +33,10 @@ returns-clause-first c =
     let r = c.in_ok-response.response in
     let unset : b.machine.captures.items ≡ replicate (code_groups (run_code b)) None =
     c.in_ok-unset_all.ensures.unset ∙ ap (λ code. replicate (code_groups code) None) (sym c.unset_all.ensures.same.code) in
-    let le : c.args.position ≤ length (run_text b) = subst (λ x. c.args.position ≤ length x) (sym c.unset_all.ensures.same.text) c.requires in
+    let le : c.args.position ≤ length (run_text b) = subst (λ x. c.args.position ≤ length x) (sym c.unset_all.ensures.same.text) c.requires.position in
     same_first c.args.self.now b (λ states. Answers states m r) c.args.position c.unset_all.ensures.same
     (of_tree (run_code b) (run_tables b) (run_text b) c.args.position le (λ states. Answers states m r)
-    (run_solved b c.input_of-input.result b.machine.captures.items c.args.position m r c.input_of-input.ensures unset c.in_ok-response.ensures.answers))
+    (run_solved b c.args.input.now b.machine.captures.items c.args.position m r (same_input c.args.self.now b c.unset_all.ensures.same c.args.input.now c.requires.input) unset c.in_ok-response.ensures.answers))
 
 pub returns-clause-costs : goal.returns-clause-costs
 returns-clause-costs c = λ outs costs.
@@ -44,5 +44,5 @@ returns-clause-costs c = λ outs costs.
     let unset : b.machine.captures.items ≡ replicate (code_groups (run_code b)) None =
     c.in_ok-unset_all.ensures.unset ∙ ap (λ code. replicate (code_groups code) None) (sym c.unset_all.ensures.same.code) in
     same_taken c.args.self.now b c.args.position c.args.left.now c.run.new.left outs costs c.unset_all.ensures.same
-    (run_cost b c.input_of-input.result b.machine.captures.items c.args.position c.args.left.now c.run.new.left outs costs c.input_of-input.ensures unset
+    (run_cost b c.args.input.now b.machine.captures.items c.args.position c.args.left.now c.run.new.left outs costs (same_input c.args.self.now b c.unset_all.ensures.same c.args.input.now c.requires.input) unset
     (c.in_ok-response.ensures.costs outs costs))

@@ -1,5 +1,5 @@
 use Rattle.regress_backtrack.proofs.SearchLemmas.{SameRuns-trans}
-use Rattle.regress_backtrack.proofs.backtracker.Backtracker.match_at.Goals as goal
+use Rattle.regress_backtrack.proofs.backtracker.Backtracker.match_in.Goals as goal
 
 pub returns-clause-solved : goal.returns-clause-solved
 returns-clause-solved c = λ outs are. c.outcome_of.ensures.first _ (c.in_ok-response.ensures.solved outs are)
