@@ -101,18 +101,6 @@ pub fn run(
     Ok(Response::OutOfSteps)
 }
 
-/// Returns the place at which a run starts.
-#[inline(always)]
-fn start_place(input: &Input<'_, '_>, position: usize) -> Place
-    ensures { result ≡ record { pc = input.now.first; moved = true; position = position } }
-{
-    Place {
-        pc: input.first,
-        moved: true,
-        position,
-    }
-}
-
 /// Backtracks to the latest backtrack point that is not known to fail. Returns `None` if there is none.
 ///
 /// # Errors
@@ -213,7 +201,12 @@ fn look(
         ..here
     };
     let inside = input_for(input.text, input.rules, input.code, looking.routine);
-    if fails(&inside, start_place(&inside, here.position)) {
+    let start = Place {
+        pc: inside.first,
+        moved: true,
+        position: here.position,
+    };
+    if fails(&inside, start) {
         return Ok(on_if(looking.negate, after));
     }
     let outer = machine.enter(alloc);

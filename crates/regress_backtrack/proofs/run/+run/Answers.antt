@@ -123,7 +123,7 @@ look-returns-then-fails-clause-leads t c = λ outs out solution.
     let m = c.args.machine.now in
     let inside = c.input_for-inside.ensures in
     let none : Fails c.input_for-inside.result (record { pc = c.input_for-inside.result.first; moved = true; position = c.args.here.position }) =
-    subst (Fails c.input_for-inside.result) c.start_place.ensures (c.fails.ensures c.if-fails.true) in
+    c.fails.ensures c.if-fails.true in
     let answers : Answers (matcher_of u.setting u.bytes (code_routines input.code.now) outs c.args.looking.routine
     (state m.captures.items c.args.here.position)) m responses.NoMatch =
     same_answers m responses.NoMatch outs c.args.here.position _ _ _ _ _ _ _ _ _ _
@@ -344,7 +344,7 @@ look-returns-then-fails-clause-costs t c = λ outs costs has.
     let inside = c.input_for-inside.ensures in
     let body = matcher_of u.setting u.bytes (code_routines input.code.now) outs c.args.looking.routine in
     let none : Fails c.input_for-inside.result (record { pc = c.input_for-inside.result.first; moved = true; position = c.args.here.position }) =
-    subst (Fails c.input_for-inside.result) c.start_place.ensures (c.fails.ensures c.if-fails.true) in
+    c.fails.ensures c.if-fails.true in
     let answers : Answers (body (state m.captures.items c.args.here.position)) m responses.NoMatch =
     same_answers m responses.NoMatch outs c.args.here.position _ _ _ _ _ _ _ _ _ _
     (fails_answers c.input_for-inside.result inside.input m m.captures.items c.args.here.position outs none) inside.setting
