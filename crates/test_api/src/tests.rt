@@ -1,10 +1,11 @@
-//! Tests of what test cases in data files cannot express: the callers themselves, walks whose closures write, and a
-//! caller's own rewrite. Test cases for patterns and calls are the data of `test_cases`.
+//! Tests of what test cases in data files cannot express: the callers themselves, walks whose closures write, a caller's
+//! own rewrite, and the examples of doc comments. Test cases for patterns and calls are the data of `test_cases`.
 ghost use Rattle.std.specs.Prelude.{IfOk};
 ghost use Rattle.regress_front.specs.Tree.{tree};
 ghost use Rattle.regress_front.specs.WellFormed.{IsWellFormed};
 
 mod calls;
+mod differences;
 mod examples;
 mod lengths;
 mod linting;
@@ -12,6 +13,8 @@ mod matchers;
 mod passes;
 mod pictures;
 mod programs;
+mod search_examples;
+mod theorems;
 mod walks;
 
 use regress_front::ir::Regex;

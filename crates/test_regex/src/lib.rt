@@ -1,5 +1,5 @@
-//! Tests of `regress`, and the examples of its doc comments. They are in a crate of their own, since a crate with tests is
-//! proved twice.
+//! Tests of `regress`, the examples of its doc comments, and tests of `example_schema`. They are in a crate of their own,
+//! since a crate with tests is proved twice.
 #![tactic(auto)]
 
 #[cfg(test)]

@@ -1,139 +1,430 @@
-//! The examples of the doc comments of searches: each line of an example is here. Expected values are from ECMA-262.
+//! The examples of the doc comments up to `regress_front`: each line of an example is here. Expected values are from
+//! ECMA-262, the Unicode Character Database and docs/ir.md.
 
-use regress_front::optimizer::parse_and_optimize;
-use regress_front::parse::try_parse;
+use regress_differences::{DifferenceKind, differences};
+use regress_escape::escape;
+use regress_front::bytesearch::{ByteSearcher, Needle};
+use regress_front::codepointset::{CodePointSet, Interval};
+use regress_front::ir::{Node, Regex, Walk, walk, walk_mut};
+use regress_front::literal::lower_code_point_sequence;
+use regress_front::optimizer::{PassAction, Rewrite, optimize, parse_and_optimize, run_pass};
+use regress_front::parse::{Span, node_bound, try_parse, try_parse_with_spans};
 use regress_front::types::Flags;
-use regress_front::unicode::Tables;
+use regress_front::unicode::{
+    FoldRange, Tables, add_icase_code_points, expand_code_point, fold, unfold_char, uppercase,
+};
 use regress_front::util::code_points;
-use regress_match::{Limits, Match, Matcher, Outcome};
-use regress_program::Program;
-use regress_tables::Linear;
+use regress_properties::general_category;
+use regress_ucd::unicode_tables;
+use std::alloc::AllocError;
 use std::test::Fail;
 
 #[test]
-fn a_match_is_found(rt: HostRuntime) -> Result<(), Fail> {
+fn the_characters_of_a_text_are_listed(rt: HostRuntime) -> Result<(), Fail> {
     let alloc = rt.alloc();
-    let tables = Tables::small(alloc)?;
-    let points = code_points(alloc, "(a*)*b")?;
-    let regex = try_parse(alloc, &points, Flags::default(), &tables)?;
-    let program = Program::compile(alloc, &regex, &tables, 1000)?;
-    let mut end = 0;
-    if let Some(linear) = Linear::new(alloc, program)? {
-        let search = linear.find(alloc, "xaaab", 0)?;
-        if let Some(found) = &search.found {
-            assert_eq!(rt; found.start(), 1);
-            assert_eq!(rt; found.group(0), Some((1, 4)));
-            end = found.end();
-        }
-    }
-    assert_eq!(rt; end, 5);
+    let points = code_points(alloc, "aé😀")?;
+    assert_eq!(rt; points.as_slice(), [0x61, 0xE9, 0x1F600].as_slice());
     Ok(())
 }
 
 #[test]
-fn a_program_has_a_back_reference(rt: HostRuntime) -> Result<(), Fail> {
-    let alloc = rt.alloc();
-    let tables = Tables::small(alloc)?;
-    let points = code_points(alloc, "(a)\\1")?;
-    let regex = try_parse(alloc, &points, Flags::default(), &tables)?;
-    let program = Program::compile(alloc, &regex, &tables, 1000)?;
-    assert!(rt; Linear::new(alloc, program)?.is_none());
+fn a_string_of_bytes_is_found(rt: HostRuntime) -> Result<(), Fail> {
+    let needle = Needle::new(b"na");
+    assert_eq!(rt; needle.find_in(b"banana"), Some(2));
+    assert_eq!(rt; needle.find_in(b"band"), None);
     Ok(())
 }
 
 #[test]
-fn a_search_takes_linear_time(rt: HostRuntime) -> Result<(), Fail> {
-    use std::sync::Arc;
+fn a_text_is_escaped(rt: HostRuntime) -> Result<(), Fail> {
     let alloc = rt.alloc();
-    let tables = Arc::new(alloc, Tables::small(alloc)?)?;
-    let points = code_points(alloc, "(a*)*b")?;
-    let regex = try_parse(alloc, &points, Flags::default(), &tables)?;
-    let matcher = Matcher::new(alloc, regex, &tables, Limits::default())?;
-    assert!(rt; matcher.is_linear());
-    let found = matcher.find(alloc, "xaaab", 0, 0)?;
-    match &found.outcome {
-        Outcome::Matched(found) => {
-            assert_eq!(rt; found.start(), 1);
-            assert_eq!(rt; found.end(), 5);
-        }
-        _ => assert!(rt; false, "it matches"),
-    }
+    let pattern = escape(alloc, "1+1 = 2?")?;
+    assert_eq!(rt; pattern.as_str(), "\\x31\\+1\\x20\\x3d\\x202\\?");
     Ok(())
 }
 
 #[test]
-fn one_match_after_another_is_found(rt: HostRuntime) -> Result<(), Fail> {
-    use std::sync::Arc;
+fn each_kind_of_character_is_escaped(rt: HostRuntime) -> Result<(), Fail> {
     let alloc = rt.alloc();
-    let tables = Arc::new(alloc, Tables::small(alloc)?)?;
-    let points = code_points(alloc, "a+")?;
-    let regex = try_parse(alloc, &points, Flags::default(), &tables)?;
-    let matcher = Matcher::new(alloc, regex, &tables, Limits::default())?;
-    let mut matches = matcher.find_iter("aabxa", 0, 0);
-    let mut ends = Vec::new(alloc);
-    for _ in 0..10 {
-        if let Outcome::Matched(found) = matches.next(alloc)? {
-            ends.push(found.end())?;
-        }
-    }
-    assert_eq!(rt; ends.as_slice(), [2, 5].as_slice());
+    let line_feed = escape(alloc, "foo\nbar")?;
+    assert_eq!(rt; line_feed.as_str(), "\\x66oo\\nbar");
+    let separator = escape(alloc, "foo\u{2028}bar")?;
+    assert_eq!(rt; separator.as_str(), "\\x66oo\\u2028bar");
+    let emoji = escape(alloc, "foo😀_bar")?;
+    assert_eq!(rt; emoji.as_str(), "\\x66oo😀_bar");
+    let empty = escape(alloc, "")?;
+    assert_eq!(rt; empty.as_str(), "");
     Ok(())
 }
 
 #[test]
-fn all_matches_are_listed(rt: HostRuntime) -> Result<(), Fail> {
-    use std::sync::Arc;
+fn intervals_are_added_to_a_set(rt: HostRuntime) -> Result<(), Fail> {
     let alloc = rt.alloc();
-    let tables = Arc::new(alloc, Tables::small(alloc)?)?;
-    let points = code_points(alloc, "a+")?;
-    let regex = try_parse(alloc, &points, Flags::default(), &tables)?;
-    let matcher = Matcher::new(alloc, regex, &tables, Limits::default())?;
-    let mut ends = Vec::new(alloc);
-    match matcher.find_all(alloc, "aabxa", 0)? {
-        Some(all) => {
-            for found in &all {
-                ends.push(found.end())?;
-            }
-        }
-        None => assert!(rt; false, "it is linear"),
-    }
-    assert_eq!(rt; ends.as_slice(), [2, 5].as_slice());
+    let mut set = CodePointSet::new(alloc);
+    set.add(Interval::new(0x61, 0x66))?;
+    set.add(Interval::new(0x67, 0x7A))?;
+    assert!(rt; set.contains(0x62));
+    // the two intervals touch, and are one
+    assert_eq!(rt; set.intervals(), [Interval::new(0x61, 0x7A)].as_slice());
     Ok(())
 }
 
 #[test]
-fn a_closure_is_called_on_each_match(rt: HostRuntime) -> Result<(), Fail> {
-    use std::sync::Arc;
+fn a_set_is_intersected(rt: HostRuntime) -> Result<(), Fail> {
     let alloc = rt.alloc();
-    let tables = Arc::new(alloc, Tables::small(alloc)?)?;
-    let points = code_points(alloc, "a+")?;
-    let regex = try_parse(alloc, &points, Flags::default(), &tables)?;
-    let matcher = Matcher::new(alloc, regex, &tables, Limits::default())?;
-    let mut count = 0_usize;
-    let all = matcher.for_each_match(
+    let mut set = CodePointSet::new(alloc);
+    set.add(Interval::new(0x61, 0x66))?;
+    let mut other = CodePointSet::new(alloc);
+    other.add(Interval::new(0x65, 0x7A))?;
+    set.intersect(other.intervals())?;
+    assert_eq!(rt; set.intervals(), [Interval::new(0x65, 0x66)].as_slice());
+    Ok(())
+}
+
+#[test]
+fn a_set_is_inverted(rt: HostRuntime) -> Result<(), Fail> {
+    let alloc = rt.alloc();
+    let mut set = CodePointSet::new(alloc);
+    set.add(Interval::new(0, 0x60))?;
+    let inverted = set.inverted()?;
+    assert_eq!(rt;
+        inverted.intervals(),
+        [Interval::new(0x61, 0x10FFFF)].as_slice()
+    );
+    Ok(())
+}
+
+#[test]
+fn tables_are_made_of_parts(rt: HostRuntime) -> Result<(), Fail> {
+    let alloc = rt.alloc();
+    // the letters of ASCII and their cases
+    let folds = vec![in alloc; FoldRange::from(0x41, 26, 32, 1)]?;
+    let uppers = vec![in alloc; FoldRange::from(0x61, 26, -32, 1)]?;
+    let mut letters = CodePointSet::new(alloc);
+    letters.add(Interval::new(0x41, 0x5A))?;
+    letters.add(Interval::new(0x61, 0x7A))?;
+    let tables = Tables::new(
         alloc,
-        "aabxa",
-        0,
-        &mut |_found: &Match| count = count.wrapping_add(1),
+        folds,
+        uppers,
+        letters.try_clone(alloc)?,
+        letters,
+        Vec::new(alloc),
+        Vec::new(alloc),
+        Vec::new(alloc),
+        Vec::new(alloc),
+        Vec::new(alloc),
     )?;
-    assert!(rt; all);
-    assert_eq!(rt; count, 2);
+    assert_eq!(rt; fold(0x41, &tables), 0x61);
+    assert!(rt; tables.id_start().contains(0x61));
     Ok(())
 }
 
 #[test]
-fn a_pattern_matches_at_an_offset(rt: HostRuntime) -> Result<(), Fail> {
-    use std::sync::Arc;
+fn the_small_table_has_few_properties(rt: HostRuntime) -> Result<(), Fail> {
     let alloc = rt.alloc();
-    let tables = Arc::new(alloc, Tables::small(alloc)?)?;
-    let points = code_points(alloc, "b+")?;
-    let regex = try_parse(alloc, &points, Flags::default(), &tables)?;
-    let matcher = Matcher::new(alloc, regex, &tables, Limits::default())?;
-    match &matcher.match_at(alloc, "abb", 1, 1000)?.outcome {
-        Outcome::Matched(found) => assert_eq!(rt; found.end(), 3),
-        _ => assert!(rt; false, "it matches"),
+    let tables = Tables::small(alloc)?;
+    assert_eq!(rt; fold(0x41, &tables), 0x61);
+    assert!(rt; tables.script(alloc, "Ogham")?.is_some());
+    assert!(rt; tables.script(alloc, "Greek")?.is_none());
+    Ok(())
+}
+
+#[test]
+fn the_example_of_properties_holds(rt: HostRuntime) -> Result<(), Fail> {
+    let alloc = rt.alloc();
+    match general_category(alloc, "Lu")? {
+        Some(uppercase) => assert!(rt; uppercase.contains(0x41)),
+        None => assert!(rt; false, "Unicode has this category"),
     }
-    let found = matcher.match_at(alloc, "abb", 0, 1000)?;
-    assert!(rt; matches!(&found.outcome, Outcome::NoMatch));
+    Ok(())
+}
+
+#[test]
+fn the_example_of_the_whole_table_holds(rt: HostRuntime) -> Result<(), Fail> {
+    let alloc = rt.alloc();
+    let tables = unicode_tables(alloc)?;
+    // the simple case folding of LATIN CAPITAL LETTER SHARP S
+    assert_eq!(rt; fold(0x1E9E, &tables), 0xDF);
+    match tables.script(alloc, "Greek")? {
+        Some(greek) => assert!(rt; greek.contains(0x3B1)),
+        None => assert!(rt; false, "Unicode has this script"),
+    }
+    Ok(())
+}
+
+#[test]
+fn a_code_point_is_folded(rt: HostRuntime) -> Result<(), Fail> {
+    let alloc = rt.alloc();
+    let tables = Tables::small(alloc)?;
+    // K, and KELVIN SIGN
+    assert_eq!(rt; fold(0x4B, &tables), 0x6B);
+    assert_eq!(rt; fold(0x212A, &tables), 0x6B);
+    Ok(())
+}
+
+#[test]
+fn the_upper_case_is_one_code_point(rt: HostRuntime) -> Result<(), Fail> {
+    let alloc = rt.alloc();
+    let tables = Tables::small(alloc)?;
+    assert_eq!(rt; uppercase(0x6B, &tables), 0x4B);
+    // the upper case of LATIN SMALL LETTER SHARP S is two letters
+    assert_eq!(rt; uppercase(0xDF, &tables), 0xDF);
+    Ok(())
+}
+
+#[test]
+fn a_case_folding_is_inverted(rt: HostRuntime) -> Result<(), Fail> {
+    let alloc = rt.alloc();
+    let tables = Tables::small(alloc)?;
+    // K, k and KELVIN SIGN
+    let points = unfold_char(alloc, 0x6B, &tables)?;
+    assert_eq!(rt; points.as_slice(), [0x4B, 0x6B, 0x212A].as_slice());
+    Ok(())
+}
+
+#[test]
+fn a_literal_matches_its_class(rt: HostRuntime) -> Result<(), Fail> {
+    let alloc = rt.alloc();
+    let tables = Tables::small(alloc)?;
+    let folded = expand_code_point(alloc, 0x6B, true, true, &tables)?;
+    assert_eq!(rt; folded.as_slice(), [0x4B, 0x6B, 0x212A].as_slice());
+    // without the flag u: KELVIN SIGN is its own upper case
+    let upper = expand_code_point(alloc, 0x6B, true, false, &tables)?;
+    assert_eq!(rt; upper.as_slice(), [0x4B, 0x6B].as_slice());
+    Ok(())
+}
+
+#[test]
+fn a_set_is_closed_under_case_folding(rt: HostRuntime) -> Result<(), Fail> {
+    let alloc = rt.alloc();
+    let tables = Tables::small(alloc)?;
+    let mut set = CodePointSet::new(alloc);
+    set.add_one(0x6B)?;
+    let closure = add_icase_code_points(set, &tables)?;
+    assert!(rt; closure.contains(0x4B));
+    assert!(rt; closure.contains(0x212A));
+    Ok(())
+}
+
+#[test]
+fn literals_are_lowered(rt: HostRuntime) -> Result<(), Fail> {
+    let alloc = rt.alloc();
+    let tables = Tables::small(alloc)?;
+    let points = code_points(alloc, "12éK")?;
+    let pieces = lower_code_point_sequence(alloc, &points, true, false, &tables)?;
+    let printed = format!(in alloc; "{pieces:?}")?;
+    assert_eq!(rt;
+        printed.as_str(),
+        "[ByteSequence([49, 50]), CharSet([201, 233]), ByteSet([75, 107])]"
+    );
+    Ok(())
+}
+
+#[test]
+fn nodes_are_tested(rt: HostRuntime) -> Result<(), Fail> {
+    let alloc = rt.alloc();
+    assert!(rt; Node::MatchAny.matches_exactly_one_char());
+    assert!(rt; !Node::Empty.matches_exactly_one_char());
+
+    assert!(rt; Node::make_always_fails(alloc).match_always_fails());
+    assert!(rt; !Node::Empty.match_always_fails());
+    Ok(())
+}
+
+#[test]
+fn parts_are_reversed_in_a_lookbehind(rt: HostRuntime) -> Result<(), Fail> {
+    let alloc = rt.alloc();
+    let parts = vec![in alloc; Node::Char { c: 0x61 }, Node::Char { c: 0x62 }]?;
+    let mut node = Node::Cat(parts);
+    // inside a lookbehind
+    let mut walk = Walk::root(false).looking(true);
+    node.reverse_cats(&mut walk);
+    let printed = node.to_string(alloc)?;
+    assert_eq!(rt; printed.as_str(), "Cat\n..'98'\n..'97'\n");
+    Ok(())
+}
+
+#[test]
+fn a_node_is_duplicated(rt: HostRuntime) -> Result<(), Fail> {
+    let alloc = rt.alloc();
+    let node = Node::Char { c: 0x61 };
+    let copy = node.try_duplicate(alloc, 100)?;
+    assert!(rt; matches!(&copy, Some(Node::Char { c: 0x61 })));
+    assert!(rt; node.try_duplicate(alloc, 101)?.is_none());
+    Ok(())
+}
+
+#[test]
+fn a_tree_is_well_formed(rt: HostRuntime) -> Result<(), Fail> {
+    let alloc = rt.alloc();
+    let node = Node::CaptureGroup {
+        id: 1,
+        contents: Box::new(alloc, Node::Empty)?,
+        name: None,
+    };
+    let flags = Flags::default();
+    let regex = Regex { node, flags };
+    // the id of the first group is 0
+    assert!(rt; !regex.is_well_formed());
+    Ok(())
+}
+
+#[test]
+fn literals_are_counted(rt: HostRuntime) -> Result<(), Fail> {
+    let alloc = rt.alloc();
+    let tables = Tables::small(alloc)?;
+    let points = code_points(alloc, "ab*|.")?;
+    let regex = try_parse(alloc, &points, Flags::default(), &tables)?;
+    let mut literals = 0_usize;
+    walk(
+        false,
+        regex.flags.unicode,
+        &regex.node,
+        &mut |node: &Node, _walk: &mut Walk| {
+            if matches!(node, Node::Char { .. }) {
+                literals = literals.wrapping_add(1);
+            }
+        },
+    );
+    assert_eq!(rt; literals, 2);
+    Ok(())
+}
+
+#[test]
+fn a_dot_is_made_to_match_line_terminators(rt: HostRuntime) -> Result<(), Fail> {
+    let alloc = rt.alloc();
+    let tables = Tables::small(alloc)?;
+    let points = code_points(alloc, "a.")?;
+    let mut regex = try_parse(alloc, &points, Flags::default(), &tables)?;
+    walk_mut(
+        true,
+        regex.flags.unicode,
+        &mut regex.node,
+        &mut |node: &mut Node, _walk: &mut Walk| {
+            if matches!(node, Node::MatchAnyExceptLineTerminator) {
+                *node = Node::MatchAny;
+            }
+        },
+    );
+    let printed = regex.to_string(alloc)?;
+    assert_eq!(rt;
+        printed.as_str(),
+        "Cat\n..Cat\n....'97'\n....MatchAny\n..Goal\n"
+    );
+    Ok(())
+}
+
+#[test]
+fn a_pattern_is_parsed(rt: HostRuntime) -> Result<(), Fail> {
+    let alloc = rt.alloc();
+    let tables = Tables::small(alloc)?;
+    let points = code_points(alloc, "a|b")?;
+    let regex = try_parse(alloc, &points, Flags::default(), &tables)?;
+    let printed = regex.to_string(alloc)?;
+    assert_eq!(rt;
+        printed.as_str(),
+        "Cat\n..Alt\n....'97'\n....'98'\n..Goal\n"
+    );
+    Ok(())
+}
+
+#[test]
+fn each_node_has_a_span(rt: HostRuntime) -> Result<(), Fail> {
+    let alloc = rt.alloc();
+    let tables = Tables::small(alloc)?;
+    let points = code_points(alloc, "a*")?;
+    let parsed = try_parse_with_spans(alloc, &points, Flags::default(), &tables)?;
+    // the letter, the loop, the end, and the whole pattern
+    assert_eq!(rt; parsed.spans.len(), 4);
+    assert_eq!(rt; parsed.spans[0], Span { start: 0, end: 1 });
+    assert_eq!(rt; parsed.spans[1], Span { start: 0, end: 2 });
+    assert_eq!(rt; parsed.spans[2], Span { start: 2, end: 2 });
+    assert_eq!(rt; parsed.spans[3], Span { start: 0, end: 2 });
+    Ok(())
+}
+
+#[test]
+fn the_nodes_of_a_pattern_are_bounded(rt: HostRuntime) -> Result<(), Fail> {
+    let alloc = rt.alloc();
+    let points = code_points(alloc, "a|b")?;
+    // 3, one for each code point, and one more for the bar
+    assert_eq!(rt; node_bound(&points, Flags::default()), 7);
+    Ok(())
+}
+
+#[test]
+fn the_example_of_differences_holds(rt: HostRuntime) -> Result<(), Fail> {
+    let alloc = rt.alloc();
+    // a construct differs
+    {
+        let tables = Tables::small(alloc)?;
+        let points = code_points(alloc, "a[k]")?;
+        let flags = Flags {
+            icase: true,
+            ..Flags::default()
+        };
+        let found = differences(alloc, &points, flags, &tables)?;
+        assert_eq!(rt; found.len(), 1);
+        assert_eq!(rt; found[0].kind, DifferenceKind::CaseClosure);
+        assert_eq!(rt; found[0].span, Span { start: 1, end: 4 });
+    }
+    Ok(())
+}
+
+/// Keeps each node, and counts the calls.
+#[derive(Drop)]
+struct Counter {
+    nodes: usize,
+}
+
+impl Rewrite for Counter {
+    ghost use Rattle.std.specs.Prelude.{true, false};
+
+    ghost removes = { λ t. false };
+
+    ghost is_exact = { true };
+
+    fn apply(&mut self, _node: &mut Node, _walk: &Walk) -> Result<PassAction, AllocError> {
+        self.nodes = self.nodes.wrapping_add(1);
+        Ok(PassAction::Keep)
+    }
+}
+
+#[test]
+fn a_rewrite_is_applied_to_each_node(rt: HostRuntime) -> Result<(), Fail> {
+    let alloc = rt.alloc();
+    let tables = Tables::small(alloc)?;
+    let points = code_points(alloc, "a|b")?;
+    let mut regex = try_parse(alloc, &points, Flags::default(), &tables)?;
+    let mut counter = Counter { nodes: 0 };
+    let changed = run_pass(&mut regex, &mut counter)?;
+    assert!(rt; !changed);
+    // the two letters, the alternation, the end, and the root
+    assert_eq!(rt; counter.nodes, 5);
+    Ok(())
+}
+
+#[test]
+fn a_tree_is_brought_into_normal_form(rt: HostRuntime) -> Result<(), Fail> {
+    let alloc = rt.alloc();
+    let tables = Tables::small(alloc)?;
+    let points = code_points(alloc, "[ab]")?;
+    let mut regex = try_parse(alloc, &points, Flags::default(), &tables)?;
+    optimize(alloc, &mut regex)?;
+    let printed = regex.to_string(alloc)?;
+    assert_eq!(rt; printed.as_str(), "Cat\n..ByteSet2 0x61 0x62\n..Goal\n");
+    Ok(())
+}
+
+#[test]
+fn a_pattern_is_parsed_and_optimized(rt: HostRuntime) -> Result<(), Fail> {
+    let alloc = rt.alloc();
+    let tables = Tables::small(alloc)?;
+    let points = code_points(alloc, "abc")?;
+    let (regex, optimized) = parse_and_optimize(alloc, &points, Flags::default(), &tables)?;
+    optimized?;
+    let printed = regex.to_string(alloc)?;
+    assert_eq!(rt; printed.as_str(), "Cat\n..ByteSeq3 0x616263\n..Goal\n");
     Ok(())
 }

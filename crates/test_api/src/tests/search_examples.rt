@@ -1,0 +1,139 @@
+//! The examples of the doc comments of searches: each line of an example is here. Expected values are from ECMA-262.
+
+use regress_front::optimizer::parse_and_optimize;
+use regress_front::parse::try_parse;
+use regress_front::types::Flags;
+use regress_front::unicode::Tables;
+use regress_front::util::code_points;
+use regress_match::{Limits, Match, Matcher, Outcome};
+use regress_program::Program;
+use regress_tables::Linear;
+use std::test::Fail;
+
+#[test]
+fn a_match_is_found(rt: HostRuntime) -> Result<(), Fail> {
+    let alloc = rt.alloc();
+    let tables = Tables::small(alloc)?;
+    let points = code_points(alloc, "(a*)*b")?;
+    let regex = try_parse(alloc, &points, Flags::default(), &tables)?;
+    let program = Program::compile(alloc, &regex, &tables, 1000)?;
+    let mut end = 0;
+    if let Some(linear) = Linear::new(alloc, program)? {
+        let search = linear.find(alloc, "xaaab", 0)?;
+        if let Some(found) = &search.found {
+            assert_eq!(rt; found.start(), 1);
+            assert_eq!(rt; found.group(0), Some((1, 4)));
+            end = found.end();
+        }
+    }
+    assert_eq!(rt; end, 5);
+    Ok(())
+}
+
+#[test]
+fn a_program_has_a_back_reference(rt: HostRuntime) -> Result<(), Fail> {
+    let alloc = rt.alloc();
+    let tables = Tables::small(alloc)?;
+    let points = code_points(alloc, "(a)\\1")?;
+    let regex = try_parse(alloc, &points, Flags::default(), &tables)?;
+    let program = Program::compile(alloc, &regex, &tables, 1000)?;
+    assert!(rt; Linear::new(alloc, program)?.is_none());
+    Ok(())
+}
+
+#[test]
+fn a_search_takes_linear_time(rt: HostRuntime) -> Result<(), Fail> {
+    use std::sync::Arc;
+    let alloc = rt.alloc();
+    let tables = Arc::new(alloc, Tables::small(alloc)?)?;
+    let points = code_points(alloc, "(a*)*b")?;
+    let regex = try_parse(alloc, &points, Flags::default(), &tables)?;
+    let matcher = Matcher::new(alloc, regex, &tables, Limits::default())?;
+    assert!(rt; matcher.is_linear());
+    let found = matcher.find(alloc, "xaaab", 0, 0)?;
+    match &found.outcome {
+        Outcome::Matched(found) => {
+            assert_eq!(rt; found.start(), 1);
+            assert_eq!(rt; found.end(), 5);
+        }
+        _ => assert!(rt; false, "it matches"),
+    }
+    Ok(())
+}
+
+#[test]
+fn one_match_after_another_is_found(rt: HostRuntime) -> Result<(), Fail> {
+    use std::sync::Arc;
+    let alloc = rt.alloc();
+    let tables = Arc::new(alloc, Tables::small(alloc)?)?;
+    let points = code_points(alloc, "a+")?;
+    let regex = try_parse(alloc, &points, Flags::default(), &tables)?;
+    let matcher = Matcher::new(alloc, regex, &tables, Limits::default())?;
+    let mut matches = matcher.find_iter("aabxa", 0, 0);
+    let mut ends = Vec::new(alloc);
+    for _ in 0..10 {
+        if let Outcome::Matched(found) = matches.next(alloc)? {
+            ends.push(found.end())?;
+        }
+    }
+    assert_eq!(rt; ends.as_slice(), [2, 5].as_slice());
+    Ok(())
+}
+
+#[test]
+fn all_matches_are_listed(rt: HostRuntime) -> Result<(), Fail> {
+    use std::sync::Arc;
+    let alloc = rt.alloc();
+    let tables = Arc::new(alloc, Tables::small(alloc)?)?;
+    let points = code_points(alloc, "a+")?;
+    let regex = try_parse(alloc, &points, Flags::default(), &tables)?;
+    let matcher = Matcher::new(alloc, regex, &tables, Limits::default())?;
+    let mut ends = Vec::new(alloc);
+    match matcher.find_all(alloc, "aabxa", 0)? {
+        Some(all) => {
+            for found in &all {
+                ends.push(found.end())?;
+            }
+        }
+        None => assert!(rt; false, "it is linear"),
+    }
+    assert_eq!(rt; ends.as_slice(), [2, 5].as_slice());
+    Ok(())
+}
+
+#[test]
+fn a_closure_is_called_on_each_match(rt: HostRuntime) -> Result<(), Fail> {
+    use std::sync::Arc;
+    let alloc = rt.alloc();
+    let tables = Arc::new(alloc, Tables::small(alloc)?)?;
+    let points = code_points(alloc, "a+")?;
+    let regex = try_parse(alloc, &points, Flags::default(), &tables)?;
+    let matcher = Matcher::new(alloc, regex, &tables, Limits::default())?;
+    let mut count = 0_usize;
+    let all = matcher.for_each_match(
+        alloc,
+        "aabxa",
+        0,
+        &mut |_found: &Match| count = count.wrapping_add(1),
+    )?;
+    assert!(rt; all);
+    assert_eq!(rt; count, 2);
+    Ok(())
+}
+
+#[test]
+fn a_pattern_matches_at_an_offset(rt: HostRuntime) -> Result<(), Fail> {
+    use std::sync::Arc;
+    let alloc = rt.alloc();
+    let tables = Arc::new(alloc, Tables::small(alloc)?)?;
+    let points = code_points(alloc, "b+")?;
+    let regex = try_parse(alloc, &points, Flags::default(), &tables)?;
+    let matcher = Matcher::new(alloc, regex, &tables, Limits::default())?;
+    match &matcher.match_at(alloc, "abb", 1, 1000)?.outcome {
+        Outcome::Matched(found) => assert_eq!(rt; found.end(), 3),
+        _ => assert!(rt; false, "it matches"),
+    }
+    let found = matcher.match_at(alloc, "abb", 0, 1000)?;
+    assert!(rt; matches!(&found.outcome, Outcome::NoMatch));
+    Ok(())
+}

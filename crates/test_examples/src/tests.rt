@@ -1,5 +1,0 @@
-//! Tests.
-
-mod differences;
-mod examples;
-mod theorems;

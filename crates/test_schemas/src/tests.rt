@@ -1,3 +1,0 @@
-//! Tests of the validator of `example_schema`.
-
-mod schemas;
