@@ -55,6 +55,10 @@ Denotes-reattach d (wrapped w body) t u occurs = occurs
 pub Denotes-normalized : (d : Direction) (t u : Tree) (response : Result PartFacts AllocError) → Normalized d t u response → Denotes d t u
 Denotes-normalized d t u response normalized = record { keeps = normalized.keeps; goal = normalized.goal; left = normalized.left }
 
+-- a statement about a step, transferred to equal trees
+pub Denotes-as : (d : Direction) {t u v w : Tree} → t ≡ v → u ≡ w → Denotes d t u → Denotes d v w
+Denotes-as d t_is u_is occurs = rw (t_is, u_is) at occurs
+
 pub IsPart-occurs : (d : Direction) (t u : Tree) → Denotes d t u → IsPart t → IsPart u
 IsPart-occurs d t u occurs part = IsPart-kept d occurs.keeps part
 

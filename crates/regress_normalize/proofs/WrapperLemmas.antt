@@ -250,6 +250,11 @@ module _ (facts : PartFacts) (q : Quantifier) (start end : ℕ) (body : Tree) (h
       };
     }
 
+-- an error before the loop is changed
+pub not_unrolled : (d : Direction) (t u : Tree) (response : Result ListFacts AllocError) → IsErr response → t ≡ u → HasFinishedParts d t u response
+not_unrolled d t u (Ok list) err same = absurd (false≢true err)
+not_unrolled d t u (Err e) err same = record { keeps = subst (λ (v : Tree). Keeps d t v) same (Keeps-refl d t); parts = tt }
+
 -- a loop that is unrolled, and the list of parts that it becomes
 module _ (d : Direction) (t mid : Tree) (parts : Result ListFacts AllocError) (finished : HasFinishedParts d t mid parts)
     (facts : PartFacts) (holds : IsWrapperOf facts t) where

@@ -293,6 +293,16 @@ front_then a b set through bytes f g members on first second =
     (begins_more (contains b.bytes) set b.through b.through bytes g
     (λ x h. or-two (contains a.bytes x) (contains b.bytes x) (set x) (members x) h) (λ h. h) second))
 
+pub front_or : (a b : FirstSet) (set : ℕ → Bool) (through : Bool) (bytes : List ℕ) (f g : Matcher) →
+    ((x : ℕ) → set x ≡ (contains a.bytes x || contains b.bytes x)) → (a.through ≡ true → through ≡ true) → (b.through ≡ true → through ≡ true) →
+    IsFirstSetOf a bytes f → IsFirstSetOf b bytes g → Begins set through bytes (f or_ g)
+front_or a b set through bytes f g members on on' first second =
+    begins_or set bytes through f g
+    (begins_more (contains a.bytes) set a.through through bytes f
+    (λ x h. or-one (contains a.bytes x) (contains b.bytes x) (set x) (members x) h) on first)
+    (begins_more (contains b.bytes) set b.through through bytes g
+    (λ x h. or-two (contains a.bytes x) (contains b.bytes x) (set x) (members x) h) on' second)
+
 pub front_repeat : (set : ℕ → Bool) (through through' : Bool) (bytes : List ℕ) (f : Matcher) (q : Quantifier) (bound start end : ℕ) →
     ((through || (q.min == 0)) ≡ true → through' ≡ true) → Begins set through bytes f → Begins set through' bytes (repeat_matcher bound q start end f)
 front_repeat set through through' bytes f q bound start end on first =

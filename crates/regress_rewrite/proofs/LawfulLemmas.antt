@@ -1,6 +1,7 @@
 -- The law, for any shape that is removed: what each action of a rewrite has to show.
-use Rattle.std.proofs.Common.{◌≡◌, ◌≢◌, Bool, true, false, inl, inr, refl, sym, subst, ◌∙◌, arith}
+use Rattle.std.proofs.Common.{◌≡◌, ◌≢◌, Bool, true, false, Result, IfOk, inl, inr, refl, sym, subst, ◌∙◌, arith}
 use Rattle.std.proofs.lemmas.Bool.{false≢true}
+use Rattle.std.specs.declared.alloc.AllocError.{AllocError}
 use Rattle.regress_tree.specs.declared.ir.node.Node.{Node}
 use Rattle.regress_tree.specs.Reading.{Direction}
 use Rattle.regress_tree.specs.Tree.{Tree, Trees, leaf, empty, cat, no_trees, tree}
@@ -34,6 +35,11 @@ module _ (removes : Tree → Bool) (exact : Bool) (d : Direction) where
     clean = λ same. none;
     exact = λ is_exact lacks. refl;
   }
+
+  -- a statement about an action on a node, transferred to equal trees
+  pub lawful_as : (response : Result PassAction AllocError) {old old' left left' : Tree} → old ≡ old' → left ≡ left' →
+      IfOk response (ObeysLaw removes exact d old left) → IfOk response (ObeysLaw removes exact d old' left')
+  lawful_as response old_is left_is lawful = rw (old_is, left_is) at lawful
 
   module _ (old : Tree) (some : removes old ≡ true) where
     changed : (left : Tree) (action : PassAction) → action ≢ Keep → Keeps d old (after action left) → IsLess (after action left) old →

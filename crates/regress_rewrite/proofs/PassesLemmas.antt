@@ -69,6 +69,16 @@ list_whole now old i same =
     ap trees (sym (take-append-drop i now)) ∙ trees-append (take i now) (drop i now)
     ∙ ap (λ ns. append_trees (trees (take i now)) (trees ns)) same
 
+-- a statement about the children of a node, transferred to equal trees
+module _ {t u v w : Tree} (t_is : t ≡ v) (u_is : u ≡ w) where
+  pub Inside-as : {State : Type 0} {Call : State → Tree → ℕ → Bool → State → Tree → Bool → Type 0} {d : ℕ} {lookbehind : Bool} {a b : State} →
+      Inside Call true d lookbehind t u a b → Inside Call true d lookbehind v w a b
+  Inside-as inside = rw (t_is, u_is) at inside
+
+  pub Traversed-as : (shape : Tree → Bool) {exact : Bool} {d : Direction} {response : Result Bool AllocError} →
+      TraversedOf (LacksInside shape) exact d t u response → TraversedOf (LacksInside shape) exact d v w response
+  Traversed-as shape swept = rw (t_is, u_is) at swept
+
 -- The two sides of an `Alt`.
 module _ (exact : Bool) (d : Direction) (shape : Tree → Bool) (left left' right : Tree) (changed : Bool) where
   sides_lack : LacksInside shape (alt left right) → LacksShape shape left × LacksShape shape right

@@ -185,7 +185,8 @@ pub fn append(part: &mut Node, other: &mut Node) -> Result<(), AllocError>
     if let Node::ByteSequence(bytes) = part
         && let Node::ByteSequence(more) = other
     {
-        bytes.append(more)?;
+        bytes.append(more)
+    } else {
+        Ok(())
     }
-    Ok(())
 }

@@ -8,8 +8,8 @@ use Rattle.regress_tree.specs.declared.ir.groups.GroupIds.{GroupIds}
 use Rattle.regress_tree.specs.declared.ir.groups.Tally.{Tally}
 use Rattle.regress_tree.specs.declared.ir.node.Node.{Node}
 use Rattle.regress_base.specs.declared.types.Quantifier.{Quantifier}
-use Rattle.regress_tree.specs.Tree.{capture_group, loop, lookaround, Tree, Trees, cat, alt, wrapped, no_trees, more_trees, append_trees, tree, trees}
-use Rattle.regress_tree.specs.WellFormed.{Capture, captures, captures_of_trees, inside, IsQuantifier, HasGroups}
+use Rattle.regress_tree.specs.Tree.{capture_group, loop, loop_one, lookaround, Tree, Trees, cat, alt, wrapped, no_trees, more_trees, append_trees, tree, trees}
+use Rattle.regress_tree.specs.WellFormed.{Capture, captures, captures_of_trees, inside, one_character, IsQuantifier, HasGroups}
 use Rattle.regress_tree.specs.Survey.{holds, reference, reference_in_list, IsTally, joined, one, fill, IsAllowedInside, SurveyedAt, RejectedAt}
 use Rattle.regress_tree.proofs.lemmas.Lists.{trees-append, captures-append}
 use Rattle.regress_tree.proofs.IdLemmas.{fill-has, has-fill, times-append}
@@ -186,3 +186,27 @@ module _ (body : Tree) (before after : GroupIds) (g : Tally) (p : SurveyedAt ins
   pub look-fail : (negate backwards : Bool) → start < 65536 → end < 65536 → fill start end g ≡ false →
       RejectedAt inside (wrapped (lookaround negate backwards start end) body) before
   look-fail negate backwards small small' other = record { refuted = λ s differ. lacks_groups small small' other s.1.1 }
+
+-- a node whose body is rejected
+module _ (body : Tree) (before : GroupIds) where
+  pub group-refuted : (id : ℕ) (name : Option (List ℕ)) (mid : GroupIds) → holds before id ≡ false →
+      ((k : ℕ) → holds mid k ≡ ((k == id) || holds before k)) → RejectedAt inside body mid →
+      RejectedAt inside (wrapped (capture_group id name) body) before
+  group-refuted id name mid fresh more p =
+      let group : Capture = record { id = id; name = name } in
+      record {
+        refuted = λ s differ. p.refuted (s.0, s.1.2)
+            (λ k. omega (arith, differ k, held-insert before mid group fresh more k, times-append k (group ∷ []) (captures body)));
+      }
+
+  pub loop-refuted : (q : Quantifier) (start end : ℕ) → RejectedAt inside body before → RejectedAt inside (wrapped (loop q start end) body) before
+  loop-refuted q start end p = record { refuted = λ s differ. p.refuted (s.0, s.1.2) differ }
+
+  pub look-refuted : (negate backwards : Bool) (start end : ℕ) → RejectedAt inside body before →
+      RejectedAt inside (wrapped (lookaround negate backwards start end) body) before
+  look-refuted negate backwards start end p = record { refuted = λ s differ. p.refuted (s.0, s.1.2) differ }
+
+  pub one-fail : (q : Quantifier) → (IsQuantifier q → ⊥) ⊎ (IsAllowedInside one_character body → ⊥) →
+      RejectedAt inside (wrapped (loop_one q) body) before
+  one-fail q (inl not_one) = record { refuted = λ s differ. not_one s.1.1 }
+  one-fail q (inr not_one) = record { refuted = λ s differ. not_one (s.0, s.1.2) }

@@ -1,7 +1,8 @@
 -- Each result is a lemma about trees, applied to the values of the call.
-use Rattle.std.proofs.Common.{rules, arith, ◌∙◌, sym, ap, subst, refl, length-set, take}
+use Rattle.std.proofs.Common.{rules, arith, ◌∙◌, sym, ap, subst, refl, length-set, take, Vec, Global}
+use Rattle.regress_tree.specs.declared.ir.node.Node.{Node}
 use Rattle.regress_tree.specs.Spine.{reattach}
-use Rattle.regress_tree.specs.Tree.{Tree, Trees, alt, wrapped, tree, trees}
+use Rattle.regress_tree.specs.Tree.{Tree, Trees, cat, alt, wrapped, tree, trees}
 use Rattle.regress_tree.specs.Units.{units}
 use Rattle.regress_tree.specs.Walk.{direction_of}
 use Rattle.regress_tree.proofs.lemmas.Nesting.{out-Cat}
@@ -16,7 +17,7 @@ use Rattle.regress_normalize.specs.PartFacts.{HasListFacts}
 use Rattle.regress_normalize.specs.Steps.{Denotes}
 use Rattle.regress_normalize.proofs.NormalLemmas.{IsNormal-reattach}
 use Rattle.regress_tree.specs.NormalForm.{IsNormal}
-use Rattle.regress_normalize.proofs.TraversalLemmas.{Denotes-reattach, Denotes-normalized, Denotes-only_part, IsPart-occurs, Normalized-after, Normalized-error, occurs_inside, wraps, wraps_clean, Normalized-finished, Finished-error, still_one_up, units-reattach, units_up, onto_up, occurs_up, IsPart_up, occurs_left, both_sides, taken, more_normal, Denotes-part}
+use Rattle.regress_normalize.proofs.TraversalLemmas.{Denotes-reattach, Denotes-normalized, Denotes-only_part, IsPart-occurs, Normalized-after, Normalized-error, occurs_inside, wraps, wraps_clean, Normalized-finished, Finished-error, still_one_up, units-reattach, units_up, onto_up, occurs_up, IsPart_up, occurs_left, both_sides, taken, more_normal, Denotes-part, Denotes-as}
 use Rattle.regress_normalize.proofs.traversal.+normalize.Goals as goal
 
 pub normalize-normalize_last-requires : goal.normalize-normalize_last-requires
@@ -147,13 +148,43 @@ normalize_last-returns-then-take_only_part t c =
     let d = direction_of c.args.walk.now in
     Normalized-after d _ _ _ _ (Denotes-only_part d _ _ c.if-take_only_part.ensures) c.normalize.ensures
 
+pub normalize_last-normalize_parts-requires : goal.normalize_last-normalize_parts-requires
+normalize_last-normalize_parts-requires t c =
+    let start = sym c.if-take_only_part.ensures ∙ ap tree c.in-Cat.is ∙ tree-Cat c.in-Cat.parts in
+    let given = ap (λ (ps : Vec Node Global). cat (trees ps.items)) c.in-Cat.parts-is ∙ sym start in
+    (omega (arith, ap units given), subst (λ (u : Tree). IsPart u) (sym given) c.requires.part)
+
+pub normalize_last-returns-in_err-list-in-Cat : goal.normalize_last-returns-in_err-list-in-Cat
+normalize_last-returns-in_err-list-in-Cat t c =
+    let d = direction_of c.args.walk.now in
+    let start = sym c.if-take_only_part.ensures ∙ ap tree c.in-Cat.is ∙ tree-Cat c.in-Cat.parts in
+    let given = ap (λ (ps : Vec Node Global). cat (trees ps.items)) c.in-Cat.parts-is ∙ sym start in
+    Normalized-error d _ _ _ c.from_residual.ensures.0
+    (Denotes-as d given (rw (c.in-Cat.is, out-Cat) (sym (tree-Cat c.normalize_parts.new.parts))) c.normalize_parts.ensures.keeps)
+
+pub normalize_last-finish_cat-requires-clause-part : goal.normalize_last-finish_cat-requires-clause-part
+normalize_last-finish_cat-requires-clause-part t c =
+    let d = direction_of c.args.walk.now in
+    let start = sym c.if-take_only_part.ensures ∙ ap tree c.in-Cat.is ∙ tree-Cat c.in-Cat.parts in
+    let given = ap (λ (ps : Vec Node Global). cat (trees ps.items)) c.in-Cat.parts-is ∙ sym start in
+    IsPart-occurs d _ _ (Denotes-as d given (rw (c.in-Cat.is, out-Cat) (sym (tree-Cat c.normalize_parts.new.parts))) c.normalize_parts.ensures.keeps)
+    c.requires.part
+
+pub normalize_last-finish_cat-requires-clause-parts : goal.normalize_last-finish_cat-requires-clause-parts
+normalize_last-finish_cat-requires-clause-parts t c = record {
+  parts = trees c.normalize_parts.new.parts.items;
+  is = rw (c.in-Cat.is, out-Cat) (tree-Cat c.normalize_parts.new.parts);
+  normal = c.in_ok-list-in-Cat.ensures.normal;
+  facts = c.in_ok-list-in-Cat.ensures.facts;
+}
+
 pub normalize_last-returns-in_ok-list-in-Cat : goal.normalize_last-returns-in_ok-list-in-Cat
 normalize_last-returns-in_ok-list-in-Cat t c =
     let d = direction_of c.args.walk.now in
     let start = sym c.if-take_only_part.ensures ∙ ap tree c.in-Cat.is ∙ tree-Cat c.in-Cat.parts in
-    let keeps = rw c.in-Cat.parts-is at c.normalize_parts.ensures.keeps in
-    let finished = rw (c.in-Cat.is, out-Cat, tree-Cat) at c.finish_cat.ensures in
-    rw start (Normalized-after d _ _ _ _ keeps finished)
+    let given = ap (λ (ps : Vec Node Global). cat (trees ps.items)) c.in-Cat.parts-is ∙ sym start in
+    Normalized-after d _ _ _ _
+    (Denotes-as d given (rw (c.in-Cat.is, out-Cat) (sym (tree-Cat c.normalize_parts.new.parts))) c.normalize_parts.ensures.keeps) c.finish_cat.ensures
 
 pub normalize_last-returns-in_default : goal.normalize_last-returns-in_default
 normalize_last-returns-in_default t c =

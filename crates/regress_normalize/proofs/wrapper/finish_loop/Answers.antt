@@ -9,6 +9,16 @@ use Rattle.regress_normalize.specs.Wrapped.{IsLoopOf, IsPlanned, in_form, loop_i
 use Rattle.regress_normalize.proofs.WrapperLemmas.{loop_holds, form_finished}
 use Rattle.regress_normalize.proofs.wrapper.finish_loop.Goals as goal
 
+pub plan_loop-requires : goal.plan_loop-requires
+plan_loop-requires c =
+    let at = c.in-Loop in
+    let q = at.quant in
+    let start = at.enclosed_groups.start in
+    let end = at.enclosed_groups.end in
+    let is = ap tree at.is ∙ tree-Loop at.loopee at.quant at.enclosed_groups in
+    let reported = subst (λ (t : Tree). IsLoopOf c.args.body.now t) is c.requires.inner in
+    rw (c.deref.ensures, at.loopee-is) (loop_holds c.args.body.now q start end (tree at.loopee.value) reported).has
+
 pub returns : goal.returns
 returns c d =
     let at = c.in-Loop in

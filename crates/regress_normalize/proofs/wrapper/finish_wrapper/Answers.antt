@@ -1,5 +1,5 @@
 -- A loop by its plan, and a lookaround of `Empty`.
-use Rattle.std.proofs.Common.{◌≡◌, true, sym, ap, subst, ◌∙◌}
+use Rattle.std.proofs.Common.{◌≡◌, true, refl, sym, ap, subst, ◌∙◌}
 use Rattle.regress_tree.specs.Shapes.{is_emptied_away, is_unrolled_away, may_unroll}
 use Rattle.regress_tree.specs.Tree.{Tree, tree, wrapped, loop, lookaround}
 use Rattle.regress_tree.specs.Walk.{direction_of}
@@ -48,6 +48,15 @@ finish_loop-requires-clause-inner c =
       normal = holds.normal;
       has = holds.has;
     })
+
+pub finish_unrolled-requires-clause-part : goal.finish_unrolled-requires-clause-part
+finish_unrolled-requires-clause-part c = subst (λ (t : Tree). IsPart t) (rw (c.in-Loop.is, out-Loop) refl) c.requires.part
+
+pub finish_unrolled-requires-clause-body : goal.finish_unrolled-requires-clause-body
+finish_unrolled-requires-clause-body c = subst (λ (t : Tree). IsWrapperOf c.args.body.now t) (rw (c.in-Loop.is, out-Loop) refl) c.requires.body
+
+pub finish_loop-requires-clause-part : goal.finish_loop-requires-clause-part
+finish_loop-requires-clause-part c = subst (λ (t : Tree). IsPart t) (rw (c.in-Loop.is, out-Loop) refl) c.requires.part
 
 pub returns-then-may_unroll : goal.returns-then-may_unroll
 returns-then-may_unroll c =

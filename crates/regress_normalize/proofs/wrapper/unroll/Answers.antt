@@ -1,5 +1,5 @@
 -- The copies, with what the loop after them becomes, replace the loop.
-use Rattle.std.proofs.Common.{◌≡◌, true, false, List, [], ◌∷◌, rules, tests, sym, subst, ap, ap₂, ◌∙◌}
+use Rattle.std.proofs.Common.{◌≡◌, true, false, List, [], ◌∷◌, rules, tests, refl, sym, subst, ap, ap₂, ◌∙◌}
 use Rattle.regress_tree.specs.declared.ir.node.Node.{Node}
 use Rattle.regress_tree.specs.declared.ir.node.Node.TheVariants.{Cat}
 use Rattle.regress_base.specs.declared.types.Quantifier.{Quantifier}
@@ -14,7 +14,7 @@ use Rattle.regress_rewrite.proofs.lemmas.Unrolling.{MayUnroll-from, body_grouple
 use Rattle.regress_normalize.specs.Normalized.{IsWrapperOf}
 use Rattle.regress_normalize.specs.PartFacts.{HasListFacts}
 use Rattle.regress_normalize.specs.Wrapped.{IsPlanned, in_form, loop_in_form}
-use Rattle.regress_normalize.proofs.WrapperLemmas.{wrapper_holds, iterations_finished, unrolled_finished, form_no_cat}
+use Rattle.regress_normalize.proofs.WrapperLemmas.{wrapper_holds, iterations_finished, unrolled_finished, form_no_cat, not_unrolled}
 use Rattle.regress_normalize.proofs.wrapper.unroll.Goals as goal
 
 pub required_copies-requires-clause-groups : goal.required_copies-requires-clause-groups
@@ -50,6 +50,26 @@ required_copies-requires-clause-nesting c =
     let is = ap tree at.is ∙ tree-Loop at.loopee at.quant at.enclosed_groups in
     let may : may_unroll q start end body ≡ true = ap is_unrolled_away (sym is) ∙ c.requires.shape in
     rw (c.deref-2.ensures, at.loopee-is) (MayUnroll-from q start end body may).nesting
+
+pub returns-in_err-list : goal.returns-in_err-list
+returns-in_err-list c d = not_unrolled d _ _ _ c.from_residual.ensures.0 (rw (c.in-Loop.is, out-Loop) refl)
+
+pub returns-in_err-parts : goal.returns-in_err-parts
+returns-in_err-parts c d = not_unrolled d _ _ _ c.from_residual-in_err-parts.ensures.0 (rw (c.in-Loop.is, out-Loop) refl)
+
+pub returns-in_err-plan : goal.returns-in_err-plan
+returns-in_err-plan c d = not_unrolled d _ _ _ c.from_residual-in_err-plan.ensures.0 (rw (c.in-Loop.is, out-Loop) refl)
+
+pub returns-in_err-add : goal.returns-in_err-add
+returns-in_err-add c d = not_unrolled d _ _ _ c.from_residual-in_err-add.ensures.0 (rw (c.in-Loop.is, out-Loop) refl)
+
+pub plan_loop-requires : goal.plan_loop-requires
+plan_loop-requires c =
+    let at = c.in-Loop in
+    let wrapper = loop at.quant at.enclosed_groups.start at.enclosed_groups.end in
+    let is = ap tree at.is ∙ tree-Loop at.loopee at.quant at.enclosed_groups in
+    let reported = subst (λ (t : Tree). IsWrapperOf c.args.body.now t) is c.requires.body in
+    rw (c.deref-3.ensures, at.loopee-is) (wrapper_holds c.args.body.now wrapper (tree at.loopee.value) reported).has
 
 pub returns-then-eq : goal.returns-then-eq
 returns-then-eq c d =

@@ -136,6 +136,26 @@ read_character-requires c =
     let front = c.in-Some.ensures.cases.0 in
     front ∙ ap (λ (r : Source). c.in-Some.c.now ∷ drop 1 r) (sym front)
 
+pub invariant_of-cursor : goal.invariant_of-cursor
+invariant_of-cursor c = record {
+  in_range = All-tail IsCodePoint c.in-Some.c.now c.in-Some.rest.now (subst (All IsCodePoint) c.in-Some.ensures.cases.0 c.args.cursor.now.in_range);
+}
+
+pub invariant_of-cursor-then-c-from : goal.invariant_of-cursor-then-c-from
+invariant_of-cursor-then-c-from c = record {
+  in_range = All-tail IsCodePoint c.in-Some.c.now c.in-Some.rest.now (subst (All IsCodePoint) c.in-Some.ensures.cases.0 c.args.cursor.now.in_range);
+}
+
+pub invariant_of-cursor-then-c-from-2 : goal.invariant_of-cursor-then-c-from-2
+invariant_of-cursor-then-c-from-2 c = record {
+  in_range = All-tail IsCodePoint c.in-Some.c.now c.in-Some.rest.now (subst (All IsCodePoint) c.in-Some.ensures.cases.0 c.args.cursor.now.in_range);
+}
+
+pub invariant_of-cursor-then-begins_property : goal.invariant_of-cursor-then-begins_property
+invariant_of-cursor-then-begins_property c = record {
+  in_range = All-tail IsCodePoint c.in-Some.c.now c.in-Some.rest.now (subst (All IsCodePoint) c.in-Some.ensures.cases.0 c.args.cursor.now.in_range);
+}
+
 pub invariant_of-cursor-then-begins_name : goal.invariant_of-cursor-then-begins_name
 invariant_of-cursor-then-begins_name c = record {
   in_range = All-tail IsCodePoint c.in-Some.c.now c.in-Some.rest.now (subst (All IsCodePoint) c.in-Some.ensures.cases.0 c.args.cursor.now.in_range);

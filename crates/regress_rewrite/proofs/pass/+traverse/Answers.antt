@@ -1,8 +1,9 @@
 -- Each result is a lemma about trees, applied to the values of the call.
-use Rattle.std.proofs.Common.{rules, arith, ◌≡◌, ◌+◌, ◌∙◌, true, false, [], take, drop, set, sym, ap, subst, refl, length-set}
-use Rattle.regress_tree.specs.declared.ir.node.Node.{Node, the_lemmas}
-use Rattle.regress_tree.specs.Tree.{Tree, alt, wrapped, no_trees, more_trees, tree, trees}
+use Rattle.std.proofs.Common.{rules, arith, ◌≡◌, ◌+◌, ◌∙◌, true, false, [], take, drop, set, sym, ap, ap₂, subst, refl, length-set}
+use Rattle.regress_tree.specs.declared.ir.node.Node.{the_lemmas}
+use Rattle.regress_tree.specs.Tree.{Tree, cat, alt, wrapped, no_trees, more_trees, tree, trees}
 use Rattle.regress_tree.specs.Copies.{is_leaf}
+use Rattle.regress_tree.specs.Held.{body_is_backwards}
 use Rattle.regress_tree.specs.Walk.{direction_of}
 use Rattle.regress_tree.specs.Units.{units}
 use Rattle.regress_tree.specs.Visits.{in_cat, in_alt, in_wrapped, no_more, one_more, after_children}
@@ -18,7 +19,7 @@ use Rattle.regress_rewrite.proofs.lemmas.Spine.{IsPart-reattach, IsPart-down, un
 use Rattle.regress_rewrite.proofs.lemmas.Parts.{IsPart-at, units_at, parts_next, unvisited-next}
 use Rattle.regress_tree.specs.Climbs.{further}
 use Rattle.regress_rewrite.specs.Passes.{Applied}
-use Rattle.regress_rewrite.proofs.PassesLemmas.{stays, left_swept, sides_swept, node_swept, list_stays, way_stays, not_returned, list_whole}
+use Rattle.regress_rewrite.proofs.PassesLemmas.{stays, left_swept, sides_swept, node_swept, list_stays, way_stays, not_returned, list_whole, Inside-as, Traversed-as}
 use Rattle.regress_tree.proofs.lemmas.Lists.{append_trees-none}
 use Rattle.std.proofs.lemmas.List.{drop_all, take_all}
 use Rattle.regress_tree.proofs.lemmas.Visits.{further-inside, further_next, after_down, next_is, visited_next, at_leaf}
@@ -155,33 +156,62 @@ traverse_parts-loop-i-preserved g t c =
           c.traverse.new.node _ l.invariant.swept c.in_ok-changed.ensures.swept;
     }
 
-pub traverse_children-returns-in-Cat : goal.traverse_children-returns-in-Cat
-traverse_children-returns-in-Cat g t c =
+pub traverse_children-returns-in-Cat-clause-visited : goal.traverse_children-returns-in-Cat-clause-visited
+traverse_children-returns-in-Cat-clause-visited g t c =
     let inner = c.walk_inside-inner.ensures in
-    let same = rw (c.in-Cat.is, tree-Cat) at inner.direction in
+    let parts = c.in-Cat.parts in
+    let is : tree c.args.node.now ≡ cat (trees parts.items) = ap tree c.in-Cat.is ∙ tree-Cat parts in
+    let same : c.walk_inside-inner.result.in_lookbehind ≡ c.args.walk.now.in_lookbehind =
+    inner.direction ∙ ap (λ (t : Tree). body_is_backwards t c.args.walk.now.in_lookbehind) is in
+    let given = ap (λ ps. cat (trees ps.items)) c.in-Cat.parts-is ∙ sym is in
     let visited = list_visited_there (Applied g.R.Rewrite.step) inner.unicode inner.depth same c.traverse_parts.ensures.visited in
-    rw (c.in-Cat.is, out-Cat)
-    (rw (tree-Cat c.in-Cat.parts, tree-Cat c.traverse_parts.new.parts)
-    (record {
-      visited = in_cat (rw (c.in-Cat.is, out-Cat) at visited);
-      swept = Traversed-walk _ c.args.walk.now c.walk_inside-inner.result same (rw (c.in-Cat.is, out-Cat) at c.traverse_parts.ensures.swept);
-    }))
+    Inside-as given (rw (c.in-Cat.is, out-Cat) (sym (tree-Cat c.traverse_parts.new.parts))) (in_cat visited)
 
-pub traverse_children-returns-in-Alt : goal.traverse_children-returns-in-Alt
-traverse_children-returns-in-Alt g t c =
+pub traverse_children-returns-in-Cat-clause-swept : goal.traverse_children-returns-in-Cat-clause-swept
+traverse_children-returns-in-Cat-clause-swept g t c =
+    let inner = c.walk_inside-inner.ensures in
+    let parts = c.in-Cat.parts in
+    let is : tree c.args.node.now ≡ cat (trees parts.items) = ap tree c.in-Cat.is ∙ tree-Cat parts in
+    let same : c.walk_inside-inner.result.in_lookbehind ≡ c.args.walk.now.in_lookbehind =
+    inner.direction ∙ ap (λ (t : Tree). body_is_backwards t c.args.walk.now.in_lookbehind) is in
+    let given = ap (λ ps. cat (trees ps.items)) c.in-Cat.parts-is ∙ sym is in
+    Traversed-walk _ c.args.walk.now c.walk_inside-inner.result same
+    (Traversed-as given (rw (c.in-Cat.is, out-Cat) (sym (tree-Cat c.traverse_parts.new.parts))) g.R.Rewrite.removes c.traverse_parts.ensures.swept)
+
+pub traverse_children-traverse_parts-requires : goal.traverse_children-traverse_parts-requires
+traverse_children-traverse_parts-requires g t c κs lives =
+    let parts = c.in-Cat.parts in
+    let is : tree c.args.node.now ≡ cat (trees parts.items) = ap tree c.in-Cat.is ∙ tree-Cat parts in
+    let given = ap (λ ps. cat (trees ps.items)) c.in-Cat.parts-is ∙ sym is in
+    let fewer = ap units given in
+    let part = rw (← given) at c.requires in
+    (omega (arith, fewer), (search rules, part))
+
+pub traverse_children-returns-in-Alt-clause-visited : goal.traverse_children-returns-in-Alt-clause-visited
+traverse_children-returns-in-Alt-clause-visited g t c =
     let at = c.in-Alt in
     let inner = c.walk_inside-inner.ensures in
-    let same = rw (at.is, tree-Alt) at inner.direction in
-    let left_is = rw (at.is, out-Alt) at c.deref_mut.ensures.value in
-    let right_is = rw (at.is, out-Alt) at c.deref_mut-in-Alt.ensures.value in
-    let tree_with = λ (x y : Node). tree-Alt (record at.left { value = x }) (record at.right { value = y }) in
+    let is : tree c.args.node.now ≡ alt (tree at.left.value) (tree at.right.value) = ap tree at.is ∙ tree-Alt at.left at.right in
+    let same : c.walk_inside-inner.result.in_lookbehind ≡ c.args.walk.now.in_lookbehind =
+    inner.direction ∙ ap (λ (t : Tree). body_is_backwards t c.args.walk.now.in_lookbehind) is in
+    let left : c.deref_mut.result.now ≡ at.left.value = rw (at.is, out-Alt) at c.deref_mut.ensures.value in
+    let right : c.deref_mut-in-Alt.result.now ≡ at.right.value = rw (at.is, out-Alt) at c.deref_mut-in-Alt.ensures.value in
+    let given = ap₂ alt (ap tree left) (ap tree right) ∙ sym is in
     let visited = inside_there (Applied g.R.Rewrite.step) inner.unicode refl same (c.traverse_sides.ensures.visited c.args.walk.now.depth inner.depth) in
-    rw (at.is, out-Alt)
-    (rw (tree_with at.left.value at.right.value, tree_with c.traverse_sides.new.left c.traverse_sides.new.right)
-    (record {
-      visited = rw (left_is, right_is) at visited;
-      swept = Traversed-walk _ c.args.walk.now c.walk_inside-inner.result same (rw (left_is, right_is) at c.traverse_sides.ensures.swept);
-    }))
+    Inside-as given (rw (at.is, out-Alt) (sym (tree-Alt (record at.left { value = c.traverse_sides.new.left }) (record at.right { value = c.traverse_sides.new.right })))) visited
+
+pub traverse_children-returns-in-Alt-clause-swept : goal.traverse_children-returns-in-Alt-clause-swept
+traverse_children-returns-in-Alt-clause-swept g t c =
+    let at = c.in-Alt in
+    let inner = c.walk_inside-inner.ensures in
+    let is : tree c.args.node.now ≡ alt (tree at.left.value) (tree at.right.value) = ap tree at.is ∙ tree-Alt at.left at.right in
+    let same : c.walk_inside-inner.result.in_lookbehind ≡ c.args.walk.now.in_lookbehind =
+    inner.direction ∙ ap (λ (t : Tree). body_is_backwards t c.args.walk.now.in_lookbehind) is in
+    let left : c.deref_mut.result.now ≡ at.left.value = rw (at.is, out-Alt) at c.deref_mut.ensures.value in
+    let right : c.deref_mut-in-Alt.result.now ≡ at.right.value = rw (at.is, out-Alt) at c.deref_mut-in-Alt.ensures.value in
+    let given = ap₂ alt (ap tree left) (ap tree right) ∙ sym is in
+    Traversed-walk _ c.args.walk.now c.walk_inside-inner.result same
+    (Traversed-as given (rw (at.is, out-Alt) (sym (tree-Alt (record at.left { value = c.traverse_sides.new.left }) (record at.right { value = c.traverse_sides.new.right })))) g.R.Rewrite.removes c.traverse_sides.ensures.swept)
 
 pub traverse_children-traverse-requires : goal.traverse_children-traverse-requires
 traverse_children-traverse-requires g t c κs lives =

@@ -1,10 +1,11 @@
 -- The visits of a node are composed of those of its calls.
-use Rattle.std.proofs.Common.{rules, arith, refl, ◌∙◌, ap, ◌≡◌, true, false, sym, length-set, [], take, drop}
+use Rattle.std.proofs.Common.{ℕ, Bool, Vec, Global, rules, arith, refl, ◌∙◌, ap, ap₂, ◌≡◌, true, false, sym, length-set, [], take, drop}
 use Rattle.std.proofs.lemmas.List.{drop_all, take_all}
 use Rattle.regress_tree.proofs.lemmas.Lists.{append_trees-none}
 use Rattle.regress_tree.specs.declared.ir.node.Node.{Node}
-use Rattle.regress_tree.specs.Tree.{alt, tree, no_trees}
-use Rattle.regress_tree.specs.Visits.{CallsMut, nodes, Visited, before_children, without_children, after_children, in_cat, in_alt, in_wrapped, no_more, one_more}
+use Rattle.regress_tree.specs.Tree.{Tree, cat, alt, tree, trees, no_trees}
+use Rattle.regress_tree.specs.Visits.{CallsMut, nodes, Visited, Inside, before_children, without_children, after_children, in_cat, in_alt, in_wrapped, no_more, one_more}
+use Rattle.regress_tree.specs.Held.{body_is_backwards}
 use Rattle.regress_tree.specs.Climbs.{further}
 use Rattle.regress_tree.proofs.lemmas.Nodes.{tree-Cat, tree-Alt}
 use Rattle.regress_tree.proofs.lemmas.Nesting.{out-Cat, out-Alt}
@@ -14,25 +15,57 @@ use Rattle.regress_tree.proofs.lemmas.WalkCongruence.{called_there, visited_ther
 use Rattle.regress_tree.proofs.ir.visit_mut.+visit_mut.Goals.{visit_before-else-loop-here-test, visit_before-then-loop-here-test+then-not-rotate_right_spine, visit_after-then-loop-nesting-test+else-rotate_right_spine, visit_after-else-loop-nesting-test}
 use Rattle.regress_tree.proofs.ir.visit_mut.+visit_mut.Goals as goal
 
+-- a visit of the children of a node, transferred to equal trees
+Inside-as : {State : Type 0} {Call : State → Tree → ℕ → Bool → State → Tree → Bool → Type 0} {p : Bool} {d : ℕ} {lookbehind : Bool} {a b : State}
+    {t u v w : Tree} → t ≡ v → u ≡ w → Inside Call p d lookbehind t u a b → Inside Call p d lookbehind v w a b
+Inside-as t_is u_is inside = rw (t_is, u_is) at inside
+
+pub visit_inside-visit_list-requires : goal.visit_inside-visit_list-requires
+visit_inside-visit_list-requires g t c κs lives =
+    let parts = c.in-Cat.parts in
+    let is : tree c.args.n.now ≡ cat (trees parts.items) = ap tree c.in-Cat.is ∙ tree-Cat parts in
+    let given = ap (λ (ps : Vec Node Global). cat (trees ps.items)) c.in-Cat.parts-is ∙ sym is in
+    (omega (arith, ap nodes given), search rules)
+
 pub visit_inside-returns-in-Cat-clause-visited : goal.visit_inside-returns-in-Cat-clause-visited
 visit_inside-returns-in-Cat-clause-visited g t c =
     let inner = c.walk_inside-inner.ensures in
-    let same = rw (c.in-Cat.is, tree-Cat) at inner.direction in
+    let parts = c.in-Cat.parts in
+    let is : tree c.args.n.now ≡ cat (trees parts.items) = ap tree c.in-Cat.is ∙ tree-Cat parts in
+    let given = ap (λ (ps : Vec Node Global). cat (trees ps.items)) c.in-Cat.parts-is ∙ sym is in
+    let same : c.walk_inside-inner.result.in_lookbehind ≡ c.args.walk.now.in_lookbehind =
+    inner.direction ∙ ap (λ (t : Tree). body_is_backwards t c.args.walk.now.in_lookbehind) is in
     let visited = list_visited_there (CallsMut (goal.F-step g)) inner.unicode inner.depth same c.visit_list.ensures.visited in
-    let whole = in_cat (rw (c.in-Cat.is, out-Cat) at visited) in
-    rw (c.in-Cat.is, out-Cat) (rw (tree-Cat c.in-Cat.parts, tree-Cat c.visit_list.new.parts) whole)
+    Inside-as given (rw (c.in-Cat.is, out-Cat) (sym (tree-Cat c.visit_list.new.parts))) (in_cat visited)
+
+pub visit_inside-visit_mut-requires : goal.visit_inside-visit_mut-requires
+visit_inside-visit_mut-requires g t c κs lives =
+    let at = c.in-Alt in
+    let is : tree c.args.n.now ≡ alt (tree at.left.value) (tree at.right.value) = ap tree at.is ∙ tree-Alt at.left at.right in
+    let left : c.deref_mut.result.now ≡ at.left.value = rw (at.is, out-Alt) at c.deref_mut.ensures.value in
+    (omega (arith, ap nodes is, ap (λ (n : Node). nodes (tree n)) left), search rules)
+
+pub visit_inside-visit_mut-requires-in-Alt : goal.visit_inside-visit_mut-requires-in-Alt
+visit_inside-visit_mut-requires-in-Alt g t c κs lives =
+    let at = c.in-Alt in
+    let is : tree c.args.n.now ≡ alt (tree at.left.value) (tree at.right.value) = ap tree at.is ∙ tree-Alt at.left at.right in
+    let right : c.deref_mut-in-Alt.result.now ≡ at.right.value = rw (at.is, out-Alt) at c.deref_mut-in-Alt.ensures.value in
+    (omega (arith, ap nodes is, ap (λ (n : Node). nodes (tree n)) right), search rules)
 
 pub visit_inside-returns-in-Alt-clause-visited : goal.visit_inside-returns-in-Alt-clause-visited
 visit_inside-returns-in-Alt-clause-visited g t c =
-    let at = c.in-Alt in
     let inner = c.walk_inside-inner.ensures in
-    let same = rw (at.is, tree-Alt) at inner.direction in
-    let left_is = rw (at.is, out-Alt) at c.deref_mut.ensures.value in
-    let right_is = rw (at.is, out-Alt) at c.deref_mut-in-Alt.ensures.value in
-    let tree_with = λ (x y : Node). tree-Alt (record at.left { value = x }) (record at.right { value = y }) in
-    rw (at.is, out-Alt) (rw (tree_with at.left.value at.right.value, tree_with c.visit_mut.new.n c.visit_mut-in-Alt.new.n)
-    (in_alt (rw left_is at (visited_there (CallsMut (goal.F-step g)) inner.unicode inner.depth same c.visit_mut.ensures.visited))
-    (rw right_is at (visited_there (CallsMut (goal.F-step g)) inner.unicode inner.depth same c.visit_mut-in-Alt.ensures.visited))))
+    let at = c.in-Alt in
+    let is : tree c.args.n.now ≡ alt (tree at.left.value) (tree at.right.value) = ap tree at.is ∙ tree-Alt at.left at.right in
+    let same : c.walk_inside-inner.result.in_lookbehind ≡ c.args.walk.now.in_lookbehind =
+    inner.direction ∙ ap (λ (t : Tree). body_is_backwards t c.args.walk.now.in_lookbehind) is in
+    let left : c.deref_mut.result.now ≡ at.left.value = rw (at.is, out-Alt) at c.deref_mut.ensures.value in
+    let right : c.deref_mut-in-Alt.result.now ≡ at.right.value = rw (at.is, out-Alt) at c.deref_mut-in-Alt.ensures.value in
+    let first = visited_there (CallsMut (goal.F-step g)) inner.unicode inner.depth same c.visit_mut.ensures.visited in
+    let second = visited_there (CallsMut (goal.F-step g)) inner.unicode inner.depth same c.visit_mut-in-Alt.ensures.visited in
+    Inside-as (ap₂ alt (ap tree left) (ap tree right) ∙ sym is)
+    (rw (at.is, out-Alt) (sym (tree-Alt (record at.left { value = c.visit_mut.new.n }) (record at.right { value = c.visit_mut-in-Alt.new.n }))))
+    (in_alt first second)
 
 pub visit_inside-visit_mut-requires-in-Some : goal.visit_inside-visit_mut-requires-in-Some
 visit_inside-visit_mut-requires-in-Some g t c κs lives =

@@ -3,14 +3,14 @@ use Rattle.std.proofs.Common.{◌≡◌, ◌<◌, true, false, length, inl, inr,
 use Rattle.std.specs.Prelude.{option_map, string_bytes}
 use Rattle.std.proofs.lemmas.Bool.{false≢true, not-true}
 use Rattle.regress_tree.specs.Tree.{tree, wrapped, capture_group, loop, lookaround}
-use Rattle.regress_tree.proofs.lemmas.Nodes.{tree-CaptureGroup, tree-Loop, tree-LookaroundAssertion}
+use Rattle.regress_tree.proofs.lemmas.Nodes.{tree-CaptureGroup, tree-Loop, tree-Loop1CharBody, tree-LookaroundAssertion}
 use Rattle.regress_tree.proofs.lemmas.Nesting.{alt_of}
 use Rattle.regress_tree.proofs.lemmas.Visits.{right_smaller}
 use Rattle.regress_tree.specs.WellFormed.{inside}
 use Rattle.regress_tree.specs.Survey.{fill, SurveyedAt, RejectedAt}
-use Rattle.regress_tree.proofs.PassLemmas.{SpineSurveyed, spine-start, spine-next, spine-last, spine-fail, spine-fail-last, parts-next, parts-fail, group-pass, loop-pass, loop-fail, look-pass, look-fail}
+use Rattle.regress_tree.proofs.PassLemmas.{SpineSurveyed, spine-start, spine-next, spine-last, spine-fail, spine-fail-last, parts-next, parts-fail, group-pass, loop-pass, loop-fail, look-pass, look-fail, group-refuted, loop-refuted, look-refuted, one-fail}
 use Rattle.regress_tree.proofs.ir.well_formed.+survey.Goals as goal
-use Rattle.regress_tree.proofs.ir.well_formed.+survey.Goals.{survey_other-else-is_quantifier-via-then-is_quantifier+else-are, survey_other-else-is_quantifier-via-else-is_quantifier}
+use Rattle.regress_tree.proofs.ir.well_formed.+survey.Goals.{survey_other-else-is_quantifier-2-via-then-is_quantifier-2+else-is_one_character, survey_other-else-is_quantifier-2-via-else-is_quantifier-2, survey_other-else-is_quantifier-via-then-is_quantifier+else-are, survey_other-else-is_quantifier-via-else-is_quantifier}
 
 pub survey-loop-node-init : goal.survey-loop-node-init
 survey-loop-node-init t c = record {
@@ -116,6 +116,59 @@ survey_other-returns-else-is_quantifier t c =
       | survey_other-else-is_quantifier-via-then-is_quantifier+else-are w ↦ inr (grind (arith, w.if-are.ensures))
       | survey_other-else-is_quantifier-via-else-is_quantifier w ↦
           inl (λ q. false≢true (sym w.if-is_quantifier.false ∙ c.is_quantifier.ensures.1 q))
+    ]))
+
+pub survey_other-returns-in_err-survey-in-CaptureGroup : goal.survey_other-returns-in_err-survey-in-CaptureGroup
+survey_other-returns-in_err-survey-in-CaptureGroup t c =
+    let at = c.in-CaptureGroup in
+    let body = c.deref-in-CaptureGroup.result.now in
+    let wrapper = capture_group at.id (option_map string_bytes at.name) in
+    let is : tree c.args.node.now ≡ wrapped wrapper (tree body) =
+    ap tree at.is ∙ tree-CaptureGroup at.id at.contents at.name
+    ∙ ap (λ n. wrapped wrapper (tree n)) (sym c.deref-in-CaptureGroup.ensures) in
+    let fresh = not-true _ (sym c.insert.ensures.new ∙ search rules) in
+    rw c.from_residual.ensures
+    (subst (λ x. RejectedAt inside x c.args.ids.now) (sym is)
+    (group-refuted (tree body) c.args.ids.now at.id (option_map string_bytes at.name) c.insert.new.self fresh c.insert.ensures.after
+    c.in_err-survey-in-CaptureGroup.ensures))
+
+pub survey_other-returns-in_err-groups-in-Loop : goal.survey_other-returns-in_err-groups-in-Loop
+survey_other-returns-in_err-groups-in-Loop t c =
+    let at = c.in-Loop in
+    let body = c.deref-in-Loop.result.now in
+    let wrapper = loop at.quant at.enclosed_groups.start at.enclosed_groups.end in
+    let is : tree c.args.node.now ≡ wrapped wrapper (tree body) =
+    ap tree at.is ∙ tree-Loop at.loopee at.quant at.enclosed_groups
+    ∙ ap (λ n. wrapped wrapper (tree n)) (sym c.deref-in-Loop.ensures) in
+    rw c.from_residual-in_err-groups-in-Loop.ensures
+    (subst (λ x. RejectedAt inside x c.args.ids.now) (sym is)
+    (loop-refuted (tree body) c.args.ids.now at.quant at.enclosed_groups.start at.enclosed_groups.end c.in_err-groups-in-Loop.ensures))
+
+pub survey_other-returns-in_err-groups-in-LookaroundAssertion : goal.survey_other-returns-in_err-groups-in-LookaroundAssertion
+survey_other-returns-in_err-groups-in-LookaroundAssertion t c =
+    let at = c.in-LookaroundAssertion in
+    let body = c.deref-in-LookaroundAssertion.result.now in
+    let wrapper = lookaround at.negate at.backwards at.start_group at.end_group in
+    let is : tree c.args.node.now ≡ wrapped wrapper (tree body) =
+    ap tree at.is ∙ tree-LookaroundAssertion at.negate at.backwards at.start_group at.end_group at.contents
+    ∙ ap (λ n. wrapped wrapper (tree n)) (sym c.deref-in-LookaroundAssertion.ensures) in
+    rw c.from_residual-in_err-groups-in-LookaroundAssertion.ensures
+    (subst (λ x. RejectedAt inside x c.args.ids.now) (sym is)
+    (look-refuted (tree body) c.args.ids.now at.negate at.backwards at.start_group at.end_group c.in_err-groups-in-LookaroundAssertion.ensures))
+
+pub survey_other-returns-else-is_quantifier-2 : goal.survey_other-returns-else-is_quantifier-2
+survey_other-returns-else-is_quantifier-2 t c =
+    let at = c.in-Loop1CharBody in
+    let q = at.quant in
+    let body = tree at.loopee.value in
+    let is = ap tree at.is ∙ tree-Loop1CharBody at.loopee q in
+    subst (λ x. RejectedAt inside x c.args.ids.now) (sym is)
+    (one-fail body c.args.ids.now q
+    (elim c.else-is_quantifier-2.branch [
+      | survey_other-else-is_quantifier-2-via-then-is_quantifier-2+else-is_one_character w ↦
+          inr (λ one. false≢true (sym w.if-is_one_character.false ∙ w.is_one_character.ensures.1 (rw (← w.deref-then-is_quantifier-2.ensures) at one)))
+      | survey_other-else-is_quantifier-2-via-else-is_quantifier-2 w ↦
+          inl (λ one. false≢true (sym w.if-is_quantifier-2.false ∙ c.is_quantifier-in-Loop1CharBody.ensures.1 one))
     ]))
 
 pub survey_other-returns-then-are-2 : goal.survey_other-returns-then-are-2
