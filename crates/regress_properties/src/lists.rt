@@ -1,8 +1,12 @@
 //! The long constants, each returned by a function: proofs that cite the function never unfold the constant, which
 //! takes long.
-ghost use Rattle.std.specs.Prelude.{◌≡◌};
+ghost use Rattle.std.specs.Prelude.{◌≡◌, map};
+ghost use Rattle.regress_properties.specs.Listed.{range_of};
 
 use super::intervals::INTERVALS;
+use super::names::{
+    BINARY, GENERAL_CATEGORY, SCRIPT, SCRIPT_EXTENSIONS, SCRIPT_EXTENSIONS_REST, SCRIPT_REST,
+};
 use super::strings::{POINTS, STRINGS};
 
 /// Returns the first and last code points, alternating, of the intervals of all sets.
@@ -24,4 +28,46 @@ pub(super) fn points() -> &'static [u32]
     ensures { result.now ≡ POINTS.now }
 {
     POINTS
+}
+
+/// Returns the names of general categories, each with its range in `intervals`.
+pub(super) fn general_categories() -> &'static [(&'static str, usize, usize)]
+    ensures { map (λ n. range_of n.0.now n.1 n.2) result.now ≡ map (λ n. range_of n.0.now n.1 n.2) GENERAL_CATEGORY.now }
+{
+    GENERAL_CATEGORY
+}
+
+/// Returns the names of scripts, each with its range in `intervals`.
+pub(super) fn scripts() -> &'static [(&'static str, usize, usize)]
+    ensures { map (λ n. range_of n.0.now n.1 n.2) result.now ≡ map (λ n. range_of n.0.now n.1 n.2) SCRIPT.now }
+{
+    SCRIPT
+}
+
+/// Returns the rest of the names of scripts.
+pub(super) fn other_scripts() -> &'static [(&'static str, usize, usize)]
+    ensures { map (λ n. range_of n.0.now n.1 n.2) result.now ≡ map (λ n. range_of n.0.now n.1 n.2) SCRIPT_REST.now }
+{
+    SCRIPT_REST
+}
+
+/// Returns the names of script extensions, each with its range in `intervals`.
+pub(super) fn extended_scripts() -> &'static [(&'static str, usize, usize)]
+    ensures { map (λ n. range_of n.0.now n.1 n.2) result.now ≡ map (λ n. range_of n.0.now n.1 n.2) SCRIPT_EXTENSIONS.now }
+{
+    SCRIPT_EXTENSIONS
+}
+
+/// Returns the rest of the names of script extensions.
+pub(super) fn other_extended_scripts() -> &'static [(&'static str, usize, usize)]
+    ensures { map (λ n. range_of n.0.now n.1 n.2) result.now ≡ map (λ n. range_of n.0.now n.1 n.2) SCRIPT_EXTENSIONS_REST.now }
+{
+    SCRIPT_EXTENSIONS_REST
+}
+
+/// Returns the names of binary properties, each with its range in `intervals`.
+pub(super) fn binary_properties() -> &'static [(&'static str, usize, usize)]
+    ensures { map (λ n. range_of n.0.now n.1 n.2) result.now ≡ map (λ n. range_of n.0.now n.1 n.2) BINARY.now }
+{
+    BINARY
 }

@@ -5,11 +5,11 @@ ghost use Rattle.regress_properties.specs.Listed.{values_of};
 ghost use Rattle.regress_properties.specs.Properties.{unicode_id_start, unicode_id_continue, unicode_general_category, unicode_script, unicode_script_extensions, unicode_binary, unicode_strings};
 
 use super::ends::set_at;
-use super::lists::{intervals, points, strings};
-use super::names::{
-    BINARY, GENERAL_CATEGORY, ID_CONTINUE, ID_START, SCRIPT, SCRIPT_EXTENSIONS,
-    SCRIPT_EXTENSIONS_REST, SCRIPT_REST,
+use super::lists::{
+    binary_properties, extended_scripts, general_categories, intervals, other_extended_scripts,
+    other_scripts, points, scripts, strings,
 };
+use super::names::{ID_CONTINUE, ID_START};
 use super::sets::{find_in, find_set};
 use super::strings::STRING_NAMES;
 use super::texts::find_strings;
@@ -56,7 +56,7 @@ pub fn id_continue(alloc: Global) -> Result<CodePointSet, AllocError>
 pub fn general_category(alloc: Global, name: &str) -> Result<Option<CodePointSet>, AllocError>
     ensures { IfOk result (λ set. set ≡ named name.now unicode_general_category) }
 {
-    find_in(alloc, GENERAL_CATEGORY, intervals(), name)
+    find_in(alloc, general_categories(), intervals(), name)
 }
 
 /// Returns the code points of the script `name`, or `None`. The lookup is that of [`general_category`].
@@ -66,7 +66,7 @@ pub fn general_category(alloc: Global, name: &str) -> Result<Option<CodePointSet
 pub fn script(alloc: Global, name: &str) -> Result<Option<CodePointSet>, AllocError>
     ensures { IfOk result (λ set. set ≡ named name.now unicode_script) }
 {
-    find_set(alloc, SCRIPT, SCRIPT_REST, intervals(), name)
+    find_set(alloc, scripts(), other_scripts(), intervals(), name)
 }
 
 /// Returns the code points with the script extension `name`, or `None`. The lookup is that of [`general_category`].
@@ -78,8 +78,8 @@ pub fn script_extensions(alloc: Global, name: &str) -> Result<Option<CodePointSe
 {
     find_set(
         alloc,
-        SCRIPT_EXTENSIONS,
-        SCRIPT_EXTENSIONS_REST,
+        extended_scripts(),
+        other_extended_scripts(),
         intervals(),
         name,
     )
@@ -92,7 +92,7 @@ pub fn script_extensions(alloc: Global, name: &str) -> Result<Option<CodePointSe
 pub fn binary(alloc: Global, name: &str) -> Result<Option<CodePointSet>, AllocError>
     ensures { IfOk result (λ set. set ≡ named name.now unicode_binary) }
 {
-    find_in(alloc, BINARY, intervals(), name)
+    find_in(alloc, binary_properties(), intervals(), name)
 }
 
 /// Returns the strings with the property of strings `name`, longest first, or `None`. The lookup is that of

@@ -8,6 +8,7 @@ use crate::row::{Piece, Row};
 use crate::sets::{Character, only_character, set_label, strings_label};
 use crate::source::{Source, excerpt};
 use crate::words::set_of;
+use regress_base::codepointset::CodePointSet;
 use regress_base::types::Quantifier;
 use regress_parse::Span;
 use regress_tree::ir::Node;
@@ -127,10 +128,15 @@ fn lay_out_tracks(node: &Node, setting: &mut Setting<'_>) -> Result<Diagram, All
     }
     all.push(lay_out(rest, setting)?)?;
     // The spans of the inner `Alt`s come before that of the outermost one.
-    for _inner in 2..all.len() {
+    skip_spans(all.len().saturating_sub(2), setting);
+    Ok(tracks(all))
+}
+
+/// Skips the spans of that many nodes.
+fn skip_spans(count: usize, setting: &mut Setting<'_>) {
+    for _node in 0..count {
         setting.spans.next();
     }
-    Ok(tracks(all))
 }
 
 /// Returns the span of the next node in postorder.
@@ -155,8 +161,7 @@ fn references(node: &Node, setting: &mut Setting<'_>) -> Result<Diagram, AllocEr
     while let Node::Alt(left, right) = rest {
         push_group(left, setting, &mut text)?;
         text.push_str(" or ")?;
-        setting.spans.next();
-        setting.spans.next();
+        skip_spans(2, setting);
         rest = right;
     }
     push_group(rest, setting, &mut text)?;
@@ -223,29 +228,24 @@ fn leaf(node: &Node, setting: &Setting<'_>) -> Result<Option<Piece>, AllocError>
         } => Piece::Part(set_box(alloc, strings_label(alloc, alternatives, *icase)?)),
         Node::BackRef { group, icase } => Piece::Part(reference(*group, *icase, setting)?),
         Node::Goal => Piece::Part(Diagram::end()),
-        Node::MatchAny => words(alloc, BoxKind::Set, "any character"),
-        Node::MatchAnyExceptLineTerminator => words(alloc, BoxKind::Set, "any but a line end"),
-        Node::Anchor {
-            anchor_type,
-            multiline,
-        } => words(
-            alloc,
-            BoxKind::Position,
-            anchor_words(*anchor_type, *multiline),
-        ),
-        Node::WordBoundary { invert: false, .. } => {
-            words(alloc, BoxKind::Position, "word boundary")
-        }
-        Node::WordBoundary { invert: true, .. } => {
-            words(alloc, BoxKind::Position, "no word boundary")
-        }
-        _ => return Ok(None),
+        _ => return Ok(words(alloc, node)),
     }))
 }
 
-/// Returns a box of words only.
-fn words(alloc: Global, kind: BoxKind, words: &'static str) -> Piece {
-    Piece::Part(boxed(kind, Label::words(alloc, words)))
+/// Returns a box of words only, for a leaf that is described by words.
+fn words(alloc: Global, node: &Node) -> Option<Piece> {
+    let (kind, words) = match node {
+        Node::MatchAny => (BoxKind::Set, "any character"),
+        Node::MatchAnyExceptLineTerminator => (BoxKind::Set, "any but a line end"),
+        Node::Anchor {
+            anchor_type,
+            multiline,
+        } => (BoxKind::Position, anchor_words(*anchor_type, *multiline)),
+        Node::WordBoundary { invert: false, .. } => (BoxKind::Position, "word boundary"),
+        Node::WordBoundary { invert: true, .. } => (BoxKind::Position, "no word boundary"),
+        _ => return None,
+    };
+    Some(Piece::Part(boxed(kind, Label::words(alloc, words))))
 }
 
 fn reference(group: u32, icase: bool, setting: &Setting<'_>) -> Result<Diagram, AllocError> {
@@ -285,20 +285,24 @@ fn property_box(text: String) -> Diagram {
     boxed(BoxKind::Set, label)
 }
 
-/// Returns the piece of a set. A set of one character is that character.
+/// Returns the piece of a set.
 fn set(node: &Node, setting: &Setting<'_>) -> Result<Option<Piece>, AllocError> {
-    let alloc = setting.alloc;
     if let Node::Bracket(_) = node
         && let Some(text) = property(setting)?
     {
         return Ok(Some(Piece::Part(property_box(text))));
     }
-    let Some((negated, set)) = set_of(alloc, node)? else {
-        return Ok(None);
-    };
+    Ok(match set_of(setting.alloc, node)? {
+        Some((negated, set)) => Some(set_piece(setting.alloc, negated, set)?),
+        None => None,
+    })
+}
+
+/// Returns the piece of a set or, if `negated`, of its complement. A set of one character is that character.
+fn set_piece(alloc: Global, negated: bool, set: CodePointSet) -> Result<Piece, AllocError> {
     if !negated && let Some(character) = only_character(set.intervals()) {
-        return Ok(Some(Piece::Character(character)));
+        return Ok(Piece::Character(character));
     }
     let label = set_label(alloc, negated, set)?;
-    Ok(Some(Piece::Part(set_box(alloc, label))))
+    Ok(Piece::Part(set_box(alloc, label)))
 }

@@ -120,20 +120,23 @@ impl<'a> Row<'a> {
         self.push_part(literal(text, self.either_case), span)
     }
 
-    /// Returns the diagram: a bare line if there are no parts, and several lines if it is wide.
+    /// Returns the diagram.
     pub(crate) fn finish(mut self) -> Result<Diagram, AllocError> {
         self.box_text()?;
-        let alloc = self.alloc;
-        let mut parts = self.parts;
-        if parts.len() < 2 {
-            return Ok(parts.pop().unwrap_or(Diagram::line()));
-        }
-        let mut rows = cut(alloc, parts)?;
-        if rows.len() < 2 {
-            return Ok(rows.pop().unwrap_or(Diagram::line()));
-        }
-        Ok(below_each_other(rows))
+        arranged(self.alloc, self.parts)
     }
+}
+
+/// Returns the diagram of the parts: a bare line if there are none, and several lines if it is wide.
+fn arranged(alloc: Global, mut parts: Vec<Diagram>) -> Result<Diagram, AllocError> {
+    if parts.len() < 2 {
+        return Ok(parts.pop().unwrap_or(Diagram::line()));
+    }
+    let mut rows = cut(alloc, parts)?;
+    if rows.len() < 2 {
+        return Ok(rows.pop().unwrap_or(Diagram::line()));
+    }
+    Ok(below_each_other(rows))
 }
 
 /// Wraps the parts into lines.
