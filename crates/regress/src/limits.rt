@@ -3,7 +3,7 @@
 /// The limits of a regular expression.
 #[derive(Clone, Copy, Debug, PartialEq, Eq)]
 pub struct Options {
-    /// The number of steps that one search may take if it is not linear, counted as in `Code::find` of
+    /// The number of steps that one search may take if it is not linear, counted as in `Backtracker::find` of
     /// `regress_backtrack`. All matches that an iterator returns are one search. A billion by default, which takes about a
     /// minute at most.
     pub steps: u64,

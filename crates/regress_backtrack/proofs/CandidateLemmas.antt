@@ -1,32 +1,13 @@
--- The positions at which matches of a program can begin.
-use Rattle.std.proofs.Common.{◌≡◌, ℕ, ◌≤◌, ◌<◌, List, [], length, Some, None, ◌==◌, if◌then◌else◌, ◌∙◌, subst, arith, inl, inr}
+-- The positions that a search skips.
+use Rattle.std.proofs.Common.{◌≡◌, ℕ, ◌≤◌, ◌<◌, List, [], length, Some, None, ◌==◌, if◌then◌else◌, subst, arith, inl, inr}
 use Rattle.std.proofs.lemmas.Bool.{cases_lt}
-use Rattle.regress_tree.specs.Matching.{steps}
-use Rattle.regress_tree.specs.Reading.{forwards}
-use Rattle.regress_tree.specs.Setting.{Setting}
 use Rattle.regress_tree.specs.Steps.{MatchState}
-use Rattle.regress_tree.specs.Tree.{Tree}
-use Rattle.regress_prefilter.specs.Candidates.{AreCandidates, Skips}
+use Rattle.regress_prefilter.specs.Candidates.{Skips}
 use Rattle.regress_prefilter.specs.declared.candidates.Candidates.{Candidates}
 use Rattle.regress_prefilter.specs.declared.candidates.Candidates.TheVariants as candidates
-use Rattle.regress_program.specs.Compiled.{IsPattern}
 use Rattle.regress_program.specs.Found as found
 use Rattle.regress_program.specs.Found.{NoneBefore}
-use Rattle.regress_program.specs.Program.{Routine}
-use Rattle.regress_backtrack.specs.Candidates.{BeginsAt, IsCandidate}
-use Rattle.regress_leaves.proofs.lemmas.Starts.{bytes_fail}
-
--- the tree has no match elsewhere
-tree_fails : (c : Candidates) (t : Tree) (setting : Setting) (text : List ℕ) (s : MatchState) → AreCandidates c t →
-    (IsCandidate c text s.position → ⊥) → steps setting text forwards t s ≡ []
-tree_fails candidates.Anywhere t setting text s are not = absurd (not tt)
-tree_fails candidates.Start t setting text s are not = are setting text s not
-tree_fails (candidates.Bytes set) t setting text s are not = bytes_fail set t setting text s are not
-
--- the candidates of a tree are those of its program
-pub pattern_begins : (c : Candidates) (program : List Routine) (t : Tree) → IsPattern program t → AreCandidates c t → BeginsAt c program
-pattern_begins c program t pattern are = λ setting text outs solution s le not.
-    pattern.means setting text outs solution s le ∙ tree_fails c t setting text s are not
+use Rattle.regress_code.specs.Candidates.{IsCandidate}
 
 module _ (text : List ℕ) (from : ℕ) where
   -- a position that is skipped is no candidate

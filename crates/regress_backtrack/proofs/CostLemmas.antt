@@ -17,20 +17,20 @@ use Rattle.regress_tree.specs.Reading.{direction_if, forwards}
 use Rattle.regress_tree.specs.Tree.{tree}
 use Rattle.regress_backtrack.specs.declared.alternatives.Looping.{Looping}
 use Rattle.regress_backtrack.specs.declared.input.Input.{Input}
-use Rattle.regress_backtrack.specs.declared.instruction.Instruction.{Instruction}
-use Rattle.regress_backtrack.specs.declared.instruction.Instruction.TheVariants as insts
+use Rattle.regress_code.specs.declared.instruction.Instruction.{Instruction}
+use Rattle.regress_code.specs.declared.instruction.Instruction.TheVariants as insts
 use Rattle.regress_backtrack.specs.declared.machine.Machine.{Machine}
 use Rattle.regress_backtrack.specs.declared.machine.Place.{Place}
 use Rattle.regress_leaves.specs.declared.start.Start.TheVariants as starts
 use Rattle.regress_backtrack.specs.declared.step.Next.{Next}
 use Rattle.regress_leaves.specs.declared.test.Test.{Test}
-use Rattle.regress_backtrack.specs.Code.{code_routines}
+use Rattle.regress_code.specs.Code.{code_routines}
 use Rattle.regress_backtrack.specs.Costs.{HasCost, cost_ahead, op_cost, points_cost}
 use Rattle.regress_backtrack.specs.Machine.{Chosen, Groups, Ranged, at, groups_of, points, range_points}
 use Rattle.regress_backtrack.specs.Next.{IsInput}
 use Rattle.regress_leaves.specs.Starts.{AreIn, IsStart}
 use Rattle.regress_backtrack.specs.Sweep.{IsSwept}
-use Rattle.regress_backtrack.specs.Views.{characters_of, op_in, part_of}
+use Rattle.regress_code.specs.Views.{characters_of, op_in, part_of}
 use Rattle.regress_backtrack.proofs.RunLemmas.{op-is, width-is}
 use Rattle.regress_leaves.proofs.lemmas.Starts.{ascii_matches}
 use Rattle.regress_backtrack.proofs.StepLemmas.{Reaches}

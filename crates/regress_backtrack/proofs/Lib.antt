@@ -1,9 +1,8 @@
-pub mod OwnedLemmas
-pub mod PassLemmas
 pub mod CandidateLemmas
 pub mod CostLemmas
 pub mod FrontLemmas
 pub mod MachineLemmas
+pub mod PassLemmas
 pub mod StepLemmas
 pub mod RunLemmas
 pub mod SearchLemmas

@@ -1,5 +1,5 @@
 -- Choices that are passed over.
-use Rattle.std.proofs.Common.{◌≡◌, ℕ, zero, suc, ◌+◌, ◌-◌, ◌≤◌, ◌<◌, ◌==◌, ◌&&◌, Bool, true, false, not, List, [], ◌∷◌, ◌++◌, length, get_or, slice_get, Option, Some, None, refl, sym, ap, ◌∙◌, subst, arith}
+use Rattle.std.proofs.Common.{◌≡◌, ℕ, zero, suc, ◌+◌, ◌-◌, ◌≤◌, ◌<◌, ◌==◌, ◌&&◌, Bool, true, false, not, List, ◌++◌, length, get_or, slice_get, Option, Some, None, refl, sym, ap, ◌∙◌, subst, arith}
 use Rattle.std.proofs.lemmas.Option.{slice_get_within}
 use Rattle.regress_base.specs.ByteBitmap.{contains}
 use Rattle.regress_base.specs.declared.bytesearch.bitmap.ByteBitmap.{ByteBitmap}
@@ -8,18 +8,18 @@ use Rattle.regress_program.specs.Cost.{Cost}
 use Rattle.regress_program.specs.Program.{Out, goto, matcher_of}
 use Rattle.regress_tree.specs.Reading.{direction_if}
 use Rattle.regress_tree.specs.Steps.{MatchState}
-use Rattle.regress_backtrack.specs.Code.{code_routines}
+use Rattle.regress_code.specs.Code.{code_routines}
 use Rattle.regress_backtrack.specs.Costs.{HasCost}
-use Rattle.regress_backtrack.specs.declared.front.Front.{Front}
-use Rattle.regress_backtrack.specs.declared.front.Front.TheVariants as kinds
+use Rattle.regress_code.specs.declared.front.Front.{Front}
+use Rattle.regress_code.specs.declared.front.Front.TheVariants as kinds
 use Rattle.regress_backtrack.specs.declared.input.Input.{Input}
-use Rattle.regress_backtrack.specs.declared.instruction.Instruction.{Instruction}
-use Rattle.regress_backtrack.specs.declared.instruction.Instruction.TheVariants as insts
+use Rattle.regress_code.specs.declared.instruction.Instruction.{Instruction}
+use Rattle.regress_code.specs.declared.instruction.Instruction.TheVariants as insts
 use Rattle.regress_backtrack.specs.declared.machine.Place.{Place}
-use Rattle.regress_backtrack.specs.Fronts.{IsOutside, next_to}
+use Rattle.regress_code.specs.Fronts.{IsOutside, next_to}
 use Rattle.regress_backtrack.specs.Machine.{Groups, at}
 use Rattle.regress_backtrack.specs.Next.{IsInput, Solve}
-use Rattle.regress_backtrack.specs.Passes.{AreCounts, ArePassed, IsBeside, IsPreferred, is_excluded, is_passed}
+use Rattle.regress_code.specs.Passes.{ArePassed, IsBeside, is_excluded, is_passed}
 use Rattle.regress_backtrack.proofs.CostLemmas.{second_cost}
 use Rattle.regress_backtrack.proofs.RunLemmas.{solved}
 
@@ -143,34 +143,3 @@ passed_cost input is p b outs costs has g le pc (suc n) all =
     let number : pc - suc n ≡ (pc - n) - 1 = omega arith in
     let here = ap (λ k. costs input.index (at (record p { pc = k }) g)) number in
     omega (arith, one, more, here)
-
--- ---- counts
-
-pub no_counts : (fronts : List Front) (instructions : List Instruction) (pc : ℕ) → AreCounts fronts instructions pc []
-no_counts fronts instructions pc = λ b n is j lt. let bad : ⊥ = cc in absurd bad
-
-got : (xs : List ℕ) (b i : ℕ) → i < get_or xs b 0 → slice_get xs b ≡ Some (get_or xs b 0)
-got [] b i lt = let bad : ⊥ = omega (arith, lt) in absurd bad
-got (x ∷ xs) zero i lt = refl
-got (x ∷ xs) (suc b) i lt = got xs b i lt
-
--- what is passed over by the count for a byte, or by 0 without one
-pub counted : (fronts : List Front) (instructions : List Instruction) (pc : ℕ) (counts : List ℕ) → AreCounts fronts instructions pc counts → (b : ℕ) →
-    ArePassed fronts instructions b pc (get_or counts b 0)
-counted fronts instructions pc counts are b = λ j lt. are b (get_or counts b 0) (got counts b j lt) j lt
-
-module _ (fronts : List Front) (instructions : List Instruction) (pc : ℕ) (set : ByteBitmap) (preferred : IsPreferred fronts pc (slice_get instructions pc) set)
-    (before : List ℕ) (counted : AreCounts fronts instructions (pc - 1) before) (b : ℕ) (n : ℕ) (out : contains set b ≡ false) (le : n ≤ get_or before b 0 + 1) where
-  passed_at : (j : ℕ) → j < n → is_passed fronts b (pc - j) (slice_get instructions (pc - j)) ≡ true
-  passed_at zero lt = subst (λ k. is_passed fronts b k (slice_get instructions k) ≡ true) (omega arith) (preferred b out)
-  passed_at (suc i) lt =
-      let less : i < get_or before b 0 = omega (arith, lt, le) in
-      let number : (pc - 1) - i ≡ pc - suc i = omega arith in
-      subst (λ k. is_passed fronts b k (slice_get instructions k) ≡ true) number (counted b (get_or before b 0) (got before b i less) i less)
-
-pub more_counts : (fronts : List Front) (instructions : List Instruction) (pc : ℕ) (set : ByteBitmap) → IsPreferred fronts pc (slice_get instructions pc) set →
-    (before counts : List ℕ) → AreCounts fronts instructions (pc - 1) before →
-    ((b n : ℕ) → slice_get counts b ≡ Some n → 0 < n → (contains set b ≡ false) × (n ≤ get_or before b 0 + 1)) → AreCounts fronts instructions pc counts
-more_counts fronts instructions pc set preferred before counts counted are = λ b n is j lt.
-    let more = are b n is (omega (arith, lt)) in
-    passed_at fronts instructions pc set preferred before counted b n more.0 more.1 j lt

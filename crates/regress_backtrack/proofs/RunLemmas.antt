@@ -8,14 +8,14 @@ use Rattle.regress_leaves.specs.Subject.{subject}
 use Rattle.regress_tree.specs.Reading.{Direction}
 use Rattle.regress_tree.specs.Setting.{Setting}
 use Rattle.regress_tree.specs.Steps.{MatchState, Matcher, CaptureSpan}
-use Rattle.regress_backtrack.specs.declared.instruction.Instruction.{Instruction}
+use Rattle.regress_code.specs.declared.instruction.Instruction.{Instruction}
 use Rattle.regress_program.specs.Found.{state}
 use Rattle.regress_program.specs.Cost.{Cost, IsCost, cost_after, cost_of}
 use Rattle.regress_program.specs.Program.{Out, Routine, reach, start, matcher_of, outcomes_by, outcomes_at, IsSolution}
 use Rattle.regress_program.specs.Shape.{Fits, IsProgram}
-use Rattle.regress_backtrack.specs.Code.{code_routines}
+use Rattle.regress_code.specs.Code.{code_routines}
 use Rattle.regress_backtrack.specs.Costs.{cost_ahead, points_cost}
-use Rattle.regress_backtrack.specs.Views.{op_in}
+use Rattle.regress_code.specs.Views.{op_in}
 use Rattle.regress_backtrack.specs.declared.input.Input.{Input}
 use Rattle.regress_backtrack.specs.declared.machine.Machine.{Machine}
 use Rattle.regress_backtrack.specs.declared.machine.Place.{Place}
@@ -26,7 +26,7 @@ use Rattle.regress_backtrack.specs.declared.step.Next.TheVariants as nexts
 use Rattle.regress_backtrack.specs.Machine.{Groups, at, groups_of, points}
 use Rattle.regress_backtrack.specs.Next.{CanStep, Fails, IsInput, Inside, Solve, ahead, Leads}
 use Rattle.regress_backtrack.specs.Run.{Answers, IsAfter}
-use Rattle.regress_backtrack.specs.declared.instruction.Instruction.TheVariants as insts
+use Rattle.regress_code.specs.declared.instruction.Instruction.TheVariants as insts
 use Rattle.regress_backtrack.proofs.MachineLemmas.{points-none}
 use Rattle.regress_backtrack.proofs.StepLemmas.{Goes, goes_on, goes_back, Remains, on_inside, back_inside}
 

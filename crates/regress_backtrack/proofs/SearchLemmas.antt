@@ -14,7 +14,7 @@ use Rattle.regress_program.specs.Found.{IsLeftmost, NoneBefore, no_groups, start
 use Rattle.regress_program.specs.Program.{Out, IsSolution, matcher_of}
 use Rattle.regress_program.proofs.lemmas.Solutions.{solution}
 use Rattle.regress_backtrack.specs.declared.backtracker.Backtracker.{Backtracker}
-use Rattle.regress_backtrack.specs.declared.code.Code.{Code}
+use Rattle.regress_code.specs.declared.code.Code.{Code}
 use Rattle.regress_backtrack.specs.declared.input.Input.{Input}
 use Rattle.regress_backtrack.specs.declared.machine.Machine.{Machine}
 use Rattle.regress_backtrack.specs.declared.outcome.Outcome.{Outcome}
@@ -22,7 +22,7 @@ use Rattle.regress_backtrack.specs.declared.outcome.Outcome.TheVariants as outco
 use Rattle.regress_backtrack.specs.declared.run.Response.{Response}
 use Rattle.regress_backtrack.specs.declared.run.Response.TheVariants as responses
 use Rattle.regress_backtrack.specs.Backtracker.{AreCosts, AreOutcomes, SameRuns, cost_at, outcomes_at, run_code, run_tables, run_text, tree_outcomes_at}
-use Rattle.regress_backtrack.specs.Code.{code_groups, code_routines, cost_from, outcomes_from, setting_with, tree_outcomes_from}
+use Rattle.regress_code.specs.Code.{code_groups, code_routines, cost_from, outcomes_from, setting_with, tree_outcomes_from}
 use Rattle.regress_backtrack.specs.Run.{Answers}
 use Rattle.regress_backtrack.specs.Searched.{Finds, IsFirst, IsFor}
 use Rattle.regress_backtrack.proofs.RunLemmas.{same_answers, same_cost}

@@ -7,14 +7,14 @@ use Rattle.regress_tree.specs.Setting.{Setting}
 use Rattle.regress_tree.specs.Steps.{MatchState}
 use Rattle.regress_tree.specs.Tree.{Tree, tree}
 use Rattle.regress_leaves.specs.Leaves.{exactly, put}
-use Rattle.regress_backtrack.specs.declared.instruction.Instruction.{Instruction}
-use Rattle.regress_backtrack.specs.declared.instruction.Instruction.TheVariants as insts
+use Rattle.regress_code.specs.declared.instruction.Instruction.{Instruction}
+use Rattle.regress_code.specs.declared.instruction.Instruction.TheVariants as insts
 use Rattle.regress_leaves.specs.declared.test.Test.{Test}
 use Rattle.regress_program.specs.Found.{state}
 use Rattle.regress_program.specs.Program.{Out, At}
 use Rattle.regress_program.specs.Shape.{Fits}
 use Rattle.regress_program.specs.Stays.{IsReached}
-use Rattle.regress_backtrack.specs.Views.{characters_of, op_in, part_of}
+use Rattle.regress_code.specs.Views.{characters_of, op_in, part_of}
 use Rattle.regress_program.proofs.lemmas.Onward.{Stays-tree}
 use Rattle.regress_backtrack.specs.declared.input.Input.{Input}
 use Rattle.regress_backtrack.specs.declared.machine.Machine.{Machine}
@@ -22,7 +22,7 @@ use Rattle.regress_backtrack.specs.declared.machine.Place.{Place}
 use Rattle.regress_backtrack.specs.declared.step.Next.{Next}
 use Rattle.regress_backtrack.specs.declared.step.Next.TheVariants as nexts
 use Rattle.regress_backtrack.specs.Machine.{at, groups_of, points}
-use Rattle.regress_backtrack.specs.Code.{code_routines}
+use Rattle.regress_code.specs.Code.{code_routines}
 use Rattle.regress_backtrack.specs.Next.{CanStep, is_look, Inside, ahead, Leads}
 
 -- what the code says of a part that ends at a position

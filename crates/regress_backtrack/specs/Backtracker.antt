@@ -6,8 +6,8 @@ use Rattle.regress_unicode.specs.declared.Tables.{Tables}
 use Rattle.regress_program.specs.Cost.{Cost, IsCost}
 use Rattle.regress_program.specs.Program.{IsSolution, Out}
 use Rattle.regress_backtrack.specs.declared.backtracker.Backtracker.{Backtracker}
-use Rattle.regress_backtrack.specs.declared.code.Code.{Code}
-use Rattle.regress_backtrack.specs.Code.{code_routines, cost_from, outcomes_from, search_cost, setting_with, tree_outcomes_from}
+use Rattle.regress_code.specs.declared.code.Code.{Code}
+use Rattle.regress_code.specs.Code.{code_routines, cost_from, outcomes_from, search_cost, setting_with, tree_outcomes_from}
 
 -- the program that is run
 abbrev pub run_code : Backtracker → Code

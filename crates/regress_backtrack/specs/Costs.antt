@@ -3,7 +3,7 @@ use Rattle.std.specs.Prelude.{ℕ, ◌+◌, sum_by}
 use Rattle.regress_leaves.specs.Subject.{subject}
 use Rattle.regress_program.specs.Cost.{Cost, IsCost, cost_by, cost_of}
 use Rattle.regress_program.specs.Program.{At, Op, Out, matcher_of}
-use Rattle.regress_backtrack.specs.Code.{code_routines}
+use Rattle.regress_code.specs.Code.{code_routines}
 use Rattle.regress_backtrack.specs.Machine.{at, groups_of, points}
 use Rattle.regress_backtrack.specs.declared.input.Input.{Input}
 use Rattle.regress_backtrack.specs.declared.machine.Machine.{Machine}

@@ -1,13 +1,7 @@
 pub mod Backtracker
-pub mod Candidates
-pub mod Code
 pub mod Costs
-pub mod Fronts
 pub mod Machine
 pub mod Next
-pub mod Owned
-pub mod Passes
 pub mod Run
 pub mod Searched
 pub mod Sweep
-pub mod Views

@@ -6,10 +6,10 @@ use Rattle.regress_program.specs.Found.{state}
 use Rattle.regress_program.specs.Program.{At, IsSolution, Op, look, Out, Routine}
 use Rattle.regress_program.specs.Shape.{Fits}
 use Rattle.regress_leaves.specs.Subject.{subject}
-use Rattle.regress_backtrack.specs.Code.{code_routines}
-use Rattle.regress_backtrack.specs.Fronts.{AreFrontsIn}
-use Rattle.regress_backtrack.specs.Passes.{ArePasses}
-use Rattle.regress_backtrack.specs.Views.{ops_in}
+use Rattle.regress_code.specs.Code.{code_routines}
+use Rattle.regress_code.specs.Fronts.{AreFrontsIn}
+use Rattle.regress_code.specs.Passes.{ArePasses}
+use Rattle.regress_code.specs.Views.{ops_in}
 use Rattle.regress_backtrack.specs.declared.input.Input.{Input}
 use Rattle.regress_backtrack.specs.declared.machine.Machine.{Machine}
 use Rattle.regress_backtrack.specs.declared.machine.Place.{Place}

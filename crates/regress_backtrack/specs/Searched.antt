@@ -5,9 +5,9 @@ use Rattle.regress_tree.specs.Steps.{MatchState}
 use Rattle.regress_unicode.specs.declared.Tables.{Tables}
 use Rattle.regress_program.specs.Found as found
 use Rattle.regress_program.specs.Found.{start_of, state_of}
-use Rattle.regress_backtrack.specs.declared.code.Code.{Code}
+use Rattle.regress_code.specs.declared.code.Code.{Code}
 use Rattle.regress_backtrack.specs.declared.input.Input.{Input}
-use Rattle.regress_backtrack.specs.Code.{code_routines, setting_with}
+use Rattle.regress_code.specs.Code.{code_routines, setting_with}
 use Rattle.regress_backtrack.specs.Next.{IsInput}
 use Rattle.regress_backtrack.specs.declared.outcome.Outcome.{Outcome}
 use Rattle.regress_backtrack.specs.declared.outcome.Outcome.TheVariants as outcomes

@@ -5,16 +5,16 @@ ghost use Rattle.regress_program.specs.Program.{Out, either};
 ghost use Rattle.regress_backtrack.specs.Costs.{HasCost, cost_ahead, points_cost};
 ghost use Rattle.regress_backtrack.specs.Machine.{Groups, at, groups_of, points, rewound};
 ghost use Rattle.regress_backtrack.specs.Next.{Fails, Inside, IsInput, Leads, Solve, ahead};
-ghost use Rattle.regress_backtrack.specs.Passes.{ArePassed, IsBeside};
+ghost use Rattle.regress_code.specs.Passes.{ArePassed, IsBeside};
 ghost use Rattle.regress_tree.specs.Reading.{direction_if};
 ghost use Rattle.regress_backtrack.specs.declared.step.Next.TheVariants.{OutOfSteps};
 
 use crate::input::{Input, counts_at, front_at, instruction_at};
-use crate::instruction::Instruction;
 use crate::machine::{Machine, Place};
-use crate::passes::count_at;
 use crate::step::Next;
 use crate::sweep::sweep;
+use regress_code::instruction::Instruction;
+use regress_code::passes::count_at;
 use std::alloc::AllocError;
 
 /// A loop.

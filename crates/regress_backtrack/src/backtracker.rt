@@ -6,16 +6,16 @@ ghost use Rattle.regress_tree.specs.Tree.{Tree};
 ghost use Rattle.regress_program.specs.Compiled.{IsPattern};
 ghost use Rattle.regress_program.specs.Cost.{Cost};
 ghost use Rattle.regress_program.specs.Program.{Out};
-ghost use Rattle.regress_backtrack.specs.Code.{code_groups, code_routines};
+ghost use Rattle.regress_code.specs.Code.{code_groups, code_routines};
 ghost use Rattle.regress_backtrack.specs.Run.{Answers};
 ghost use Rattle.regress_backtrack.specs.declared.run.Response.TheVariants as responses;
 ghost use Rattle.regress_backtrack.specs.Searched.{IsFirst, IsFor};
 
-use crate::code::Code;
 use crate::input::{Input, input_for};
 use crate::machine::Machine;
 use crate::outcome::Outcome;
 use crate::run::{Response, run};
+use regress_code::Code;
 use regress_leaves::known::Known;
 use regress_leaves::rules::MatchContext;
 use regress_program::Match;
@@ -43,7 +43,7 @@ impl<'c, 'x> Backtracker<'c, 'x> {
     ghost use Rattle.regress_backtrack.specs.Backtracker.{AreCosts, AreOutcomes, SameRuns, cost_at, outcomes_at, run_code, run_tables, run_text, tree_outcomes_at};
     ghost use Rattle.regress_backtrack.specs.declared.outcome.Outcome.TheVariants.{OutOfSteps};
 
-    /// Returns a backtracker for a program and a text, under case mappings.
+    /// Returns a backtracker for a program and a text, under case mappings. The program has a cost in the text.
     ///
     /// # Errors
     /// Returns [`AllocError`] if an allocation fails.
@@ -56,6 +56,7 @@ impl<'c, 'x> Backtracker<'c, 'x> {
         ensures code { IfOk result (λ b. run_code b ≡ code.now) }
         ensures tables { IfOk result (λ b. run_tables b ≡ known.entry.tables.now) }
         ensures text { IfOk result (λ b. run_text b ≡ text.now) }
+        ensures has_cost { IfOk result (λ b. (outs : ℕ → Out) → AreOutcomes b outs → (costs : ℕ → Cost) × AreCosts b outs costs) }
     {
         let machine = Machine::new(alloc, code.groups)?;
         Ok(Backtracker {
@@ -71,7 +72,7 @@ impl<'c, 'x> Backtracker<'c, 'x> {
     /// `left`.
     ///
     /// # Complexity
-    /// The steps are counted as in [`Code::find`]. With no group and no lookaround it allocates only while the stack
+    /// The steps are counted as in [`Backtracker::find`]. With no group and no lookaround it allocates only while the stack
     /// grows beyond that of earlier runs.
     ///
     /// # Preconditions

@@ -2,15 +2,15 @@
 ghost use Rattle.std.specs.Prelude.{◌≡◌, ◌<◌, IfSome, MatchOption, None, Some, length, slice_get, true};
 ghost use Rattle.regress_leaves.specs.Subject.{subject};
 ghost use Rattle.regress_unicode.specs.TableOf.{table_of};
-ghost use Rattle.regress_backtrack.specs.Code.{code_routines};
-ghost use Rattle.regress_backtrack.specs.Fronts.{FoldsIf};
+ghost use Rattle.regress_code.specs.Code.{code_routines};
+ghost use Rattle.regress_code.specs.Fronts.{FoldsIf};
 ghost use Rattle.regress_backtrack.specs.Next.{IsInput};
-ghost use Rattle.regress_backtrack.specs.Passes.{AreCounts};
+ghost use Rattle.regress_code.specs.Passes.{AreCounts};
 
-use crate::code::Code;
-use crate::front::Front;
-use crate::instruction::Instruction;
-use crate::passes::Pass;
+use regress_code::Code;
+use regress_code::front::Front;
+use regress_code::instruction::Instruction;
+use regress_code::passes::Pass;
 use regress_leaves::rules::MatchContext;
 use regress_leaves::test::Test;
 

@@ -3,20 +3,14 @@
 
 mod alternatives;
 mod backtracker;
-mod code;
-mod front;
 mod input;
-mod instruction;
-mod lent;
 mod machine;
 mod outcome;
-mod owned;
-mod passes;
 mod run;
 mod search;
 mod step;
 mod sweep;
 
 pub use backtracker::Backtracker;
-pub use code::Code;
 pub use outcome::{Found, Outcome};
+pub use search::match_at;

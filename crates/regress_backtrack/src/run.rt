@@ -5,7 +5,7 @@ ghost use Rattle.regress_program.specs.Found.{state};
 ghost use Rattle.regress_program.specs.Cost.{Cost, IsCost, cost_of};
 ghost use Rattle.regress_program.specs.Program.{IsSolution, Out, goto, look, matcher_of, outcomes_by};
 ghost use Rattle.regress_program.specs.Shape.{IsProgram};
-ghost use Rattle.regress_backtrack.specs.Code.{code_routines};
+ghost use Rattle.regress_code.specs.Code.{code_routines};
 ghost use Rattle.regress_backtrack.specs.Costs.{HasCost, cost_ahead, op_cost, points_cost};
 ghost use Rattle.regress_backtrack.specs.Machine.{at, groups_of, points, rewound};
 ghost use Rattle.regress_backtrack.specs.Next.{Inside, IsInput, Leads, Solve, ahead};
@@ -15,9 +15,9 @@ ghost use Rattle.regress_backtrack.specs.declared.step.Next.TheVariants as nexts
 
 use crate::alternatives::fails;
 use crate::input::{Input, input_for, instruction_at};
-use crate::instruction::Instruction;
 use crate::machine::{Machine, Place};
 use crate::step::{Next, step};
+use regress_code::instruction::Instruction;
 use std::alloc::{AllocError, Global};
 
 /// The result of a run.

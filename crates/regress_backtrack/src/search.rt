@@ -6,107 +6,56 @@ ghost use Rattle.regress_program.specs.Compiled.{IsPattern};
 ghost use Rattle.regress_program.specs.Cost.{Cost, IsCost};
 ghost use Rattle.regress_program.specs.Program.{IsSolution, Out};
 ghost use Rattle.regress_backtrack.specs.Backtracker.{AreCosts, AreOutcomes, SameRuns, outcomes_at, run_code, run_text, search_cost_at, tree_outcomes_at};
-ghost use Rattle.regress_backtrack.specs.Code.{code_routines, cost_from, outcomes_from, search_cost, setting_with, tree_outcomes_from};
+ghost use Rattle.regress_code.specs.Code.{code_routines, cost_from, outcomes_from, setting_with, tree_outcomes_from};
 ghost use Rattle.regress_backtrack.specs.Searched.{Finds, IsFirst, IsFor};
-ghost use Rattle.regress_backtrack.specs.declared.code.Code.{Code};
+ghost use Rattle.regress_code.specs.declared.code.Code.{Code};
 ghost use Rattle.regress_backtrack.specs.declared.outcome.Outcome.TheVariants.{OutOfSteps};
 
 use crate::backtracker::{Backtracker, input_of};
-use crate::code::Code;
 use crate::input::{Input, front_at};
 use crate::outcome::{Found, Outcome};
+use regress_code::Code;
 use regress_leaves::known::Known;
 use regress_prefilter::candidates::next_candidate_from;
 use std::alloc::{AllocError, Global};
 
-impl Code {
-    /// Returns the leftmost match in `text` that starts at the byte offset `from` or later, on a character boundary.
-    ///
-    /// # Complexity
-    /// A step is an instruction. It counts 1, and also 1 for each byte by which it moves the position, and for each byte
-    /// of the capture that a back reference is compared with. Each byte offset up to the match counts 1 more, also where
-    /// the first byte shows that no match begins. The result is [`Outcome::OutOfSteps`] as soon as `steps` are used up,
-    /// and with 0 steps for each `from` in `text`. A step that is begun is completed, even if it counts more than
-    /// remains. If the first bytes show that no match begins in the rest of the text, that rest counts nothing.
-    ///
-    /// A search takes at most its cost: the steps that following every outcome from every byte offset takes. Every program
-    /// has a cost in every text, and with more steps than that the result is not [`Outcome::OutOfSteps`].
-    ///
-    /// So the limit bounds the time: it is at most `steps` and the length of `text` together, times a factor that depends
-    /// only on the program. The memory is at most `steps` times such a factor. Recursion is as deep as lookarounds are
-    /// nested.
-    ///
-    /// # Errors
-    /// Returns [`AllocError`] if an allocation fails.
-    pub fn find(
-        &self,
-        alloc: Global,
-        known: Known<'_>,
-        text: &str,
-        from: usize,
-        steps: u64,
-    ) -> Result<Found, AllocError>
-        ensures solved { IfOk result (λ found. (outs : ℕ → Out) →
-            IsSolution (setting_with self.now known.entry.tables.now) text.now (code_routines self.now) outs →
-            Finds text.now (outcomes_from self.now known.entry.tables.now text.now outs) from found.outcome) }
-        ensures finds { IfOk result (λ found. (t : Tree) → IsPattern (code_routines self.now) t →
-            Finds text.now (tree_outcomes_from self.now known.entry.tables.now text.now t) from found.outcome) }
-        ensures steps { IfOk result (λ found. found.steps ≤ steps) }
-        ensures costs { IfOk result (λ found. (outs : ℕ → Out) (costs : ℕ → Cost) →
-            IsCost (setting_with self.now known.entry.tables.now) text.now (code_routines self.now) outs costs →
-            found.steps ≤ search_cost self.now known.entry.tables.now text.now costs from) }
-        ensures has_cost { IfOk result (λ _. (outs : ℕ → Out) →
-            IsSolution (setting_with self.now known.entry.tables.now) text.now (code_routines self.now) outs →
-            (costs : ℕ → Cost) × IsCost (setting_with self.now known.entry.tables.now) text.now (code_routines self.now) outs costs) }
-        ensures out_of_steps { IfOk result (λ found. found.outcome ≡ OutOfSteps → found.steps ≡ steps) }
-    {
-        let mut left = steps;
-        let mut backtracker = Backtracker::new(alloc, self, known, text)?;
-        let outcome = backtracker.find(alloc, from, &mut left)?;
-        Ok(Found {
-            outcome,
-            steps: steps - left,
-        })
-    }
-
-    /// Matches at exactly the byte offset `position`, with every group unset at first.
-    ///
-    /// # Complexity
-    /// The steps are counted as in [`Code::find`].
-    ///
-    /// # Preconditions
-    /// The position is inside the text.
-    ///
-    /// # Errors
-    /// Returns [`AllocError`] if an allocation fails.
-    pub fn match_at(
-        &self,
-        alloc: Global,
-        known: Known<'_>,
-        text: &str,
-        position: usize,
-        steps: u64,
-    ) -> Result<Found, AllocError>
-        requires { position ≤ length text.now }
-        ensures solved { IfOk result (λ found. (outs : ℕ → Out) →
-            IsSolution (setting_with self.now known.entry.tables.now) text.now (code_routines self.now) outs →
-            IsFirst position (outcomes_from self.now known.entry.tables.now text.now outs position) found.outcome) }
-        ensures first { IfOk result (λ found. (t : Tree) → IsPattern (code_routines self.now) t →
-            IsFirst position (tree_outcomes_from self.now known.entry.tables.now text.now t position) found.outcome) }
-        ensures steps { IfOk result (λ found. found.steps ≤ steps) }
-        ensures costs { IfOk result (λ found. (outs : ℕ → Out) (costs : ℕ → Cost) →
-            IsCost (setting_with self.now known.entry.tables.now) text.now (code_routines self.now) outs costs →
-            found.steps ≤ cost_from self.now known.entry.tables.now text.now costs position) }
-        ensures out_of_steps { IfOk result (λ found. found.outcome ≡ OutOfSteps → found.steps ≡ steps) }
-    {
-        let mut left = steps;
-        let mut backtracker = Backtracker::new(alloc, self, known, text)?;
-        let outcome = backtracker.match_at(alloc, position, &mut left)?;
-        Ok(Found {
-            outcome,
-            steps: steps - left,
-        })
-    }
+/// Matches at exactly the byte offset `position`, with every group unset at first.
+///
+/// # Complexity
+/// The steps are counted as in [`Backtracker::find`].
+///
+/// # Preconditions
+/// The position is inside the text.
+///
+/// # Errors
+/// Returns [`AllocError`] if an allocation fails.
+pub fn match_at(
+    alloc: Global,
+    code: &Code,
+    known: Known<'_>,
+    text: &str,
+    position: usize,
+    steps: u64,
+) -> Result<Found, AllocError>
+    requires { position ≤ length text.now }
+    ensures solved { IfOk result (λ found. (outs : ℕ → Out) →
+        IsSolution (setting_with code.now known.entry.tables.now) text.now (code_routines code.now) outs →
+        IsFirst position (outcomes_from code.now known.entry.tables.now text.now outs position) found.outcome) }
+    ensures first { IfOk result (λ found. (t : Tree) → IsPattern (code_routines code.now) t →
+        IsFirst position (tree_outcomes_from code.now known.entry.tables.now text.now t position) found.outcome) }
+    ensures steps { IfOk result (λ found. found.steps ≤ steps) }
+    ensures costs { IfOk result (λ found. (outs : ℕ → Out) (costs : ℕ → Cost) →
+        IsCost (setting_with code.now known.entry.tables.now) text.now (code_routines code.now) outs costs →
+        found.steps ≤ cost_from code.now known.entry.tables.now text.now costs position) }
+    ensures out_of_steps { IfOk result (λ found. found.outcome ≡ OutOfSteps → found.steps ≡ steps) }
+{
+    let mut left = steps;
+    let mut backtracker = Backtracker::new(alloc, code, known, text)?;
+    let outcome = backtracker.match_at(alloc, position, &mut left)?;
+    Ok(Found {
+        outcome,
+        steps: steps - left,
+    })
 }
 
 impl Backtracker<'_, '_> {
@@ -114,7 +63,18 @@ impl Backtracker<'_, '_> {
     /// the steps from `left`.
     ///
     /// # Complexity
-    /// The steps are counted as in [`Code::find`]. The memory of the search is kept for the next one.
+    /// A step is an instruction. It counts 1, and also 1 for each byte by which it moves the position, and for each byte
+    /// of the capture that a back reference is compared with. Each byte offset up to the match counts 1 more, also where
+    /// the first byte shows that no match begins. The result is [`Outcome::OutOfSteps`] as soon as `left` is used up,
+    /// and with 0 for each `from` in the text. A step that is begun is completed, even if it counts more than remains. If
+    /// the first bytes show that no match begins in the rest of the text, that rest counts nothing.
+    ///
+    /// A search takes at most its cost: the steps that following every outcome from every byte offset takes. Every program
+    /// has a cost in every text, and with more steps than that the result is not [`Outcome::OutOfSteps`].
+    ///
+    /// So the limit bounds the time: it is at most `left` and the length of the text together, times a factor that depends
+    /// only on the program. The memory is at most `left` times such a factor, and is kept for the next search. Recursion is
+    /// as deep as lookarounds are nested.
     ///
     /// # Errors
     /// Returns [`AllocError`] if an allocation fails.

@@ -9,9 +9,9 @@ ghost use Rattle.regress_backtrack.specs.Sweep.{IsSwept};
 
 use crate::alternatives::Looping;
 use crate::input::{Input, instruction_at, test_at};
-use crate::instruction::Instruction;
 use crate::machine::{Machine, Place};
 use regress_base::bytesearch::ByteBitmap;
+use regress_code::instruction::Instruction;
 use regress_leaves::ascii::count_of;
 use regress_leaves::start::Start;
 use std::alloc::AllocError;

@@ -37,9 +37,9 @@ use Rattle.regress_program.proofs.lemmas.Solutions.{finds_by, solution}
 use Rattle.regress_program.proofs.lemmas.Strict.{linear-inner, linear-tabled}
 use Rattle.regress_backtrack.specs.Backtracker.{AreOutcomes, SameRuns, run_code, run_tables, run_text}
 use Rattle.regress_backtrack.specs.Backtracker as runs
-use Rattle.regress_backtrack.specs.Code.{code_flags, code_groups, code_routines, outcomes_from, setting_with}
+use Rattle.regress_code.specs.Code.{code_flags, code_groups, code_routines, outcomes_from, setting_with}
 use Rattle.regress_backtrack.specs.declared.backtracker.Backtracker.{Backtracker}
-use Rattle.regress_backtrack.specs.declared.code.Code.{Code}
+use Rattle.regress_code.specs.declared.code.Code.{Code}
 use Rattle.regress_backtrack.specs.declared.outcome.Found.{Found}
 use Rattle.regress_backtrack.specs.declared.outcome.Outcome.{Outcome}
 use Rattle.regress_backtrack.specs.declared.outcome.Outcome.TheVariants as outcomes

@@ -14,7 +14,7 @@ use Rattle.regress_program.specs.Tidy.{is_tabled}
 use Rattle.regress_program.specs.declared.found.Match.{Match}
 use Rattle.regress_program.specs.declared.program.Program.{Program}
 use Rattle.regress_program.proofs.lemmas.Strict.{linear-tabled}
-use Rattle.regress_backtrack.specs.Code.{code_groups, code_routines, setting_with}
+use Rattle.regress_code.specs.Code.{code_groups, code_routines, setting_with}
 use Rattle.regress_match.specs.Compiled.{IsCodeOf}
 use Rattle.regress_match.specs.Matched.{Finds, IfOutOfSteps}
 use Rattle.regress_match.specs.Matcher.{factor, factor_with, find_factor, find_factor_with, matcher_outcomes, matcher_setting, matcher_tree, outcome_if}

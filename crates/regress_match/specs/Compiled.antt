@@ -14,8 +14,8 @@ use Rattle.regress_program.specs.Program.{Out, IsSolution}
 use Rattle.regress_program.specs.Search as program
 use Rattle.regress_program.specs.Search.{routines_of, setting_of}
 use Rattle.regress_program.specs.declared.program.Program.{Program}
-use Rattle.regress_backtrack.specs.Code.{code_routines, outcomes_from, setting_with}
-use Rattle.regress_backtrack.specs.declared.code.Code.{Code}
+use Rattle.regress_code.specs.Code.{code_routines, outcomes_from, setting_with}
+use Rattle.regress_code.specs.declared.code.Code.{Code}
 
 module _ (setting : Setting) (t : Tree) where
   -- the outcomes of a tree from a position with every group unset, where an outcome may be repeated

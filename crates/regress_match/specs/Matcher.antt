@@ -14,7 +14,7 @@ use Rattle.regress_program.specs.Tidy.{table_groups}
 use Rattle.regress_program.specs.declared.found.Match.{Match}
 use Rattle.regress_program.specs.declared.nonlinear.Nonlinear.{Nonlinear as Reason}
 use Rattle.regress_program.specs.declared.nonlinear.Nonlinear.TheVariants as reasons
-use Rattle.regress_backtrack.specs.Code.{code_routines}
+use Rattle.regress_code.specs.Code.{code_routines}
 use Rattle.regress_backtrack.specs.declared.outcome.Outcome.{Outcome}
 use Rattle.regress_backtrack.specs.declared.outcome.Outcome.TheVariants as outcomes
 use Rattle.regress_match.specs.Matched.{IfOutOfSteps, outcomes_at}

@@ -7,13 +7,13 @@ ghost use Rattle.regress_unicode.specs.TableOf.{table_of};
 ghost use Rattle.regress_program.specs.Compiled.{IsPattern, total};
 ghost use Rattle.regress_program.specs.Size.{program_size};
 ghost use Rattle.regress_program.specs.declared.fault.CompileFault.TheVariants.{TooLong};
-ghost use Rattle.regress_backtrack.specs.Code.{code_routines};
+ghost use Rattle.regress_code.specs.Code.{code_routines};
 ghost use Rattle.regress_match.specs.Compiled.{IsCodeOf};
 ghost use Rattle.regress_match.specs.Matcher.{IsFactorOf, IsFindFactorOf, IsNonlinearOf, factor, factor_of, find_factor, find_factor_of, matcher_setting, matcher_tree, nonlinear_of};
 
 use crate::limits::Limits;
 use crate::matcher::Matcher;
-use regress_backtrack::Code;
+use regress_code::Code;
 use regress_leaves::case_facts::CaseFacts;
 use regress_program::CompileFault;
 use regress_program::groups::group_count;

@@ -5,7 +5,7 @@ ghost use Rattle.regress_unicode.specs.TableOf.{table_of};
 ghost use Rattle.regress_leaves.specs.Known.{AreFactsOf, AreFactsOf-prop};
 ghost use Rattle.regress_match.specs.Compiled.{IsCodeOf, IsCodeOf-prop};
 
-use regress_backtrack::Code;
+use regress_code::Code;
 use regress_leaves::case_facts::CaseFacts;
 use regress_leaves::known::Known;
 use regress_tree::ir::Regex;

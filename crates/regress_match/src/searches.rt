@@ -8,7 +8,7 @@ ghost use Rattle.regress_match.specs.Searched.{AreAllMatches, CalledOnMatches};
 
 use crate::matcher::Matcher;
 use crate::matcher_matches::MatcherMatches;
-use regress_backtrack::{Found, Outcome};
+use regress_backtrack::{Found, Outcome, match_at};
 use regress_program::Match;
 use std::alloc::{AllocError, Global};
 
@@ -29,7 +29,7 @@ impl Matcher {
     /// some steps for each byte; once they are used up it makes tables, whose memory is proportional to the number of
     /// instructions and the length of the text.
     ///
-    /// For any other pattern `steps` is the step limit, counted as in [`Code::find`](regress_backtrack::Code::find).
+    /// For any other pattern `steps` is the step limit, counted as in [`Backtracker::find`](regress_backtrack::Backtracker::find).
     ///
     /// # Errors
     /// Returns [`AllocError`] if an allocation fails.
@@ -95,7 +95,7 @@ impl Matcher {
     ///
     /// # Complexity
     /// It backtracks, also if [`Matcher::is_find_linear`]. The steps are counted as in
-    /// [`Code::find`](regress_backtrack::Code::find).
+    /// [`Backtracker::find`](regress_backtrack::Backtracker::find).
     ///
     /// # Preconditions
     /// The position is inside the text, or at its end.
@@ -127,8 +127,7 @@ impl Matcher {
         ensures first { IfOk result (λ found. IsFirst position (matcher_outcomes self.now text.now position) found.outcome) }
         ensures limited { IfOk result (λ found. IsLimited steps found.outcome found.steps) }
     {
-        self.code
-            .match_at(alloc, self.known(), text, position, steps)
+        match_at(alloc, &self.code, self.known(), text, position, steps)
     }
 
     /// Returns a search for the non-overlapping matches that start at the byte offset `from` or later.

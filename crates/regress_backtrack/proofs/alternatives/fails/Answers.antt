@@ -1,8 +1,8 @@
 use Rattle.std.proofs.Common.{refl, subst, sym}
 use Rattle.regress_leaves.specs.Subject.{subject}
 use Rattle.regress_program.specs.Program.{matcher_of}
-use Rattle.regress_backtrack.specs.Code.{code_routines}
-use Rattle.regress_backtrack.specs.Fronts.{Bounds}
+use Rattle.regress_code.specs.Code.{code_routines}
+use Rattle.regress_code.specs.Fronts.{Bounds}
 use Rattle.regress_backtrack.specs.Machine.{at}
 use Rattle.regress_backtrack.proofs.alternatives.fails.Goals as goal
 

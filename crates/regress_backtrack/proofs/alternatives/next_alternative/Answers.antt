@@ -1,7 +1,7 @@
 use Rattle.std.proofs.Common.{◌++◌, Some, sym, ap, ◌∙◌}
 use Rattle.regress_leaves.specs.Subject.{subject}
 use Rattle.regress_program.specs.Program.{goto}
-use Rattle.regress_backtrack.specs.declared.instruction.Instruction.TheVariants as insts
+use Rattle.regress_code.specs.declared.instruction.Instruction.TheVariants as insts
 use Rattle.regress_backtrack.specs.Machine.{at}
 use Rattle.regress_backtrack.proofs.CostLemmas.{second_cost}
 use Rattle.regress_backtrack.proofs.RunLemmas.{can_step, solved}

@@ -1,6 +1,7 @@
 use Rattle.std.proofs.Common.{sym, ◌∙◌, subst}
-use Rattle.regress_backtrack.specs.Passes.{ArePassed}
-use Rattle.regress_backtrack.proofs.PassLemmas.{counted, passed_within}
+use Rattle.regress_code.specs.Passes.{ArePassed}
+use Rattle.regress_code.proofs.lemmas.Counts.{counted}
+use Rattle.regress_backtrack.proofs.PassLemmas.{passed_within}
 use Rattle.regress_backtrack.proofs.alternatives.passed_at.Goals as goal
 
 pub returns-clause-passed : goal.returns-clause-passed

@@ -1,6 +1,6 @@
 use Rattle.std.proofs.Common.{arith}
 use Rattle.std.proofs.lemmas.List.{length-map}
-use Rattle.regress_backtrack.specs.Views.{routine_in}
+use Rattle.regress_code.specs.Views.{routine_in}
 use Rattle.regress_backtrack.proofs.backtracker.input_of.Goals as goal
 
 pub input_for-requires : goal.input_for-requires

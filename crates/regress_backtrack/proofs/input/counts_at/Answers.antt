@@ -1,6 +1,6 @@
 use Rattle.std.proofs.Common.{sym, subst}
 use Rattle.std.proofs.lemmas.Option.{slice_get-get_or}
-use Rattle.regress_backtrack.specs.Passes.{AreCounts}
+use Rattle.regress_code.specs.Passes.{AreCounts}
 use Rattle.regress_backtrack.proofs.input.counts_at.Goals as goal
 
 pub returns-then-pc-input : goal.returns-then-pc-input

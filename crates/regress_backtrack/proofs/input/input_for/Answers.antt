@@ -4,9 +4,9 @@ use Rattle.std.proofs.lemmas.Option.{slice_get-map, slice_get_read}
 use Rattle.regress_tree.specs.Reading.{direction_if}
 use Rattle.regress_tree.specs.Setting.{Setting}
 use Rattle.regress_unicode.specs.TableOf.{table_of}
-use Rattle.regress_backtrack.specs.Fronts.{AreFrontsIn}
-use Rattle.regress_backtrack.specs.Passes.{ArePasses}
-use Rattle.regress_backtrack.specs.Views.{ops_in, routine_in}
+use Rattle.regress_code.specs.Fronts.{AreFrontsIn}
+use Rattle.regress_code.specs.Passes.{ArePasses}
+use Rattle.regress_code.specs.Views.{ops_in, routine_in}
 use Rattle.regress_backtrack.proofs.input.input_for.Goals as goal
 
 pub index-routine-requires : goal.index-routine-requires

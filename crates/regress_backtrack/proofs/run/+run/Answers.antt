@@ -6,9 +6,9 @@ use Rattle.regress_program.specs.Found.{state}
 use Rattle.regress_program.specs.Cost.{Cost}
 use Rattle.regress_program.specs.Program.{matcher_of, outcomes_by}
 use Rattle.regress_program.specs.Shape.{IsProgram}
-use Rattle.regress_backtrack.specs.Code.{code_routines}
+use Rattle.regress_code.specs.Code.{code_routines}
 use Rattle.regress_backtrack.specs.Costs.{cost_ahead, op_cost, points_cost}
-use Rattle.regress_backtrack.specs.Views.{op_in}
+use Rattle.regress_code.specs.Views.{op_in}
 use Rattle.regress_backtrack.specs.Machine.{Groups, at, changes_of, groups_of, points, rewound}
 use Rattle.regress_backtrack.specs.declared.run.Response.TheVariants as responses
 use Rattle.regress_backtrack.specs.Next.{Fails, Inside}

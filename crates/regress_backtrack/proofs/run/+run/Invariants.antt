@@ -5,7 +5,7 @@ use Rattle.regress_leaves.specs.Subject.{subject}
 use Rattle.regress_program.specs.Found.{state}
 use Rattle.regress_program.specs.Cost.{Cost, cost_of}
 use Rattle.regress_program.specs.Program.{IsSolution, Out, matcher_of}
-use Rattle.regress_backtrack.specs.Code.{code_routines}
+use Rattle.regress_code.specs.Code.{code_routines}
 use Rattle.regress_backtrack.specs.Costs.{HasCost, points_cost}
 use Rattle.regress_backtrack.specs.Machine.{at, groups_of, points, rewound}
 use Rattle.regress_backtrack.specs.Next.{Inside}

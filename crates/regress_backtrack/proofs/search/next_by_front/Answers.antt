@@ -1,4 +1,4 @@
-use Rattle.regress_backtrack.specs.Code.{outcomes_from}
+use Rattle.regress_code.specs.Code.{outcomes_from}
 use Rattle.regress_backtrack.proofs.FrontLemmas.{entry_bounds}
 use Rattle.regress_backtrack.proofs.search.next_by_front.Goals as goal
 

@@ -2,7 +2,7 @@ use Rattle.std.proofs.Common.{subst, inl, inr}
 use Rattle.std.proofs.lemmas.Bool.{cases_lt}
 use Rattle.regress_program.specs.Found.{no_groups}
 use Rattle.regress_prefilter.specs.Candidates.{Skips}
-use Rattle.regress_backtrack.specs.Code.{code_groups, setting_with}
+use Rattle.regress_code.specs.Code.{code_groups, setting_with}
 use Rattle.regress_backtrack.proofs.CandidateLemmas.{passes, passes_all}
 use Rattle.regress_backtrack.proofs.search.next_start.Goals as goal
 

@@ -1,11 +1,11 @@
 use Rattle.std.proofs.Common.{arith, ℕ, ◌+◌, [], ◌++◌, flat_map, if◌then◌else◌, ap, subst, sym}
 use Rattle.regress_leaves.specs.Subject.{subject}
 use Rattle.regress_program.specs.Program.{Out, either, enter, goto, matcher_of, outcomes_by}
-use Rattle.regress_backtrack.specs.Code.{code_routines}
+use Rattle.regress_code.specs.Code.{code_routines}
 use Rattle.regress_backtrack.specs.Costs.{op_cost}
 use Rattle.regress_backtrack.specs.Machine.{at, groups_of, points}
 use Rattle.regress_backtrack.specs.Next.{Leads}
-use Rattle.regress_backtrack.specs.Views.{op_in}
+use Rattle.regress_code.specs.Views.{op_in}
 use Rattle.regress_backtrack.proofs.StepLemmas.{Goes, ok_map}
 use Rattle.regress_backtrack.proofs.step.step.Goals as goal
 

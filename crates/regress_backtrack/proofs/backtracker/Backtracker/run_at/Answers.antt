@@ -1,7 +1,7 @@
 use Rattle.std.proofs.Common.{◌≡◌, ◌≤◌, length, ap, sym, ◌∙◌, subst, replicate, None}
 use Rattle.regress_program.specs.Shape.{IsProgram}
 use Rattle.regress_backtrack.specs.Backtracker.{run_code, run_tables, run_text}
-use Rattle.regress_backtrack.specs.Code.{code_groups, code_routines}
+use Rattle.regress_code.specs.Code.{code_groups, code_routines}
 use Rattle.regress_backtrack.specs.Run.{Answers}
 use Rattle.regress_backtrack.proofs.SearchLemmas.{of_tree, run_cost, run_solved, same_first, same_input, same_solved, same_taken}
 use Rattle.regress_backtrack.proofs.backtracker.Backtracker.run_at.Goals as goal

@@ -1,6 +1,6 @@
 use Rattle.std.proofs.Common.{◌≡◌, IfNone, subst, sym, ◌∙◌}
 use Rattle.std.specs.Prelude.{IfOk}
-use Rattle.regress_backtrack.specs.Code.{code_routines}
+use Rattle.regress_code.specs.Code.{code_routines}
 use Rattle.regress_match.specs.Matcher.{IsLimited, factor_of, find_factor_of}
 use Rattle.regress_match.proofs.OneMatchLemmas.{same_bound, same_bounds}
 use Rattle.regress_match.proofs.matcher.Matcher.find.Goals as goal

@@ -1,7 +1,7 @@
 use Rattle.std.proofs.Common.{IfSome, subst, sym, ap, ◌∙◌}
 use Rattle.std.specs.Prelude.{◌≡◌, ◌+◌, ◌*◌, ◌≤◌, length}
 use Rattle.regress_program.specs.Search.{routines_of}
-use Rattle.regress_backtrack.specs.Code.{code_routines}
+use Rattle.regress_code.specs.Code.{code_routines}
 use Rattle.regress_match.specs.Matched.{Finds, IfOutOfSteps}
 use Rattle.regress_match.specs.Matcher.{find_factor_of, matcher_outcomes, matcher_setting, matcher_tree}
 use Rattle.regress_match.proofs.MatcherLemmas.{found_inside}

@@ -1,6 +1,6 @@
 use Rattle.std.proofs.Common.{ap, ◌∙◌}
 use Rattle.std.specs.Prelude.{is_none}
-use Rattle.regress_backtrack.specs.Code.{code_routines}
+use Rattle.regress_code.specs.Code.{code_routines}
 use Rattle.regress_match.specs.Matcher.{nonlinear_by}
 use Rattle.regress_match.proofs.MatcherLemmas.{linear-unless}
 use Rattle.regress_match.proofs.matcher.Matcher.nonlinear.Goals as goal

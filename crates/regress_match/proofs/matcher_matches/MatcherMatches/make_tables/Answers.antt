@@ -2,7 +2,7 @@ use Rattle.std.proofs.Common.{◌≡◌, false, ap, sym, ◌∙◌}
 use Rattle.std.specs.Prelude.{is_some}
 use Rattle.regress_program.specs.Search.{routines_of}
 use Rattle.regress_program.specs.Tidy.{is_tabled}
-use Rattle.regress_backtrack.specs.Code.{code_routines}
+use Rattle.regress_code.specs.Code.{code_routines}
 use Rattle.regress_match.proofs.MatcherLemmas.{linear_has_tables, tables_kept}
 use Rattle.regress_match.proofs.matcher_matches.MatcherMatches.make_tables.Goals as goal
 

@@ -1,9 +1,0 @@
-use Rattle.regress_tree.specs.Tree.{tree}
-use Rattle.regress_program.specs.Search.{routines_of}
-use Rattle.regress_backtrack.proofs.CandidateLemmas.{pattern_begins}
-use Rattle.regress_backtrack.proofs.code.Code.compile.Goals as goal
-
-pub own-requires : goal.own-requires
-own-requires c =
-    pattern_begins c.candidates_of-candidates.result (routines_of c.in_ok-program.program) (tree c.args.regex.now.node)
-    c.in_ok-program.ensures.pattern c.candidates_of-candidates.ensures

@@ -1,0 +1,28 @@
+use Rattle.std.proofs.Common.{◌+◌, ◌≤◌, arith}
+use Rattle.regress_program.specs.Cost.{IsCost}
+use Rattle.regress_code.specs.Code.{code_routines, cost_from, setting_with}
+use Rattle.regress_backtrack.specs.Searched.{IsFirst}
+use Rattle.regress_backtrack.proofs.SearchLemmas.{for_solution, for_tree, same_parts}
+use Rattle.regress_backtrack.proofs.search.match_at.Goals as goal
+
+pub returns-clause-solved : goal.returns-clause-solved
+returns-clause-solved c =
+    let made = c.in_ok-backtracker.ensures in
+    for_solution c.in_ok-backtracker.backtracker c.args.code.now c.args.known.tables.now c.args.text.now
+    (λ text at. IsFirst c.args.position (at c.args.position) c.in_ok-outcome.outcome) made.code made.tables made.text c.in_ok-outcome.ensures.solved
+
+pub returns-clause-first : goal.returns-clause-first
+returns-clause-first c =
+    let made = c.in_ok-backtracker.ensures in
+    for_tree c.in_ok-backtracker.backtracker c.args.code.now c.args.known.tables.now c.args.text.now
+    (λ text at. IsFirst c.args.position (at c.args.position) c.in_ok-outcome.outcome) made.code made.tables made.text c.in_ok-outcome.ensures.first
+
+pub returns-clause-costs : goal.returns-clause-costs
+returns-clause-costs c = λ outs costs has.
+    let made = c.in_ok-backtracker.ensures in
+    let steps = c.args.steps in
+    let left = c.match_at.new.left in
+    let taken : steps ≤ left + cost_from c.args.code.now c.args.known.tables.now c.args.text.now costs c.args.position =
+    same_parts (λ code tables text. IsCost (setting_with code tables) text (code_routines code) outs costs →
+    steps ≤ left + cost_from code tables text costs c.args.position) _ _ _ _ _ _ made.code made.tables made.text (c.in_ok-outcome.ensures.costs outs costs) has in
+    omega (arith, taken)

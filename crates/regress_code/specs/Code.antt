@@ -1,0 +1,53 @@
+-- Programs that own what they run.
+use Rattle.std.specs.Prelude.{ℕ, ◌+◌, ◌-◌, List, length, sum_by}
+use Rattle.std.specs.List.{range_with_len}
+use Rattle.regress_base.specs.declared.types.Flags.{Flags}
+use Rattle.regress_tree.specs.Matching.{steps}
+use Rattle.regress_tree.specs.Reading.{forwards}
+use Rattle.regress_tree.specs.Setting.{Setting}
+use Rattle.regress_tree.specs.Steps.{MatchState}
+use Rattle.regress_tree.specs.Tree.{Tree}
+use Rattle.regress_unicode.specs.declared.Tables.{Tables}
+use Rattle.regress_unicode.specs.TableOf.{table_of}
+use Rattle.regress_program.specs.Cost.{Cost, cost_of}
+use Rattle.regress_program.specs.Found.{no_groups}
+use Rattle.regress_program.specs.Program.{Out, Routine, matcher_of}
+use Rattle.regress_code.specs.declared.code.Code.{Code}
+use Rattle.regress_code.specs.Views.{program_in}
+
+-- the routines of a program
+abbrev pub code_routines : Code → List Routine
+code_routines code = program_in code.tests.items code.routines.items
+
+-- the flags of its pattern
+abbrev pub code_flags : Code → Flags
+code_flags code = code.flags
+
+-- the number of groups of its pattern
+abbrev pub code_groups : Code → ℕ
+code_groups code = code.groups
+
+-- its flags with these case mappings
+abbrev pub setting_with : Code → Tables → Setting
+setting_with code tables = record { flags = code_flags code; table = table_of tables }
+
+-- the outcomes of a program from a position with every group unset, by the outcomes in each routine
+abbrev pub outcomes_from : Code → Tables → (text : List ℕ) → (ℕ → Out) → (position : ℕ) → List MatchState
+outcomes_from code tables text outs position =
+    matcher_of (setting_with code tables) text (code_routines code) outs (length (code_routines code) - 1)
+    (no_groups (code_groups code) position)
+
+-- the outcomes of a tree from there
+abbrev pub tree_outcomes_from : Code → Tables → (text : List ℕ) → Tree → (position : ℕ) → List MatchState
+tree_outcomes_from code tables text t position = steps (setting_with code tables) text forwards t (no_groups (code_groups code) position)
+
+-- the cost of a run from a position with every group unset, by the costs in each routine
+abbrev pub cost_from : Code → Tables → (text : List ℕ) → (ℕ → Cost) → (position : ℕ) → ℕ
+cost_from code tables text costs position =
+    cost_of (setting_with code tables) text (code_routines code) costs (length (code_routines code) - 1)
+    (no_groups (code_groups code) position)
+
+-- the cost of a search from `from` on: 1 for each byte offset up to the end, and a run there
+abbrev pub search_cost : Code → Tables → (text : List ℕ) → (ℕ → Cost) → (from : ℕ) → ℕ
+search_cost code tables text costs from =
+    sum_by (λ k. 1 + cost_from code tables text costs k) (range_with_len from (length text + 1 - from))
