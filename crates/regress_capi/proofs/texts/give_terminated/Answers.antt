@@ -1,4 +1,4 @@
-use Rattle.std.proofs.Common.{refl, ap, subst, arith, length, ◌≤◌}
+use Rattle.std.proofs.Common.{refl, arith}
 use Rattle.regress_capi.proofs.TextLemmas.{text-ended, text-whole}
 use Rattle.regress_capi.proofs.texts.give_terminated.Goals as goal
 
