@@ -1,9 +1,1 @@
-mod CompileLemmas
-mod DifferencesLemmas
-mod HandleValues
-mod LooseValues
-mod ReplaceLemmas
-mod ResultLemmas
-mod SearchLemmas
-mod SpannedLemmas
-mod TextLemmas
+mod HandleLemmas

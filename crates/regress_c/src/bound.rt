@@ -1,11 +1,9 @@
 //! The functions that C calls to bound the number of nodes of a tree.
 ghost use Rattle.std.specs.Prelude.{chars};
-ghost use Rattle.regress_c.specs.BoundResults.{BoundResult};
-ghost use Rattle.regress_c.specs.Request.{flags_of, IsRequest, IsTextRequest};
+ghost use Rattle.regress_capi.specs.BoundResults.{BoundResult};
+ghost use Rattle.regress_capi.specs.Request.{flags_of, IsRequest, IsTextRequest};
 
-use super::request::{is_request, parse_flags, read_points};
-use super::results::{BAD_INPUT, MEMORY, OK};
-use regress_front::parse::node_bound;
+use regress_capi::bounds::{write_node_bound, write_node_bound_of_text};
 use std::alloc::Global;
 
 /// Writes an upper bound on the number of nodes of the tree of a pattern in code points, at most `usize::MAX`, which is
@@ -17,12 +15,7 @@ use std::alloc::Global;
 pub extern "C" fn regress_front_bound_nodes(pattern: &[u32], flags: u32, bound: &mut usize) -> u32
     ensures status { BoundResult (IsRequest pattern.now flags 0) (flags_of flags) pattern.now result bound.new }
 {
-    *bound = 0;
-    if !is_request(pattern, flags, 0) {
-        return BAD_INPUT;
-    }
-    *bound = node_bound(pattern, parse_flags(flags));
-    OK
+    write_node_bound(pattern, flags, bound)
 }
 
 /// As `regress_front_bound_nodes`, for a pattern in UTF-8.
@@ -39,13 +32,5 @@ pub extern "C" fn regress_front_bound_nodes_of_text(
 ) -> u32
     ensures status { BoundResult (IsTextRequest pattern.now flags 0) (flags_of flags) (chars pattern.now) result bound.new }
 {
-    *bound = 0;
-    match read_points(alloc, pattern, flags, 0) {
-        Ok(Some(points)) => {
-            *bound = node_bound(&points, parse_flags(flags));
-            OK
-        }
-        Ok(None) => BAD_INPUT,
-        Err(_) => MEMORY,
-    }
+    write_node_bound_of_text(alloc, pattern, flags, bound)
 }

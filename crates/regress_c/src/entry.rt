@@ -1,11 +1,12 @@
 //! The functions that C calls.
 ghost use Rattle.std.specs.Prelude.{◌==◌, chars};
-ghost use Rattle.regress_c.specs.Request.{setting_by, IsRequest, IsTextRequest};
-ghost use Rattle.regress_c.specs.EncodingResults.{EncodingResult};
-ghost use Rattle.regress_c.specs.ErrorResults.{ErrorResult};
+ghost use Rattle.regress_capi.specs.Request.{setting_by, IsRequest, IsTextRequest};
+ghost use Rattle.regress_capi.specs.EncodingResults.{EncodingResult};
+ghost use Rattle.regress_capi.specs.ErrorResults.{ErrorResult};
 
-use super::request::read_points;
-use super::results::{BAD_INPUT, MEMORY, write_encoding, write_error};
+use regress_capi::results::{
+    write_encoding, write_encoding_of_text, write_error, write_error_of_text,
+};
 use std::alloc::Global;
 
 /// Writes the encoding of the tree of a pattern in code points to `words`, and its length in words to `needed`; or, if
@@ -54,16 +55,9 @@ pub extern "C" fn regress_front_parse_text(
     ensures status { EncodingResult (IsTextRequest pattern.now flags optimize) (setting_by flags) (chars pattern.now) (optimize == 1)
         words.old result needed.new kind.new position.new words.new }
 {
-    *needed = 0;
-    *kind = 0;
-    *position = 0;
-    match read_points(alloc, pattern, flags, optimize) {
-        Ok(Some(points)) => write_encoding(
-            alloc, &points, flags, optimize, words, needed, kind, position,
-        ),
-        Ok(None) => BAD_INPUT,
-        Err(_) => MEMORY,
-    }
+    write_encoding_of_text(
+        alloc, pattern, flags, optimize, words, needed, kind, position,
+    )
 }
 
 /// Writes the text of the syntax error of a pattern in code points to `text`, in UTF-8, and its length in bytes to
@@ -106,12 +100,5 @@ pub extern "C" fn regress_front_tell_fault_of_text(
     ensures status { ErrorResult (IsTextRequest pattern.now flags 0) (setting_by flags) (chars pattern.now)
         text.old result needed.new kind.new position.new text.new }
 {
-    *needed = 0;
-    *kind = 0;
-    *position = 0;
-    match read_points(alloc, pattern, flags, 0) {
-        Ok(Some(points)) => write_error(alloc, &points, flags, text, needed, kind, position),
-        Ok(None) => BAD_INPUT,
-        Err(_) => MEMORY,
-    }
+    write_error_of_text(alloc, pattern, flags, text, needed, kind, position)
 }

@@ -1,12 +1,10 @@
 //! The functions that C calls for the differences of a pattern. include/regress.h documents them.
 ghost use Rattle.std.specs.Prelude.{chars};
-ghost use Rattle.regress_c.specs.DifferencesResults.{DifferencesResult, HasDifferenceKind, IsDifferenceName, IsDifferenceText};
-ghost use Rattle.regress_c.specs.Request.{setting_by, IsTextRequest};
-ghost use Rattle.regress_c.specs.TextResults.{TextResult};
+ghost use Rattle.regress_capi.specs.DifferencesResults.{DifferencesResult, HasDifferenceKind, IsDifferenceName, IsDifferenceText};
+ghost use Rattle.regress_capi.specs.Request.{setting_by, IsTextRequest};
+ghost use Rattle.regress_capi.specs.TextResults.{TextResult};
 
-use super::differing::{self, NumberedDifference, write_differences};
-use super::request::read_points;
-use super::results::{BAD_INPUT, MEMORY};
+use regress_capi::differing::{self, NumberedDifference};
 use std::alloc::Global;
 
 /// Writes the constructs of a pattern in UTF-8 that may match otherwise than in ECMA-262, and their number to `needed`.
@@ -28,22 +26,7 @@ pub extern "C" fn regress_differences(
     ensures status { DifferencesResult (IsTextRequest pattern.now flags 0) (setting_by flags) (chars pattern.now)
         differences.old result needed.new kind.new position.new differences.new }
 {
-    *needed = 0;
-    *kind = 0;
-    *position = 0;
-    match read_points(alloc, pattern, flags, 0) {
-        Ok(Some(points)) => write_differences(
-            alloc,
-            &points,
-            flags,
-            differences,
-            needed,
-            kind,
-            position,
-        ),
-        Ok(None) => BAD_INPUT,
-        Err(_) => MEMORY,
-    }
+    differing::write_differences_of_text(alloc, pattern, flags, differences, needed, kind, position)
 }
 
 /// Writes the name of a kind of difference, in UTF-8. A zero follows if there is room.

@@ -2,19 +2,19 @@
 ghost use Rattle.std.specs.Prelude.{◌≡◌, if◌then◌else◌, IfSome, IsUtf8, None, is_some, length, min, option_map, unwrap_or};
 ghost use Rattle.regress.specs.Compiled.{factor_of, find_factor_of, groups_of, nonlinear_of, outcomes_of};
 ghost use Rattle.regress.specs.Found.{MatchesSomewhere};
-ghost use Rattle.regress_c.specs.CompileResults.{CompileResult, limits_of};
-ghost use Rattle.regress_c.specs.Reasons.{reason_number};
-ghost use Rattle.regress_c.specs.Request.{setting_by, IsTextRequest};
-ghost use Rattle.regress_c.specs.SearchResults.{SearchResult, TestResult};
-ghost use Rattle.regress_c.specs.Spans.{AreEndsOfAll, AreEndsOfFirst};
-ghost use Rattle.regress_c.specs.TextResults.{HasGroup, HasKind, IsMessage, IsNameOf, TextResult};
+ghost use Rattle.regress_capi.specs.CompileResults.{CompileResult, limits_of};
+ghost use Rattle.regress_capi.specs.Reasons.{reason_number};
+ghost use Rattle.regress_capi.specs.Request.{setting_by, IsTextRequest};
+ghost use Rattle.regress_capi.specs.SearchResults.{SearchResult, TestResult};
+ghost use Rattle.regress_capi.specs.Spans.{AreEndsOfAll, AreEndsOfFirst};
+ghost use Rattle.regress_capi.specs.TextResults.{HasGroup, HasKind, IsMessage, IsNameOf, TextResult};
 ghost use Rattle.regress_program.specs.Found.{Finds};
 
-use super::compiling::write_compiled;
-use super::handle::Handle;
-use super::limits::Limits;
-use super::reasons::reason_number;
-use super::{searches, texts};
+use regress_capi::compiling::write_handle;
+use regress_capi::handle::Handle;
+use regress_capi::limits::Limits;
+use regress_capi::reasons::reason_number;
+use regress_capi::{searches, texts};
 use std::alloc::Global;
 
 const ABI_VERSION: u32 = 3;
@@ -46,15 +46,7 @@ pub extern "C" fn regress_compile(
     ensures status { CompileResult (IsTextRequest pattern.now flags 0) (setting_by flags) pattern.now (limits_of limits.now)
         handle.old.value result kind.new position.new handle.new.value }
 {
-    write_compiled(
-        alloc,
-        pattern,
-        flags,
-        limits.options(),
-        handle,
-        kind,
-        position,
-    )
+    write_handle(alloc, pattern, flags, limits, handle, kind, position)
 }
 
 /// Writes the start and the end of the leftmost match from the byte offset `from` on, and those of its groups.

@@ -1,11 +1,11 @@
 //! The functions that C calls to replace matches, and to escape a text. include/regress.h documents them.
 ghost use Rattle.std.specs.Prelude.{◌≡◌, IfSome, IsUtf8, None};
-ghost use Rattle.regress_c.specs.EscapeResults.{EscapeResult};
-ghost use Rattle.regress_c.specs.ReplaceResults.{HasAllReplaced, HasFirstReplaced};
-ghost use Rattle.regress_c.specs.SearchResults.{SearchResult};
+ghost use Rattle.regress_capi.specs.EscapeResults.{EscapeResult};
+ghost use Rattle.regress_capi.specs.ReplaceResults.{HasAllReplaced, HasFirstReplaced};
+ghost use Rattle.regress_capi.specs.SearchResults.{SearchResult};
 
-use super::handle::Handle;
-use super::{escaping, replacing};
+use regress_capi::handle::Handle;
+use regress_capi::{escaping, replacing};
 use std::alloc::Global;
 
 /// Writes the text with its leftmost match replaced by the expansion of a template, and the text if there is none.

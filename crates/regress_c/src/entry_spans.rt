@@ -1,11 +1,11 @@
 //! The functions that C calls for a tree with the spans of its nodes. include/regress_front.h documents them.
 ghost use Rattle.std.specs.Prelude.{chars};
-ghost use Rattle.regress_c.specs.Request.{setting_by, IsRequest, IsTextRequest};
-ghost use Rattle.regress_c.specs.SpannedResults.{SpannedResult};
+ghost use Rattle.regress_capi.specs.Request.{setting_by, IsRequest, IsTextRequest};
+ghost use Rattle.regress_capi.specs.SpannedResults.{SpannedResult};
 
-use super::request::{is_request, read_points};
-use super::results::{BAD_INPUT, MEMORY};
-use super::spanning::{NodeSpan, write_spanned};
+use regress_capi::spanning::{
+    NodeSpan, write_encoding_of_text_with_spans, write_encoding_with_spans,
+};
 use std::alloc::Global;
 
 /// Writes the encoding of the tree of a pattern in code points to `words`, and its length in words to `needed`; and the
@@ -31,14 +31,7 @@ pub extern "C" fn regress_front_parse_code_points_with_spans(
     ensures status { SpannedResult (IsRequest pattern.now flags 0) (setting_by flags) pattern.now words.old spans.old
         result needed.new spans_needed.new kind.new position.new words.new spans.new }
 {
-    *needed = 0;
-    *spans_needed = 0;
-    *kind = 0;
-    *position = 0;
-    if !is_request(pattern, flags, 0) {
-        return BAD_INPUT;
-    }
-    write_spanned(
+    write_encoding_with_spans(
         alloc,
         pattern,
         flags,
@@ -71,23 +64,15 @@ pub extern "C" fn regress_front_parse_text_with_spans(
     ensures status { SpannedResult (IsTextRequest pattern.now flags 0) (setting_by flags) (chars pattern.now) words.old spans.old
         result needed.new spans_needed.new kind.new position.new words.new spans.new }
 {
-    *needed = 0;
-    *spans_needed = 0;
-    *kind = 0;
-    *position = 0;
-    match read_points(alloc, pattern, flags, 0) {
-        Ok(Some(points)) => write_spanned(
-            alloc,
-            &points,
-            flags,
-            words,
-            needed,
-            spans,
-            spans_needed,
-            kind,
-            position,
-        ),
-        Ok(None) => BAD_INPUT,
-        Err(_) => MEMORY,
-    }
+    write_encoding_of_text_with_spans(
+        alloc,
+        pattern,
+        flags,
+        words,
+        needed,
+        spans,
+        spans_needed,
+        kind,
+        position,
+    )
 }

@@ -1,4 +1,4 @@
-use Rattle.regress_c.proofs.SearchLemmas.{held}
+use Rattle.regress_c.proofs.HandleLemmas.{held}
 use Rattle.regress_c.proofs.entry_regex.regress_find_all.Goals as goal
 
 pub returns-clause-status : goal.returns-clause-status

@@ -1,9 +1,0 @@
-use Rattle.std.proofs.Common.{◌≡◌, subst}
-use Rattle.regress_c.specs.TextResults.{PlainResult}
-use Rattle.regress_c.proofs.replacing.report.Goals as goal
-
-pub returns-in-Ok : goal.returns-in-Ok
-returns-in-Ok c =
-    rw c.in-Ok.is
-    (subst (λ text. PlainResult (λ bytes. bytes ≡ text) c.args.out.now c.give_text.result c.give_text.new.needed c.give_text.new.out)
-    c.deref.ensures c.give_text.ensures)

@@ -1,9 +1,0 @@
-use Rattle.regress_c.specs.TextResults.{text_bad}
-use Rattle.regress_c.proofs.TextLemmas.{text-written}
-use Rattle.regress_c.proofs.texts.write_message.Goals as goal
-
-pub returns-in-Some : goal.returns-in-Some
-returns-in-Some c = record { status = text-written c.in-Some.ensures.0 c.in-Some.ensures.1 c.give_terminated.ensures }
-
-pub returns-in-None : goal.returns-in-None
-returns-in-None c = record { status = text_bad c.in-None.ensures }

@@ -1,0 +1,30 @@
+-- The result of compiling a pattern, from what it computed.
+use Rattle.std.proofs.Common.{◌≡◌, ℕ, List, Option, chars, sym, subst}
+use Rattle.std.specs.Prelude.{Some}
+use Rattle.regress_front.specs.Setting.{Setting}
+use Rattle.regress_lexer.specs.FaultKinds.{number_of}
+use Rattle.regress_lexer.specs.declared.fault.FaultKind.{FaultKind}
+use Rattle.regress_parse.specs.Accepted.{NoneIsAccepted}
+use Rattle.regress_parse.specs.Settled.{IsReported}
+use Rattle.regress.specs.Failures.{IsSyntaxError, IsTooLarge}
+use Rattle.regress.specs.declared.limits.Options.{Options}
+use Rattle.regress.specs.declared.pattern.Regex.{Regex}
+use Rattle.regress_capi.specs.CompileResults.{CompileResult, IsCompiledWithin, compiled, rejected, too_large}
+
+module _ {Asked : Type 0} {setting : Setting} {text : List ℕ} {options : Options} {old : Option Regex} (pattern : List ℕ) (asked : Asked) (same : pattern ≡ text) where
+  pub compile-ok : (new : Option Regex) (regex : Regex) → IsCompiledWithin setting pattern options regex → new ≡ Some regex →
+      CompileResult Asked setting text options old 0 0 0 new
+  compile-ok new regex is made =
+      subst (λ v. CompileResult Asked setting text options old 0 0 0 v) (sym made) (compiled asked (subst (λ t. IsCompiledWithin setting t options regex) same is))
+
+  pub compile-rejected : (kind : FaultKind) (message : List ℕ) (number position : ℕ) → IsSyntaxError setting (chars pattern) kind message position →
+      number ≡ number_of kind → CompileResult Asked setting text options old 5 number position old
+  compile-rejected kind message number position error numbered =
+      rejected asked (subst (λ t. NoneIsAccepted setting (chars t)) same error.rejected) (record {
+        kind = kind;
+        numbered = numbered;
+        reported = subst (λ t. IsReported setting (chars t) kind position) same error.reported;
+      })
+
+  pub compile-large : IsTooLarge setting (chars pattern) options → CompileResult Asked setting text options old 6 0 0 old
+  compile-large large = too_large asked (subst (λ t. IsTooLarge setting (chars t) options) same large)

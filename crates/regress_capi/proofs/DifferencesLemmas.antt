@@ -1,0 +1,53 @@
+-- The result of reporting differences, from what it computed.
+use Rattle.std.proofs.Common.{◌≡◌, ◌++◌, ◌<◌, ℕ, List, [], drop, length, true, sym, ap, ◌∙◌, subst}
+use Rattle.std.specs.Prelude.{IfOk, Result, Ok, Err}
+use Rattle.regress_tree.specs.Setting.{Setting}
+use Rattle.regress_lexer.specs.Source.{Source}
+use Rattle.regress_syntax.specs.Syntax.{Pattern}
+use Rattle.regress_parse.specs.Accepted.{IsAccepted, OfAccepted}
+use Rattle.regress_parse.specs.declared.fault.PlacedFault.{PlacedFault}
+use Rattle.regress_spans.specs.Paired.{spanned_of}
+use Rattle.regress_ecma.specs.Compared.{IsComparable}
+use Rattle.regress_ecma.specs.Differences.{HasCaseDataOfUnicode}
+use Rattle.regress_differences.specs.CaseMode.{flags_somewhere}
+use Rattle.regress_differences.specs.Reported.{reported}
+use Rattle.regress_differences.specs.declared.kind.Difference.{Difference}
+use Rattle.regress_capi.specs.DifferencesResults.{AreDifferences, AreNumbered, DifferencesResult, differences_written, differences_out_of_memory, differences_little, differences_bad, differences_rejected}
+use Rattle.regress_capi.specs.declared.differing.NumberedDifference.{NumberedDifference}
+
+module _ (setting : Setting) (source : Source) where
+  -- what is stated of the differences of a pattern, as one record
+  pub differences-are : {V : Type 0} (items : V → List Difference) (r : Result V PlacedFault) →
+      IfOk r (λ v. (p : Pattern) × (accepted : IsAccepted setting source p)
+      × (items v ≡ reported (flags_somewhere setting.flags source) source (spanned_of setting source p accepted.derived))) →
+      IfOk r (λ v. items v ≡ [] → HasCaseDataOfUnicode setting.table →
+      (setting.flags.unicode_sets ≡ true → setting.flags.unicode ≡ true) → OfAccepted setting source (IsComparable setting)) →
+      IfOk r (λ v. AreDifferences setting source (items v))
+  differences-are items (Ok v) listed comparable =
+      record { pattern = listed.0; accepted = listed.1; listed = listed.2; comparable = comparable }
+  differences-are items (Err e) listed comparable = tt
+
+module _ {setting : Setting} {source : Source} where
+  -- the differences written are those that are computed
+  pub differences-written : {old new : List NumberedDifference} {needed : ℕ} (items handed : List NumberedDifference) →
+      AreNumbered setting source items → needed ≡ length items → handed ≡ items → new ≡ handed ++ drop (length handed) old →
+      DifferencesResult (Unit {0}) setting source old 0 needed 0 0 new
+  differences-written {old = old} items handed are count same put =
+      differences_written tt (items, are, count, put ∙ ap (λ xs. xs ++ drop (length xs) old) same)
+
+  pub differences-little : {old new : List NumberedDifference} {needed : ℕ} (items handed : List NumberedDifference) →
+      AreNumbered setting source items → needed ≡ length items → handed ≡ items → new ≡ old → length old < length handed →
+      DifferencesResult (Unit {0}) setting source old 3 needed 0 0 new
+  differences-little {old = old} {needed = needed} items handed are count same left less =
+      subst (λ buffer. DifferencesResult (Unit {0}) setting source old 3 needed 0 0 buffer) (sym left)
+      (differences_little tt (items, are, count, subst (λ xs. length old < length xs) same less))
+
+  -- of a pattern whose arguments are valid
+  pub differences-asked : {A : Type 0} {old new : List NumberedDifference} {status needed kind position : ℕ} → A →
+      DifferencesResult (Unit {0}) setting source old status needed kind position new →
+      DifferencesResult A setting source old status needed kind position new
+  differences-asked asked (differences_written u gives) = differences_written asked gives
+  differences-asked asked (differences_out_of_memory u) = differences_out_of_memory asked
+  differences-asked asked (differences_little u wants) = differences_little asked wants
+  differences-asked asked (differences_bad none) = absurd (none tt)
+  differences-asked asked (differences_rejected u none error) = differences_rejected asked none error

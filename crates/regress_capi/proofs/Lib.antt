@@ -1,0 +1,9 @@
+mod CompileLemmas
+mod DifferencesLemmas
+mod HandleValues
+mod LooseValues
+mod ReplaceLemmas
+mod ResultLemmas
+mod SearchLemmas
+mod SpannedLemmas
+mod TextLemmas

@@ -1,0 +1,67 @@
+-- The result of a call, from what it computed.
+use Rattle.std.proofs.Common.{◌≡◌, ◌++◌, ◌<◌, ℕ, List, Bool, false, drop, length, refl, sym, ap, ◌∙◌, subst}
+use Rattle.regress_tree.specs.Setting.{Setting}
+use Rattle.regress_lexer.specs.Source.{Source}
+use Rattle.regress_lexer.specs.declared.fault.FaultKind.{FaultKind}
+use Rattle.regress_parse.specs.Accepted.{NoneIsAccepted}
+use Rattle.regress_parse.specs.Fault.{text_of}
+use Rattle.regress_parse.specs.Settled.{IsReported}
+use Rattle.regress_lexer.specs.FaultKinds.{number_of}
+use Rattle.regress_capi.specs.Results.{AreWords}
+use Rattle.regress_capi.specs.EncodingResults.{EncodingResult, written, rejected}
+use Rattle.regress_capi.specs.EncodingResults as words
+use Rattle.regress_capi.specs.ErrorResults.{ErrorResult, faultless, reported}
+use Rattle.regress_capi.specs.ErrorResults as faults
+
+module _ {Asked : Type 0} {setting : Setting} {source : Source} where
+  -- the words written are the words computed
+  pub words-written : {optimized : Bool} {old new : List ℕ} {needed : ℕ} (items handed : List ℕ) → Asked →
+      AreWords setting source optimized items → needed ≡ length items → handed ≡ items → new ≡ handed ++ drop (length handed) old →
+      EncodingResult Asked setting source optimized old 0 needed 0 0 new
+  words-written {old = old} items handed asked are count same put =
+      written asked (items, are, count, put ∙ ap (λ xs. xs ++ drop (length xs) old) same)
+
+  pub words-little : {optimized : Bool} {old new : List ℕ} {needed : ℕ} (items handed : List ℕ) → Asked →
+      AreWords setting source optimized items → needed ≡ length items → handed ≡ items → new ≡ old → length old < length handed →
+      EncodingResult Asked setting source optimized old 3 needed 0 0 new
+  words-little {optimized = optimized} {old = old} {needed = needed} items handed asked are count same left less =
+      subst (λ buffer. EncodingResult Asked setting source optimized old 3 needed 0 0 buffer) (sym left)
+      (words.little asked (items, are, count, subst (λ xs. length old < length xs) same less))
+
+  -- an accepted pattern has no syntax error
+  pub no-fault : {old : List ℕ} (items : List ℕ) → Asked → AreWords setting source false items → ErrorResult Asked setting source old 0 0 0 0 old
+  no-fault items asked are = faultless are.1.pattern asked are.1.accepted
+
+  pub fault-reported : {old new : List ℕ} (kind : FaultKind) (number position : ℕ) (text handed : List ℕ) → Asked →
+      NoneIsAccepted setting source → number ≡ number_of kind → IsReported setting source kind position → text ≡ text_of kind →
+      handed ≡ text → new ≡ handed ++ drop (length handed) old → ErrorResult Asked setting source old 1 (length handed) number position new
+  fault-reported kind number position text handed asked none numbered is says same put =
+      reported asked none (handed, (record { kind = kind; numbered = numbered; reported = is }, same ∙ says), refl, put)
+
+  pub fault-little : {old new : List ℕ} (kind : FaultKind) (number position : ℕ) (text handed : List ℕ) → Asked →
+      NoneIsAccepted setting source → number ≡ number_of kind → IsReported setting source kind position → text ≡ text_of kind →
+      handed ≡ text → new ≡ old → length old < length handed → ErrorResult Asked setting source old 3 (length handed) number position new
+  fault-little {old = old} kind number position text handed asked none numbered is says same left less =
+      subst (λ buffer. ErrorResult Asked setting source old 3 (length handed) number position buffer) (sym left)
+      (faults.little asked none (handed, (record { kind = kind; numbered = numbered; reported = is }, same ∙ says), refl, less))
+
+-- -- of a text
+
+module _ {A B : Type 0} (to : A → B) (from : B → A) {setting : Setting} {source : Source} where
+  -- a request in code points, or in bytes
+  pub words-asked : {optimized : Bool} {old new : List ℕ} {status needed kind position : ℕ} →
+      EncodingResult A setting source optimized old status needed kind position new →
+      EncodingResult B setting source optimized old status needed kind position new
+  words-asked (written asked gives) = written (to asked) gives
+  words-asked (rejected asked none error) = rejected (to asked) none error
+  words-asked (words.out_of_memory asked) = words.out_of_memory (to asked)
+  words-asked (words.little asked wants) = words.little (to asked) wants
+  words-asked (words.bad none) = words.bad (λ asked. none (from asked))
+
+  pub fault-asked : {old new : List ℕ} {status needed kind position : ℕ} →
+      ErrorResult A setting source old status needed kind position new → ErrorResult B setting source old status needed kind position new
+  fault-asked (faultless p asked accepted) = faultless p (to asked) accepted
+  fault-asked (reported asked none gives) = reported (to asked) none gives
+  fault-asked (faults.out_of_memory asked) = faults.out_of_memory (to asked)
+  fault-asked (faults.little asked none wants) = faults.little (to asked) none wants
+  fault-asked (faults.bad none) = faults.bad (λ asked. none (from asked))

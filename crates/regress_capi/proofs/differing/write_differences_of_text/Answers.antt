@@ -1,0 +1,25 @@
+use Rattle.std.proofs.Common.{◌≡◌, subst, ◌∙◌, chars}
+use Rattle.regress_capi.specs.DifferencesResults.{DifferencesResult, differences_out_of_memory, differences_bad}
+use Rattle.regress_capi.specs.Request.{setting_by}
+use Rattle.regress_capi.proofs.DifferencesLemmas.{differences-asked}
+use Rattle.regress_capi.proofs.differing.write_differences_of_text.Goals as goal
+
+-- the differences are those of the code points of the bytes
+pub returns-in-Ok-Some : goal.returns-in-Ok-Some
+returns-in-Ok-Some c =
+    let read = rw c.in-Ok-Some.field-0-is at c.in-Ok-Some.ensures.points in
+    let same : c.deref.result.now ≡ chars c.args.pattern.now = c.deref.ensures.value ∙ read.1 in
+    record {
+      status =
+          differences-asked read.0
+          (subst
+          (λ source. DifferencesResult (Unit {0}) (setting_by c.args.bits) source c.args.buffer.now c.write_differences.result
+          c.write_differences.new.needed c.write_differences.new.kind c.write_differences.new.position c.write_differences.new.buffer)
+          same c.write_differences.ensures.status);
+    }
+
+pub returns-in-Ok-None : goal.returns-in-Ok-None
+returns-in-Ok-None c = record { status = differences_bad (rw c.in-Ok-None.field-0-is at c.in-Ok-None.ensures.points) }
+
+pub returns-in-Err : goal.returns-in-Err
+returns-in-Err c = record { status = differences_out_of_memory c.in-Err.ensures.out_of_memory }

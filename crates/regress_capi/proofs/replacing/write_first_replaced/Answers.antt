@@ -1,0 +1,19 @@
+use Rattle.std.proofs.Common.{string_bytes, subst}
+use Rattle.std.specs.Prelude.{IfOk}
+use Rattle.regress_capi.specs.ReplaceResults.{HasFirstReplaced}
+use Rattle.regress_capi.specs.SearchResults.{bad}
+use Rattle.regress_capi.proofs.ReplaceLemmas.{text-reports}
+use Rattle.regress_capi.proofs.replacing.write_first_replaced.Goals as goal
+
+pub returns-in-Some : goal.returns-in-Some
+returns-in-Some c = record {
+  status =
+      text-reports (λ out. string_bytes out) c.replace.result (c.in-Some.ensures.2, c.in-Some.ensures.3)
+      (subst (λ t. IfOk c.replace.result (λ out. HasFirstReplaced c.args.regex.now c.args.text.now t (string_bytes out))) c.in-Some.ensures.1
+      (subst (λ t. IfOk c.replace.result (λ out. HasFirstReplaced c.args.regex.now t c.in-Some.template.now (string_bytes out))) c.in-Some.ensures.0
+      c.replace.ensures))
+      c.report.ensures;
+}
+
+pub returns-in-None : goal.returns-in-None
+returns-in-None c = record { status = bad c.in-None.ensures }

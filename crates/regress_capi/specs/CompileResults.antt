@@ -1,0 +1,47 @@
+-- The result of a call that compiles a pattern.
+use Rattle.std.specs.Prelude.{◌≡◌, ◌==◌, ℕ, List, Option, Some, chars, if◌then◌else◌}
+use Rattle.regress_front.specs.Setting.{Setting}
+use Rattle.regress_parse.specs.Accepted.{NoneIsAccepted}
+use Rattle.regress_match.specs.Matcher.{IsFactorOf, IsNonlinearOf}
+use Rattle.regress.specs.Compiled.{IsCompiled, factor_of, limit_of, nonlinear_of, tree_of}
+use Rattle.regress.specs.Failures.{IsTooLarge}
+use Rattle.regress.specs.Limits.{default_options}
+use Rattle.regress.specs.declared.limits.Options.{Options}
+use Rattle.regress.specs.declared.pattern.Regex.{Regex}
+use Rattle.regress_capi.specs.Results.{IsError}
+use Rattle.regress_capi.specs.declared.limits.Limits.{Limits}
+
+-- a limit, where 0 is the default
+abbrev pub or_default : (limit default : ℕ) → ℕ
+or_default limit default = if limit == 0 then default else limit
+
+-- the limits, where 0 is the default of each
+abbrev pub limits_of : Limits → Options
+limits_of l = record {
+  steps = or_default l.steps default_options.steps;
+  nodes = or_default l.nodes default_options.nodes;
+  instructions = or_default l.instructions default_options.instructions;
+  tables = or_default l.tables default_options.tables;
+}
+
+-- The regular expression is compiled from this text, and searches within these limits.
+pub record IsCompiledWithin (setting : Setting) (text : List ℕ) (options : Options) (regex : Regex) : Type 0 where
+  pub compiled : IsCompiled setting text regex
+  pub limit : limit_of regex ≡ options.steps
+  pub linear : IsFactorOf options.tables (tree_of regex) (factor_of regex)
+  pub nonlinear : IsNonlinearOf options.tables (tree_of regex) (nonlinear_of regex)
+
+-- The status, `kind`, `position`, and the handle before and after. `Asked` states that the arguments are valid.
+pub data CompileResult (Asked : Type 0) (setting : Setting) (text : List ℕ) (options : Options) (old : Option Regex) :
+    (status kind position : ℕ) (new : Option Regex) → Type 0 where
+  -- the handle is that of the compiled pattern
+  compiled : {regex : Regex} → Asked → IsCompiledWithin setting text options regex → CompileResult Asked setting text options old 0 0 0 (Some regex)
+  -- an allocation failed
+  out_of_memory : Asked → CompileResult Asked setting text options old 2 0 0 old
+  -- the arguments are invalid
+  bad : (Asked → ⊥) → CompileResult Asked setting text options old 4 0 0 old
+  -- the pattern is rejected, with the kind and the position of its syntax error
+  rejected : {kind position : ℕ} → Asked → NoneIsAccepted setting (chars text) → IsError setting (chars text) kind position →
+      CompileResult Asked setting text options old 5 kind position old
+  -- the pattern may have more nodes than allowed, or its program has more instructions
+  too_large : Asked → IsTooLarge setting (chars text) options → CompileResult Asked setting text options old 6 0 0 old

@@ -1,0 +1,24 @@
+-- The result of a call for the text of a syntax error.
+use Rattle.std.specs.Prelude.{ℕ, List}
+use Rattle.regress_tree.specs.Setting.{Setting}
+use Rattle.regress_lexer.specs.Source.{Source}
+use Rattle.regress_syntax.specs.Syntax.{Pattern}
+use Rattle.regress_parse.specs.Accepted.{IsAccepted, NoneIsAccepted}
+use Rattle.regress_capi.specs.Results.{IsText, Gives, IsTooSmall}
+
+-- The status, `needed`, `kind`, `position`, and the buffer before and after. `Asked` states that the arguments are
+-- valid.
+pub data ErrorResult (Asked : Type 0) (setting : Setting) (source : Source) (old : List ℕ) :
+    (status needed kind position : ℕ) (new : List ℕ) → Type 0 where
+  -- the pattern is accepted
+  faultless : (p : Pattern) → Asked → IsAccepted setting source p → ErrorResult Asked setting source old 0 0 0 0 old
+  -- the pattern is rejected, and the text is written, with the kind and the position of the same syntax error
+  reported : {needed kind position : ℕ} {new : List ℕ} → Asked → NoneIsAccepted setting source →
+      Gives (IsText setting source kind position) needed old new → ErrorResult Asked setting source old 1 needed kind position new
+  -- an allocation failed
+  out_of_memory : Asked → ErrorResult Asked setting source old 2 0 0 0 old
+  -- the pattern is rejected, and the buffer is too small for the text
+  little : {needed kind position : ℕ} → Asked → NoneIsAccepted setting source →
+      IsTooSmall (IsText setting source kind position) needed old → ErrorResult Asked setting source old 3 needed kind position old
+  -- the arguments are invalid
+  bad : (Asked → ⊥) → ErrorResult Asked setting source old 4 0 0 0 old

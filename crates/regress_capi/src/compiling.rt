@@ -1,0 +1,98 @@
+//! The results of compiling a pattern.
+ghost use Rattle.std.specs.Prelude.{◌≡◌, chars, IfErr, IfOk};
+ghost use Rattle.regress.specs.Failures.{IsDue};
+ghost use Rattle.regress_capi.specs.CompileResults.{CompileResult, IsCompiledWithin, limits_of};
+ghost use Rattle.regress_capi.specs.Request.{setting_by, IsTextRequest};
+
+use super::handle::Handle;
+use super::limits::Limits;
+use super::request::{are_options, make_tables, parse_flags};
+use super::results::{BAD_INPUT, MEMORY, OK};
+use regress::{Error, Options, Regex};
+use std::alloc::Global;
+use std::sync::Arc;
+
+pub(crate) const SYNTAX: u32 = 5;
+
+const TOO_LARGE: u32 = 6;
+
+/// Compiles a pattern within the limits that a caller passes, and writes its handle, or the kind and the position of its
+/// syntax error. Returns the status.
+///
+/// # Errors
+/// The status is 2 if an allocation failed, 4 if the arguments are invalid, 5 if the pattern is rejected, and 6 if it may
+/// have more nodes or instructions than the limits allow.
+pub fn write_handle(
+    alloc: Global,
+    pattern: &[u8],
+    bits: u32,
+    limits: &Limits,
+    handle: &mut Handle,
+    kind: &mut u32,
+    position: &mut usize,
+) -> u32
+    ensures status { CompileResult (IsTextRequest pattern.now bits 0) (setting_by bits) pattern.now (limits_of limits.now)
+        handle.old.value result kind.new position.new handle.new.value }
+{
+    write_compiled(
+        alloc,
+        pattern,
+        bits,
+        limits.options(),
+        handle,
+        kind,
+        position,
+    )
+}
+
+/// Compiles a pattern, and writes its handle, or the kind and the position of its syntax error. Returns the status.
+fn write_compiled(
+    alloc: Global,
+    pattern: &[u8],
+    bits: u32,
+    options: Options,
+    handle: &mut Handle,
+    kind: &mut u32,
+    position: &mut usize,
+) -> u32
+    ensures status { CompileResult (IsTextRequest pattern.now bits 0) (setting_by bits) pattern.now options
+        handle.old.value result kind.new position.new handle.new.value }
+{
+    *kind = 0;
+    *position = 0;
+    if !are_options(bits, 0) {
+        return BAD_INPUT;
+    }
+    match str::from_utf8(pattern) {
+        Ok(pattern) => match compile(alloc, pattern, bits, options) {
+            Ok(regex) => {
+                *handle = Handle::of(regex);
+                OK
+            }
+            Err(
+                Error::Syntax {
+                    kind: found,
+                    position: at,
+                    ..
+                },
+            ) => {
+                *kind = found.number();
+                *position = at;
+                SYNTAX
+            }
+            Err(Error::TooLarge) => TOO_LARGE,
+            Err(Error::Flags(_)) => unreachable!(),
+            Err(Error::Memory) => MEMORY,
+        },
+        Err(_) => BAD_INPUT,
+    }
+}
+
+fn compile(alloc: Global, pattern: &str, bits: u32, options: Options) -> Result<Box<Regex>, Error>
+    ensures compiled { IfOk result (λ regex. IsCompiledWithin (setting_by bits) pattern.now options regex.value) }
+    ensures failed { IfErr result (IsDue (setting_by bits) (chars pattern.now) options) }
+{
+    let tables = Arc::new(alloc, make_tables(alloc, bits)?)?;
+    let regex = Regex::with_options(alloc, pattern, parse_flags(bits), options, &tables)?;
+    Ok(Box::new(alloc, regex)?)
+}

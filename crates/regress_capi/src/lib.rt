@@ -1,0 +1,20 @@
+//! What the functions for C do: handles, requests, statuses and results. include/regress.h and include/regress_front.h
+//! list the statuses.
+#![tactic(auto)]
+
+pub mod bounds;
+mod buffer;
+pub mod compiling;
+pub mod differing;
+pub mod escaping;
+pub mod handle;
+pub mod limits;
+mod loose;
+pub mod reasons;
+pub mod replacing;
+mod request;
+pub mod results;
+pub mod searches;
+pub mod spanning;
+pub mod texts;
+mod trees;

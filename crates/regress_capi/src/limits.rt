@@ -1,0 +1,40 @@
+//! The limits that a caller passes.
+ghost use Rattle.std.specs.Prelude.{◌≡◌};
+ghost use Rattle.regress_capi.specs.CompileResults.{limits_of, or_default};
+
+use regress::Options;
+
+/// The limits of a compiled pattern, 0 for the default of each.
+#[repr(C)]
+pub struct Limits {
+    pub steps: u64,
+    pub nodes: usize,
+    pub instructions: usize,
+    pub tables: usize,
+}
+
+impl Limits {
+    /// Returns the limits, where 0 is the default.
+    pub(crate) fn options(&self) -> Options
+        ensures { result ≡ limits_of self.now }
+    {
+        let default = Options::default();
+        Options {
+            steps: if self.steps == 0 {
+                default.steps
+            } else {
+                self.steps
+            },
+            nodes: or_default(self.nodes, default.nodes),
+            instructions: or_default(self.instructions, default.instructions),
+            tables: or_default(self.tables, default.tables),
+        }
+    }
+}
+
+/// Returns a limit, where 0 is the default.
+fn or_default(limit: usize, default: usize) -> usize
+    ensures { result ≡ or_default limit default }
+{
+    if limit == 0 { default } else { limit }
+}

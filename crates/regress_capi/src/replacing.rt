@@ -1,0 +1,79 @@
+//! The results of replacing matches by a template.
+ghost use Rattle.std.specs.Prelude.{◌≡◌, IsUtf8, MatchOption, MatchResult, string_bytes};
+ghost use Rattle.regress_capi.specs.ReplaceResults.{HasAllReplaced, HasFirstReplaced};
+ghost use Rattle.regress_capi.specs.SearchResults.{IsBare, SearchResult, status_of};
+ghost use Rattle.regress_capi.specs.TextResults.{PlainResult};
+
+use super::results::BAD_INPUT;
+use super::searches::error_status;
+use super::texts::give_text;
+use regress::{Regex, SearchError};
+use std::alloc::Global;
+
+/// Writes the text with its leftmost match replaced by the expansion of a template. Returns the status.
+///
+/// # Errors
+/// The status is 2 if an allocation failed, 3 if `out` is too small, 4 if the text or the template is not UTF-8, and 7 if
+/// the search takes more steps than allowed.
+pub fn write_first_replaced(
+    alloc: Global,
+    regex: &Regex,
+    text: &[u8],
+    template: &[u8],
+    out: &mut [u8],
+    needed: &mut usize,
+) -> u32
+    ensures status { SearchResult (IsUtf8 text.now × IsUtf8 template.now) (HasFirstReplaced regex.now text.now template.now) ⊥
+        out.old result needed.new out.new }
+{
+    *needed = 0;
+    match decode(text, template) {
+        Some((text, template)) => report(regex.replace(alloc, text, template), out, needed),
+        None => BAD_INPUT,
+    }
+}
+
+/// Writes the text with all its matches replaced by the expansion of a template. Returns the status.
+///
+/// # Errors
+/// As `write_first_replaced`.
+pub fn write_all_replaced(
+    alloc: Global,
+    regex: &Regex,
+    text: &[u8],
+    template: &[u8],
+    out: &mut [u8],
+    needed: &mut usize,
+) -> u32
+    ensures status { SearchResult (IsUtf8 text.now × IsUtf8 template.now) (HasAllReplaced regex.now text.now template.now) ⊥
+        out.old result needed.new out.new }
+{
+    *needed = 0;
+    match decode(text, template) {
+        Some((text, template)) => report(regex.replace_all(alloc, text, template), out, needed),
+        None => BAD_INPUT,
+    }
+}
+
+/// Returns both as texts, `None` if one of them is not UTF-8.
+fn decode<'a>(text: &'a [u8], template: &'a [u8]) -> Option<(&'a str, &'a str)>
+    ensures { MatchOption result (IsUtf8 text.now × IsUtf8 template.now → ⊥) (λ both.
+        (both.0.now ≡ text.now) × (both.1.now ≡ template.now) × IsUtf8 text.now × IsUtf8 template.now) }
+{
+    match (str::from_utf8(text), str::from_utf8(template)) {
+        (Ok(text), Ok(template)) => Some((text, template)),
+        _ => None,
+    }
+}
+
+/// Writes what replacing has returned. Returns the status.
+fn report(replaced: Result<String, SearchError>, out: &mut [u8], needed: &mut usize) -> u32
+    ensures { MatchResult replaced (λ text. PlainResult (λ bytes. bytes ≡ string_bytes text) out.old result needed.new out.new)
+        (λ error. IsBare (status_of error) out.old result needed.new out.new) }
+{
+    *needed = 0;
+    match replaced {
+        Ok(text) => give_text(&text, out, needed),
+        Err(error) => error_status(error),
+    }
+}

@@ -1,0 +1,173 @@
+//! The results of searches.
+ghost use Rattle.std.specs.Prelude.{◌≡◌, ◌++◌, ◌∷◌, [], IfOk, IsUtf8, MatchOption, MatchResult, None};
+ghost use Rattle.regress.specs.Compiled.{outcomes_of};
+ghost use Rattle.regress.specs.Found.{MatchesSomewhere, match_of, span_of};
+ghost use Rattle.regress_capi.specs.SearchResults.{IsBare, SearchResult, TestResult, status_of};
+ghost use Rattle.regress_capi.specs.Spans.{AreEndsOfAll, AreEndsOfFirst, ends_of, match_ends};
+ghost use Rattle.regress_program.specs.Found.{Finds};
+
+use super::buffer::copy_to;
+use super::results::{BAD_INPUT, MEMORY, OK, ROOM};
+use regress::{Match, Regex, SearchError};
+use std::alloc::{AllocError, Global};
+use std::ops::Range;
+
+const NO_MATCH: u32 = 1;
+
+const OUT_OF_STEPS: u32 = 7;
+
+/// Writes the ends of the leftmost match from an offset on and of its groups. Returns the status.
+///
+/// # Errors
+/// The status is 1 if there is no match, 2 if an allocation failed, 3 if `spans` is too small, 4 if the text is not UTF-8,
+/// and 7 if the search takes more steps than allowed.
+pub fn write_first(
+    alloc: Global,
+    regex: &Regex,
+    text: &[u8],
+    from: usize,
+    spans: &mut [usize],
+    needed: &mut usize,
+) -> u32
+    ensures status { SearchResult (IsUtf8 text.now) (AreEndsOfFirst text.now (outcomes_of regex.now text.now) from)
+        (Finds text.now (outcomes_of regex.now text.now) from None) spans.old result needed.new spans.new }
+{
+    *needed = 0;
+    match str::from_utf8(text) {
+        Ok(text) => report(first_ends(alloc, regex, text, from), spans, needed),
+        Err(_) => BAD_INPUT,
+    }
+}
+
+/// Writes the ends of all matches from an offset on and of their groups. Returns the status.
+///
+/// # Errors
+/// As `write_first`, but with no match the status is 0.
+pub fn write_all(
+    alloc: Global,
+    regex: &Regex,
+    text: &[u8],
+    from: usize,
+    spans: &mut [usize],
+    needed: &mut usize,
+) -> u32
+    ensures status { SearchResult (IsUtf8 text.now) (AreEndsOfAll text.now (outcomes_of regex.now text.now) from) ⊥
+        spans.old result needed.new spans.new }
+{
+    *needed = 0;
+    match str::from_utf8(text) {
+        Ok(text) => report(all_ends(alloc, regex, text, from), spans, needed),
+        Err(_) => BAD_INPUT,
+    }
+}
+
+/// Returns whether the pattern matches somewhere, as a status.
+///
+/// # Errors
+/// The status is 1 if it does not match, 2 if an allocation failed, 4 if the text is not UTF-8, and 7 if the search takes
+/// more steps than allowed.
+pub fn test(alloc: Global, regex: &Regex, text: &[u8]) -> u32
+    ensures status { TestResult (IsUtf8 text.now) (MatchesSomewhere text.now (outcomes_of regex.now text.now))
+        (MatchesSomewhere text.now (outcomes_of regex.now text.now) → ⊥) result }
+{
+    match str::from_utf8(text) {
+        Ok(text) => match regex.is_match(alloc, text) {
+            Ok(true) => OK,
+            Ok(false) => NO_MATCH,
+            Err(error) => error_status(error),
+        },
+        Err(_) => BAD_INPUT,
+    }
+}
+
+/// Writes what a search has found. Returns the status.
+fn report(
+    found: Result<Option<Vec<usize>>, SearchError>,
+    buffer: &mut [usize],
+    needed: &mut usize,
+) -> u32
+    ensures { MatchResult found (λ some. MatchOption some (IsBare 1 buffer.old result needed.new buffer.new) (λ items.
+        SearchResult (Unit {0}) (λ numbers. numbers ≡ items.items) ⊥ buffer.old result needed.new buffer.new))
+        (λ error. IsBare (status_of error) buffer.old result needed.new buffer.new) }
+{
+    *needed = 0;
+    match found {
+        Ok(Some(items)) => give(&items, buffer, needed),
+        Ok(None) => NO_MATCH,
+        Err(error) => error_status(error),
+    }
+}
+
+/// Returns the status of an error of a search.
+pub(crate) fn error_status(error: SearchError) -> u32
+    ensures { result ≡ status_of error }
+{
+    match error {
+        SearchError::Memory => MEMORY,
+        SearchError::OutOfSteps => OUT_OF_STEPS,
+    }
+}
+
+/// Writes numbers and their count. Returns the status.
+fn give(items: &Vec<usize>, buffer: &mut [usize], needed: &mut usize) -> u32
+    ensures { SearchResult (Unit {0}) (λ numbers. numbers ≡ items.now.items) ⊥ buffer.old result needed.new buffer.new }
+{
+    *needed = items.len();
+    if copy_to(items, buffer) { OK } else { ROOM }
+}
+
+fn first_ends(
+    alloc: Global,
+    regex: &Regex,
+    text: &str,
+    from: usize,
+) -> Result<Option<Vec<usize>>, SearchError>
+    ensures { IfOk result (λ some. MatchOption some (Finds text.now (outcomes_of regex.now text.now) from None) (λ ends.
+        AreEndsOfFirst text.now (outcomes_of regex.now text.now) from ends.items)) }
+{
+    match regex.find_at(alloc, text, from)? {
+        Some(found) => {
+            let mut ends = Vec::new(alloc);
+            push_ends(&found, &mut ends)?;
+            Ok(Some(ends))
+        }
+        None => Ok(None),
+    }
+}
+
+fn all_ends(
+    alloc: Global,
+    regex: &Regex,
+    text: &str,
+    from: usize,
+) -> Result<Option<Vec<usize>>, SearchError>
+    ensures { IfOk result (λ some. MatchOption some ⊥ (λ ends. AreEndsOfAll text.now (outcomes_of regex.now text.now) from ends.items)) }
+{
+    let mut ends = Vec::new(alloc);
+    for found in regex.find_from(alloc, text, from) {
+        let found = found?;
+        push_ends(&found, &mut ends)?;
+    }
+    Ok(Some(ends))
+}
+
+/// Appends the ends of a match, and then those of each group.
+fn push_ends(found: &Match<'_>, ends: &mut Vec<usize>) -> Result<(), AllocError>
+    ensures { IfOk result (λ _. ends.new.items ≡ ends.old.items ++ match_ends (match_of found.now)) }
+{
+    for span in found.groups() {
+        let (start, end) = ends_of(span);
+        ends.push(start)?;
+        ends.push(end)?;
+    }
+    Ok(())
+}
+
+fn ends_of(span: Option<Range<usize>>) -> (usize, usize)
+    ensures { ends_of (span_of span) ≡ result.0 ∷ result.1 ∷ [] }
+{
+    match span {
+        Some(span) => (span.start, span.end),
+        None => (usize::MAX, usize::MAX),
+    }
+}

@@ -1,0 +1,228 @@
+//! The encoding of a pattern's tree, with the spans of its nodes.
+ghost use Rattle.std.specs.Prelude.{◌≡◌, ◌≤◌, ◌<◌, ◌⊎◌, ◌++◌, All, IfOk, MatchBool, chars, drop, length, map};
+ghost use Rattle.regress_front.specs.Intervals.{code_point_max};
+ghost use Rattle.regress_front.specs.SettingOf.{setting_of};
+ghost use Rattle.regress_front.specs.Tree.{tree};
+ghost use Rattle.regress_front.specs.Accepted.{NoneIsAccepted};
+ghost use Rattle.regress_front.specs.Fault.{RejectedOnlyIf, ReportsKindAt, unplaced};
+ghost use Rattle.regress_front.specs.Settled.{IsReported};
+ghost use Rattle.regress_capi.specs.Request.{setting_by, IsRequest, IsTextRequest};
+ghost use Rattle.regress_capi.specs.SpannedResults.{ArePlaced, AreSpannedWords, SpannedResult, span_at};
+
+use super::request::{is_request, make_tables, parse_flags, read_points};
+use super::results::{BAD_INPUT, FAULT, MEMORY, OK, ROOM};
+use regress_front::parse::{PlacedFault, Span, SpannedRegex, try_parse_with_spans};
+use regress_front::types::Flags;
+use regress_front::unicode::Tables;
+use regress_words::{encode, postorder_numbers};
+use std::alloc::{AllocError, Global};
+
+/// The span of a node: a half-open range of code-point indices of the pattern.
+#[repr(C)]
+#[derive(Clone, Copy)]
+pub struct NodeSpan {
+    pub start: usize,
+    pub end: usize,
+}
+
+/// The words of a tree, and the span of each node in the order of the words.
+#[derive(Drop)]
+pub(crate) struct SpannedWords {
+    words: Vec<u32>,
+    spans: Vec<NodeSpan>,
+}
+
+/// Writes the encoding of a pattern's tree to `words` and the spans of its nodes, in the order of the words, to `spans`,
+/// and their lengths; or the kind and the position of the pattern's syntax error. Returns the status.
+///
+/// # Errors
+/// The status is 1 if the pattern is rejected, 2 if an allocation failed, 3 if `words` or `spans` is too small, and 4 if
+/// the arguments are invalid.
+pub fn write_encoding_with_spans(
+    alloc: Global,
+    pattern: &[u32],
+    bits: u32,
+    words: &mut [u32],
+    needed: &mut usize,
+    spans: &mut [NodeSpan],
+    spans_needed: &mut usize,
+    kind: &mut u32,
+    position: &mut usize,
+) -> u32
+    ensures status { SpannedResult (IsRequest pattern.now bits 0) (setting_by bits) pattern.now words.old spans.old
+        result needed.new spans_needed.new kind.new position.new words.new spans.new }
+{
+    *needed = 0;
+    *spans_needed = 0;
+    *kind = 0;
+    *position = 0;
+    if !is_request(pattern, bits, 0) {
+        return BAD_INPUT;
+    }
+    write_spanned(
+        alloc,
+        pattern,
+        bits,
+        words,
+        needed,
+        spans,
+        spans_needed,
+        kind,
+        position,
+    )
+}
+
+/// Writes the same for a pattern in UTF-8. Returns the status.
+///
+/// # Errors
+/// As `write_encoding_with_spans`; a pattern that is not UTF-8 is an invalid argument.
+pub fn write_encoding_of_text_with_spans(
+    alloc: Global,
+    pattern: &[u8],
+    bits: u32,
+    words: &mut [u32],
+    needed: &mut usize,
+    spans: &mut [NodeSpan],
+    spans_needed: &mut usize,
+    kind: &mut u32,
+    position: &mut usize,
+) -> u32
+    ensures status { SpannedResult (IsTextRequest pattern.now bits 0) (setting_by bits) (chars pattern.now) words.old spans.old
+        result needed.new spans_needed.new kind.new position.new words.new spans.new }
+{
+    *needed = 0;
+    *spans_needed = 0;
+    *kind = 0;
+    *position = 0;
+    match read_points(alloc, pattern, bits, 0) {
+        Ok(Some(points)) => write_spanned(
+            alloc,
+            &points,
+            bits,
+            words,
+            needed,
+            spans,
+            spans_needed,
+            kind,
+            position,
+        ),
+        Ok(None) => BAD_INPUT,
+        Err(_) => MEMORY,
+    }
+}
+
+/// Writes the encoding of the tree of a pattern in code points and the spans of its nodes, or the kind and the position of
+/// its syntax error. Returns the status.
+fn write_spanned(
+    alloc: Global,
+    pattern: &[u32],
+    bits: u32,
+    words: &mut [u32],
+    needed: &mut usize,
+    spans: &mut [NodeSpan],
+    spans_needed: &mut usize,
+    kind: &mut u32,
+    position: &mut usize,
+) -> u32
+    requires { All (λ c. c ≤ code_point_max) pattern.now }
+    ensures status { SpannedResult (Unit {0}) (setting_by bits) pattern.now words.old spans.old
+        result needed.new spans_needed.new kind.new position.new words.new spans.new }
+{
+    *needed = 0;
+    *spans_needed = 0;
+    *kind = 0;
+    *position = 0;
+    match spanned_words(alloc, pattern, bits) {
+        Ok(found) => {
+            *needed = found.words.len();
+            *spans_needed = found.spans.len();
+            if copy_both(&found, words, spans) {
+                OK
+            } else {
+                ROOM
+            }
+        }
+        Err(
+            PlacedFault::Syntax {
+                kind: found,
+                position: at,
+                ..
+            },
+        ) => {
+            *kind = found.number();
+            *position = at;
+            FAULT
+        }
+        Err(PlacedFault::Memory(_)) => MEMORY,
+    }
+}
+
+/// Copies the words and the spans to the starts of the buffers, and returns whether both fit. Otherwise the buffers are
+/// unchanged.
+fn copy_both(found: &SpannedWords, words: &mut [u32], spans: &mut [NodeSpan]) -> bool
+    ensures { MatchBool result
+        ((words.new ≡ found.now.words.items ++ drop (length found.now.words.items) words.old)
+        × (spans.new ≡ found.now.spans.items ++ drop (length found.now.spans.items) spans.old))
+        ((words.new ≡ words.old) × (spans.new ≡ spans.old)
+        × ((length words.old < length found.now.words.items) ⊎ (length spans.old < length found.now.spans.items))) }
+{
+    let (own_words, own_spans) = (found.words.len(), found.spans.len());
+    if words.len() < own_words || spans.len() < own_spans {
+        return false;
+    }
+    words[..own_words].copy_from_slice(&found.words);
+    spans[..own_spans].copy_from_slice(&found.spans);
+    true
+}
+
+/// Returns the encoding of the pattern's tree, and the spans of its nodes.
+fn spanned_words(alloc: Global, pattern: &[u32], bits: u32) -> Result<SpannedWords, PlacedFault>
+    requires { All (λ c. c ≤ code_point_max) pattern.now }
+    ensures words { IfOk result (λ found. AreSpannedWords (setting_by bits) pattern.now found.words.items found.spans.items) }
+    ensures rejected { RejectedOnlyIf (unplaced result) (NoneIsAccepted (setting_by bits) pattern.now) }
+    ensures reported { ReportsKindAt result (IsReported (setting_by bits) pattern.now) }
+{
+    let tables = make_tables(alloc, bits)?;
+    let parsed = parse(alloc, pattern, parse_flags(bits), &tables)?;
+    let words = encode(alloc, &parsed.regex.node)?;
+    let numbers = postorder_numbers(alloc, &parsed.regex.node)?;
+    let spans = in_order(alloc, &numbers, &parsed.spans)?;
+    Ok(SpannedWords { words, spans })
+}
+
+/// Returns the pattern's tree, and the spans of its nodes in postorder.
+fn parse(
+    alloc: Global,
+    pattern: &[u32],
+    flags: Flags,
+    tables: &Tables,
+) -> Result<SpannedRegex, PlacedFault>
+    requires { All (λ c. c ≤ code_point_max) pattern.now }
+    ensures placed { IfOk result (λ parsed. ArePlaced (setting_of flags tables.now) pattern.now (tree parsed.regex.node) parsed.spans.items) }
+    ensures rejected { RejectedOnlyIf (unplaced result) (NoneIsAccepted (setting_of flags tables.now) pattern.now) }
+    ensures reported { ReportsKindAt result (IsReported (setting_of flags tables.now) pattern.now) }
+{
+    try_parse_with_spans(alloc, pattern, flags, tables)
+}
+
+/// Returns the spans with these numbers.
+fn in_order(alloc: Global, numbers: &[usize], spans: &[Span]) -> Result<Vec<NodeSpan>, AllocError>
+    ensures { IfOk result (λ items. items.items ≡ map (span_at spans.now) numbers.now) }
+{
+    numbers
+        .iter()
+        .map(|number| span_at(spans, *number))
+        .collect(alloc)
+}
+
+fn span_at(spans: &[Span], number: usize) -> NodeSpan
+    ensures { result ≡ span_at spans.now number }
+{
+    match spans.get(number) {
+        Some(span) => NodeSpan {
+            start: span.start,
+            end: span.end,
+        },
+        None => NodeSpan { start: 0, end: 0 },
+    }
+}
