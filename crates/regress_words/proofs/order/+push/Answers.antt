@@ -1,5 +1,6 @@
 -- The numbers of the nodes inside a node are appended after a place for its own.
 use Rattle.std.proofs.Common.{◌≡◌, rules, arith, ◌+◌, ◌++◌, [], drop, sym, ap, ◌∙◌, subst}
+use Rattle.std.proofs.lemmas.Result.{err_from_is_err_and}
 use Rattle.regress_tree.specs.Tree.{tree, trees, cat, alt}
 use Rattle.regress_tree.specs.Visits.{nodes, nodes_in_list}
 use Rattle.regress_tree.specs.declared.ir.node.Node.{the_lemmas}
@@ -87,3 +88,33 @@ push_trees-loop-part-preserved t c =
     (λ next. numbers_in_list next others)
     (subst (λ nodes. IsOpen whole total now.numbers.items [] now.next (nodes_in_list (trees nodes)) (numbers_in_list now.next (trees nodes)))
     (next_part c.args.parts.now now.part-index c.part-item.result c.loop-part-test.true c.part-item.is) now.invariant)
+
+pub push_open-returns-in_err-push : goal.push_open-returns-in_err-push
+push_open-returns-in_err-push t c =
+    let p = err_from_is_err_and c.from_residual.result c.from_residual.ensures.1 in
+    record { numbers = rw p.1 tt; next = rw p.1 tt; within = rw p.1 tt; few = rw p.1 tt }
+
+pub push_open-returns-in_err-push-2 : goal.push_open-returns-in_err-push-2
+push_open-returns-in_err-push-2 t c =
+    let p = err_from_is_err_and c.from_residual-in_err-push-2.result c.from_residual-in_err-push-2.ensures.1 in
+    record { numbers = rw p.1 tt; next = rw p.1 tt; within = rw p.1 tt; few = rw p.1 tt }
+
+pub push_open-returns-in_err-push_trees-in-Cat : goal.push_open-returns-in_err-push_trees-in-Cat
+push_open-returns-in_err-push_trees-in-Cat t c =
+    let p = err_from_is_err_and c.from_residual-in_err-push_trees-in-Cat.result c.from_residual-in_err-push_trees-in-Cat.ensures.1 in
+    record { numbers = rw p.1 tt; next = rw p.1 tt; within = rw p.1 tt; few = rw p.1 tt }
+
+pub push_open-returns-in_err-push_tree-in-Alt : goal.push_open-returns-in_err-push_tree-in-Alt
+push_open-returns-in_err-push_tree-in-Alt t c =
+    let p = err_from_is_err_and c.from_residual-in_err-push_tree-in-Alt.result c.from_residual-in_err-push_tree-in-Alt.ensures.1 in
+    record { numbers = rw p.1 tt; next = rw p.1 tt; within = rw p.1 tt; few = rw p.1 tt }
+
+pub push_tree-returns-in_err-indices : goal.push_tree-returns-in_err-indices
+push_tree-returns-in_err-indices t c =
+    let p = err_from_is_err_and c.from_residual.result c.from_residual.ensures.1 in
+    record { numbers = rw p.1 tt; next = rw p.1 tt }
+
+pub push_trees-returns-in_err-push_tree : goal.push_trees-returns-in_err-push_tree
+push_trees-returns-in_err-push_tree t c =
+    let p = err_from_is_err_and c.from_residual.result c.from_residual.ensures.1 in
+    record { numbers = rw p.1 tt; next = rw p.1 tt }
