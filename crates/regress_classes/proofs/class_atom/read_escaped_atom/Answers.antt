@@ -16,6 +16,21 @@ use Rattle.regress_classes.proofs.lemmas.Pieces.{class_control_at-ends}
 use Rattle.regress_classes.proofs.class_atom.read_escaped_atom.Goals as goal
 use Rattle.regress_classes.proofs.class_atom.read_escaped_atom.Goals.{else-c-from-2-via-then-c-from-2+else-unicode, else-c-from-2-via-else-c-from-2, else-c-from-3-via-then-c-from-3+else-not-unicode, else-c-from-3-via-else-c-from-3, else-is_property_letter-via-then-is_property_letter+else-unicode-2, else-is_property_letter-via-else-is_property_letter}
 
+pub invariant_of-cursor : goal.invariant_of-cursor
+invariant_of-cursor c = record {
+  in_range = All-tail IsCodePoint c.in-Some.c.now c.in-Some.rest.now (subst (All IsCodePoint) c.in-Some.ensures.cases.0 c.args.cursor.now.in_range);
+}
+
+pub invariant_of-cursor-then-c-from : goal.invariant_of-cursor-then-c-from
+invariant_of-cursor-then-c-from c = record {
+  in_range = All-tail IsCodePoint c.in-Some.c.now c.in-Some.rest.now (subst (All IsCodePoint) c.in-Some.ensures.cases.0 c.args.cursor.now.in_range);
+}
+
+pub invariant_of-cursor-then-unicode : goal.invariant_of-cursor-then-unicode
+invariant_of-cursor-then-unicode c = record {
+  in_range = All-tail IsCodePoint c.in-Some.c.now c.in-Some.rest.now (subst (All IsCodePoint) c.in-Some.ensures.cases.0 c.args.cursor.now.in_range);
+}
+
 pub invariant_of-cursor-then-not-unicode : goal.invariant_of-cursor-then-not-unicode
 invariant_of-cursor-then-not-unicode c =
     let control = c.class_control-atom in
@@ -30,6 +45,9 @@ pub invariant_of-cursor-then-unicode-2 : goal.invariant_of-cursor-then-unicode-2
 invariant_of-cursor-then-unicode-2 c = record {
   in_range = All-tail IsCodePoint c.in-Some.c.now c.in-Some.rest.now (subst (All IsCodePoint) c.in-Some.ensures.cases.0 c.args.cursor.now.in_range);
 }
+
+pub invariant_of-cursor-in_default-parse_escape : goal.invariant_of-cursor-in_default-parse_escape
+invariant_of-cursor-in_default-parse_escape c = record { in_range = c.args.cursor.now.in_range }
 
 pub invariant_of-cursor-else-is_property_letter : goal.invariant_of-cursor-else-is_property_letter
 invariant_of-cursor-else-is_property_letter c = record {

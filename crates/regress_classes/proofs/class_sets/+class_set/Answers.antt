@@ -482,3 +482,38 @@ parse_operands-returns-in_err-parse_operand-clause-kind t c =
     let p = err_from_is_err_and c.from_residual.result c.from_residual.ensures.1 in
     rw (p.1, p.2) (on_kind_then c.in_err-parse_operand.field-0.0
     (remaining_is_shorter (source c.args.cursor.now) (source c.loop-chain.cursor) c.loop-chain.invariant.1) c.in_err-parse_operand.ensures.kind)
+
+-- ---- failed allocations
+
+pub parse_after_first_operand-returns-in_err-value-clause-value : goal.parse_after_first_operand-returns-in_err-value-clause-value
+parse_after_first_operand-returns-in_err-value-clause-value t c = let p = err_from_is_err_and c.from_residual.result c.from_residual.ensures.1 in λ _ _. rw (p.1, p.2) tt
+
+pub parse_after_first_operand-returns-in_err-value-2-clause-value : goal.parse_after_first_operand-returns-in_err-value-2-clause-value
+parse_after_first_operand-returns-in_err-value-2-clause-value t c = let p = err_from_is_err_and c.from_residual-in_err-value-2.result c.from_residual-in_err-value-2.ensures.1 in λ _ _. rw (p.1, p.2) tt
+
+pub parse_after_first_operand-returns-in_err-add_operand-clause-value : goal.parse_after_first_operand-returns-in_err-add_operand-clause-value
+parse_after_first_operand-returns-in_err-add_operand-clause-value t c = let p = err_from_is_err_and c.from_residual-in_err-add_operand.result c.from_residual-in_err-add_operand.ensures.1 in λ _ _. rw (p.1, p.2) tt
+
+pub parse_after_first_operand-returns-in_err-add_point-clause-value : goal.parse_after_first_operand-returns-in_err-add_point-clause-value
+parse_after_first_operand-returns-in_err-add_point-clause-value t c = let p = err_from_is_err_and c.from_residual-in_err-add_point.result c.from_residual-in_err-add_point.ensures.1 in λ _ _. rw (p.1, p.2) tt
+
+pub parse_operand-returns-in_err-into_nested-clause-value : goal.parse_operand-returns-in_err-into_nested-clause-value
+parse_operand-returns-in_err-into_nested-clause-value t c = let p = err_from_is_err_and c.from_residual-in_err-into_nested.result c.from_residual-in_err-into_nested.ensures.1 in rw (p.1, p.2) tt
+
+pub parse_operands-returns-in_err-operand-clause-value : goal.parse_operands-returns-in_err-operand-clause-value
+parse_operands-returns-in_err-operand-clause-value t c = let p = err_from_is_err_and c.from_residual-in_err-operand.result c.from_residual-in_err-operand.ensures.1 in λ _ _. rw (p.1, p.2) tt
+
+pub parse_operands-returns-in_err-close-clause-value : goal.parse_operands-returns-in_err-close-clause-value
+parse_operands-returns-in_err-close-clause-value t c = let p = err_from_is_err_and c.from_residual-in_err-close.result c.from_residual-in_err-close.ensures.1 in λ _ _. rw (p.1, p.2) tt
+
+pub parse_operands-returns-in_err-chain-clause-value : goal.parse_operands-returns-in_err-chain-clause-value
+parse_operands-returns-in_err-chain-clause-value t c = let p = err_from_is_err_and c.from_residual-in_err-chain.result c.from_residual-in_err-chain.ensures.1 in λ _ _. rw (p.1, p.2) tt
+
+pub parse_parts-returns-in_err-into_value-clause-value : goal.parse_parts-returns-in_err-into_value-clause-value
+parse_parts-returns-in_err-into_value-clause-value t c = let p = err_from_is_err_and c.from_residual-in_err-into_value.result c.from_residual-in_err-into_value.ensures.1 in λ _ _. rw (p.1, p.2) tt
+
+pub parse_rest_of_part-returns-in_err-add_operand-clause-value : goal.parse_rest_of_part-returns-in_err-add_operand-clause-value
+parse_rest_of_part-returns-in_err-add_operand-clause-value t c = let p = err_from_is_err_and c.from_residual.result c.from_residual.ensures.1 in λ _ _. rw (p.1, p.2) tt
+
+pub parse_rest_of_part-returns-in_err-add-in-Character-2-clause-value : goal.parse_rest_of_part-returns-in_err-add-in-Character-2-clause-value
+parse_rest_of_part-returns-in_err-add-in-Character-2-clause-value t c = let p = err_from_is_err_and c.from_residual-in_err-add-in-Character-2.result c.from_residual-in_err-add-in-Character-2.ensures.1 in λ _ _. rw (p.1, p.2) tt

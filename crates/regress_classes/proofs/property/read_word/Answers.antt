@@ -1,11 +1,19 @@
 -- Each iteration parses one more character, which is ASCII.
 use Rattle.std.proofs.Common.{◌≡◌, ◌==◌, ◌∙◌, true, false, Some, length, sym, ap, subst, arith}
 use Rattle.std.specs.Prelude.{IsOk}
+use Rattle.std.specs.List.{All}
 use Rattle.std.proofs.lemmas.Bool.{cond-true, cond-false}
+use Rattle.std.proofs.lemmas.List.Elements.{All-tail}
 use Rattle.std.proofs.lemmas.Str.{IsUtf8-from_ascii}
+use Rattle.regress_lexer.specs.Source.{IsCodePoint}
 use Rattle.regress_lexer.specs.Views.{source}
 use Rattle.regress_classes.proofs.PropertyLemmas.{ascii, more_ascii, more_of_word, all_of_word}
 use Rattle.regress_classes.proofs.property.read_word.Goals as goal
+
+pub invariant_of-cursor : goal.invariant_of-cursor
+invariant_of-cursor c = record {
+  in_range = All-tail IsCodePoint c.in-Some.c c.in-Some.rest.now (subst (All IsCodePoint) c.in-Some.ensures.some.0 c.loop-c.cursor.in_range);
+}
 
 pub loop-c-preserved : goal.loop-c-preserved
 loop-c-preserved c =

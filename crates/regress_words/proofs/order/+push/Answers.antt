@@ -1,5 +1,6 @@
 -- The numbers of the nodes inside a node are appended after a place for its own.
 use Rattle.std.proofs.Common.{◌≡◌, rules, arith, ◌+◌, ◌++◌, [], drop, sym, ap, ◌∙◌, subst}
+use Rattle.std.proofs.lemmas.Result.{err_from_is_err_and}
 use Rattle.regress_tree.specs.Tree.{tree, trees, cat, alt}
 use Rattle.regress_tree.specs.Visits.{nodes, nodes_in_list}
 use Rattle.regress_tree.specs.declared.ir.node.Node.{the_lemmas}
@@ -7,8 +8,8 @@ use Rattle.regress_words.specs.Order.{numbers_in_list, numbers_of}
 use Rattle.regress_words.proofs.OrderLemmas.{IsOpen, counts, ended, enters-alt, enters-body, enters-cat, enters-leaf, leaf_of, next_part, one_each, one_each-list, passed, sets}
 use Rattle.regress_words.proofs.order.+push.Goals as goal
 
-pub push_open-returns-in-Cat-clause-numbers : goal.push_open-returns-in-Cat-clause-numbers
-push_open-returns-in-Cat-clause-numbers t c =
+pub push_open-returns-in-Cat : goal.push_open-returns-in-Cat
+push_open-returns-in-Cat t c =
     let now = c.loop-indices in
     let parts = trees c.in-Cat.parts.items in
     let is : tree now.node.now ≡ cat parts = search (rules, the_lemmas) in
@@ -16,25 +17,16 @@ push_open-returns-in-Cat-clause-numbers t c =
     c.push-in-loop-indices.new.self.items c.push.new.self.items c.len.result c.in_ok-push-2.ensures.items c.in_ok-push.ensures.items
     (c.len.ensures ∙ now.numbers.ok.0) parts is in
     let same : trees c.deref.result.now ≡ parts = ap trees c.deref.ensures.value in
-    sets c.push_trees.new.numbers.items c.push.new.self.items c.push_trees.new.next
-    (ended c.push-in-loop-indices.new.self.items c.push.new.self.items now.next c.push_trees.new.numbers.items c.push_trees.new.next
+    let end = ended c.push-in-loop-indices.new.self.items c.push.new.self.items now.next c.push_trees.new.numbers.items c.push_trees.new.next
     (numbers_in_list now.next parts) (nodes_in_list parts)
     (c.in_ok-push_trees-in-Cat.ensures.numbers ∙ ap (λ ts. c.push-in-loop-indices.new.self.items ++ numbers_in_list now.next ts) same)
-    (c.in_ok-push_trees-in-Cat.ensures.next ∙ ap (λ ts. now.next + nodes_in_list ts) same) (one_each-list now.next parts) inside)
-
-pub push_open-returns-in-Cat-clause-few : goal.push_open-returns-in-Cat-clause-few
-push_open-returns-in-Cat-clause-few t c =
-    let now = c.loop-indices in
-    let parts = trees c.in-Cat.parts.items in
-    let is : tree now.node.now ≡ cat parts = search (rules, the_lemmas) in
-    let inside = enters-cat now.numbers.items now.indices.items now.next (tree now.node.now) now.invariant.remains
-    c.push-in-loop-indices.new.self.items c.push.new.self.items c.len.result c.in_ok-push-2.ensures.items c.in_ok-push.ensures.items
-    (c.len.ensures ∙ now.numbers.ok.0) parts is in
-    let same : trees c.deref.result.now ≡ parts = ap trees c.deref.ensures.value in
-    (ended c.push-in-loop-indices.new.self.items c.push.new.self.items now.next c.push_trees.new.numbers.items c.push_trees.new.next
-    (numbers_in_list now.next parts) (nodes_in_list parts)
-    (c.in_ok-push_trees-in-Cat.ensures.numbers ∙ ap (λ ts. c.push-in-loop-indices.new.self.items ++ numbers_in_list now.next ts) same)
-    (c.in_ok-push_trees-in-Cat.ensures.next ∙ ap (λ ts. now.next + nodes_in_list ts) same) (one_each-list now.next parts) inside).few
+    (c.in_ok-push_trees-in-Cat.ensures.next ∙ ap (λ ts. now.next + nodes_in_list ts) same) (one_each-list now.next parts) inside in
+    record {
+      numbers = sets c.push_trees.new.numbers.items c.push.new.self.items c.push_trees.new.next end;
+      next = counts c.push_trees.new.numbers.items c.push.new.self.items c.push_trees.new.next end;
+      within = end.within;
+      few = end.few;
+    }
 
 pub push_open-loop-indices-preserved-in-Alt : goal.push_open-loop-indices-preserved-in-Alt
 push_open-loop-indices-preserved-in-Alt t c =
@@ -96,3 +88,33 @@ push_trees-loop-part-preserved t c =
     (λ next. numbers_in_list next others)
     (subst (λ nodes. IsOpen whole total now.numbers.items [] now.next (nodes_in_list (trees nodes)) (numbers_in_list now.next (trees nodes)))
     (next_part c.args.parts.now now.part-index c.part-item.result c.loop-part-test.true c.part-item.is) now.invariant)
+
+pub push_open-returns-in_err-push : goal.push_open-returns-in_err-push
+push_open-returns-in_err-push t c =
+    let p = err_from_is_err_and c.from_residual.result c.from_residual.ensures.1 in
+    record { numbers = rw p.1 tt; next = rw p.1 tt; within = rw p.1 tt; few = rw p.1 tt }
+
+pub push_open-returns-in_err-push-2 : goal.push_open-returns-in_err-push-2
+push_open-returns-in_err-push-2 t c =
+    let p = err_from_is_err_and c.from_residual-in_err-push-2.result c.from_residual-in_err-push-2.ensures.1 in
+    record { numbers = rw p.1 tt; next = rw p.1 tt; within = rw p.1 tt; few = rw p.1 tt }
+
+pub push_open-returns-in_err-push_trees-in-Cat : goal.push_open-returns-in_err-push_trees-in-Cat
+push_open-returns-in_err-push_trees-in-Cat t c =
+    let p = err_from_is_err_and c.from_residual-in_err-push_trees-in-Cat.result c.from_residual-in_err-push_trees-in-Cat.ensures.1 in
+    record { numbers = rw p.1 tt; next = rw p.1 tt; within = rw p.1 tt; few = rw p.1 tt }
+
+pub push_open-returns-in_err-push_tree-in-Alt : goal.push_open-returns-in_err-push_tree-in-Alt
+push_open-returns-in_err-push_tree-in-Alt t c =
+    let p = err_from_is_err_and c.from_residual-in_err-push_tree-in-Alt.result c.from_residual-in_err-push_tree-in-Alt.ensures.1 in
+    record { numbers = rw p.1 tt; next = rw p.1 tt; within = rw p.1 tt; few = rw p.1 tt }
+
+pub push_tree-returns-in_err-indices : goal.push_tree-returns-in_err-indices
+push_tree-returns-in_err-indices t c =
+    let p = err_from_is_err_and c.from_residual.result c.from_residual.ensures.1 in
+    record { numbers = rw p.1 tt; next = rw p.1 tt }
+
+pub push_trees-returns-in_err-push_tree : goal.push_trees-returns-in_err-push_tree
+push_trees-returns-in_err-push_tree t c =
+    let p = err_from_is_err_and c.from_residual.result c.from_residual.ensures.1 in
+    record { numbers = rw p.1 tt; next = rw p.1 tt }

@@ -1,10 +1,18 @@
 use Rattle.std.proofs.Common.{◌≡◌, length, sym, ap, subst, ◌∙◌}
+use Rattle.std.specs.List.{All}
 use Rattle.std.proofs.lemmas.Bool.{cond-true, cond-false}
+use Rattle.std.proofs.lemmas.List.Elements.{All-tail}
+use Rattle.regress_lexer.specs.Source.{IsCodePoint}
 use Rattle.regress_lexer.specs.Reads.{ParsesWithoutAllocating}
 use Rattle.regress_lexer.specs.Views.{source}
 use Rattle.regress_classes.proofs.ClassOperandLemmas.{set_escape_read, literal_parsed, no_itself, no_character}
 use Rattle.regress_classes.proofs.class_sets.character.parse_set_character.Goals as goal
 use Rattle.regress_classes.proofs.class_sets.character.parse_set_character.Goals.{in_default-via-in-Some+else-is_literal, in_default-via-in_default}
+
+pub invariant_of-cursor : goal.invariant_of-cursor
+invariant_of-cursor c = record {
+  in_range = All-tail IsCodePoint c.in-Some.c.now c.in-Some.rest.now (subst (All IsCodePoint) c.in-Some.ensures.cases.0 c.try_consume.new.self.in_range);
+}
 
 pub returns-then-try_consume-clause-value : goal.returns-then-try_consume-clause-value
 returns-then-try_consume-clause-value c =

@@ -1,10 +1,23 @@
 -- What remains of a list of code points is one too.
-use Rattle.std.proofs.Common.{◌∷◌, sym, ap, ◌∙◌}
+use Rattle.std.proofs.Common.{◌∷◌, sym, ap, subst, ◌∙◌}
+use Rattle.std.specs.List.{All}
 use Rattle.std.proofs.lemmas.Bool.{cond-true, cond-false, ne_eqb}
+use Rattle.std.proofs.lemmas.List.Elements.{All-tail}
+use Rattle.regress_lexer.specs.Source.{IsCodePoint}
 use Rattle.regress_lexer.specs.Escapes.{escape_at}
 use Rattle.regress_classes.specs.ClassSets.{escaped_character_at}
 use Rattle.regress_lexer.proofs.lemmas.After.{after_all, escape_at-ends}
 use Rattle.regress_classes.proofs.class_sets.character.read_escaped_character.Goals as goal
+
+pub invariant_of-cursor : goal.invariant_of-cursor
+invariant_of-cursor c = record {
+  in_range = All-tail IsCodePoint c.in-Some.c.now c.in-Some.rest.now (subst (All IsCodePoint) c.in-Some.ensures.cases.0 c.args.cursor.now.in_range);
+}
+
+pub invariant_of-cursor-then-is_reserved : goal.invariant_of-cursor-then-is_reserved
+invariant_of-cursor-then-is_reserved c = record {
+  in_range = All-tail IsCodePoint c.in-Some.c.now c.in-Some.rest.now (subst (All IsCodePoint) c.in-Some.ensures.cases.0 c.args.cursor.now.in_range);
+}
 
 pub invariant_of-cursor-2 : goal.invariant_of-cursor-2
 invariant_of-cursor-2 c = record {

@@ -2,11 +2,13 @@
 use Rattle.std.proofs.Common.{Bool, ◌==◌, refl, sym, ap, subst, ◌∙◌}
 use Rattle.std.proofs.lemmas.Bool.{ne_eqb}
 use Rattle.std.proofs.lemmas.List.{nil_from_length}
+use Rattle.std.proofs.lemmas.List.Elements.{All-tail}
 use Rattle.std.proofs.lemmas.Result.{err_from_is_err_and}
+use Rattle.std.specs.List.{All}
 use Rattle.regress_base.specs.declared.charclasses.CharacterClassType.{CharacterClassType}
 use Rattle.regress_unicode.specs.TableOf.{table_of}
 use Rattle.regress_lexer.specs.Reads.{ParsesAs}
-use Rattle.regress_lexer.specs.Source.{found_map}
+use Rattle.regress_lexer.specs.Source.{IsCodePoint, found_map}
 use Rattle.regress_lexer.specs.Views.{source}
 use Rattle.regress_classes.specs.ClassProductions.{class_members}
 use Rattle.regress_classes.specs.ClassSets.{only, character, class, property_operand_at, escaped_operand_at}
@@ -14,6 +16,21 @@ use Rattle.regress_classes.specs.ClassViews.{IsOperand}
 use Rattle.regress_lexer.proofs.lemmas.Sources.{on_rejected}
 use Rattle.regress_classes.proofs.EscapeProductions.{class_escape_read, quoted_read, property_operand_read, character_escape_read}
 use Rattle.regress_classes.proofs.class_sets.operand.read_escaped_operand.Goals as goal
+
+pub invariant_of-cursor : goal.invariant_of-cursor
+invariant_of-cursor c = record {
+  in_range = All-tail IsCodePoint c.in-Some.c.now c.in-Some.rest.now (subst (All IsCodePoint) c.in-Some.ensures.cases.0 c.args.cursor.now.in_range);
+}
+
+pub invariant_of-cursor-then-c-from : goal.invariant_of-cursor-then-c-from
+invariant_of-cursor-then-c-from c = record {
+  in_range = All-tail IsCodePoint c.in-Some.c.now c.in-Some.rest.now (subst (All IsCodePoint) c.in-Some.ensures.cases.0 c.args.cursor.now.in_range);
+}
+
+pub invariant_of-cursor-then-is_property_letter : goal.invariant_of-cursor-then-is_property_letter
+invariant_of-cursor-then-is_property_letter c = record {
+  in_range = All-tail IsCodePoint c.in-Some.c.now c.in-Some.rest.now (subst (All IsCodePoint) c.in-Some.ensures.cases.0 c.args.cursor.now.in_range);
+}
 
 pub returns-in_default-clause-value : goal.returns-in_default-clause-value
 returns-in_default-clause-value c =
