@@ -2,8 +2,8 @@
 use Rattle.std.specs.Prelude.{◌≡◌, ◌==◌, ℕ, List, Option, Some, chars, if◌then◌else◌}
 use Rattle.regress_front.specs.Setting.{Setting}
 use Rattle.regress_parse.specs.Accepted.{NoneIsAccepted}
-use Rattle.regress_match.specs.Matcher.{IsFactorOf, IsNonlinearOf}
-use Rattle.regress.specs.Compiled.{IsCompiled, factor_of, limit_of, nonlinear_of, tree_of}
+use Rattle.regress_match.specs.Matcher.{IsFactorOf, IsFindFactorOf, IsNonlinearOf}
+use Rattle.regress.specs.Compiled.{IsCompiled, factor_of, find_factor_of, limit_of, nonlinear_of, tree_of}
 use Rattle.regress.specs.Failures.{IsTooLarge}
 use Rattle.regress.specs.Limits.{default_options}
 use Rattle.regress.specs.declared.limits.Options.{Options}
@@ -29,6 +29,7 @@ pub record IsCompiledWithin (setting : Setting) (text : List ℕ) (options : Opt
   pub compiled : IsCompiled setting text regex
   pub limit : limit_of regex ≡ options.steps
   pub linear : IsFactorOf options.tables (tree_of regex) (factor_of regex)
+  pub find_linear : IsFindFactorOf options.tables (tree_of regex) (find_factor_of regex)
   pub nonlinear : IsNonlinearOf options.tables (tree_of regex) (nonlinear_of regex)
 
 -- The status, `kind`, `position`, and the handle before and after. `Asked` states that the arguments are valid.
