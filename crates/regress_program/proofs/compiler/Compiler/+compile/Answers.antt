@@ -21,7 +21,7 @@ use Rattle.regress_program.proofs.CompileLemmas.{compiled_part, compiled_group, 
 use Rattle.regress_program.proofs.CountLemmas.{compiled_counted, compiled_plain}
 use Rattle.regress_program.proofs.RepeatLemmas.{iterates_last, iterates_more, compiled_optional, compiled_any_number, compiled_mandatory, compiled_no_mandatory, compiled_unbounded, compiled_bounded, compiled_repeated}
 use Rattle.regress_program.proofs.RoutineLemmas.{compiled_look, has_routine}
-use Rattle.regress_program.proofs.SizeLemmas.{too_long, copies-more, loop-unbounded, loop-bounded, parts-more, parts-within}
+use Rattle.regress_program.proofs.SizeLemmas.{no_value, too_long, copies-more, loop-unbounded, loop-bounded, parts-more, parts-within}
 use Rattle.regress_program.proofs.ViewLemmas.{below, part_if_leaf, nothing_at_empty, nothing_at_goal, sequence_more}
 use Rattle.regress_program.proofs.lemmas.Onward.{Stays-iteration, Stays-tree}
 use Rattle.regress_program.specs.declared.instruction.Instruction.TheVariants as insts
@@ -423,3 +423,143 @@ sequence-returns-in_err-entry-clause-too_long t c =
       parts-within c.args.parts.now (l.i - 1),
       parts-more c.args.parts.now l.i (l.i - 1) c.index-parts-i.result refl c.loop-i-test.true l.invariant.within c.index-parts-i.is,
     ))
+
+-- ---- a call that returns an error
+
+pub any_number-returns-in_err-turn-clause-emits : goal.any_number-returns-in_err-turn-clause-emits
+any_number-returns-in_err-turn-clause-emits t c = no_value _ c.from_residual.result _ c.from_residual.ensures.1
+
+pub any_number-returns-in_err-turn-clause-spends : goal.any_number-returns-in_err-turn-clause-spends
+any_number-returns-in_err-turn-clause-spends t c = no_value _ c.from_residual.result _ c.from_residual.ensures.1
+
+pub any_number-returns-in_err-start-clause-emits : goal.any_number-returns-in_err-start-clause-emits
+any_number-returns-in_err-start-clause-emits t c = no_value _ c.from_residual-in_err-start.result _ c.from_residual-in_err-start.ensures.1
+
+pub any_number-returns-in_err-start-clause-spends : goal.any_number-returns-in_err-start-clause-spends
+any_number-returns-in_err-start-clause-spends t c = no_value _ c.from_residual-in_err-start.result _ c.from_residual-in_err-start.ensures.1
+
+pub at_most-returns-in_err-end-clause-emits : goal.at_most-returns-in_err-end-clause-emits
+at_most-returns-in_err-end-clause-emits t c = no_value _ c.from_residual.result _ c.from_residual.ensures.1
+
+pub at_most-returns-in_err-end-clause-spends : goal.at_most-returns-in_err-end-clause-spends
+at_most-returns-in_err-end-clause-spends t c = no_value _ c.from_residual.result _ c.from_residual.ensures.1
+
+pub at_most-returns-in_err-start-clause-emits : goal.at_most-returns-in_err-start-clause-emits
+at_most-returns-in_err-start-clause-emits t c = no_value _ c.from_residual-in_err-start.result _ c.from_residual-in_err-start.ensures.1
+
+pub at_most-returns-in_err-start-clause-spends : goal.at_most-returns-in_err-start-clause-spends
+at_most-returns-in_err-start-clause-spends t c = no_value _ c.from_residual-in_err-start.result _ c.from_residual-in_err-start.ensures.1
+
+pub at_most-returns-in_err-turn-clause-emits : goal.at_most-returns-in_err-turn-clause-emits
+at_most-returns-in_err-turn-clause-emits t c = no_value _ c.from_residual-in_err-turn.result _ c.from_residual-in_err-turn.ensures.1
+
+pub at_most-returns-in_err-turn-clause-spends : goal.at_most-returns-in_err-turn-clause-spends
+at_most-returns-in_err-turn-clause-spends t c = no_value _ c.from_residual-in_err-turn.result _ c.from_residual-in_err-turn.ensures.1
+
+pub at_most-returns-in_err-start-2-clause-emits : goal.at_most-returns-in_err-start-2-clause-emits
+at_most-returns-in_err-start-2-clause-emits t c = no_value _ c.from_residual-in_err-start-2.result _ c.from_residual-in_err-start-2.ensures.1
+
+pub at_most-returns-in_err-start-2-clause-spends : goal.at_most-returns-in_err-start-2-clause-spends
+at_most-returns-in_err-start-2-clause-spends t c = no_value _ c.from_residual-in_err-start-2.result _ c.from_residual-in_err-start-2.ensures.1
+
+pub iteration-returns-in_err-contents-clause-emits : goal.iteration-returns-in_err-contents-clause-emits
+iteration-returns-in_err-contents-clause-emits t c = no_value _ c.from_residual.result _ c.from_residual.ensures.1
+
+pub iteration-returns-in_err-contents-clause-spends : goal.iteration-returns-in_err-contents-clause-spends
+iteration-returns-in_err-contents-clause-spends t c = no_value _ c.from_residual.result _ c.from_residual.ensures.1
+
+pub look-returns-in_err-routine-clause-emits : goal.look-returns-in_err-routine-clause-emits
+look-returns-in_err-routine-clause-emits t c = no_value _ c.from_residual.result _ c.from_residual.ensures.1
+
+pub look-returns-in_err-routine-clause-spends : goal.look-returns-in_err-routine-clause-spends
+look-returns-in_err-routine-clause-spends t c = no_value _ c.from_residual.result _ c.from_residual.ensures.1
+
+pub node-returns-in_err-node-clause-emits : goal.node-returns-in_err-node-clause-emits
+node-returns-in_err-node-clause-emits t c = no_value _ c.from_residual.result _ c.from_residual.ensures.1
+
+pub node-returns-in_err-node-clause-spends : goal.node-returns-in_err-node-clause-spends
+node-returns-in_err-node-clause-spends t c = no_value _ c.from_residual.result _ c.from_residual.ensures.1
+
+pub node-returns-in_err-push-clause-emits : goal.node-returns-in_err-push-clause-emits
+node-returns-in_err-push-clause-emits t c = no_value _ c.from_residual-in_err-push.result _ c.from_residual-in_err-push.ensures.1
+
+pub node-returns-in_err-push-clause-spends : goal.node-returns-in_err-push-clause-spends
+node-returns-in_err-push-clause-spends t c = no_value _ c.from_residual-in_err-push.result _ c.from_residual-in_err-push.ensures.1
+
+pub other-returns-in_err-end-in-CaptureGroup-clause-emits : goal.other-returns-in_err-end-in-CaptureGroup-clause-emits
+other-returns-in_err-end-in-CaptureGroup-clause-emits t c = no_value _ c.from_residual.result _ c.from_residual.ensures.1
+
+pub other-returns-in_err-end-in-CaptureGroup-clause-spends : goal.other-returns-in_err-end-in-CaptureGroup-clause-spends
+other-returns-in_err-end-in-CaptureGroup-clause-spends t c = no_value _ c.from_residual.result _ c.from_residual.ensures.1
+
+pub other-returns-in_err-contents-in-CaptureGroup-clause-emits : goal.other-returns-in_err-contents-in-CaptureGroup-clause-emits
+other-returns-in_err-contents-in-CaptureGroup-clause-emits t c = no_value _ c.from_residual-in_err-contents-in-CaptureGroup.result _ c.from_residual-in_err-contents-in-CaptureGroup.ensures.1
+
+pub other-returns-in_err-contents-in-CaptureGroup-clause-spends : goal.other-returns-in_err-contents-in-CaptureGroup-clause-spends
+other-returns-in_err-contents-in-CaptureGroup-clause-spends t c = no_value _ c.from_residual-in_err-contents-in-CaptureGroup.result _ c.from_residual-in_err-contents-in-CaptureGroup.ensures.1
+
+pub other-returns-in_err-second-in-Alt-clause-emits : goal.other-returns-in_err-second-in-Alt-clause-emits
+other-returns-in_err-second-in-Alt-clause-emits t c = no_value _ c.from_residual-in_err-second-in-Alt.result _ c.from_residual-in_err-second-in-Alt.ensures.1
+
+pub other-returns-in_err-second-in-Alt-clause-spends : goal.other-returns-in_err-second-in-Alt-clause-spends
+other-returns-in_err-second-in-Alt-clause-spends t c = no_value _ c.from_residual-in_err-second-in-Alt.result _ c.from_residual-in_err-second-in-Alt.ensures.1
+
+pub other-returns-in_err-first-in-Alt-clause-emits : goal.other-returns-in_err-first-in-Alt-clause-emits
+other-returns-in_err-first-in-Alt-clause-emits t c = no_value _ c.from_residual-in_err-first-in-Alt.result _ c.from_residual-in_err-first-in-Alt.ensures.1
+
+pub other-returns-in_err-first-in-Alt-clause-spends : goal.other-returns-in_err-first-in-Alt-clause-spends
+other-returns-in_err-first-in-Alt-clause-spends t c = no_value _ c.from_residual-in_err-first-in-Alt.result _ c.from_residual-in_err-first-in-Alt.ensures.1
+
+pub repeat-returns-in_err-entry-in-None-clause-emits : goal.repeat-returns-in_err-entry-in-None-clause-emits
+repeat-returns-in_err-entry-in-None-clause-emits t c = no_value _ c.from_residual.result _ c.from_residual.ensures.1
+
+pub repeat-returns-in_err-entry-in-None-clause-spends : goal.repeat-returns-in_err-entry-in-None-clause-spends
+repeat-returns-in_err-entry-in-None-clause-spends t c = no_value _ c.from_residual.result _ c.from_residual.ensures.1
+
+pub repeat-returns-in_err-entry-in-Some-clause-emits : goal.repeat-returns-in_err-entry-in-Some-clause-emits
+repeat-returns-in_err-entry-in-Some-clause-emits t c = no_value _ c.from_residual-in_err-entry-in-Some.result _ c.from_residual-in_err-entry-in-Some.ensures.1
+
+pub repeat-returns-in_err-entry-in-Some-clause-spends : goal.repeat-returns-in_err-entry-in-Some-clause-spends
+repeat-returns-in_err-entry-in-Some-clause-spends t c = no_value _ c.from_residual-in_err-entry-in-Some.result _ c.from_residual-in_err-entry-in-Some.ensures.1
+
+pub repeat-returns-in_err-entry-clause-emits : goal.repeat-returns-in_err-entry-clause-emits
+repeat-returns-in_err-entry-clause-emits t c = no_value _ c.from_residual-in_err-entry.result _ c.from_residual-in_err-entry.ensures.1
+
+pub repeat-returns-in_err-entry-clause-spends : goal.repeat-returns-in_err-entry-clause-spends
+repeat-returns-in_err-entry-clause-spends t c = no_value _ c.from_residual-in_err-entry.result _ c.from_residual-in_err-entry.ensures.1
+
+pub repeat_character-returns-in_err-entry-in-None-clause-emits : goal.repeat_character-returns-in_err-entry-in-None-clause-emits
+repeat_character-returns-in_err-entry-in-None-clause-emits t c = no_value _ c.from_residual.result _ c.from_residual.ensures.1
+
+pub repeat_character-returns-in_err-entry-in-None-clause-spends : goal.repeat_character-returns-in_err-entry-in-None-clause-spends
+repeat_character-returns-in_err-entry-in-None-clause-spends t c = no_value _ c.from_residual.result _ c.from_residual.ensures.1
+
+pub repeat_character-returns-in_err-entry-in-Some-clause-emits : goal.repeat_character-returns-in_err-entry-in-Some-clause-emits
+repeat_character-returns-in_err-entry-in-Some-clause-emits t c = no_value _ c.from_residual-in_err-entry-in-Some.result _ c.from_residual-in_err-entry-in-Some.ensures.1
+
+pub repeat_character-returns-in_err-entry-in-Some-clause-spends : goal.repeat_character-returns-in_err-entry-in-Some-clause-spends
+repeat_character-returns-in_err-entry-in-Some-clause-spends t c = no_value _ c.from_residual-in_err-entry-in-Some.result _ c.from_residual-in_err-entry-in-Some.ensures.1
+
+pub routine-returns-in_err-push-clause-emits : goal.routine-returns-in_err-push-clause-emits
+routine-returns-in_err-push-clause-emits t c = no_value _ c.from_residual.result _ c.from_residual.ensures.1
+
+pub routine-returns-in_err-push-clause-spends : goal.routine-returns-in_err-push-clause-spends
+routine-returns-in_err-push-clause-spends t c = no_value _ c.from_residual.result _ c.from_residual.ensures.1
+
+pub routine-returns-in_err-entry-clause-emits : goal.routine-returns-in_err-entry-clause-emits
+routine-returns-in_err-entry-clause-emits t c = no_value _ c.from_residual-in_err-entry.result _ c.from_residual-in_err-entry.ensures.1
+
+pub routine-returns-in_err-entry-clause-spends : goal.routine-returns-in_err-entry-clause-spends
+routine-returns-in_err-entry-clause-spends t c = no_value _ c.from_residual-in_err-entry.result _ c.from_residual-in_err-entry.ensures.1
+
+pub routine-returns-in_err-push-2-clause-emits : goal.routine-returns-in_err-push-2-clause-emits
+routine-returns-in_err-push-2-clause-emits t c = no_value _ c.from_residual-in_err-push-2.result _ c.from_residual-in_err-push-2.ensures.1
+
+pub routine-returns-in_err-push-2-clause-spends : goal.routine-returns-in_err-push-2-clause-spends
+routine-returns-in_err-push-2-clause-spends t c = no_value _ c.from_residual-in_err-push-2.result _ c.from_residual-in_err-push-2.ensures.1
+
+pub sequence-returns-in_err-entry-clause-emits : goal.sequence-returns-in_err-entry-clause-emits
+sequence-returns-in_err-entry-clause-emits t c = no_value _ c.from_residual.result _ c.from_residual.ensures.1
+
+pub sequence-returns-in_err-entry-clause-spends : goal.sequence-returns-in_err-entry-clause-spends
+sequence-returns-in_err-entry-clause-spends t c = no_value _ c.from_residual.result _ c.from_residual.ensures.1
