@@ -9,7 +9,9 @@ use Rattle.regress_match.specs.Matched as matcher
 use Rattle.regress_match.specs.Matched.{IsInside}
 use Rattle.regress_match.specs.Matched.{IfOutOfSteps, Outcome}
 use Rattle.regress_match.specs.Matched.outcomes
-use Rattle.regress_match.specs.Matcher.{IsLinear}
+use Rattle.regress_match.specs.Costs.{IsWithinFindCost}
+use Rattle.regress_match.specs.Matcher.{IsLimited, IsLinear}
+use Rattle.regress_match.specs.declared.matcher.Matcher.{Matcher}
 use Rattle.regress_match.specs.Searched.{AreAllMatches, AreMatches}
 use Rattle.regress_match.proofs.lemmas.Searched.{AreMatches-more}
 use Rattle.regress_program.specs.Found as one
@@ -135,6 +137,15 @@ pub never_out : (factor : Option ℕ) (text : List ℕ) (outcome : Outcome) (ste
     outcome ≡ outcomes.OutOfSteps → factor ≡ None
 never_out None text outcome steps linear is = refl
 never_out (Some n) text outcome steps linear is = absurd (subst (λ o. IfOutOfSteps o ⊥) is linear.1)
+
+-- A search that is out of steps costs at least its limit.
+pub costs_limit : (m : Matcher) (text : List ℕ) (from limit : ℕ) (factor : Option ℕ) (outcome : Outcome) (steps : ℕ) →
+    IfSome factor (λ n. IsLinear n text outcome steps) → IfNone factor (IsLimited limit outcome steps) →
+    IfNone factor (IsWithinFindCost m text from steps) → outcome ≡ outcomes.OutOfSteps → IsWithinFindCost m text from limit
+costs_limit m text from limit None outcome steps bounded limited within is =
+    let all : steps ≡ limit = subst (λ o. IfOutOfSteps o (steps ≡ limit)) is limited.1 in
+    subst (IsWithinFindCost m text from) all within
+costs_limit m text from limit (Some n) outcome steps bounded limited within is = absurd (subst (λ o. IfOutOfSteps o ⊥) is bounded.1)
 
 pub never_out_next : (factor : Option ℕ) (outcome : Outcome) → IfSome factor (λ _. IfOutOfSteps outcome ⊥) → outcome ≡ outcomes.OutOfSteps →
     factor ≡ None

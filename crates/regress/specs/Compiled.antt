@@ -8,6 +8,7 @@ use Rattle.regress_front.specs.Tree.{Tree}
 use Rattle.regress_front.specs.Utf8.{is_scalar}
 use Rattle.regress_front.specs.WellFormed.{Capture, captures}
 use Rattle.regress_front.specs.declared.types.Flags.{Flags}
+use Rattle.regress_match.specs.Costs.{IsWithinFindCost}
 use Rattle.regress_match.specs.Matched.{outcomes_at}
 use Rattle.regress_match.specs.Matcher as matcher
 use Rattle.regress_match.specs.Matcher.{matcher_setting, matcher_tree}
@@ -49,6 +50,10 @@ find_factor_of r = matcher.find_factor_of r.matcher
 -- the step limit of a search if they are not known to
 abbrev pub limit_of : Regex → ℕ
 limit_of r = r.steps
+
+-- A search from there on costs at least the step limit.
+abbrev pub CostsLimit : Regex → (text : List ℕ) → (from : ℕ) → Type 0
+CostsLimit r text from = IsWithinFindCost r.matcher text from (limit_of r)
 
 -- why searches for all matches are not known to take linear time; none if they do
 abbrev pub nonlinear_of : Regex → Option Nonlinear

@@ -63,7 +63,7 @@ impl Regex {
     ghost use Rattle.regress_program.specs.Found.{Finds};
     ghost use Rattle.regress_program.specs.Size.{program_size};
     ghost use Rattle.regress_replace.specs.Order.{AreInOrder};
-    ghost use Rattle.regress.specs.Compiled.{IsCompiled, IsCompiledFrom, factor_of, find_factor_of, groups_of, limit_of, nonlinear_of, outcomes_of, setting_of, source_of, text_of, tree_of, unicode_setting};
+    ghost use Rattle.regress.specs.Compiled.{CostsLimit, IsCompiled, IsCompiledFrom, factor_of, find_factor_of, groups_of, limit_of, nonlinear_of, outcomes_of, setting_of, source_of, text_of, tree_of, unicode_setting};
     ghost use Rattle.regress.specs.Failures.{IsDue, IsDueWithLetters};
     ghost use Rattle.regress.specs.Found.{MatchesSomewhere, groups_in, match_of};
     ghost use Rattle.regress.specs.Groups.{names_left};
@@ -227,6 +227,7 @@ impl Regex {
         ensures is { IfOk result (λ is. IsTrue is ↔ MatchesSomewhere text.now (outcomes_of self.now text.now)) }
         ensures linear { IfErr result (λ error. error ≡ OutOfSteps → factor_of self.now ≡ None) }
         ensures bounded { IfErr result (λ error. error ≡ OutOfSteps → find_factor_of self.now ≡ None) }
+        ensures costs { IfErr result (λ error. error ≡ OutOfSteps → CostsLimit self.now text.now 0) }
     {
         let found = self.find(alloc, text)?;
         Ok(found.is_some())
@@ -242,6 +243,7 @@ impl Regex {
         ensures groups { IfOk result (λ found. IfSome found (λ m. groups_in m ≡ groups_of self.now)) }
         ensures linear { IfErr result (λ error. error ≡ OutOfSteps → factor_of self.now ≡ None) }
         ensures bounded { IfErr result (λ error. error ≡ OutOfSteps → find_factor_of self.now ≡ None) }
+        ensures costs { IfErr result (λ error. error ≡ OutOfSteps → CostsLimit self.now text.now 0) }
     {
         self.find_at(alloc, text, 0)
     }
@@ -275,6 +277,7 @@ impl Regex {
         ensures groups { IfOk result (λ found. IfSome found (λ m. groups_in m ≡ groups_of self.now)) }
         ensures linear { IfErr result (λ error. error ≡ OutOfSteps → factor_of self.now ≡ None) }
         ensures bounded { IfErr result (λ error. error ≡ OutOfSteps → find_factor_of self.now ≡ None) }
+        ensures costs { IfErr result (λ error. error ≡ OutOfSteps → CostsLimit self.now text.now start) }
     {
         let found = search::find(alloc, &self.matcher, text, start, self.steps)?;
         match found {

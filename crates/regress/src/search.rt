@@ -1,6 +1,7 @@
 //! Searches, in linear time or within a step limit.
 ghost use Rattle.std.specs.Prelude.{◌≡◌, All, IfErr, IfOk, IfSome, None};
 ghost use Rattle.regress_front.specs.WellFormed.{IsWellFormed};
+ghost use Rattle.regress_match.specs.Costs.{IsWithinFindCost};
 ghost use Rattle.regress_match.specs.Iterated.{iterated_matcher};
 ghost use Rattle.regress_match.specs.Matched.{IsInside};
 ghost use Rattle.regress_match.specs.Matcher.{factor_of, find_factor_of, matcher_outcomes, matcher_tree};
@@ -26,6 +27,7 @@ pub(crate) fn find(
     ensures inside { IsWellFormed (matcher_tree matcher.now) → IfOk result (λ found. IfSome found (IsInside text.now)) }
     ensures linear { IfErr result (λ error. error ≡ OutOfSteps → factor_of matcher.now ≡ None) }
     ensures bounded { IfErr result (λ error. error ≡ OutOfSteps → find_factor_of matcher.now ≡ None) }
+    ensures costs { IfErr result (λ error. error ≡ OutOfSteps → IsWithinFindCost matcher.now text.now from steps) }
 {
     let found = matcher.find(alloc, text, from, steps)?;
     match found.outcome {

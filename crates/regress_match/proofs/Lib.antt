@@ -1,6 +1,7 @@
 pub mod lemmas
 pub mod IterationLemmas
 pub mod NamesLemmas
+pub mod CostLemmas
 pub mod MatcherLemmas
 pub mod OneMatchLemmas
 pub mod RequiredLemmas

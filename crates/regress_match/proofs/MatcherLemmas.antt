@@ -35,7 +35,7 @@ use Rattle.regress_program.specs.declared.nonlinear.Nonlinear.TheVariants as rea
 use Rattle.regress_program.proofs.lemmas.Reasons.{linear-reason}
 use Rattle.regress_program.proofs.lemmas.Solutions.{finds_by, solution}
 use Rattle.regress_program.proofs.lemmas.Strict.{linear-inner, linear-tabled}
-use Rattle.regress_backtrack.specs.Backtracker.{AreOutcomes, SameRuns, run_code, run_tables, run_text}
+use Rattle.regress_backtrack.specs.Backtracker.{AreOutcomes, run_code, run_tables, run_text}
 use Rattle.regress_backtrack.specs.Backtracker as runs
 use Rattle.regress_code.specs.Code.{code_flags, code_groups, code_routines, outcomes_from, setting_with}
 use Rattle.regress_backtrack.specs.declared.backtracker.Backtracker.{Backtracker}
@@ -181,14 +181,6 @@ found_inside setting text utf8 t origin outcomes.NoMatch is well_formed = tt
 found_inside setting text utf8 t origin outcomes.OutOfSteps is well_formed = tt
 found_inside setting text utf8 t origin (outcomes.Matched m) is well_formed =
     first_inside setting text utf8 t well_formed (start_of m) is.boundary m is.first.0 refl is.first.1
-
--- After a run the same program is run in the same text.
-pub runs_on : (m : Matcher) (text : List ℕ) (b new : Backtracker) → IsRunOf m text b → SameRuns b new → IsRunOf m text new
-runs_on m text b new is same = record {
-  code = subst (λ c. IsCodeOf (matcher_setting m) (matcher_tree m) (run_tables new) c) (sym same.code)
-      (subst (λ ts. IsCodeOf (matcher_setting m) (matcher_tree m) ts (run_code b)) (sym same.tables) is.code);
-  same_text = same.text ∙ is.same_text;
-}
 
 sums : (c fill s t s' a d b e : ℕ) → s ≤ fill + 2 * c * a → t ≤ c * e → s' ≤ s + t → b ≡ a + d → e ≤ 2 * d → s' ≤ fill + 2 * c * b
 sums c fill s t s' a d b e before more sum is small =

@@ -4,15 +4,21 @@ use Rattle.std.proofs.Props.{props}
 use Rattle.regress_program.specs.Search.{instructions_of}
 use Rattle.regress_tables.specs.TextSearch.{searched_program, searched_text}
 use Rattle.regress_tables.specs.declared.text.TextSearch.{TextSearch}
-use Rattle.regress_backtrack.specs.Backtracker.{run_code, run_tables, run_text}
+use Rattle.regress_program.specs.Cost.{Cost}
+use Rattle.regress_program.specs.Program.{Out}
+use Rattle.regress_backtrack.specs.Backtracker as runs
+use Rattle.regress_backtrack.specs.Backtracker.{run_code, run_tables, run_text, search_cost_at}
 use Rattle.regress_backtrack.specs.declared.backtracker.Backtracker.{Backtracker}
-use Rattle.regress_match.specs.Compiled.{IsCodeOf, IsCodeOf-prop, IsProgramOf, IsProgramOf-prop}
+use Rattle.regress_match.specs.Compiled.{IsCodeOf, IsCodeOf-prop, IsProgramOf, IsProgramOf-prop, MatchState-set}
+use Rattle.regress_match.specs.Costs.{AreCosts, find_cost}
 use Rattle.regress_match.specs.Matcher.{factor, factor_of, matcher_setting, matcher_tree}
 use Rattle.regress_match.specs.declared.matcher.Matcher.{Matcher}
 
--- The program that is run is one of the matcher's pattern, and the text is this one.
+-- The program that is run is one of the matcher's pattern, with the costs of the matcher's, and the text is this one.
 pub record IsRunOf (m : Matcher) (text : List ℕ) (b : Backtracker) : Type 0 where
   pub code : IsCodeOf (matcher_setting m) (matcher_tree m) (run_tables b) (run_code b)
+  pub costs : (outs : ℕ → Out) (costs : ℕ → Cost) → AreCosts m text outs costs → runs.AreCosts b outs costs
+  pub find_cost : (costs : ℕ → Cost) (from : ℕ) → search_cost_at b costs from ≡ find_cost m text costs from
   pub same_text : run_text b ≡ text
 
 -- The tables are those of a program of the matcher's pattern and of the text. The steps are those of making them, and of
@@ -30,7 +36,7 @@ IfKept m text from steps s = MatchOption s (steps ≡ 0) (IsKept m text from ste
 
 -- Each has at most one proof.
 pub IsRunOf-prop : (m : Matcher) (text : List ℕ) (b : Backtracker) → IsProp (IsRunOf m text b)
-IsRunOf-prop m text b = hlevel (props, IsCodeOf-prop)
+IsRunOf-prop m text b = hlevel (props, IsCodeOf-prop, MatchState-set)
 
 pub IfRunOf-prop : (m : Matcher) (text : List ℕ) (b : Option Backtracker) → IsProp (IfSome b (IsRunOf m text))
 IfRunOf-prop m text b = hlevel (props, IsRunOf-prop)

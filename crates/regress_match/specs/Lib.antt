@@ -1,4 +1,5 @@
 pub mod Compiled
+pub mod Costs
 pub mod Iterated
 pub mod Kept
 pub mod Limits

@@ -1,5 +1,5 @@
 //! Compiling a pattern for searches.
-ghost use Rattle.std.specs.Prelude.{◌≡◌, ◌<◌, ◌≤◌, Err, IfOk, is_some, length, min, option_map};
+ghost use Rattle.std.specs.Prelude.{◌≡◌, ◌<◌, ◌≤◌, ℕ, Err, IfOk, List, is_some, length, min, option_map};
 ghost use Rattle.std.specs.Arc.{arc_value};
 ghost use Rattle.regress_tree.specs.Tree.{tree};
 ghost use Rattle.regress_tree.specs.WellFormed.{captures};
@@ -9,6 +9,7 @@ ghost use Rattle.regress_program.specs.Size.{program_size};
 ghost use Rattle.regress_program.specs.declared.fault.CompileFault.TheVariants.{TooLong};
 ghost use Rattle.regress_code.specs.Code.{code_routines};
 ghost use Rattle.regress_match.specs.Compiled.{IsCodeOf};
+ghost use Rattle.regress_match.specs.Costs.{HasCosts};
 ghost use Rattle.regress_match.specs.Matcher.{IsFactorOf, IsFindFactorOf, IsNonlinearOf, factor, factor_of, find_factor, find_factor_of, matcher_setting, matcher_tree, nonlinear_of};
 
 use crate::limits::Limits;
@@ -45,6 +46,7 @@ impl Matcher {
         ensures linear { IfOk result (λ m. IsFactorOf limits.tables (tree regex.node) (factor_of m)) }
         ensures find_linear { IfOk result (λ m. IsFindFactorOf limits.tables (tree regex.node) (find_factor_of m)) }
         ensures nonlinear { IfOk result (λ m. IsNonlinearOf limits.tables (tree regex.node) (nonlinear_of m)) }
+        ensures costs { IfOk result (λ m. (text : List ℕ) → HasCosts m text) }
         ensures within { IfOk result (λ _. program_size (tree regex.node) ≤ limits.instructions) }
         ensures too_long { result ≡ Err TooLong → length (captures (tree regex.node)) < usize.MAX → limits.instructions < program_size (tree regex.node) }
     {

@@ -1,6 +1,9 @@
 //! The next match of a matcher: by backtracking, and then by tables.
-ghost use Rattle.std.specs.Prelude.{◌≡◌, ◌<◌, ◌≤◌, ◌+◌, ◌*◌, IfNone, IfOk, IfSome, IsNone, IsSome, MatchOption, OnErr, false, length, true};
+ghost use Rattle.std.specs.Prelude.{◌≡◌, ◌<◌, ◌≤◌, ◌+◌, ◌-◌, ◌*◌, ℕ, IfNone, IfOk, IfSome, IsNone, IsSome, MatchOption, OnErr, false, length, true};
 ghost use Rattle.regress_tree.specs.WellFormed.{IsWellFormed};
+ghost use Rattle.regress_program.specs.Cost.{Cost};
+ghost use Rattle.regress_program.specs.Program.{Out};
+ghost use Rattle.regress_match.specs.Costs.{AreCosts, IsWithinFindCost, find_cost};
 ghost use Rattle.regress_match.specs.Iterated.{IsSameIteration, iterated_from, iterated_matcher, iterated_text, step_limit, steps_left};
 ghost use Rattle.regress_match.specs.Kept.{IsRunOf};
 ghost use Rattle.regress_match.specs.Matched.{Finds, IfMatched, IfOutOfSteps, IsInside, start_of};
@@ -28,7 +31,8 @@ impl<'m> MatcherMatches<'m> {
     ///
     /// # Complexity
     /// If [`Matcher::is_linear`], all calls together take at most [`Matcher::steps_per_character`] steps for each byte of
-    /// the text, and once more. For any other pattern the step limit is for all calls together.
+    /// the text, and once more. For any other pattern the step limit is for all calls together, and a call takes at most
+    /// the cost of its search, and one step for each byte of the text.
     ///
     /// # Errors
     /// Returns [`AllocError`] if an allocation fails. The position of the search stays as it is, so that the call may
@@ -57,6 +61,7 @@ impl<'m> MatcherMatches<'m> {
         ensures same { IsSameIteration self.old self.new }
         ensures linear { IfOk result (λ outcome. IfSome (factor_of (iterated_matcher self.old)) (λ _. IfOutOfSteps outcome ⊥)) }
         ensures limited { IfOk result (λ outcome. IfNone (factor_of (iterated_matcher self.old)) (IfOutOfSteps outcome (steps_left self.new ≡ 0))) }
+        ensures costs { IfOk result (λ _. IsWithinFindCost (iterated_matcher self.old) (iterated_text self.old) (iterated_from self.old) (steps_left self.old - steps_left self.new)) }
     {
         if self.search.is_some() {
             return self.find_in_tables(alloc);
@@ -99,6 +104,7 @@ impl<'m> MatcherMatches<'m> {
         ensures ends { result ≡ true → EndsHere (iterated_text self.old) (matcher_outcomes (iterated_matcher self.old) (iterated_text self.old)) (iterated_from self.old) (iterated_from self.new) }
         ensures stays { result ≡ false → iterated_from self.new ≡ iterated_from self.old }
         ensures same { IsSameIteration self.old self.new }
+        ensures costs { steps_left self.old ≤ steps_left self.new + (length (iterated_text self.old) + 1) }
         ensures search { IsNone self.new.search }
     {
         let len = self.text.len();
@@ -130,6 +136,8 @@ impl<'m> MatcherMatches<'m> {
         ensures stays { OnErr result (iterated_from self.new ≡ iterated_from self.old) }
         ensures same { IsSameIteration self.old self.new }
         ensures spent { IfOk result (λ outcome. IfOutOfSteps outcome (steps_left self.new ≡ 0)) }
+        ensures costs { IfOk result (λ _. (outs : ℕ → Out) (costs : ℕ → Cost) → AreCosts (iterated_matcher self.old) (iterated_text self.old) outs costs →
+            steps_left self.old ≤ steps_left self.new + find_cost (iterated_matcher self.old) (iterated_text self.old) costs (iterated_from self.old)) }
         ensures search { IsNone self.new.search }
     {
         let text = self.text();

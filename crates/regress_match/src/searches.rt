@@ -1,7 +1,8 @@
 //! Searches with a matcher, in linear time or within a step limit.
 ghost use Rattle.std.specs.Prelude.{◌≡◌, ◌+◌, ◌*◌, ◌≤◌, Ok, IfNone, IfOk, IfSome, IsSome, length, true};
 ghost use Rattle.regress_tree.specs.WellFormed.{IsWellFormed};
-ghost use Rattle.regress_match.specs.Iterated.{iterated_from, iterated_matcher, iterated_text, step_limit};
+ghost use Rattle.regress_match.specs.Costs.{IsWithinFindCost, IsWithinMatchCost};
+ghost use Rattle.regress_match.specs.Iterated.{iterated_from, iterated_matcher, iterated_text, step_limit, steps_left};
 ghost use Rattle.regress_match.specs.Matched.{Finds, IfMatched, IsFirst, IsInside};
 ghost use Rattle.regress_match.specs.Matcher.{IsLimited, IsLinear, factor_of, find_factor_of, matcher_outcomes, matcher_tree};
 ghost use Rattle.regress_match.specs.Searched.{AreAllMatches, CalledOnMatches};
@@ -30,6 +31,7 @@ impl Matcher {
     /// instructions and the length of the text.
     ///
     /// For any other pattern `steps` is the step limit, counted as in [`Backtracker::find`](regress_backtrack::Backtracker::find).
+    /// A search takes at most its cost, the steps that following every outcome takes, and one for each byte of the text.
     ///
     /// # Errors
     /// Returns [`AllocError`] if an allocation fails.
@@ -62,6 +64,7 @@ impl Matcher {
         ensures linear { IfOk result (λ found. IfSome (factor_of self.now) (λ n. IsLinear n text.now found.outcome found.steps)) }
         ensures bounded { IfOk result (λ found. IfSome (find_factor_of self.now) (λ n. IsLinear n text.now found.outcome found.steps)) }
         ensures limited { IfOk result (λ found. IfNone (find_factor_of self.now) (IsLimited steps found.outcome found.steps)) }
+        ensures costs { IfOk result (λ found. IfNone (find_factor_of self.now) (IsWithinFindCost self.now text.now from found.steps)) }
     {
         if self.is_linear_for_one() {
             self.find_one(alloc, text, from)
@@ -82,6 +85,7 @@ impl Matcher {
         ensures inside { IfOk result (λ found. IsWellFormed (matcher_tree self.now) → IfMatched found.outcome (IsInside text.now)) }
         ensures linear { IfOk result (λ found. IfSome (factor_of self.now) (λ n. IsLinear n text.now found.outcome found.steps)) }
         ensures limited { IfOk result (λ found. IfNone (factor_of self.now) (IsLimited steps found.outcome found.steps)) }
+        ensures costs { IfOk result (λ found. IfNone (factor_of self.now) (IsWithinFindCost self.now text.now from found.steps)) }
     {
         let mut matches = self.find_iter(text, from, steps);
         let outcome = matches.next(alloc)?;
@@ -95,7 +99,7 @@ impl Matcher {
     ///
     /// # Complexity
     /// It backtracks, also if [`Matcher::is_find_linear`]. The steps are counted as in
-    /// [`Backtracker::find`](regress_backtrack::Backtracker::find).
+    /// [`Backtracker::find`](regress_backtrack::Backtracker::find), and at most the cost of the match.
     ///
     /// # Preconditions
     /// The position is inside the text, or at its end.
@@ -126,6 +130,7 @@ impl Matcher {
         requires { position ≤ length text.now }
         ensures first { IfOk result (λ found. IsFirst position (matcher_outcomes self.now text.now position) found.outcome) }
         ensures limited { IfOk result (λ found. IsLimited steps found.outcome found.steps) }
+        ensures costs { IfOk result (λ found. IsWithinMatchCost self.now text.now position found.steps) }
     {
         match_at(alloc, &self.code, self.known(), text, position, steps)
     }
@@ -139,6 +144,7 @@ impl Matcher {
         ensures text { iterated_text result ≡ text.now }
         ensures from { iterated_from result ≡ from }
         ensures limit { IfNone (factor_of self.now) (step_limit result ≡ steps) }
+        ensures left { steps_left result ≡ step_limit result }
     {
         let limit = self.backtracking_steps(text, steps);
         MatcherMatches {

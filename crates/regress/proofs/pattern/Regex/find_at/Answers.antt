@@ -1,7 +1,14 @@
+use Rattle.std.proofs.Common.{sym, ◌∙◌}
 use Rattle.std.proofs.Math.Logic.{∥∥₁_elim}
+use Rattle.std.proofs.lemmas.Result.{err_from_is_err_and}
 use Rattle.regress.specs.Inside.{IsInside-prop}
 use Rattle.regress.proofs.pattern.Regex.find_at.Goals as goal
 
 pub returns-in-Some-clause-inside : goal.returns-in-Some-clause-inside
 returns-in-Some-clause-inside c =
     ∥∥₁_elim c.args.self.now.well_formed (IsInside-prop _ _) (rw c.in-Some.is at c.in_ok-found.ensures.inside)
+
+pub returns-in_err-found-clause-costs : goal.returns-in_err-found-clause-costs
+returns-in_err-found-clause-costs c =
+    let p = err_from_is_err_and c.from_residual.result c.from_residual.ensures.1 in
+    rw p.1 (λ is. c.in_err-found.ensures.costs (sym p.2 ∙ is))

@@ -1,3 +1,8 @@
+use Rattle.std.proofs.Common.{ℕ, ◌≤◌, subst}
+use Rattle.std.specs.Prelude.{IfOk}
+use Rattle.regress_program.specs.Cost.{Cost, IsCost}
+use Rattle.regress_program.specs.Program.{Out}
+use Rattle.regress_code.specs.Code.{code_routines, cost_from, setting_with}
 use Rattle.regress_match.proofs.MatcherLemmas.{result_first}
 use Rattle.regress_match.proofs.matcher.Matcher.match_at.Goals as goal
 
@@ -5,3 +10,11 @@ pub returns-clause-first : goal.returns-clause-first
 returns-clause-first c =
     result_first c.args.self.now c.known.result.tables.now c.known.ensures c.args.self.now.compiled c.args.text.now c.args.position c.requires
     c.match_at.result c.match_at.ensures.solved
+
+pub returns-clause-costs : goal.returns-clause-costs
+returns-clause-costs c =
+    let code = c.args.self.now.code in
+    let text = c.args.text.now in
+    subst
+    (λ ts. IfOk c.match_at.result (λ found. (outs : ℕ → Out) (costs : ℕ → Cost) → IsCost (setting_with code ts) text (code_routines code) outs costs →
+    found.steps ≤ cost_from code ts text costs c.args.position)) c.known.ensures c.match_at.ensures.costs

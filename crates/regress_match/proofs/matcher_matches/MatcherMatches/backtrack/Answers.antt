@@ -2,7 +2,8 @@ use Rattle.std.proofs.Common.{◌≤◌, IfSome, length, subst, sym, arith}
 use Rattle.std.specs.Str.{IsUtf8}
 use Rattle.regress_match.specs.Kept.{IsRunOf}
 use Rattle.regress_match.specs.Matched.{IfMatched, start_of}
-use Rattle.regress_match.proofs.MatcherLemmas.{kept_none, run_inside, run_matches, run_starts, runs_on}
+use Rattle.regress_match.proofs.CostLemmas.{runs_on}
+use Rattle.regress_match.proofs.MatcherLemmas.{kept_none, run_inside, run_matches, run_starts}
 use Rattle.regress_match.proofs.matcher_matches.MatcherMatches.backtrack.Goals as goal
 
 pub offset_after-from-requires : goal.offset_after-from-requires
@@ -43,3 +44,9 @@ returns-clause-inside c =
     let s = c.args.self.now in
     run_inside s.matcher.now s.text.now c.in_ok-backtracker.backtracker c.in_ok-backtracker.ensures s.from c.in_ok-outcome.outcome
     c.in_ok-outcome.ensures.solved (subst IsUtf8 c.text-text.ensures c.text-text.utf8)
+
+pub returns-clause-costs : goal.returns-clause-costs
+returns-clause-costs c = λ outs costs are.
+    let runs = c.in_ok-backtracker.ensures in
+    let within = c.in_ok-outcome.ensures.costs outs costs (runs.costs outs costs are) in
+    omega (arith, within, runs.find_cost costs c.args.self.now.from)
