@@ -721,3 +721,233 @@ consume_group-returns-clause-spans g t c u on opened head =
     (c.in_ok-record_if.ensures on
     ∙ ap (λ (b : Bool). mid.spans.items ++ cond b (span_to around.whole c.args.opened new ∷ []) []) c.has_node.ensures
     ∙ ap (λ n. mid.spans.items ++ span_of_group kind (span_to around.whole n new)) opened)
+
+pub consume_alternative-returns-in_err-first-clause-spans : goal.consume_alternative-returns-in_err-first-clause-spans
+consume_alternative-returns-in_err-first-clause-spans g t c =
+    let p = err_from_is_err_and c.from_residual.result c.from_residual.ensures.1 in
+    rw p.1 (λ _. tt)
+
+pub consume_disjunction-returns-in_err-last-clause-spans : goal.consume_disjunction-returns-in_err-last-clause-spans
+consume_disjunction-returns-in_err-last-clause-spans g t c =
+    let p = err_from_is_err_and c.from_residual.result c.from_residual.ensures.1 in
+    rw p.1 (λ _. tt)
+
+pub consume_disjunction-returns-in_err-push-clause-value : goal.consume_disjunction-returns-in_err-push-clause-value
+consume_disjunction-returns-in_err-push-clause-value g t c =
+    let p = err_from_is_err_and c.from_residual-in_err-push.result c.from_residual-in_err-push.ensures.1 in
+    rw (p.1, p.2) tt
+
+pub consume_disjunction-returns-in_err-push-clause-reached : goal.consume_disjunction-returns-in_err-push-clause-reached
+consume_disjunction-returns-in_err-push-clause-reached g t c =
+    let p = err_from_is_err_and c.from_residual-in_err-push.result c.from_residual-in_err-push.ensures.1 in
+    rw (p.1, p.2) tt
+
+pub consume_disjunction-returns-in_err-push-clause-spans : goal.consume_disjunction-returns-in_err-push-clause-spans
+consume_disjunction-returns-in_err-push-clause-spans g t c =
+    let p = err_from_is_err_and c.from_residual-in_err-push.result c.from_residual-in_err-push.ensures.1 in
+    rw p.1 (λ _. tt)
+
+pub consume_disjunction-returns-in_err-note_start-clause-value : goal.consume_disjunction-returns-in_err-note_start-clause-value
+consume_disjunction-returns-in_err-note_start-clause-value g t c =
+    let p = err_from_is_err_and c.from_residual-in_err-note_start.result c.from_residual-in_err-note_start.ensures.1 in
+    rw (p.1, p.2) tt
+
+pub consume_disjunction-returns-in_err-note_start-clause-reached : goal.consume_disjunction-returns-in_err-note_start-clause-reached
+consume_disjunction-returns-in_err-note_start-clause-reached g t c =
+    let p = err_from_is_err_and c.from_residual-in_err-note_start.result c.from_residual-in_err-note_start.ensures.1 in
+    rw (p.1, p.2) tt
+
+pub consume_disjunction-returns-in_err-note_start-clause-spans : goal.consume_disjunction-returns-in_err-note_start-clause-spans
+consume_disjunction-returns-in_err-note_start-clause-spans g t c =
+    let p = err_from_is_err_and c.from_residual-in_err-note_start.result c.from_residual-in_err-note_start.ensures.1 in
+    rw p.1 (λ _. tt)
+
+pub consume_disjunction-returns-in_err-last-2-clause-spans : goal.consume_disjunction-returns-in_err-last-2-clause-spans
+consume_disjunction-returns-in_err-last-2-clause-spans g t c =
+    let p = err_from_is_err_and c.from_residual-in_err-last-2.result c.from_residual-in_err-last-2.ensures.1 in
+    rw p.1 (λ _. tt)
+
+pub consume_disjunction-returns-in_err-record_alternations-clause-value : goal.consume_disjunction-returns-in_err-record_alternations-clause-value
+consume_disjunction-returns-in_err-record_alternations-clause-value g t c =
+    let p = err_from_is_err_and c.from_residual-in_err-record_alternations.result c.from_residual-in_err-record_alternations.ensures.1 in
+    rw (p.1, p.2) tt
+
+pub consume_disjunction-returns-in_err-record_alternations-clause-reached : goal.consume_disjunction-returns-in_err-record_alternations-clause-reached
+consume_disjunction-returns-in_err-record_alternations-clause-reached g t c =
+    let p = err_from_is_err_and c.from_residual-in_err-record_alternations.result c.from_residual-in_err-record_alternations.ensures.1 in
+    rw (p.1, p.2) tt
+
+pub consume_disjunction-returns-in_err-record_alternations-clause-spans : goal.consume_disjunction-returns-in_err-record_alternations-clause-spans
+consume_disjunction-returns-in_err-record_alternations-clause-spans g t c =
+    let p = err_from_is_err_and c.from_residual-in_err-record_alternations.result c.from_residual-in_err-record_alternations.ensures.1 in
+    rw p.1 (λ _. tt)
+
+pub consume_disjunction-returns-in_err-make_alt-clause-value : goal.consume_disjunction-returns-in_err-make_alt-clause-value
+consume_disjunction-returns-in_err-make_alt-clause-value g t c =
+    let p = err_from_is_err_and c.from_residual-in_err-make_alt.result c.from_residual-in_err-make_alt.ensures.1 in
+    rw (p.1, p.2) tt
+
+pub consume_disjunction-returns-in_err-make_alt-clause-reached : goal.consume_disjunction-returns-in_err-make_alt-clause-reached
+consume_disjunction-returns-in_err-make_alt-clause-reached g t c =
+    let p = err_from_is_err_and c.from_residual-in_err-make_alt.result c.from_residual-in_err-make_alt.ensures.1 in
+    rw (p.1, p.2) tt
+
+pub consume_disjunction-returns-in_err-make_alt-clause-spans : goal.consume_disjunction-returns-in_err-make_alt-clause-spans
+consume_disjunction-returns-in_err-make_alt-clause-spans g t c =
+    let p = err_from_is_err_and c.from_residual-in_err-make_alt.result c.from_residual-in_err-make_alt.ensures.1 in
+    rw p.1 (λ _. tt)
+
+pub consume_first_term-returns-in_err-make_literal-in-Some-clause-value : goal.consume_first_term-returns-in_err-make_literal-in-Some-clause-value
+consume_first_term-returns-in_err-make_literal-in-Some-clause-value g t c =
+    let p = err_from_is_err_and c.from_residual.result c.from_residual.ensures.1 in
+    rw (p.1, p.2) tt
+
+pub consume_first_term-returns-in_err-make_literal-in-Some-clause-reached : goal.consume_first_term-returns-in_err-make_literal-in-Some-clause-reached
+consume_first_term-returns-in_err-make_literal-in-Some-clause-reached g t c =
+    let p = err_from_is_err_and c.from_residual.result c.from_residual.ensures.1 in
+    rw (p.1, p.2) tt
+
+pub consume_first_term-returns-in_err-make_literal-in-Some-clause-shorter : goal.consume_first_term-returns-in_err-make_literal-in-Some-clause-shorter
+consume_first_term-returns-in_err-make_literal-in-Some-clause-shorter g t c =
+    let p = err_from_is_err_and c.from_residual.result c.from_residual.ensures.1 in
+    rw p.1 tt
+
+pub consume_group-returns-in_err-count_group-clause-spans : goal.consume_group-returns-in_err-count_group-clause-spans
+consume_group-returns-in_err-count_group-clause-spans g t c =
+    let p = err_from_is_err_and c.from_residual.result c.from_residual.ensures.1 in
+    rw p.1 (λ _ _ _ _. tt)
+
+pub consume_group-returns-in_err-contents-clause-spans : goal.consume_group-returns-in_err-contents-clause-spans
+consume_group-returns-in_err-contents-clause-spans g t c =
+    let p = err_from_is_err_and c.from_residual-in_err-contents.result c.from_residual-in_err-contents.ensures.1 in
+    rw p.1 (λ _ _ _ _. tt)
+
+pub consume_group-returns-in_err-consume_closing-clause-spans : goal.consume_group-returns-in_err-consume_closing-clause-spans
+consume_group-returns-in_err-consume_closing-clause-spans g t c =
+    let p = err_from_is_err_and c.from_residual-in_err-consume_closing.result c.from_residual-in_err-consume_closing.ensures.1 in
+    rw p.1 (λ _ _ _ _. tt)
+
+pub consume_group-returns-in_err-record_if-clause-value : goal.consume_group-returns-in_err-record_if-clause-value
+consume_group-returns-in_err-record_if-clause-value g t c =
+    let p = err_from_is_err_and c.from_residual-in_err-record_if.result c.from_residual-in_err-record_if.ensures.1 in
+    rw (p.1, p.2) tt
+
+pub consume_group-returns-in_err-record_if-clause-reached : goal.consume_group-returns-in_err-record_if-clause-reached
+consume_group-returns-in_err-record_if-clause-reached g t c =
+    let p = err_from_is_err_and c.from_residual-in_err-record_if.result c.from_residual-in_err-record_if.ensures.1 in
+    rw (p.1, p.2) tt
+
+pub consume_group-returns-in_err-record_if-clause-spans : goal.consume_group-returns-in_err-record_if-clause-spans
+consume_group-returns-in_err-record_if-clause-spans g t c =
+    let p = err_from_is_err_and c.from_residual-in_err-record_if.result c.from_residual-in_err-record_if.ensures.1 in
+    rw p.1 (λ _ _ _ _. tt)
+
+pub consume_group-returns-in_err-make_group-clause-value : goal.consume_group-returns-in_err-make_group-clause-value
+consume_group-returns-in_err-make_group-clause-value g t c =
+    let p = err_from_is_err_and c.from_residual-in_err-make_group.result c.from_residual-in_err-make_group.ensures.1 in
+    rw (p.1, p.2) tt
+
+pub consume_group-returns-in_err-make_group-clause-reached : goal.consume_group-returns-in_err-make_group-clause-reached
+consume_group-returns-in_err-make_group-clause-reached g t c =
+    let p = err_from_is_err_and c.from_residual-in_err-make_group.result c.from_residual-in_err-make_group.ensures.1 in
+    rw (p.1, p.2) tt
+
+pub consume_group-returns-in_err-make_group-clause-spans : goal.consume_group-returns-in_err-make_group-clause-spans
+consume_group-returns-in_err-make_group-clause-spans g t c =
+    let p = err_from_is_err_and c.from_residual-in_err-make_group.result c.from_residual-in_err-make_group.ensures.1 in
+    rw p.1 (λ _ _ _ _. tt)
+
+pub consume_recorded-returns-in_err-consume_term-clause-spans : goal.consume_recorded-returns-in_err-consume_term-clause-spans
+consume_recorded-returns-in_err-consume_term-clause-spans g t c =
+    let p = err_from_is_err_and c.from_residual.result c.from_residual.ensures.1 in
+    rw p.1 tt
+
+pub consume_recorded-returns-in_err-push-clause-value : goal.consume_recorded-returns-in_err-push-clause-value
+consume_recorded-returns-in_err-push-clause-value g t c =
+    let p = err_from_is_err_and c.from_residual-in_err-push.result c.from_residual-in_err-push.ensures.1 in
+    rw (p.1, p.2) tt
+
+pub consume_recorded-returns-in_err-push-clause-reached : goal.consume_recorded-returns-in_err-push-clause-reached
+consume_recorded-returns-in_err-push-clause-reached g t c =
+    let p = err_from_is_err_and c.from_residual-in_err-push.result c.from_residual-in_err-push.ensures.1 in
+    rw (p.1, p.2) tt
+
+pub consume_recorded-returns-in_err-push-clause-spans : goal.consume_recorded-returns-in_err-push-clause-spans
+consume_recorded-returns-in_err-push-clause-spans g t c =
+    let p = err_from_is_err_and c.from_residual-in_err-push.result c.from_residual-in_err-push.ensures.1 in
+    rw p.1 tt
+
+pub consume_recorded-returns-in_err-set_apart-clause-value : goal.consume_recorded-returns-in_err-set_apart-clause-value
+consume_recorded-returns-in_err-set_apart-clause-value g t c =
+    let p = err_from_is_err_and c.from_residual-in_err-set_apart.result c.from_residual-in_err-set_apart.ensures.1 in
+    rw (p.1, p.2) tt
+
+pub consume_recorded-returns-in_err-set_apart-clause-reached : goal.consume_recorded-returns-in_err-set_apart-clause-reached
+consume_recorded-returns-in_err-set_apart-clause-reached g t c =
+    let p = err_from_is_err_and c.from_residual-in_err-set_apart.result c.from_residual-in_err-set_apart.ensures.1 in
+    rw (p.1, p.2) tt
+
+pub consume_recorded-returns-in_err-set_apart-clause-spans : goal.consume_recorded-returns-in_err-set_apart-clause-spans
+consume_recorded-returns-in_err-set_apart-clause-spans g t c =
+    let p = err_from_is_err_and c.from_residual-in_err-set_apart.result c.from_residual-in_err-set_apart.ensures.1 in
+    rw p.1 tt
+
+pub consume_recorded-returns-in_err-push_reversed-clause-value : goal.consume_recorded-returns-in_err-push_reversed-clause-value
+consume_recorded-returns-in_err-push_reversed-clause-value g t c =
+    let p = err_from_is_err_and c.from_residual-in_err-push_reversed.result c.from_residual-in_err-push_reversed.ensures.1 in
+    rw (p.1, p.2) tt
+
+pub consume_recorded-returns-in_err-push_reversed-clause-reached : goal.consume_recorded-returns-in_err-push_reversed-clause-reached
+consume_recorded-returns-in_err-push_reversed-clause-reached g t c =
+    let p = err_from_is_err_and c.from_residual-in_err-push_reversed.result c.from_residual-in_err-push_reversed.ensures.1 in
+    rw (p.1, p.2) tt
+
+pub consume_recorded-returns-in_err-push_reversed-clause-spans : goal.consume_recorded-returns-in_err-push_reversed-clause-spans
+consume_recorded-returns-in_err-push_reversed-clause-spans g t c =
+    let p = err_from_is_err_and c.from_residual-in_err-push_reversed.result c.from_residual-in_err-push_reversed.ensures.1 in
+    rw p.1 tt
+
+pub consume_recorded-returns-in_err-record_if-clause-value : goal.consume_recorded-returns-in_err-record_if-clause-value
+consume_recorded-returns-in_err-record_if-clause-value g t c =
+    let p = err_from_is_err_and c.from_residual-in_err-record_if.result c.from_residual-in_err-record_if.ensures.1 in
+    rw (p.1, p.2) tt
+
+pub consume_recorded-returns-in_err-record_if-clause-reached : goal.consume_recorded-returns-in_err-record_if-clause-reached
+consume_recorded-returns-in_err-record_if-clause-reached g t c =
+    let p = err_from_is_err_and c.from_residual-in_err-record_if.result c.from_residual-in_err-record_if.ensures.1 in
+    rw (p.1, p.2) tt
+
+pub consume_recorded-returns-in_err-record_if-clause-spans : goal.consume_recorded-returns-in_err-record_if-clause-spans
+consume_recorded-returns-in_err-record_if-clause-spans g t c =
+    let p = err_from_is_err_and c.from_residual-in_err-record_if.result c.from_residual-in_err-record_if.ensures.1 in
+    rw p.1 tt
+
+pub consume_term-returns-in_err-kind-clause-spans : goal.consume_term-returns-in_err-kind-clause-spans
+consume_term-returns-in_err-kind-clause-spans g t c =
+    let p = err_from_is_err_and c.from_residual.result c.from_residual.ensures.1 in
+    rw p.1 (λ _. tt)
+
+pub consume_term-returns-in_err-item-clause-spans : goal.consume_term-returns-in_err-item-clause-spans
+consume_term-returns-in_err-item-clause-spans g t c =
+    let p = err_from_is_err_and c.from_residual-in_err-item.result c.from_residual-in_err-item.ensures.1 in
+    rw p.1 (λ _. tt)
+
+pub consume_term-returns-in_err-item-2-clause-spans : goal.consume_term-returns-in_err-item-2-clause-spans
+consume_term-returns-in_err-item-2-clause-spans g t c =
+    let p = err_from_is_err_and c.from_residual-in_err-item-2.result c.from_residual-in_err-item-2.ensures.1 in
+    rw p.1 (λ _. tt)
+
+pub consume_term-returns-in_err-record_nodes-clause-value : goal.consume_term-returns-in_err-record_nodes-clause-value
+consume_term-returns-in_err-record_nodes-clause-value g t c =
+    let p = err_from_is_err_and c.from_residual-in_err-record_nodes.result c.from_residual-in_err-record_nodes.ensures.1 in
+    rw (p.1, p.2) tt
+
+pub consume_term-returns-in_err-record_nodes-clause-reached : goal.consume_term-returns-in_err-record_nodes-clause-reached
+consume_term-returns-in_err-record_nodes-clause-reached g t c =
+    let p = err_from_is_err_and c.from_residual-in_err-record_nodes.result c.from_residual-in_err-record_nodes.ensures.1 in
+    rw (p.1, p.2) tt
+
+pub consume_term-returns-in_err-record_nodes-clause-spans : goal.consume_term-returns-in_err-record_nodes-clause-spans
+consume_term-returns-in_err-record_nodes-clause-spans g t c =
+    let p = err_from_is_err_and c.from_residual-in_err-record_nodes.result c.from_residual-in_err-record_nodes.ensures.1 in
+    rw p.1 (λ _. tt)
