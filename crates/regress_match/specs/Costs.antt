@@ -29,7 +29,8 @@ abbrev pub IsWithinMatchCost : Matcher → (text : List ℕ) → (position steps
 IsWithinMatchCost m text position steps =
     (outs : ℕ → Out) (costs : ℕ → Cost) → AreCosts m text outs costs → steps ≤ match_cost m text costs position
 
--- The steps are at most what a search costs, and one for each byte, where it looks for one that each match contains.
+-- The steps are at most what a search costs, and one for each byte and once more: it may first look for a byte that each
+-- match contains.
 abbrev pub IsWithinFindCost : Matcher → (text : List ℕ) → (from steps : ℕ) → Type 0
 IsWithinFindCost m text from steps =
     (outs : ℕ → Out) (costs : ℕ → Cost) → AreCosts m text outs costs → steps ≤ find_cost m text costs from + (length text + 1)

@@ -32,7 +32,7 @@ impl<'m> MatcherMatches<'m> {
     /// # Complexity
     /// If [`Matcher::is_linear`], all calls together take at most [`Matcher::steps_per_character`] steps for each byte of
     /// the text, and once more. For any other pattern the step limit is for all calls together, and a call takes at most
-    /// the cost of its search, and one step for each byte of the text.
+    /// the cost of its search, and one step for each byte of the text and once more.
     ///
     /// # Errors
     /// Returns [`AllocError`] if an allocation fails. The position of the search stays as it is, so that the call may

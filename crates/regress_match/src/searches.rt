@@ -31,7 +31,8 @@ impl Matcher {
     /// instructions and the length of the text.
     ///
     /// For any other pattern `steps` is the step limit, counted as in [`Backtracker::find`](regress_backtrack::Backtracker::find).
-    /// A search takes at most its cost, the steps that following every outcome takes, and one for each byte of the text.
+    /// A search takes at most its cost, the steps that following every outcome takes, and one for each byte of the text and
+    /// once more.
     ///
     /// # Errors
     /// Returns [`AllocError`] if an allocation fails.
