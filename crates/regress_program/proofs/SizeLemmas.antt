@@ -1,5 +1,5 @@
 -- The number of instructions of each kind of node.
-use Rattle.std.proofs.Common.{◌≡◌, Result, Ok, Err, IfErr, IfOk, IsErrAnd, ℕ, zero, suc, ◌+◌, ◌-◌, ◌*◌, ◌/◌, ◌%◌, ◌==◌, ◌≤◌, ◌<◌, Bool, true, min, if◌then◌else◌, List, [], ◌∷◌, length, drop, get_or, Some, None, refl, sym, ap, ap₂, ◌∙◌, arith}
+use Rattle.std.proofs.Common.{◌≡◌, Result, Ok, Err, IfErr, IsErrAnd, ℕ, zero, suc, ◌+◌, ◌-◌, ◌*◌, ◌/◌, ◌%◌, ◌==◌, ◌≤◌, ◌<◌, Bool, true, min, if◌then◌else◌, List, [], ◌∷◌, length, drop, get_or, Some, None, refl, sym, ap, ap₂, ◌∙◌, arith}
 use Rattle.std.proofs.lemmas.Bool.{eq-eqb, ne_eqb}
 use Rattle.regress_base.specs.declared.types.Quantifier.{Quantifier}
 use Rattle.regress_tree.specs.Tree.{tree, trees}
@@ -12,10 +12,6 @@ use Rattle.regress_program.proofs.ViewLemmas.{from_index}
 -- ---- the error that `?` returns
 
 module _ {T : Type 0} where
-  pub no_value : (Q : CompileFault → Type 0) (r : Result T CompileFault) (P : T → Type 0) → IsErrAnd r Q → IfOk r P
-  no_value Q (Ok x) P is = absurd is
-  no_value Q (Err y) P is = tt
-
   pub too_long : (r : Result T CompileFault) (fault : CompileFault) (P : Type 0) → IsErrAnd r (λ y. y ≡ fault) → (fault ≡ TooLong → P) →
       IfErr r (λ y. y ≡ TooLong → P)
   too_long (Ok x) fault P is known = absurd is

@@ -1,5 +1,4 @@
 use Rattle.std.proofs.Common.{◌≡◌, ◌+◌, ◌≤◌, ◌++◌, ◌∷◌, [], All, IfSome, MatchOption, true, flat_map, length, reverse, refl, sym, ap, ◌∙◌, subst, arith}
-use Rattle.std.proofs.lemmas.Result.{err_from_is_err_and}
 use Rattle.std.proofs.lemmas.List.{length-take}
 use Rattle.std.proofs.lemmas.List.Elements.{All-head, All-tail}
 use Rattle.regress_leaves.specs.Subject.{subject}
@@ -403,23 +402,3 @@ pub run-returns-clause-costs : goal.run-returns-clause-costs
 run-returns-clause-costs t c = λ outs costs has.
     let before = c.loop-left.invariant.costs outs costs has in
     omega (arith, before)
-
-pub look-returns-in_err-response : goal.look-returns-in_err-response
-look-returns-in_err-response t c =
-    let p = err_from_is_err_and c.from_residual.result c.from_residual.ensures.1 in
-    rw p.1 (record { leads = tt; inside = tt; rewound = tt; left = tt; costs = tt; spent = tt })
-
-pub look-returns-in_err-leave : goal.look-returns-in_err-leave
-look-returns-in_err-leave t c =
-    let p = err_from_is_err_and c.from_residual-in_err-leave.result c.from_residual-in_err-leave.ensures.1 in
-    rw p.1 (record { leads = tt; inside = tt; rewound = tt; left = tt; costs = tt; spent = tt })
-
-pub run-returns-in_err-to : goal.run-returns-in_err-to
-run-returns-in_err-to t c =
-    let p = err_from_is_err_and c.from_residual.result c.from_residual.ensures.1 in
-    rw p.1 (record { answers = tt; undo = tt; none = tt; left = tt; costs = tt; spent = tt })
-
-pub run-returns-in_err-to-in-Back : goal.run-returns-in_err-to-in-Back
-run-returns-in_err-to-in-Back t c =
-    let p = err_from_is_err_and c.from_residual-in_err-to-in-Back.result c.from_residual-in_err-to-in-Back.ensures.1 in
-    rw p.1 (record { answers = tt; undo = tt; none = tt; left = tt; costs = tt; spent = tt })

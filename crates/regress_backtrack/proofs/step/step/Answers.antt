@@ -1,4 +1,3 @@
-use Rattle.std.proofs.lemmas.Result.{err_from_is_err_and}
 use Rattle.std.proofs.Common.{arith, ℕ, ◌+◌, [], ◌++◌, flat_map, if◌then◌else◌, ap, subst, sym}
 use Rattle.regress_leaves.specs.Subject.{subject}
 use Rattle.regress_program.specs.Program.{Out, either, enter, goto, matcher_of, outcomes_by}
@@ -148,18 +147,3 @@ returns-then-here-clause-costs c =
     let taken = less outs costs has in
     omega (arith, is, moved, taken))
     c.iterate-then-here.ensures.costs
-
-pub returns-in_err-unset-in-Unset : goal.returns-in_err-unset-in-Unset
-returns-in_err-unset-in-Unset c =
-    let p = err_from_is_err_and c.from_residual.result c.from_residual.ensures.1 in
-    rw p.1 (record { leads = tt; inside = tt; rewound = tt; left = tt; costs = tt; goes = tt })
-
-pub returns-in_err-begin_group-in-BeginGroup : goal.returns-in_err-begin_group-in-BeginGroup
-returns-in_err-begin_group-in-BeginGroup c =
-    let p = err_from_is_err_and c.from_residual-in_err-begin_group-in-BeginGroup.result c.from_residual-in_err-begin_group-in-BeginGroup.ensures.1 in
-    rw p.1 (record { leads = tt; inside = tt; rewound = tt; left = tt; costs = tt; goes = tt })
-
-pub returns-in_err-end_group-in-EndGroup : goal.returns-in_err-end_group-in-EndGroup
-returns-in_err-end_group-in-EndGroup c =
-    let p = err_from_is_err_and c.from_residual-in_err-end_group-in-EndGroup.result c.from_residual-in_err-end_group-in-EndGroup.ensures.1 in
-    rw p.1 (record { leads = tt; inside = tt; rewound = tt; left = tt; costs = tt; goes = tt })

@@ -1,5 +1,4 @@
 use Rattle.std.proofs.Common.{[], min, sym, ap, ◌∙◌, subst}
-use Rattle.std.proofs.lemmas.Result.{err_from_is_err_and}
 use Rattle.regress_program.specs.Compiled.{total}
 use Rattle.regress_program.specs.Linear.{reason}
 use Rattle.regress_program.specs.Shape.{IsForwards, IsProgram}
@@ -33,13 +32,3 @@ invariant_of-result-clause-fronted c = c.in_ok-routines.ensures.fronts
 
 pub invariant_of-result-clause-passing : goal.invariant_of-result-clause-passing
 invariant_of-result-clause-passing c = c.in_ok-routines.ensures.passes
-
-pub returns-in_err-routines : goal.returns-in_err-routines
-returns-in_err-routines c =
-    let p = err_from_is_err_and c.from_residual.result c.from_residual.ensures.1 in
-    rw p.1 (record { routines = tt; flags = tt; groups = tt })
-
-pub returns-in_err-table_groups : goal.returns-in_err-table_groups
-returns-in_err-table_groups c =
-    let p = err_from_is_err_and c.from_residual-in_err-table_groups.result c.from_residual-in_err-table_groups.ensures.1 in
-    rw p.1 (record { routines = tt; flags = tt; groups = tt })

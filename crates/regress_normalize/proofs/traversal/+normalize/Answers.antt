@@ -1,6 +1,5 @@
 -- Each result is a lemma about trees, applied to the values of the call.
 use Rattle.std.proofs.Common.{rules, arith, ◌∙◌, sym, ap, subst, refl, length-set, take, Vec, Global}
-use Rattle.std.proofs.lemmas.Result.{err_from_is_err_and}
 use Rattle.regress_tree.specs.declared.ir.node.Node.{Node}
 use Rattle.regress_tree.specs.Spine.{reattach}
 use Rattle.regress_tree.specs.Tree.{Tree, Trees, cat, alt, wrapped, tree, trees}
@@ -266,13 +265,3 @@ normalize_last-returns-in_ok-body-in-CaptureGroup t c =
     rw (sym c.if-take_only_part.ensures)
     (Normalized-finished _ (direction_of c.args.walk.now) _ _ _ _ c.normalize_body.ensures.keeps c.finish_wrapper.ensures
     c.in_ok-body-in-CaptureGroup.ensures.still_one)
-
-pub normalize_parts-returns-in_err-facts-clause-facts : goal.normalize_parts-returns-in_err-facts-clause-facts
-normalize_parts-returns-in_err-facts-clause-facts t c =
-    let p = err_from_is_err_and c.from_residual.result c.from_residual.ensures.1 in
-    rw p.1 tt
-
-pub normalize_parts-returns-in_err-add-clause-facts : goal.normalize_parts-returns-in_err-add-clause-facts
-normalize_parts-returns-in_err-add-clause-facts t c =
-    let p = err_from_is_err_and c.from_residual-in_err-add.result c.from_residual-in_err-add.ensures.1 in
-    rw p.1 tt

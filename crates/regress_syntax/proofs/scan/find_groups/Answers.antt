@@ -1,5 +1,4 @@
 use Rattle.std.proofs.Common.{◌≡◌, ℕ, Bool, Some, ◌≤◌, ◌+◌, [], length, sym, subst, ap, ◌∙◌, arith, refl}
-use Rattle.std.proofs.lemmas.Result.{err_from_is_err_and}
 use Rattle.std.specs.Option.{option_map, option_or}
 use Rattle.regress_unicode.specs.TableOf.{table_of}
 use Rattle.regress_base.specs.Limits.{max_nesting_depth}
@@ -184,78 +183,3 @@ returns-in-Err-clause-located c =
     (located-is c.args.sets c.args.pattern.now c.loop-c.first_errors _
     (found c.args.sets (table_of c.args.tables.now) (mode_of c.loop-c.mode) c.args.pattern.now c.loop-c.rest.now c.skip_insignificant.result.now
     c.in_default.ensures.cases _ c.loop-c.first_errors (λ flaw. c.skip_insignificant.ensures.flaws flaw c.args.sets c.loop-c.mode _) c.loop-c.invariant.flaws))
-
-pub returns-in_err-scanner-clause-names : goal.returns-in_err-scanner-clause-names
-returns-in_err-scanner-clause-names c =
-    let p = err_from_is_err_and c.from_residual.result c.from_residual.ensures.1 in
-    rw p.1 tt
-
-pub returns-in_err-scanner-clause-count : goal.returns-in_err-scanner-clause-count
-returns-in_err-scanner-clause-count c =
-    let p = err_from_is_err_and c.from_residual.result c.from_residual.ensures.1 in
-    rw p.1 tt
-
-pub returns-in_err-scanner-clause-apart : goal.returns-in_err-scanner-clause-apart
-returns-in_err-scanner-clause-apart c =
-    let p = err_from_is_err_and c.from_residual.result c.from_residual.ensures.1 in
-    rw p.1 tt
-
-pub returns-in_err-scanner-clause-nesting : goal.returns-in_err-scanner-clause-nesting
-returns-in_err-scanner-clause-nesting c =
-    let p = err_from_is_err_and c.from_residual.result c.from_residual.ensures.1 in
-    rw p.1 tt
-
-pub returns-in_err-scanner-clause-first_errors : goal.returns-in_err-scanner-clause-first_errors
-returns-in_err-scanner-clause-first_errors c =
-    let p = err_from_is_err_and c.from_residual.result c.from_residual.ensures.1 in
-    rw p.1 tt
-
-pub returns-in_err-token-clause-names : goal.returns-in_err-token-clause-names
-returns-in_err-token-clause-names c =
-    let p = err_from_is_err_and c.from_residual-in_err-token.result c.from_residual-in_err-token.ensures.1 in
-    rw p.1 tt
-
-pub returns-in_err-token-clause-count : goal.returns-in_err-token-clause-count
-returns-in_err-token-clause-count c =
-    let p = err_from_is_err_and c.from_residual-in_err-token.result c.from_residual-in_err-token.ensures.1 in
-    rw p.1 tt
-
-pub returns-in_err-token-clause-apart : goal.returns-in_err-token-clause-apart
-returns-in_err-token-clause-apart c =
-    let p = err_from_is_err_and c.from_residual-in_err-token.result c.from_residual-in_err-token.ensures.1 in
-    rw p.1 tt
-
-pub returns-in_err-token-clause-nesting : goal.returns-in_err-token-clause-nesting
-returns-in_err-token-clause-nesting c =
-    let p = err_from_is_err_and c.from_residual-in_err-token.result c.from_residual-in_err-token.ensures.1 in
-    rw p.1 tt
-
-pub returns-in_err-token-clause-first_errors : goal.returns-in_err-token-clause-first_errors
-returns-in_err-token-clause-first_errors c =
-    let p = err_from_is_err_and c.from_residual-in_err-token.result c.from_residual-in_err-token.ensures.1 in
-    rw p.1 tt
-
-pub returns-in_err-pass-clause-names : goal.returns-in_err-pass-clause-names
-returns-in_err-pass-clause-names c =
-    let p = err_from_is_err_and c.from_residual-in_err-pass.result c.from_residual-in_err-pass.ensures.1 in
-    rw p.1 tt
-
-pub returns-in_err-pass-clause-count : goal.returns-in_err-pass-clause-count
-returns-in_err-pass-clause-count c =
-    let p = err_from_is_err_and c.from_residual-in_err-pass.result c.from_residual-in_err-pass.ensures.1 in
-    rw p.1 tt
-
-pub returns-in_err-pass-clause-apart : goal.returns-in_err-pass-clause-apart
-returns-in_err-pass-clause-apart c =
-    let p = err_from_is_err_and c.from_residual-in_err-pass.result c.from_residual-in_err-pass.ensures.1 in
-    rw p.1 tt
-
-pub returns-in_err-pass-clause-nesting : goal.returns-in_err-pass-clause-nesting
-returns-in_err-pass-clause-nesting c =
-    let p = err_from_is_err_and c.from_residual-in_err-pass.result c.from_residual-in_err-pass.ensures.1 in
-    rw p.1 tt
-
-pub returns-in_err-pass-clause-first_errors : goal.returns-in_err-pass-clause-first_errors
-returns-in_err-pass-clause-first_errors c =
-    let p = err_from_is_err_and c.from_residual-in_err-pass.result c.from_residual-in_err-pass.ensures.1 in
-    rw p.1 tt

@@ -1,5 +1,4 @@
 use Rattle.std.proofs.Common.{sym, ap, ◌∙◌, arith}
-use Rattle.std.proofs.lemmas.Result.{err_from_is_err_and}
 use Rattle.regress_tree.specs.Reading.{direction_if}
 use Rattle.regress_tables.proofs.FillLemmas.{same-index, SameShape-trans, index-first, index-second, more_rows}
 use Rattle.regress_tables.proofs.fill.fill.Goals as goal
@@ -36,8 +35,3 @@ loop-row-preserved c =
           first.shape.width same.width so_far.bits first.more second.more;
       filled = second.filled (first.filled so_far.filled);
     }
-
-pub returns-in_err-table : goal.returns-in_err-table
-returns-in_err-table c =
-    let p = err_from_is_err_and c.from_residual.result c.from_residual.ensures.1 in
-    rw p.1 (record { of = tt; full = tt; filled = tt })

@@ -1,5 +1,4 @@
 use Rattle.std.proofs.Common.{rules, ◌≡◌, ◌+◌, ◌-◌, ◌*◌, ◌≤◌, ◌∷◌, ℕ, length, take, slice_get, Some, IfSome, refl, sym, ap, ◌∙◌, subst, arith}
-use Rattle.std.proofs.lemmas.Result.{err_from_is_err_and}
 use Rattle.std.proofs.lemmas.List.{length-map}
 use Rattle.std.specs.Str.{IsCharBoundary}
 use Rattle.regress_tree.specs.Steps.{MatchState}
@@ -97,18 +96,3 @@ pub returns-clause-solved : goal.returns-clause-solved
 returns-clause-solved c = λ outs solves p low on.
     let text = c.args.filled.input.text.now in
     c.loop-start.invariant.none outs solves p low (omega (arith, on.0, c.loop-start-test.false)) on
-
-pub returns-in_err-first : goal.returns-in_err-first
-returns-in_err-first c =
-    let p = err_from_is_err_and c.from_residual.result c.from_residual.ensures.1 in
-    rw p.1 (record { solved = tt; inside = tt; steps = tt; tried = tt })
-
-pub returns-in_err-resolve : goal.returns-in_err-resolve
-returns-in_err-resolve c =
-    let p = err_from_is_err_and c.from_residual-in_err-resolve.result c.from_residual-in_err-resolve.ensures.1 in
-    rw p.1 (record { solved = tt; inside = tt; steps = tt; tried = tt })
-
-pub returns-in_err-captures : goal.returns-in_err-captures
-returns-in_err-captures c =
-    let p = err_from_is_err_and c.from_residual-in_err-captures.result c.from_residual-in_err-captures.ensures.1 in
-    rw p.1 (record { solved = tt; inside = tt; steps = tt; tried = tt })

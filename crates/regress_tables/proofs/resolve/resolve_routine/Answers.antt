@@ -1,5 +1,4 @@
 use Rattle.std.proofs.Common.{Vec, List, slice_get, ◌≡◌, ◌+◌, ◌*◌, length, Some, refl, sym, ap, subst, arith}
-use Rattle.std.proofs.lemmas.Result.{err_from_is_err_and}
 use Rattle.std.specs.Global.{Global}
 use Rattle.regress_tables.specs.declared.slots.Slot.{Slot}
 use Rattle.regress_tables.specs.Searchable.{AreTaken, program_in, width_at}
@@ -61,8 +60,3 @@ returns c =
         product_form (width_at (program_in f) c.args.routine) f.inner (length f.input.text.now + 1),
       );
     }
-
-pub returns-in_err-found : goal.returns-in_err-found
-returns-in_err-found c =
-    let p = err_from_is_err_and c.from_residual.result c.from_residual.ensures.1 in
-    rw p.1 (record { resolved = tt; steps = tt })

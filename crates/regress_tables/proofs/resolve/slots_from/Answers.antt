@@ -1,5 +1,4 @@
 use Rattle.std.proofs.Common.{IfSome, length, ap, ◌∙◌, subst}
-use Rattle.std.proofs.lemmas.Result.{err_from_is_err_and}
 use Rattle.std.proofs.lemmas.List.{length-replicate}
 use Rattle.regress_tables.specs.Searchable.{IsEnd, IsFirst}
 use Rattle.regress_tables.specs.declared.slots.Slot.TheVariants.{Unset}
@@ -20,8 +19,3 @@ returns-in-None-clause-found c =
     (subst (IsFirst c.args.filled c.args.routine c.args.groups c.args.position) c.in-None.is c.in_ok-first.ensures.first) is
     (ap length is ∙ length-replicate c.args.groups Unset))
     c.unset_slots.ensures.items
-
-pub returns-in_err-first : goal.returns-in_err-first
-returns-in_err-first c =
-    let p = err_from_is_err_and c.from_residual.result c.from_residual.ensures.1 in
-    rw p.1 (record { count = tt; found = tt; steps = tt })

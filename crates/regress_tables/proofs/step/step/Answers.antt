@@ -1,5 +1,4 @@
 use Rattle.std.proofs.Common.{◌≡◌, Bool, true, [], ◌∷◌, List, length, flat_map, Some, if◌then◌else◌, refl, sym, ap, ◌∙◌, subst, arith}
-use Rattle.std.proofs.lemmas.Result.{err_from_is_err_and}
 use Rattle.std.proofs.lemmas.Bool.{and_parts}
 use Rattle.regress_base.specs.declared.types.Quantifier.{Quantifier}
 use Rattle.regress_leaves.specs.Leaves.{exactly}
@@ -358,8 +357,3 @@ returns-in-Look-clause-leads c = λ outs solution full right other some.
           })
           (subst (λ o. has_outcome (outcomes (op_of o)) ≡ true) c.in-Look.is some)),
     )
-
-pub returns-in_err-begin_group-in-BeginGroup : goal.returns-in_err-begin_group-in-BeginGroup
-returns-in_err-begin_group-in-BeginGroup c =
-    let p = err_from_is_err_and c.from_residual.result c.from_residual.ensures.1 in
-    rw p.1 (record { count = tt; below = tt; clean = tt; inside = tt; leads = tt })

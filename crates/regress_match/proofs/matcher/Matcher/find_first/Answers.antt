@@ -1,4 +1,3 @@
-use Rattle.std.proofs.lemmas.Result.{err_from_is_err_and}
 use Rattle.regress_match.proofs.CostLemmas.{first_within}
 use Rattle.regress_match.proofs.matcher.Matcher.find_first.Goals as goal
 
@@ -8,8 +7,3 @@ returns-clause-costs c =
     let next = c.in_ok-outcome.ensures in
     first_within c.args.self.now c.args.text.now c.args.from c.find_iter-matches.result c.next.new.self c.steps.result first.matcher first.text first.from
     first.left next.same c.steps.ensures.limited next.costs
-
-pub returns-in_err-outcome : goal.returns-in_err-outcome
-returns-in_err-outcome c =
-    let p = err_from_is_err_and c.from_residual.result c.from_residual.ensures.1 in
-    rw p.1 (record { finds = tt; inside = tt; linear = tt; limited = tt; costs = tt })

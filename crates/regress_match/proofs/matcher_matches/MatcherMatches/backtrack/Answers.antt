@@ -1,5 +1,4 @@
 use Rattle.std.proofs.Common.{◌≤◌, IfSome, length, subst, sym, arith}
-use Rattle.std.proofs.lemmas.Result.{err_from_is_err_and}
 use Rattle.std.specs.Str.{IsUtf8}
 use Rattle.regress_match.specs.Kept.{IsRunOf}
 use Rattle.regress_match.specs.Matched.{IfMatched, start_of}
@@ -51,53 +50,3 @@ returns-clause-costs c = λ outs costs are.
     let runs = c.in_ok-backtracker.ensures in
     let within = c.in_ok-outcome.ensures.costs outs costs (runs.costs outs costs are) in
     omega (arith, within, runs.find_cost costs c.args.self.now.from)
-
-pub returns-in_err-backtracker-clause-finds : goal.returns-in_err-backtracker-clause-finds
-returns-in_err-backtracker-clause-finds c =
-    let p = err_from_is_err_and c.from_residual.result c.from_residual.ensures.1 in
-    rw p.1 tt
-
-pub returns-in_err-backtracker-clause-inside : goal.returns-in_err-backtracker-clause-inside
-returns-in_err-backtracker-clause-inside c =
-    let p = err_from_is_err_and c.from_residual.result c.from_residual.ensures.1 in
-    rw p.1 tt
-
-pub returns-in_err-backtracker-clause-goes_on : goal.returns-in_err-backtracker-clause-goes_on
-returns-in_err-backtracker-clause-goes_on c =
-    let p = err_from_is_err_and c.from_residual.result c.from_residual.ensures.1 in
-    rw p.1 tt
-
-pub returns-in_err-backtracker-clause-spent : goal.returns-in_err-backtracker-clause-spent
-returns-in_err-backtracker-clause-spent c =
-    let p = err_from_is_err_and c.from_residual.result c.from_residual.ensures.1 in
-    rw p.1 tt
-
-pub returns-in_err-backtracker-clause-costs : goal.returns-in_err-backtracker-clause-costs
-returns-in_err-backtracker-clause-costs c =
-    let p = err_from_is_err_and c.from_residual.result c.from_residual.ensures.1 in
-    rw p.1 tt
-
-pub returns-in_err-outcome-clause-finds : goal.returns-in_err-outcome-clause-finds
-returns-in_err-outcome-clause-finds c =
-    let p = err_from_is_err_and c.from_residual-in_err-outcome.result c.from_residual-in_err-outcome.ensures.1 in
-    rw p.1 tt
-
-pub returns-in_err-outcome-clause-inside : goal.returns-in_err-outcome-clause-inside
-returns-in_err-outcome-clause-inside c =
-    let p = err_from_is_err_and c.from_residual-in_err-outcome.result c.from_residual-in_err-outcome.ensures.1 in
-    rw p.1 tt
-
-pub returns-in_err-outcome-clause-goes_on : goal.returns-in_err-outcome-clause-goes_on
-returns-in_err-outcome-clause-goes_on c =
-    let p = err_from_is_err_and c.from_residual-in_err-outcome.result c.from_residual-in_err-outcome.ensures.1 in
-    rw p.1 tt
-
-pub returns-in_err-outcome-clause-spent : goal.returns-in_err-outcome-clause-spent
-returns-in_err-outcome-clause-spent c =
-    let p = err_from_is_err_and c.from_residual-in_err-outcome.result c.from_residual-in_err-outcome.ensures.1 in
-    rw p.1 tt
-
-pub returns-in_err-outcome-clause-costs : goal.returns-in_err-outcome-clause-costs
-returns-in_err-outcome-clause-costs c =
-    let p = err_from_is_err_and c.from_residual-in_err-outcome.result c.from_residual-in_err-outcome.ensures.1 in
-    rw p.1 tt

@@ -1,5 +1,4 @@
 use Rattle.std.proofs.Common.{◌≡◌, false, ap, sym, ◌∙◌}
-use Rattle.std.proofs.lemmas.Result.{err_from_is_err_and}
 use Rattle.std.specs.Prelude.{is_some}
 use Rattle.regress_program.specs.Search.{routines_of}
 use Rattle.regress_program.specs.Tidy.{is_tabled}
@@ -28,18 +27,3 @@ returns-in_default-clause-made c =
     absurd
     (linear_has_tables (code_routines m.code) m.within (sym c.is_linear.ensures ∙ c.if-is_linear.true)
     (ap is_tabled (sym c.in_ok-program.ensures.routines) ∙ none))
-
-pub returns-in_err-program-clause-made : goal.returns-in_err-program-clause-made
-returns-in_err-program-clause-made c =
-    let p = err_from_is_err_and c.from_residual.result c.from_residual.ensures.1 in
-    rw p.1 tt
-
-pub returns-in_err-linear-clause-made : goal.returns-in_err-linear-clause-made
-returns-in_err-linear-clause-made c =
-    let p = err_from_is_err_and c.from_residual-in_err-linear.result c.from_residual-in_err-linear.ensures.1 in
-    rw p.1 tt
-
-pub returns-in_err-search-clause-made : goal.returns-in_err-search-clause-made
-returns-in_err-search-clause-made c =
-    let p = err_from_is_err_and c.from_residual-in_err-search.result c.from_residual-in_err-search.ensures.1 in
-    rw p.1 tt

@@ -1,5 +1,4 @@
 use Rattle.std.proofs.Common.{◌+◌, ◌*◌, ◌≤◌, length, arith}
-use Rattle.std.proofs.lemmas.Result.{err_from_is_err_and}
 use Rattle.regress_program.specs.Ranges.{inner_groups}
 use Rattle.regress_program.specs.Search.{instructions_of, routines_of}
 use Rattle.regress_tables.specs.Search.{capturing_steps}
@@ -15,43 +14,3 @@ returns-clause-steps c =
     let sum = fill_and_find (instructions_of p) (capturing_steps (instructions_of p) (inner_groups (routines_of p))) c.args.text.now c.args.from search.found c.fill_tables.new.steps search.steps
     filled find.steps find.inside in
     omega (arith, sum, c.saturating_add.ensures)
-
-pub returns-in_err-tables-clause-solved : goal.returns-in_err-tables-clause-solved
-returns-in_err-tables-clause-solved c =
-    let p = err_from_is_err_and c.from_residual.result c.from_residual.ensures.1 in
-    rw p.1 tt
-
-pub returns-in_err-tables-clause-finds : goal.returns-in_err-tables-clause-finds
-returns-in_err-tables-clause-finds c =
-    let p = err_from_is_err_and c.from_residual.result c.from_residual.ensures.1 in
-    rw p.1 tt
-
-pub returns-in_err-tables-clause-steps : goal.returns-in_err-tables-clause-steps
-returns-in_err-tables-clause-steps c =
-    let p = err_from_is_err_and c.from_residual.result c.from_residual.ensures.1 in
-    rw p.1 tt
-
-pub returns-in_err-tables-clause-tried : goal.returns-in_err-tables-clause-tried
-returns-in_err-tables-clause-tried c =
-    let p = err_from_is_err_and c.from_residual.result c.from_residual.ensures.1 in
-    rw p.1 tt
-
-pub returns-in_err-search-clause-solved : goal.returns-in_err-search-clause-solved
-returns-in_err-search-clause-solved c =
-    let p = err_from_is_err_and c.from_residual-in_err-search.result c.from_residual-in_err-search.ensures.1 in
-    rw p.1 tt
-
-pub returns-in_err-search-clause-finds : goal.returns-in_err-search-clause-finds
-returns-in_err-search-clause-finds c =
-    let p = err_from_is_err_and c.from_residual-in_err-search.result c.from_residual-in_err-search.ensures.1 in
-    rw p.1 tt
-
-pub returns-in_err-search-clause-steps : goal.returns-in_err-search-clause-steps
-returns-in_err-search-clause-steps c =
-    let p = err_from_is_err_and c.from_residual-in_err-search.result c.from_residual-in_err-search.ensures.1 in
-    rw p.1 tt
-
-pub returns-in_err-search-clause-tried : goal.returns-in_err-search-clause-tried
-returns-in_err-search-clause-tried c =
-    let p = err_from_is_err_and c.from_residual-in_err-search.result c.from_residual-in_err-search.ensures.1 in
-    rw p.1 tt

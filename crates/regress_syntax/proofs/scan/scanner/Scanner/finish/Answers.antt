@@ -1,5 +1,4 @@
 use Rattle.std.proofs.Common.{◌≡◌, ◌<◌, ◌-◌, ◌^◌, Some, None, map, length, refl, sym, ap, ◌∙◌, arith, subst}
-use Rattle.std.proofs.lemmas.Result.{err_from_is_err_and}
 use Rattle.std.proofs.lemmas.Bool.{true≢false}
 use Rattle.regress_syntax.specs.Numbering.{names_of, AreSortedByName}
 use Rattle.regress_syntax.specs.Scanning.{first_conflict}
@@ -61,13 +60,3 @@ new-requires c =
     (sym (c.in_ok-numbers.ensures ∙ ap (map (λ (g : NamedGroup). g.number)) c.deref-2.ensures.value))
     (sorted_by_name (names_of c.args.self.names.items) c.args.self.named.items c.sort_by_name.new.groups.items
     c.in_ok-sort_by_name.ensures.permutation (c.requires.numbered few) c.in_ok-sort_by_name.ensures.sorted c.in_ok-sort_by_name.ensures.stable)
-
-pub returns-in_err-sort_by_name-clause-count : goal.returns-in_err-sort_by_name-clause-count
-returns-in_err-sort_by_name-clause-count c =
-    let p = err_from_is_err_and c.from_residual.result c.from_residual.ensures.1 in
-    rw p.1 tt
-
-pub returns-in_err-numbers-clause-count : goal.returns-in_err-numbers-clause-count
-returns-in_err-numbers-clause-count c =
-    let p = err_from_is_err_and c.from_residual-in_err-numbers.result c.from_residual-in_err-numbers.ensures.1 in
-    rw p.1 tt
