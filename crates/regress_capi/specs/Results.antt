@@ -12,7 +12,7 @@ use Rattle.regress_parse.specs.TreeOf.{tree_of}
 use Rattle.regress_parse.specs.Accepted.{IsAccepted, Means}
 use Rattle.regress_parse.specs.Fault.{text_of}
 use Rattle.regress_parse.specs.Settled.{IsReported}
-use Rattle.regress_words.specs.Words.{encode}
+use Rattle.regress_encoding.specs.Encoding.{encode}
 
 -- A tree of the pattern that the source denotes: as parsed, or in normal form.
 pub record IsResult (setting : Setting) (source : Source) (optimized : Bool) (t : Tree) : Type 0 where

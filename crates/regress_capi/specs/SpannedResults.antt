@@ -8,8 +8,8 @@ use Rattle.regress_syntax.specs.Syntax.{Pattern}
 use Rattle.regress_parse.specs.Accepted.{IsAccepted, NoneIsAccepted}
 use Rattle.regress_parse.specs.declared.span.Span.{Span}
 use Rattle.regress_spans.specs.Paired.{postorder, spanned_of}
-use Rattle.regress_words.specs.Order.{numbers_of}
-use Rattle.regress_words.specs.Words.{encode}
+use Rattle.regress_encoding.specs.Order.{numbers_of}
+use Rattle.regress_encoding.specs.Encoding.{encode}
 use Rattle.regress_capi.specs.Results.{IsError, IsResult}
 use Rattle.regress_capi.specs.declared.spanning.NodeSpan.{NodeSpan}
 

@@ -14,7 +14,7 @@ use super::results::{BAD_INPUT, FAULT, MEMORY, OK, ROOM};
 use regress_front::parse::{PlacedFault, Span, SpannedRegex, try_parse_with_spans};
 use regress_front::types::Flags;
 use regress_front::unicode::Tables;
-use regress_words::{encode, postorder_numbers};
+use regress_encoding::{encode, postorder_numbers};
 use std::alloc::{AllocError, Global};
 
 /// The span of a node: a half-open range of code-point indices of the pattern.

@@ -16,7 +16,7 @@ use regress_front::optimizer::optimize;
 use regress_front::parse::{PlacedFault, try_parse_with_position};
 use regress_front::types::Flags;
 use regress_front::unicode::Tables;
-use regress_words::encode;
+use regress_encoding::encode;
 use std::alloc::Global;
 
 /// Returns the encoding of the pattern's tree, as parsed or optimized.

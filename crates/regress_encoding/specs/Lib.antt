@@ -1,0 +1,4 @@
+pub mod Encoding
+pub mod Decoded
+pub mod Order
+pub mod Closed

@@ -1,5 +1,0 @@
-use Rattle.regress_words.proofs.CountLemmas.{trees_counted}
-use Rattle.regress_words.proofs.parts.push_cat.Goals as goal
-
-pub returns : goal.returns
-returns c = rw (trees_counted c.args.parts.now) c.push_counted.ensures

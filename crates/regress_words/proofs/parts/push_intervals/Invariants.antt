@@ -1,7 +1,0 @@
-use Rattle.std.proofs.Common.{◌≡◌, ◌++◌, take, flat_map}
-use Rattle.regress_words.specs.Words.{interval_words}
-use Rattle.regress_words.proofs.parts.push_intervals.Given as goal
-
--- the intervals so far
-abbrev pub invariant-loop-interval : goal.invariant-loop-interval
-invariant-loop-interval l = l.words.items ≡ l.fn.words.items ++ flat_map interval_words (take l.interval-index l.intervals)

@@ -1,4 +1,0 @@
-pub mod Words
-pub mod Decoded
-pub mod Order
-pub mod Closed
