@@ -189,7 +189,7 @@ only_s = record empty_table { fold = λ c. if c == 0x53 || c == 0x17F then 0x73 
 
 -- whether a member of the interval folds to this character
 abbrev folds_to : Bounds → ℕ → Bool
-folds_to iv image = list_any (λ c. only_s.fold c == image) (code_points iv)
+folds_to iv mapped = list_any (λ c. only_s.fold c == mapped) (code_points iv)
 
 digits_fold : (c : ℕ) → folds_to (run 0x30 0x39) c ≡ is_within (run 0x30 0x39) c
 unfolding is_within

@@ -1,7 +1,7 @@
 -- Examples: literals.
 use Rattle.std.proofs.Common.{◌≡◌, ℕ, true, false, [], ◌∷◌, refl, arith}
 use lib.Utf8.{encode}
-use Rattle.regress_unicode.specs.FoldEntries.{image}
+use Rattle.regress_unicode.specs.FoldEntries.{mapped}
 use Rattle.regress_literal.specs.Literal.{piece_of, is_character, lowered, literal_steps}
 use Rattle.regress_unicode.specs.SmallTable.{small_table}
 use Rattle.regress_tree.specs.Steps.{MatchState, one_character}
@@ -51,11 +51,11 @@ abbrev at : ℕ → MatchState
 at position = record { position = position; captures = [] }
 
 literal-folded : literal_steps small_table true true (0x17F ∷ 0x61 ∷ []) (0x73 ∷ 0x41 ∷ []) (at 0) ≡ at 2 ∷ []
-unfolding image one_character small_table
+unfolding mapped one_character small_table
 literal-folded = refl
 
 literal-without_unicode : literal_steps small_table true false (0x17F ∷ []) (0x73 ∷ []) (at 0) ≡ []
-unfolding image one_character small_table
+unfolding mapped one_character small_table
 literal-without_unicode = refl
 
 -- A surrogate matches nothing in a text.

@@ -8,7 +8,7 @@ use Rattle.std.specs.Str.{chars}
 use Rattle.std.proofs.Math.ListN.{replicate}
 use Rattle.regress_base.specs.declared.types.Flags.{Flags}
 use Rattle.regress_base.specs.Intervals.{Bounds, is_member, is_within}
-use Rattle.regress_unicode.specs.FoldEntries.{image}
+use Rattle.regress_unicode.specs.FoldEntries.{mapped}
 use Rattle.regress_tree.specs.Lookaround.{lookaround_matcher}
 use Rattle.regress_tree.specs.Reading.{forwards, byte_position, character_at, read_after, read_before}
 use Rattle.regress_tree.specs.References.{back_reference}
@@ -104,7 +104,7 @@ start p position = record { position = position; captures = replicate (counts p)
 
 -- the outcomes of the pattern on the text, from each of the positions
 unfoldable pub outcomes : Setting → Source → List ℕ → List ℕ → Option (List (List MatchState))
-unfolding pattern_of one_character hold_at captures repeat_matcher lookaround_matcher back_reference any_string same_state is_in_closure image small_table
+unfolding pattern_of one_character hold_at captures repeat_matcher lookaround_matcher back_reference any_string same_state is_in_closure mapped small_table
 outcomes setting source text positions =
     option_map (λ p. map (λ k. meaning setting text forwards p (start p k)) positions) (pattern_of setting source)
 

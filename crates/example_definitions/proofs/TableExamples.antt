@@ -1,7 +1,7 @@
 -- Examples: tables, and the case mappings and sets of the small table.
 use Rattle.std.proofs.Common.{◌≡◌, ℕ, true, false, List, [], ◌∷◌, Some, None, pos, negsuc, refl, codes}
 use Rattle.regress_base.specs.Intervals.{Bounds}
-use Rattle.regress_unicode.specs.FoldEntries.{FoldEntry, image, is_in_order, are_targets_in_range, stays_in_range}
+use Rattle.regress_unicode.specs.FoldEntries.{FoldEntry, mapped, is_in_order, are_targets_in_range, stays_in_range}
 use Rattle.regress_base.specs.Listing.{lists, is_ascending}
 use Rattle.regress_base.specs.Table.{named, canonicalize, denotes, is_in_closure, is_string}
 use Rattle.regress_unicode.specs.SmallTable.{small_table}
@@ -13,23 +13,23 @@ set : ℕ → ℕ → List Bounds
 set first last = record { first = first; last = last } ∷ []
 
 -- Every second code point of an entry is mapped.
-image-moves : image (record { start = 4; length = 4; delta = pos 1; modulo = 2 } ∷ []) 6 ≡ 7
-unfolding image
-image-moves = refl
+mapped-moves : mapped (record { start = 4; length = 4; delta = pos 1; modulo = 2 } ∷ []) 6 ≡ 7
+unfolding mapped
+mapped-moves = refl
 
-image-stays : image (record { start = 4; length = 4; delta = pos 1; modulo = 2 } ∷ []) 5 ≡ 5
-unfolding image
-image-stays = refl
+mapped-stays : mapped (record { start = 4; length = 4; delta = pos 1; modulo = 2 } ∷ []) 5 ≡ 5
+unfolding mapped
+mapped-stays = refl
 
-image-beyond : image (record { start = 4; length = 4; delta = pos 1; modulo = 2 } ∷ []) 8 ≡ 8
-unfolding image
-image-beyond = refl
+mapped-beyond : mapped (record { start = 4; length = 4; delta = pos 1; modulo = 2 } ∷ []) 8 ≡ 8
+unfolding mapped
+mapped-beyond = refl
 
 -- The first entry with the code point applies.
-image-first : image (record { start = 4; length = 1; delta = negsuc 0; modulo = 1 } ∷ record
+mapped-first : mapped (record { start = 4; length = 1; delta = negsuc 0; modulo = 1 } ∷ record
     { start = 4; length = 1; delta = pos 1; modulo = 1 } ∷ []) 4 ≡ 3
-unfolding image
-image-first = refl
+unfolding mapped
+mapped-first = refl
 
 -- Adjacent runs are in order, and runs that share a code point are not.
 order-touching : is_in_order (mapping 4 4 ∷ mapping 8 1 ∷ []) ≡ true
@@ -94,40 +94,40 @@ lists-none = refl
 
 -- With the small table: MICRO SIGN, KELVIN SIGN and LATIN SMALL LETTER LONG S.
 canonicalize-u : canonicalize small_table true 0xB5 ≡ 0x3BC
-unfolding image small_table
+unfolding mapped small_table
 canonicalize-u = refl
 
 canonicalize-no_u : canonicalize small_table false 0xB5 ≡ 0x39C
-unfolding image small_table
+unfolding mapped small_table
 canonicalize-no_u = refl
 
 occurs-alone : denotes small_table false true 0x6B 0x4B ≡ false
 occurs-alone = refl
 
 occurs-either_case : denotes small_table true false 0x6B 0x4B ≡ true
-unfolding image small_table
+unfolding mapped small_table
 occurs-either_case = refl
 
 occurs-no_kelvin : denotes small_table true false 0x6B 0x212A ≡ false
-unfolding image small_table
+unfolding mapped small_table
 occurs-no_kelvin = refl
 
 occurs-kelvin : denotes small_table true true 0x6B 0x212A ≡ true
-unfolding image small_table
+unfolding mapped small_table
 occurs-kelvin = refl
 
 closure-itself : is_in_closure small_table (set 0x73 0x73) 0x73 ≡ true
-unfolding image small_table is_in_closure set
+unfolding mapped small_table is_in_closure set
 closure-itself = refl
 
 closure-other_case : is_in_closure small_table (set 0x73 0x73) 0x53 ≡ true
-unfolding image small_table is_in_closure set
+unfolding mapped small_table is_in_closure set
 closure-other_case = refl
 
 closure-long_s : is_in_closure small_table (set 0x73 0x73) 0x17F ≡ true
-unfolding image small_table is_in_closure set
+unfolding mapped small_table is_in_closure set
 closure-long_s = refl
 
 closure-neighbour : is_in_closure small_table (set 0x73 0x73) 0x54 ≡ false
-unfolding image small_table is_in_closure set
+unfolding mapped small_table is_in_closure set
 closure-neighbour = refl

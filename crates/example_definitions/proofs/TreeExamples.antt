@@ -13,7 +13,7 @@ use Rattle.regress_tree.specs.Lookaround.{lookaround_matcher}
 use Rattle.regress_tree.specs.References.{back_reference}
 use Rattle.regress_tree.specs.Strings.{any_string}
 use Rattle.regress_tree.specs.Assertions.{is_word_character, at_anchor, at_boundary}
-use Rattle.regress_unicode.specs.FoldEntries.{image}
+use Rattle.regress_unicode.specs.FoldEntries.{mapped}
 use Rattle.regress_base.specs.Table.{is_in_closure}
 use Rattle.regress_tree.specs.Matching.{matches}
 use Rattle.regress_tree.specs.Setting.{Setting}
@@ -131,7 +131,7 @@ off_boundaries = refl
 
 -- With `unicode_icase`, U+017F and U+212A are word characters, since they fold to s and k.
 words_in_either_case : map (is_word_character small_table true) (0x17F ∷ 0x212A ∷ 0x2D ∷ []) ≡ true ∷ true ∷ false ∷ []
-unfolding is_in_closure small_table image
+unfolding is_in_closure small_table mapped
 words_in_either_case = refl
 
 words_as_they_occur : map (is_word_character small_table false) (0x17F ∷ 0x5F ∷ 0x2D ∷ []) ≡ false ∷ true ∷ false ∷ []
@@ -208,7 +208,7 @@ others_after = refl
 
 -- With `icase`, a letter matches its other case.
 in_either_case : matches plain (codes "aA") forwards (leaf (back_ref 1 true)) (with_group 1 (Some (0, 1))) ≡ with_group 2 (Some (0, 1)) ∷ []
-unfolding one_character chars encode character_at read_after back_reference same_state small_table image
+unfolding one_character chars encode character_at read_after back_reference same_state small_table mapped
 in_either_case = refl
 
 in_one_case : matches plain (codes "aA") forwards (leaf (back_ref 1 false)) (with_group 1 (Some (0, 1))) ≡ []
@@ -233,7 +233,7 @@ strings_before = refl
 
 -- With `icase`, letters match their other case.
 strings_in_either_case : matches plain (codes "Ab") forwards (leaf (string_set (codes "aB" ∷ []) true)) (at 0) ≡ at 2 ∷ []
-unfolding one_character chars encode character_at read_after any_string same_state small_table image
+unfolding one_character chars encode character_at read_after any_string same_state small_table mapped
 strings_in_either_case = refl
 
 strings_in_one_case : matches plain (codes "Ab") forwards (leaf (string_set (codes "aB" ∷ []) false)) (at 0) ≡ []

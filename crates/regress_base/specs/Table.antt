@@ -38,7 +38,7 @@ IsIdempotent f = (c : ℕ) → f (f c) ≡ f c
 -- at most four numbers have the same canonical form: MAX_CHAR_SET_LENGTH (dialect)
 abbrev pub HasSmallClasses : (ℕ → ℕ) → Type 0
 HasSmallClasses f =
-    (image : ℕ) (xs : List ℕ) → IsTrue (is_ascending xs) → All (λ x. f x ≡ image) xs → length xs ≤ 4
+    (mapped : ℕ) (xs : List ℕ) → IsTrue (is_ascending xs) → All (λ x. f x ≡ mapped) xs → length xs ≤ 4
 
 -- A case mapping: it is idempotent, it maps code points to code points, and at most four of them to the same one.
 pub record IsCaseMapping (f : ℕ → ℕ) : Type 0 where

@@ -7,7 +7,7 @@ use Rattle.regress_base.specs.Classes.{word_characters}
 use Rattle.regress_base.specs.Intervals.{Bounds, is_member, is_within}
 use Rattle.regress_base.specs.Listing.{lists, code_points}
 use Rattle.regress_base.proofs.lemmas.Listings.{lists-interval}
-use Rattle.regress_unicode.specs.FoldEntries.{FoldEntry, moved, is_in_mapping, image_in_mapping, image}
+use Rattle.regress_unicode.specs.FoldEntries.{FoldEntry, moved, is_in_mapping, mapped_in_mapping, mapped}
 use Rattle.regress_ucd.specs.UnicodeTable.{unicode_parts, unicode_table}
 use Rattle.regress_ucd.proofs.lemmas.ValidTable.{unicode_valid}
 use Rattle.regress_ecma.specs.Differences.{HasCaseDataOfUnicode, HasVariantsIn, unlike, cased}
@@ -45,17 +45,17 @@ moved_by q c entry passes within =
 
 -- A code point stays, or an entry maps it.
 stays_or_moves : (q : FoldEntry → Bool) (entries : List FoldEntry) → list_all q entries ≡ true → (c : ℕ) →
-    (image entries c ≡ c) ⊎ ((entry : FoldEntry) × IsMovedBy q c (image entries c) entry)
-unfolding image
+    (mapped entries c ≡ c) ⊎ ((entry : FoldEntry) × IsMovedBy q c (mapped entries c) entry)
+unfolding mapped
 stays_or_moves q [] h c = inl refl
 stays_or_moves q (entry ∷ entries) h c =
     let parts = and_parts (q entry) (list_all q entries) h in
     by_entry (is_in_mapping entry c) refl parts.0 (stays_or_moves q entries parts.1 c)
   where
     by_entry : (b : Bool) → is_in_mapping entry c ≡ b → q entry ≡ true →
-        (image entries c ≡ c) ⊎ ((entry : FoldEntry) × IsMovedBy q c (image entries c) entry) →
-        (cond b (image_in_mapping entry c) (image entries c) ≡ c)
-        ⊎ ((other : FoldEntry) × IsMovedBy q c (cond b (image_in_mapping entry c) (image entries c)) other)
+        (mapped entries c ≡ c) ⊎ ((entry : FoldEntry) × IsMovedBy q c (mapped entries c) entry) →
+        (cond b (mapped_in_mapping entry c) (mapped entries c) ≡ c)
+        ⊎ ((other : FoldEntry) × IsMovedBy q c (cond b (mapped_in_mapping entry c) (mapped entries c)) other)
     by_entry false e passes rest = rest
     by_entry true e passes rest = by_modulo ((c - entry.start) % entry.modulo == 0)
       where
@@ -83,7 +83,7 @@ moves_in set entry = is_inside set (sources entry) && is_inside set (targets ent
 
 -- ---- what follows for all entries
 
-above_ascii : (entries : List FoldEntry) → list_all keeps_above_ascii entries ≡ true → (c : ℕ) → 128 ≤ c → 128 ≤ image entries c
+above_ascii : (entries : List FoldEntry) → list_all keeps_above_ascii entries ≡ true → (c : ℕ) → 128 ≤ c → 128 ≤ mapped entries c
 unfolding is_within
 above_ascii entries h c high = elim (stays_or_moves keeps_above_ascii entries h c) [
   | inl stays ↦ omega (arith, stays, high)
@@ -91,22 +91,22 @@ above_ascii entries h c high = elim (stays_or_moves keeps_above_ascii entries h 
 ]
 
 member_before : (set : List Bounds) (entries : List FoldEntry) → list_all (comes_from set) entries ≡ true → (c : ℕ) →
-    is_member set (image entries c) ≡ true → is_member set c ≡ true
+    is_member set (mapped entries c) ≡ true → is_member set c ≡ true
 member_before set entries h c member = elim (stays_or_moves (comes_from set) entries h c) [
   | inl stays ↦ sym (ap (is_member set) stays) ∙ member
-  | inr by ↦ carried set (targets by.0) (sources by.0) (image entries c) c by.1.passes by.1.to_target by.1.from_source member
+  | inr by ↦ carried set (targets by.0) (sources by.0) (mapped entries c) c by.1.passes by.1.to_target by.1.from_source member
 ]
 
 member_after : (set : List Bounds) (entries : List FoldEntry) → list_all (stays_in set) entries ≡ true → (c : ℕ) →
-    is_member set c ≡ true → is_member set (image entries c) ≡ true
+    is_member set c ≡ true → is_member set (mapped entries c) ≡ true
 member_after set entries h c member = elim (stays_or_moves (stays_in set) entries h c) [
   | inl stays ↦ ap (is_member set) stays ∙ member
-  | inr by ↦ carried set (sources by.0) (targets by.0) c (image entries c) by.1.passes by.1.from_source by.1.to_target member
+  | inr by ↦ carried set (sources by.0) (targets by.0) c (mapped entries c) by.1.passes by.1.from_source by.1.to_target member
 ]
 
-variants : (set : List Bounds) (entries : List FoldEntry) → list_all (moves_in set) entries ≡ true → HasVariantsIn set (image entries)
+variants : (set : List Bounds) (entries : List FoldEntry) → list_all (moves_in set) entries ≡ true → HasVariantsIn set (mapped entries)
 variants set entries h a b none same =
-    let own : image entries a ≡ a = elim (stays_or_moves (moves_in set) entries h a) [
+    let own : mapped entries a ≡ a = elim (stays_or_moves (moves_in set) entries h a) [
       | inl stays ↦ stays
       | inr by ↦ absurd (false≢true (sym none
           ∙ inside set (sources by.0) a (and_parts _ (is_inside set (targets by.0)) by.1.passes).0 by.1.from_source))
@@ -114,7 +114,7 @@ variants set entries h a b none same =
     elim (stays_or_moves (moves_in set) entries h b) [
       | inl stays ↦ sym stays ∙ same ∙ own
       | inr by ↦ absurd (false≢true (sym none ∙ ap (is_member set) (sym (same ∙ own))
-          ∙ inside set (targets by.0) (image entries b) (and_parts (is_inside set (sources by.0)) _ by.1.passes).1 by.1.to_target))
+          ∙ inside set (targets by.0) (mapped entries b) (and_parts (is_inside set (sources by.0)) _ by.1.passes).1 by.1.to_target))
     ]
 
 -- ---- ASCII
@@ -161,21 +161,21 @@ letters_below : (c : ℕ) → is_member letters c ≡ true → c < 128
 unfolding is_member is_within
 letters_below c member = grind (arith, nat_tests, member)
 
-ascii_before : (entries : List FoldEntry) → list_all gives_ascii entries ≡ true → (c : ℕ) → is_member letters (image entries c) ≡ true → c < 128
+ascii_before : (entries : List FoldEntry) → list_all gives_ascii entries ≡ true → (c : ℕ) → is_member letters (mapped entries c) ≡ true → c < 128
 unfolding is_within
 ascii_before entries h c member = elim (stays_or_moves gives_ascii entries h c) [
   | inl stays ↦ letters_below c (sym (ap (is_member letters) stays) ∙ member)
   | inr by ↦ by_test by.0 by.1 (nat_lt (sources by.0).last 128) refl by.1.passes
 ]
   where
-    by_test : (entry : FoldEntry) → IsMovedBy gives_ascii c (image entries c) entry → (b : Bool) → nat_lt (sources entry).last 128 ≡ b →
+    by_test : (entry : FoldEntry) → IsMovedBy gives_ascii c (mapped entries c) entry → (b : Bool) → nat_lt (sources entry).last 128 ≡ b →
         (b || is_outside letters (targets entry)) ≡ true → c < 128
     by_test entry by true e t = grind (arith, nat_tests, e, by.from_source)
-    by_test entry by false e t = absurd (not_outside letters (targets entry) (image entries c) t by.to_target member)
+    by_test entry by false e t = absurd (not_outside letters (targets entry) (mapped entries c) t by.to_target member)
 
-module _ (folds uppers : List FoldEntry) (folded : (c : ℕ) → c < 128 → image folds c ≡ lower c) (raised : (c : ℕ) → c < 128 → image uppers c ≡ upper c)
-    (from_ascii : (c : ℕ) → is_member letters (image folds c) ≡ true → c < 128) (above : (c : ℕ) → 128 ≤ c → 128 ≤ image uppers c) where
-  ascii_same : (a b : ℕ) → a < 128 → b < 128 → (image uppers b == image uppers a) ≡ (image folds b == image folds a)
+module _ (folds uppers : List FoldEntry) (folded : (c : ℕ) → c < 128 → mapped folds c ≡ lower c) (raised : (c : ℕ) → c < 128 → mapped uppers c ≡ upper c)
+    (from_ascii : (c : ℕ) → is_member letters (mapped folds c) ≡ true → c < 128) (above : (c : ℕ) → 128 ≤ c → 128 ≤ mapped uppers c) where
+  ascii_same : (a b : ℕ) → a < 128 → b < 128 → (mapped uppers b == mapped uppers a) ≡ (mapped folds b == mapped folds a)
   ascii_same a b low_a low_b =
       ap₂ (λ (x y : ℕ). x == y) (raised b low_b) (raised a low_a) ∙ same_case a b
       ∙ sym (ap₂ (λ (x y : ℕ). x == y) (folded b low_b) (folded a low_a))
@@ -183,16 +183,16 @@ module _ (folds uppers : List FoldEntry) (folded : (c : ℕ) → c < 128 → ima
   upper_low : (a : ℕ) → a < 128 → upper a < 128
   upper_low a low = grind (arith, nat_tests, low)
 
-  letter_same : (a b : ℕ) → a < 128 → is_member letters (lower a) ≡ true → (image uppers b == image uppers a) ≡ (image folds b == image folds a)
+  letter_same : (a b : ℕ) → a < 128 → is_member letters (lower a) ≡ true → (mapped uppers b == mapped uppers a) ≡ (mapped folds b == mapped folds a)
   letter_same a b low letter =
       same_truth _ _
       (λ h.
-      let same : image uppers b ≡ image uppers a = eqb-true _ _ h in
+      let same : mapped uppers b ≡ mapped uppers a = eqb-true _ _ h in
       let below : b < 128 = ⊎_elim (λ (under : b < 128). under)
       (λ (over : 128 ≤ b). absurd (omega (arith, above b over, upper_low a low, same, raised a low))) (cases_lt b 128) in
       sym (ascii_same a b low below) ∙ h)
       (λ h.
-      let same : image folds b ≡ lower a = eqb-true _ _ h ∙ folded a low in
+      let same : mapped folds b ≡ lower a = eqb-true _ _ h ∙ folded a low in
       ascii_same a b low (from_ascii b (ap (is_member letters) same ∙ letter)) ∙ h)
 
 -- a member of `cased` that is not in `unlike`
@@ -214,33 +214,33 @@ letter_of c none member = by_test (is_member unlike c) (is_member cased c) none 
 
 -- ---- the table of all of Unicode
 
-folded_ascii : list_all (λ c. image unicode_parts.folds c == lower c) ascii ≡ true
-unfolding unicode_parts image
+folded_ascii : list_all (λ c. mapped unicode_parts.folds c == lower c) ascii ≡ true
+unfolding unicode_parts mapped
 folded_ascii = refl
 
-raised_ascii : list_all (λ c. image unicode_parts.uppers c == upper c) ascii ≡ true
-unfolding unicode_parts image
+raised_ascii : list_all (λ c. mapped unicode_parts.uppers c == upper c) ascii ≡ true
+unfolding unicode_parts mapped
 raised_ascii = refl
 
 unicode_same : (a b : ℕ) → is_member unlike a ≡ false →
-    (image unicode_parts.uppers b == image unicode_parts.uppers a) ≡ (image unicode_parts.folds b == image unicode_parts.folds a)
+    (mapped unicode_parts.uppers b == mapped unicode_parts.uppers a) ≡ (mapped unicode_parts.folds b == mapped unicode_parts.folds a)
 unfolding unicode_parts unlike
 unicode_same a b none = by_test (is_member cased a) refl
   where
-    folded : (c : ℕ) → c < 128 → image unicode_parts.folds c ≡ lower c
-    folded c low = eqb-true _ _ (in_ascii (λ c. image unicode_parts.folds c == lower c) folded_ascii c low)
+    folded : (c : ℕ) → c < 128 → mapped unicode_parts.folds c ≡ lower c
+    folded c low = eqb-true _ _ (in_ascii (λ c. mapped unicode_parts.folds c == lower c) folded_ascii c low)
 
-    raised : (c : ℕ) → c < 128 → image unicode_parts.uppers c ≡ upper c
-    raised c low = eqb-true _ _ (in_ascii (λ c. image unicode_parts.uppers c == upper c) raised_ascii c low)
+    raised : (c : ℕ) → c < 128 → mapped unicode_parts.uppers c ≡ upper c
+    raised c low = eqb-true _ _ (in_ascii (λ c. mapped unicode_parts.uppers c == upper c) raised_ascii c low)
 
-    by_test : (c : Bool) → is_member cased a ≡ c → (image unicode_parts.uppers b == image unicode_parts.uppers a) ≡ (image unicode_parts.folds b == image unicode_parts.folds a)
+    by_test : (c : Bool) → is_member cased a ≡ c → (mapped unicode_parts.uppers b == mapped unicode_parts.uppers a) ≡ (mapped unicode_parts.folds b == mapped unicode_parts.folds a)
     by_test true e =
         letter_same unicode_parts.folds unicode_parts.uppers folded raised (ascii_before unicode_parts.folds refl) (above_ascii unicode_parts.uppers refl) a b
         (cased_below a none e) (letter_of a none e)
     by_test false e =
         same_truth _ _
-        (λ h. let same : b ≡ a = variants cased unicode_parts.uppers refl a b e (eqb-true _ _ h) in eq-eqb _ _ (ap (image unicode_parts.folds) same))
-        (λ h. let same : b ≡ a = variants cased unicode_parts.folds refl a b e (eqb-true _ _ h) in eq-eqb _ _ (ap (image unicode_parts.uppers) same))
+        (λ h. let same : b ≡ a = variants cased unicode_parts.uppers refl a b e (eqb-true _ _ h) in eq-eqb _ _ (ap (mapped unicode_parts.folds) same))
+        (λ h. let same : b ≡ a = variants cased unicode_parts.folds refl a b e (eqb-true _ _ h) in eq-eqb _ _ (ap (mapped unicode_parts.uppers) same))
 
 pub unicode_case_data : HasCaseDataOfUnicode unicode_table
 unfolding unicode_table unicode_parts unlike

@@ -65,13 +65,13 @@ fn folds_to_word(known: Known<'_>, c: u32) -> bool
     if is_word(c) {
         return true;
     }
-    let image = known.fold(c);
+    let mapped = known.fold(c);
     if known.facts.ascii_fold {
         // each word character folds to a word character
-        return is_word(image);
+        return is_word(mapped);
     }
     for m in 0x30..0x7B {
-        if is_word(m) && known.fold(m) == image {
+        if is_word(m) && known.fold(m) == mapped {
             return true;
         }
     }

@@ -58,8 +58,8 @@ reports-one bytes count utf8 e =
     (λ said. are-one bytes utf8 (sym e ∙ eqb-true count 1 said), λ are. eq-eqb count 1 (e ∙ one-are bytes are))
 
 -- What holds for all elements of a mapped list holds for the mapped element.
-pub at-image : {X Y : Type 0} (P : Y → Type 0) (f : X → Y) (xs : List X) (i : ℕ) (d x : X) → i < length xs → x ≡ get_or xs i d →
+pub at-mapped : {X Y : Type 0} (P : Y → Type 0) (f : X → Y) (xs : List X) (i : ℕ) (d x : X) → i < length xs → x ≡ get_or xs i d →
     All P (map f xs) → P (f x)
-at-image P f xs i d x h at all =
+at-mapped P f xs i d x h at all =
     let inside : i < length (map f xs) = rw length-map h in
     subst P (get_or-map f xs i d ∙ ap f (sym at)) (all i (f d) inside)

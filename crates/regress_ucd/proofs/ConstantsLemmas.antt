@@ -2,7 +2,7 @@
 use Rattle.std.proofs.Common.{◌≡◌, true, map, All, refl}
 use Rattle.std.proofs.lemmas.List.Sums.{AllPass-from_list_all}
 use Rattle.std.proofs.lemmas.List.Elements.{All-weaker}
-use Rattle.regress_unicode.specs.FoldEntries.{IsPackableEntry, image}
+use Rattle.regress_unicode.specs.FoldEntries.{IsPackableEntry, mapped}
 use Rattle.regress_unicode.specs.Parts.{AreValidEntries}
 use Rattle.regress_unicode.proofs.lemmas.Soundness.{sound_mappings}
 use Rattle.regress_ucd.specs.declared.cases.TheConstants.{FOLDS, UPPERS}
@@ -18,9 +18,9 @@ uppers = All-weaker (λ r. is_packable (mapping r) ≡ true) (λ r. IsPackableEn
     (AllPass-from_list_all (λ r. is_packable (mapping r)) UPPERS.now refl)
 
 pub valid_folds : AreValidEntries (map mapping FOLDS.now)
-unfolding image
+unfolding mapped
 valid_folds = sound_mappings (map mapping FOLDS.now) refl refl refl
 
 pub valid_uppers : AreValidEntries (map mapping UPPERS.now)
-unfolding image
+unfolding mapped
 valid_uppers = sound_mappings (map mapping UPPERS.now) refl refl refl

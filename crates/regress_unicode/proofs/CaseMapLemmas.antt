@@ -10,21 +10,21 @@ use Rattle.std.specs.Ordering.{nat_cmp, is_lt}
 use Rattle.std.specs.List.{range_with_len}
 use Rattle.regress_base.specs.Intervals.{code_point_max}
 use Rattle.regress_base.specs.Listing.{lists, is_ascending_from}
-use Rattle.regress_unicode.specs.FoldEntries.{FoldEntry, moved, is_in_mapping, image_in_mapping, image, is_in_order_from, is_in_order, are_targets_in_range}
+use Rattle.regress_unicode.specs.FoldEntries.{FoldEntry, moved, is_in_mapping, mapped_in_mapping, mapped, is_in_order_from, is_in_order, are_targets_in_range}
 use Rattle.regress_unicode.specs.Parts.{AreValidEntries}
-use Rattle.regress_unicode.specs.Moves.{codes, moves, mapped_code_points, images, count_of, HasNoFour}
+use Rattle.regress_unicode.specs.Moves.{codes, moves, mapped_code_points, targets, count_of, HasNoFour}
 use Rattle.regress_base.specs.Table.{IsIdempotent, HasSmallClasses, IsCaseMapping}
 use Rattle.regress_base.proofs.lemmas.Listings.{ascending_parts, ascending_within, ascending_filter, lists-tail, lists-past, lists-filter, length_without, ascending_append, lists-append, lists-run}
 use Rattle.regress_unicode.proofs.ListLemmas.{order_parts, shifted_is}
 
 -- a number that is mapped to another one is in a range
-pub moves_in_codes : (mappings : List FoldEntry) (c : ℕ) → (lists (codes mappings) c ≡ true) ⊎ (image mappings c ≡ c)
-unfolding image
+pub moves_in_codes : (mappings : List FoldEntry) (c : ℕ) → (lists (codes mappings) c ≡ true) ⊎ (mapped mappings c ≡ c)
+unfolding mapped
 moves_in_codes [] c = inr refl
 moves_in_codes (mapping ∷ mappings) c = by_mapping (is_in_mapping mapping c) refl (moves_in_codes mappings c)
   where
-    by_mapping : (b : Bool) → is_in_mapping mapping c ≡ b → (lists (codes mappings) c ≡ true) ⊎ (image mappings c ≡ c) →
-        (lists (range_with_len mapping.start mapping.length ++ codes mappings) c ≡ true) ⊎ (cond b (image_in_mapping mapping c) (image mappings c) ≡ c)
+    by_mapping : (b : Bool) → is_in_mapping mapping c ≡ b → (lists (codes mappings) c ≡ true) ⊎ (mapped mappings c ≡ c) →
+        (lists (range_with_len mapping.start mapping.length ++ codes mappings) c ≡ true) ⊎ (cond b (mapped_in_mapping mapping c) (mapped mappings c) ≡ c)
     by_mapping true e rest = inl (lists-append (range_with_len mapping.start mapping.length) (codes mappings) c ∙
         (let here : lists (range_with_len mapping.start mapping.length) c ≡ true = lists-run mapping.start mapping.length c ∙ e in rw here))
     by_mapping false e (inl later) = inl (lists-append (range_with_len mapping.start mapping.length) (codes mappings) c ∙ (rw later (or-true _)))
@@ -37,21 +37,21 @@ ascending_codes low (mapping ∷ mappings) h =
     let parts = order_parts low mapping mappings h in
     ascending_append low mapping.start mapping.length (codes mappings) parts.above (ascending_codes (mapping.start + mapping.length) mappings parts.rest)
 
-pub mover_listed : (mappings : List FoldEntry) (c : ℕ) → image mappings c ≢ c → lists (mapped_code_points (image mappings) mappings) c ≡ true
+pub mover_listed : (mappings : List FoldEntry) (c : ℕ) → mapped mappings c ≢ c → lists (mapped_code_points (mapped mappings) mappings) c ≡ true
 mover_listed mappings c other = elim (moves_in_codes mappings c) [
-  | inl here ↦ lists-filter (moves (image mappings)) (codes mappings) c ∙
-      (let no : (image mappings c == c) ≡ false = grind (arith, nat_tests, other) in rw (no, here))
+  | inl here ↦ lists-filter (moves (mapped mappings)) (codes mappings) c ∙
+      (let no : (mapped mappings c == c) ≡ false = grind (arith, nat_tests, other) in rw (no, here))
   | inr stays ↦ absurd (other stays)
 ]
 
 -- ---- idempotent
 
 -- a mapping is idempotent if every result of it is mapped to itself
-pub idempotent_from_movers : (mappings : List FoldEntry) → ((c : ℕ) → lists (mapped_code_points (image mappings) mappings) c ≡ true →
-    image mappings (image mappings c) ≡ image mappings c) → IsIdempotent (image mappings)
+pub idempotent_from_movers : (mappings : List FoldEntry) → ((c : ℕ) → lists (mapped_code_points (mapped mappings) mappings) c ≡ true →
+    mapped mappings (mapped mappings c) ≡ mapped mappings c) → IsIdempotent (mapped mappings)
 idempotent_from_movers mappings h c =
-    elim (cases_eq (image mappings c) c) [
-      | inl stays ↦ ap (image mappings) stays
+    elim (cases_eq (mapped mappings c) c) [
+      | inl stays ↦ ap (mapped mappings) stays
       | inr other ↦ h c (mover_listed mappings c other)
     ]
 
@@ -70,9 +70,9 @@ All-lists P (x ∷ xs) c all h = elim (cases_eq x c) [
 
 -- if at most three other code points are mapped to each canonical form, at most four have the same one
 pub small_from_counts : (mappings : List FoldEntry) → IsTrue (is_in_order mappings) →
-    ((d : ℕ) → count_to (image mappings) d (mapped_code_points (image mappings) mappings) ≤ 3) → HasSmallClasses (image mappings)
+    ((d : ℕ) → count_to (mapped mappings) d (mapped_code_points (mapped mappings) mappings) ≤ 3) → HasSmallClasses (mapped mappings)
 small_from_counts mappings order h d xs up same =
-    let f : ℕ → ℕ = image mappings in
+    let f : ℕ → ℕ = mapped mappings in
     let others : List ℕ = filter (λ x. not (x == d)) xs in
     let moved : List ℕ = filter (λ x. f x == d) (mapped_code_points f mappings) in
     let others_up = ascending_filter 0 (λ x. not (x == d)) xs up in
@@ -132,10 +132,10 @@ All-insert P d (y ∷ ys) here all = by_order (nat_lt d y) (All-insert P d ys he
     by_order false rest = All-cons P y (insert_into d ys) (All-head P y ys all) rest
 
 -- if four other code points are mapped to a canonical form, five have the same one
-pub large_from_count : (mappings : List FoldEntry) (d : ℕ) → IsTrue (is_in_order mappings) → image mappings d ≡ d →
-    4 ≤ count_to (image mappings) d (mapped_code_points (image mappings) mappings) → ¬ HasSmallClasses (image mappings)
+pub large_from_count : (mappings : List FoldEntry) (d : ℕ) → IsTrue (is_in_order mappings) → mapped mappings d ≡ d →
+    4 ≤ count_to (mapped mappings) d (mapped_code_points (mapped mappings) mappings) → ¬ HasSmallClasses (mapped mappings)
 large_from_count mappings d order own h small =
-    let f : ℕ → ℕ = image mappings in
+    let f : ℕ → ℕ = mapped mappings in
     let moved : List ℕ = filter (λ x. f x == d) (mapped_code_points f mappings) in
     let moved_up = ascending_filter 0 (λ x. f x == d) (mapped_code_points f mappings)
     (ascending_filter 0 (moves f) (codes mappings) (ascending_codes 0 mappings order)) in
@@ -230,23 +230,23 @@ lists-map f (x ∷ xs) c h = elim (cases_eq x c) [
   | inr other ↦ lists-tail (f x) (map f xs) (f c) (lists-map f xs c (lists-past x xs c other h))
 ]
 
-pub idempotent_from_images : (mappings : List FoldEntry) → All (λ d. image mappings d ≡ d) (images mappings) → IsIdempotent (image mappings)
-idempotent_from_images mappings own =
-    idempotent_from_movers mappings (λ c h. All-lists (λ d. image mappings d ≡ d) (images mappings) (image mappings c) own
-    (lists-map (image mappings) (mapped_code_points (image mappings) mappings) c h))
+pub idempotent_from_targets : (mappings : List FoldEntry) → All (λ d. mapped mappings d ≡ d) (targets mappings) → IsIdempotent (mapped mappings)
+idempotent_from_targets mappings own =
+    idempotent_from_movers mappings (λ c h. All-lists (λ d. mapped mappings d ≡ d) (targets mappings) (mapped mappings c) own
+    (lists-map (mapped mappings) (mapped_code_points (mapped mappings) mappings) c h))
 
-pub images_from_idempotent : (mappings : List FoldEntry) → IsIdempotent (image mappings) → All (λ d. image mappings d ≡ d) (images mappings)
-images_from_idempotent mappings h = All-map (λ d. image mappings d ≡ d) (image mappings) (mapped_code_points (image mappings) mappings) (λ k d lt. h _)
+pub targets_from_idempotent : (mappings : List FoldEntry) → IsIdempotent (mapped mappings) → All (λ d. mapped mappings d ≡ d) (targets mappings)
+targets_from_idempotent mappings h = All-map (λ d. mapped mappings d ≡ d) (mapped mappings) (mapped_code_points (mapped mappings) mappings) (λ k d lt. h _)
 
-pub small_from_images : (mappings : List FoldEntry) → IsTrue (is_in_order mappings) → ((d : ℕ) → count_of d (images mappings) ≤ 3) →
-    HasSmallClasses (image mappings)
-small_from_images mappings order few =
-    small_from_counts mappings order (λ d. subst (λ (n : ℕ). n ≤ 3) (count_of-map (image mappings) d (mapped_code_points (image mappings) mappings)) (few d))
+pub small_from_targets : (mappings : List FoldEntry) → IsTrue (is_in_order mappings) → ((d : ℕ) → count_of d (targets mappings) ≤ 3) →
+    HasSmallClasses (mapped mappings)
+small_from_targets mappings order few =
+    small_from_counts mappings order (λ d. subst (λ (n : ℕ). n ≤ 3) (count_of-map (mapped mappings) d (mapped_code_points (mapped mappings) mappings)) (few d))
 
-pub large_from_images : (mappings : List FoldEntry) (d : ℕ) → IsTrue (is_in_order mappings) → image mappings d ≡ d → 4 ≤ count_of d (images mappings) →
-    ¬ HasSmallClasses (image mappings)
-large_from_images mappings d order own many =
-    large_from_count mappings d order own (subst (λ (n : ℕ). 4 ≤ n) (count_of-map (image mappings) d (mapped_code_points (image mappings) mappings)) many)
+pub large_from_targets : (mappings : List FoldEntry) (d : ℕ) → IsTrue (is_in_order mappings) → mapped mappings d ≡ d → 4 ≤ count_of d (targets mappings) →
+    ¬ HasSmallClasses (mapped mappings)
+large_from_targets mappings d order own many =
+    large_from_count mappings d order own (subst (λ (n : ℕ). 4 ≤ n) (count_of-map (mapped mappings) d (mapped_code_points (mapped mappings) mappings)) many)
 
 -- a number that is not in the list occurs zero times
 pub count_of_absent : (d : ℕ) (xs : List ℕ) → lists xs d ≡ false → count_of d xs ≡ 0
@@ -258,12 +258,12 @@ count_of_absent d (x ∷ xs) h =
 
 -- ---- the whole mapping
 
-pub image_in_range : (mappings : List FoldEntry) (c : ℕ) → IsTrue (are_targets_in_range mappings) → c ≤ code_point_max → image mappings c ≤ code_point_max
-unfolding image
-image_in_range [] c h le = le
-image_in_range (mapping ∷ mappings) c h le = by_mapping (is_in_mapping mapping c) refl (image_in_range mappings c (grind (arith, nat_tests, h)) le)
+pub mapped_in_range : (mappings : List FoldEntry) (c : ℕ) → IsTrue (are_targets_in_range mappings) → c ≤ code_point_max → mapped mappings c ≤ code_point_max
+unfolding mapped
+mapped_in_range [] c h le = le
+mapped_in_range (mapping ∷ mappings) c h le = by_mapping (is_in_mapping mapping c) refl (mapped_in_range mappings c (grind (arith, nat_tests, h)) le)
   where
-    by_mapping : (b : Bool) → is_in_mapping mapping c ≡ b → image mappings c ≤ code_point_max → cond b (image_in_mapping mapping c) (image mappings c) ≤ code_point_max
+    by_mapping : (b : Bool) → is_in_mapping mapping c ≡ b → mapped mappings c ≤ code_point_max → cond b (mapped_in_mapping mapping c) (mapped mappings c) ≤ code_point_max
     by_mapping false e rest = rest
     by_mapping true e rest = by_modulo ((c - mapping.start) % mapping.modulo == 0)
       where
@@ -271,10 +271,10 @@ image_in_range (mapping ∷ mappings) c h le = by_mapping (is_in_mapping mapping
         by_modulo true = (shifted_is mapping c (grind (arith, nat_tests, h)) e).1
         by_modulo false = le
 
-pub case_map : (mappings : List FoldEntry) → AreValidEntries mappings → IsCaseMapping (image mappings)
+pub case_map : (mappings : List FoldEntry) → AreValidEntries mappings → IsCaseMapping (mapped mappings)
 case_map mappings sound = record {
   idempotent = sound.idempotent;
-  in_range = λ c le. image_in_range mappings c sound.in_range le;
+  in_range = λ c le. mapped_in_range mappings c sound.in_range le;
   small_classes = sound.small_classes;
 }
 
@@ -301,17 +301,17 @@ many_after_sort xs ys i stable sorted lt same =
     let many = many_between d i (i + 3) ys (IsNonDecreasingBy-from_sort (λ x. x) ys sorted) (omega arith) lt refl (sym same) in
     (d, subst (λ (n : ℕ). 4 ≤ n) (count_of_sorted xs ys d stable) (omega (arith, many)))
 
-pub small_classes_from : (mappings : List FoldEntry) (xs : List ℕ) → xs ≡ images mappings → IsTrue (is_in_order mappings) →
-    ((d : ℕ) → count_of d xs ≤ 3) → HasSmallClasses (image mappings)
+pub small_classes_from : (mappings : List FoldEntry) (xs : List ℕ) → xs ≡ targets mappings → IsTrue (is_in_order mappings) →
+    ((d : ℕ) → count_of d xs ≤ 3) → HasSmallClasses (mapped mappings)
 small_classes_from mappings xs is order few =
-    small_from_images mappings order (λ d. subst (λ (ys : List ℕ). count_of d ys ≤ 3) is (few d))
+    small_from_targets mappings order (λ d. subst (λ (ys : List ℕ). count_of d ys ≤ 3) is (few d))
 
-pub large_classes_from : (mappings : List FoldEntry) (xs : List ℕ) (d : ℕ) → xs ≡ images mappings → IsTrue (is_in_order mappings) →
-    IsIdempotent (image mappings) → 4 ≤ count_of d xs → ¬ HasSmallClasses (image mappings)
+pub large_classes_from : (mappings : List FoldEntry) (xs : List ℕ) (d : ℕ) → xs ≡ targets mappings → IsTrue (is_in_order mappings) →
+    IsIdempotent (mapped mappings) → 4 ≤ count_of d xs → ¬ HasSmallClasses (mapped mappings)
 large_classes_from mappings xs d is order idempotent many =
     let among = subst (λ (ys : List ℕ). 4 ≤ count_of d ys) is many in
-    large_from_images mappings d order (by_member (lists (images mappings) d) refl among) among
+    large_from_targets mappings d order (by_member (lists (targets mappings) d) refl among) among
   where
-    by_member : (b : Bool) → lists (images mappings) d ≡ b → 4 ≤ count_of d (images mappings) → image mappings d ≡ d
-    by_member true e among = All-lists (λ x. image mappings x ≡ x) (images mappings) d (images_from_idempotent mappings idempotent) e
-    by_member false e among = absurd (omega (arith, count_of_absent d (images mappings) e))
+    by_member : (b : Bool) → lists (targets mappings) d ≡ b → 4 ≤ count_of d (targets mappings) → mapped mappings d ≡ d
+    by_member true e among = All-lists (λ x. mapped mappings x ≡ x) (targets mappings) d (targets_from_idempotent mappings idempotent) e
+    by_member false e among = absurd (omega (arith, count_of_absent d (targets mappings) e))

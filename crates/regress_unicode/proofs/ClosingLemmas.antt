@@ -199,19 +199,19 @@ beyond ivs low high x ends out = by_test (is_member ivs x) refl
 -- ---- ranges that are mapped into one interval
 
 -- what a shift maps a code point to lies between what it maps its ends to
-images_between : (s : Shift) (p : ℕ → Bool) (c : ℕ) (delta : ℤ) → IsTrue (stays_in_range delta s.first) →
+targets_between : (s : Shift) (p : ℕ → Bool) (c : ℕ) (delta : ℤ) → IsTrue (stays_in_range delta s.first) →
     IsTrue (maps_to (record { first = s.first; last = s.last; delta = delta; modulo = s.modulo }) p c) →
     (moved delta s.first ≤ c) × (c ≤ moved delta s.last)
 unfolding maps_to
-images_between s p c (pos n) first image = (grind (arith, nat_tests, image), grind (arith, nat_tests, image))
-images_between s p c (negsuc n) first image = (grind (arith, nat_tests, first, image), grind (arith, nat_tests, first, image))
+targets_between s p c (pos n) first mapped = (grind (arith, nat_tests, mapped), grind (arith, nat_tests, mapped))
+targets_between s p c (negsuc n) first mapped = (grind (arith, nat_tests, first, mapped), grind (arith, nat_tests, first, mapped))
 
 -- an interval that contains what both ends are mapped to contains what any code point is mapped to
-pub image_within : (s : Shift) (p : ℕ → Bool) (c : ℕ) (iv : Bounds) → IsShift s → iv.first ≤ moved s.delta s.first →
+pub mapped_within : (s : Shift) (p : ℕ → Bool) (c : ℕ) (iv : Bounds) → IsShift s → iv.first ≤ moved s.delta s.first →
     moved s.delta s.last ≤ iv.last → IsTrue (maps_to s p c) → (moved s.delta s.first ≤ c) × (is_within iv c ≡ true)
 unfolding is_within
-image_within s p c iv shift first last image =
-    let between = images_between s p c s.delta shift.first_lands image in
+mapped_within s p c iv shift first last mapped =
+    let between = targets_between s p c s.delta shift.first_lands mapped in
     (between.0, grind (arith, nat_tests, first, last, between.0, between.1))
 
 abbrev within_some : Option Bounds → ℕ → Bool

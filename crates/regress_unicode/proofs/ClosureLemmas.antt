@@ -8,7 +8,7 @@ use Rattle.std.specs.List.{list_any}
 use Rattle.regress_base.proofs.lemmas.Sets.{is_member-nil, is_member-cons}
 use Rattle.regress_base.specs.Intervals.{Bounds, code_point_max, is_within, is_member}
 use Rattle.regress_unicode.specs.declared.shift.Shift.{Shift}
-use Rattle.regress_unicode.specs.FoldEntries.{FoldEntry, moved, is_in_mapping, image_in_mapping, image, stays_in_range, is_target_in_range, are_targets_in_range, is_in_order_from, is_in_order}
+use Rattle.regress_unicode.specs.FoldEntries.{FoldEntry, moved, is_in_mapping, mapped_in_mapping, mapped, stays_in_range, is_target_in_range, are_targets_in_range, is_in_order_from, is_in_order}
 use Rattle.regress_base.specs.Listing.{lists, code_points}
 use Rattle.regress_base.specs.Table.{Table, IsIdempotent, is_in_closure}
 use Rattle.regress_base.proofs.lemmas.Listings.{lists-head, lists-tail, lists-past, lists-interval}
@@ -22,8 +22,8 @@ pub record IsGoodMapping (mapping : FoldEntry) : Type 0 where
   pub target : IsTrue (is_target_in_range mapping)
 
 -- a code point of an entry that is mapped to another one is at a multiple of the modulo
-moves_aligned : (mapping : FoldEntry) (x : ℕ) → image_in_mapping mapping x ≢ x → (((x - mapping.start) % mapping.modulo == 0) ≡ true) ×
-    (image_in_mapping mapping x ≡ moved mapping.delta x)
+moves_aligned : (mapping : FoldEntry) (x : ℕ) → mapped_in_mapping mapping x ≢ x → (((x - mapping.start) % mapping.modulo == 0) ≡ true) ×
+    (mapped_in_mapping mapping x ≡ moved mapping.delta x)
 moves_aligned mapping x other = by_test ((x - mapping.start) % mapping.modulo == 0) other
   where
     by_test : (b : Bool) → cond b (moved mapping.delta x) x ≢ x → (b ≡ true) × (cond b (moved mapping.delta x) x ≡ moved mapping.delta x)
@@ -47,7 +47,7 @@ lands_at s p x c from hit passes to =
 
 -- what the shift of an entry maps
 forward_gives : (mapping : FoldEntry) (p : ℕ → Bool) (c : ℕ) → IsGoodMapping mapping → maps_to (forward mapping) p c ≡ true →
-    (x : ℕ) × (is_in_mapping mapping x ≡ true) × (image_in_mapping mapping x ≡ c) × (p x ≡ true)
+    (x : ℕ) × (is_in_mapping mapping x ≡ true) × (mapped_in_mapping mapping x ≡ c) × (p x ≡ true)
 unfolding maps_to
 forward_gives mapping p c good h =
     let x : ℕ = origin mapping.delta c in
@@ -69,8 +69,8 @@ hit_from : (first last modulo x : ℕ) → first ≤ x → x ≤ last → ((x - 
     ((nat_le first x && nat_le x last) && (x - first) % modulo == 0) ≡ true
 hit_from first last modulo x low high on = rw on (grind (arith, nat_tests))
 
-forward_from : (mapping : FoldEntry) (p : ℕ → Bool) (x : ℕ) → IsGoodMapping mapping → is_in_mapping mapping x ≡ true → image_in_mapping mapping x ≢ x → p x ≡ true →
-    maps_to (forward mapping) p (image_in_mapping mapping x) ≡ true
+forward_from : (mapping : FoldEntry) (p : ℕ → Bool) (x : ℕ) → IsGoodMapping mapping → is_in_mapping mapping x ≡ true → mapped_in_mapping mapping x ≢ x → p x ≡ true →
+    maps_to (forward mapping) p (mapped_in_mapping mapping x) ≡ true
 forward_from mapping p x good within other passes =
     let on = moves_aligned mapping x other in
     let bounds = in_mapping_bounds mapping x within in
@@ -82,8 +82,8 @@ moved_le : (delta : ℤ) (x y : ℕ) → x ≤ y → moved delta x ≤ moved del
 moved_le (pos n) x y le = omega arith
 moved_le (negsuc n) x y le = omega arith
 
-backward_from : (mapping : FoldEntry) (p : ℕ → Bool) (x : ℕ) → IsGoodMapping mapping → is_in_mapping mapping x ≡ true → image_in_mapping mapping x ≢ x →
-    p (image_in_mapping mapping x) ≡ true → maps_to (backward mapping) p x ≡ true
+backward_from : (mapping : FoldEntry) (p : ℕ → Bool) (x : ℕ) → IsGoodMapping mapping → is_in_mapping mapping x ≡ true → mapped_in_mapping mapping x ≢ x →
+    p (mapped_in_mapping mapping x) ≡ true → maps_to (backward mapping) p x ≡ true
 backward_from mapping p x good within other passes =
     let on = moves_aligned mapping x other in
     let bounds = in_mapping_bounds mapping x within in
@@ -121,7 +121,7 @@ lands_parts s p c h = record {
 }
 
 backward_gives : (mapping : FoldEntry) (p : ℕ → Bool) (x : ℕ) → IsGoodMapping mapping → maps_to (backward mapping) p x ≡ true → (is_in_mapping mapping x ≡ true) ×
-    (p (image_in_mapping mapping x) ≡ true)
+    (p (mapped_in_mapping mapping x) ≡ true)
 backward_gives mapping p x good h =
     let parts = lands_parts (backward mapping) p x h in
     let ends = good_start mapping good in
@@ -148,20 +148,20 @@ good_mappings (mapping ∷ mappings) targets nonempty = (
 )
 
 -- a canonical form that the first entry determines, and one that a later entry determines
-image_here : (mapping : FoldEntry) (mappings : List FoldEntry) (x : ℕ) → is_in_mapping mapping x ≡ true → image (mapping ∷ mappings) x ≡ image_in_mapping mapping x
-unfolding image
-image_here mapping mappings x e = rw e
+mapped_here : (mapping : FoldEntry) (mappings : List FoldEntry) (x : ℕ) → is_in_mapping mapping x ≡ true → mapped (mapping ∷ mappings) x ≡ mapped_in_mapping mapping x
+unfolding mapped
+mapped_here mapping mappings x e = rw e
 
-image_later : (mapping : FoldEntry) (mappings : List FoldEntry) (x : ℕ) → is_in_mapping mapping x ≡ false → image (mapping ∷ mappings) x ≡ image mappings x
-unfolding image
-image_later mapping mappings x e = rw e
+mapped_later : (mapping : FoldEntry) (mappings : List FoldEntry) (x : ℕ) → is_in_mapping mapping x ≡ false → mapped (mapping ∷ mappings) x ≡ mapped mappings x
+unfolding mapped
+mapped_later mapping mappings x e = rw e
 
 past_mapping : (mapping : FoldEntry) (x : ℕ) → mapping.start + mapping.length ≤ x → is_in_mapping mapping x ≡ false
 past_mapping mapping x le = grind (arith, nat_tests)
 
 mappings_forward_gives : (low : ℕ) (mappings : List FoldEntry) (p : ℕ → Bool) (c : ℕ) → IsTrue (is_in_order_from low mappings) → AreGoodMappings mappings →
     maps_to_by forward mappings p c ≡ true →
-    (x : ℕ) × (low ≤ x) × (image mappings x ≡ c) × (p x ≡ true)
+    (x : ℕ) × (low ≤ x) × (mapped mappings x ≡ c) × (p x ≡ true)
 unfolding maps_to_by
 mappings_forward_gives low [] p c order good h = let no : false ≡ true = h in cc
 mappings_forward_gives low (mapping ∷ mappings) p c order good h =
@@ -169,32 +169,32 @@ mappings_forward_gives low (mapping ∷ mappings) p c order good h =
     by_mapping (maps_to (forward mapping) p c) refl h parts.above (mappings_forward_gives (mapping.start + mapping.length) mappings p c parts.rest good.1)
   where
     by_mapping : (b : Bool) → maps_to (forward mapping) p c ≡ b → (b || list_any (λ r. maps_to (forward r) p c) mappings) ≡ true → low ≤ mapping.start →
-        (list_any (λ r. maps_to (forward r) p c) mappings ≡ true → (x : ℕ) × (mapping.start + mapping.length ≤ x) × (image mappings x ≡ c) × (p x ≡ true)) →
-        (x : ℕ) × (low ≤ x) × (image (mapping ∷ mappings) x ≡ c) × (p x ≡ true)
+        (list_any (λ r. maps_to (forward r) p c) mappings ≡ true → (x : ℕ) × (mapping.start + mapping.length ≤ x) × (mapped mappings x ≡ c) × (p x ≡ true)) →
+        (x : ℕ) × (low ≤ x) × (mapped (mapping ∷ mappings) x ≡ c) × (p x ≡ true)
     by_mapping true here h above later =
         let found = forward_gives mapping p c good.0 here in
-        (found.0, omega (arith, (in_mapping_bounds mapping found.0 found.1).0, above), image_here mapping mappings found.0 found.1 ∙ found.2, found.3)
+        (found.0, omega (arith, (in_mapping_bounds mapping found.0 found.1).0, above), mapped_here mapping mappings found.0 found.1 ∙ found.2, found.3)
     by_mapping false here h above later =
         let found = later h in
-        (found.0, omega (arith, found.1, above), image_later mapping mappings found.0 (past_mapping mapping found.0 found.1) ∙ found.2, found.3)
+        (found.0, omega (arith, found.1, above), mapped_later mapping mappings found.0 (past_mapping mapping found.0 found.1) ∙ found.2, found.3)
 
-mappings_forward_from : (mappings : List FoldEntry) (p : ℕ → Bool) (x : ℕ) → AreGoodMappings mappings → image mappings x ≢ x → p x ≡ true →
-    maps_to_by forward mappings p (image mappings x) ≡ true
-unfolding maps_to_by image
+mappings_forward_from : (mappings : List FoldEntry) (p : ℕ → Bool) (x : ℕ) → AreGoodMappings mappings → mapped mappings x ≢ x → p x ≡ true →
+    maps_to_by forward mappings p (mapped mappings x) ≡ true
+unfolding maps_to_by mapped
 mappings_forward_from [] p x good other passes = absurd (other refl)
 mappings_forward_from (mapping ∷ mappings) p x good other passes = by_mapping (is_in_mapping mapping x) refl
     (λ ne. mappings_forward_from mappings p x good.1 ne passes) other
   where
-    by_mapping : (b : Bool) → is_in_mapping mapping x ≡ b → (image mappings x ≢ x → maps_to_by forward mappings p (image mappings x) ≡ true) →
-        cond b (image_in_mapping mapping x) (image mappings x) ≢ x →
-        (maps_to (forward mapping) p (cond b (image_in_mapping mapping x) (image mappings x)) || list_any
-        (λ r. maps_to (forward r) p (cond b (image_in_mapping mapping x) (image mappings x))) mappings) ≡ true
+    by_mapping : (b : Bool) → is_in_mapping mapping x ≡ b → (mapped mappings x ≢ x → maps_to_by forward mappings p (mapped mappings x) ≡ true) →
+        cond b (mapped_in_mapping mapping x) (mapped mappings x) ≢ x →
+        (maps_to (forward mapping) p (cond b (mapped_in_mapping mapping x) (mapped mappings x)) || list_any
+        (λ r. maps_to (forward r) p (cond b (mapped_in_mapping mapping x) (mapped mappings x))) mappings) ≡ true
     by_mapping true e later ne = rw (forward_from mapping p x good.0 e ne passes)
-    by_mapping false e later ne = rw (later ne) (or-true (maps_to (forward mapping) p (image mappings x)))
+    by_mapping false e later ne = rw (later ne) (or-true (maps_to (forward mapping) p (mapped mappings x)))
 
 mappings_backward_gives : (low : ℕ) (mappings : List FoldEntry) (p : ℕ → Bool) (x : ℕ) → IsTrue (is_in_order_from low mappings) → AreGoodMappings mappings →
     maps_to_by backward mappings p x ≡ true →
-    (low ≤ x) × (p (image mappings x) ≡ true)
+    (low ≤ x) × (p (mapped mappings x) ≡ true)
 unfolding maps_to_by
 mappings_backward_gives low [] p x order good h = let no : false ≡ true = h in cc
 mappings_backward_gives low (mapping ∷ mappings) p x order good h =
@@ -202,23 +202,23 @@ mappings_backward_gives low (mapping ∷ mappings) p x order good h =
     by_mapping (maps_to (backward mapping) p x) refl h parts.above (mappings_backward_gives (mapping.start + mapping.length) mappings p x parts.rest good.1)
   where
     by_mapping : (b : Bool) → maps_to (backward mapping) p x ≡ b → (b || list_any (λ r. maps_to (backward r) p x) mappings) ≡ true → low ≤ mapping.start →
-        (list_any (λ r. maps_to (backward r) p x) mappings ≡ true → (mapping.start + mapping.length ≤ x) × (p (image mappings x) ≡ true)) → (low ≤ x) ×
-        (p (image (mapping ∷ mappings) x) ≡ true)
+        (list_any (λ r. maps_to (backward r) p x) mappings ≡ true → (mapping.start + mapping.length ≤ x) × (p (mapped mappings x) ≡ true)) → (low ≤ x) ×
+        (p (mapped (mapping ∷ mappings) x) ≡ true)
     by_mapping true here h above later =
         let found = backward_gives mapping p x good.0 here in
-        (omega (arith, (in_mapping_bounds mapping x found.0).0, above), ap p (image_here mapping mappings x found.0) ∙ found.1)
+        (omega (arith, (in_mapping_bounds mapping x found.0).0, above), ap p (mapped_here mapping mappings x found.0) ∙ found.1)
     by_mapping false here h above later =
         let found = later h in
-        (omega (arith, found.0, above), ap p (image_later mapping mappings x (past_mapping mapping x found.0)) ∙ found.1)
+        (omega (arith, found.0, above), ap p (mapped_later mapping mappings x (past_mapping mapping x found.0)) ∙ found.1)
 
-mappings_backward_from : (mappings : List FoldEntry) (p : ℕ → Bool) (x : ℕ) → AreGoodMappings mappings → image mappings x ≢ x → p (image mappings x) ≡ true →
+mappings_backward_from : (mappings : List FoldEntry) (p : ℕ → Bool) (x : ℕ) → AreGoodMappings mappings → mapped mappings x ≢ x → p (mapped mappings x) ≡ true →
     maps_to_by backward mappings p x ≡ true
-unfolding maps_to_by image
+unfolding maps_to_by mapped
 mappings_backward_from [] p x good other passes = absurd (other refl)
 mappings_backward_from (mapping ∷ mappings) p x good other passes = by_mapping (is_in_mapping mapping x) refl (mappings_backward_from mappings p x good.1) other passes
   where
-    by_mapping : (b : Bool) → is_in_mapping mapping x ≡ b → (image mappings x ≢ x → p (image mappings x) ≡ true → maps_to_by backward mappings p x ≡ true) →
-        cond b (image_in_mapping mapping x) (image mappings x) ≢ x → p (cond b (image_in_mapping mapping x) (image mappings x)) ≡ true →
+    by_mapping : (b : Bool) → is_in_mapping mapping x ≡ b → (mapped mappings x ≢ x → p (mapped mappings x) ≡ true → maps_to_by backward mappings p x ≡ true) →
+        cond b (mapped_in_mapping mapping x) (mapped mappings x) ≢ x → p (cond b (mapped_in_mapping mapping x) (mapped mappings x)) ≡ true →
         (maps_to (backward mapping) p x || list_any (λ r. maps_to (backward r) p x) mappings) ≡ true
     by_mapping true e later ne passes' = rw (backward_from mapping p x good.0 e ne passes')
     by_mapping false e later ne passes' = rw (later ne passes') (or-true (maps_to (backward mapping) p x))
@@ -291,8 +291,8 @@ closure_gives t set c h =
 pub record ClosesOver (mappings : List FoldEntry) (set : List Bounds) (folded closed : ℕ → Bool) : Type 0 where
   pub in_order : IsTrue (is_in_order mappings)
   pub good : AreGoodMappings mappings
-  pub idempotent : IsIdempotent (image mappings)
-  pub images : (c : ℕ) → folded c ≡ (is_member set c || maps_to_by forward mappings (is_member set) c)
+  pub idempotent : IsIdempotent (mapped mappings)
+  pub targets : (c : ℕ) → folded c ≡ (is_member set c || maps_to_by forward mappings (is_member set) c)
   pub sources : (c : ℕ) → closed c ≡ (folded c || maps_to_by backward mappings folded c)
 
 either : (x y z : Bool) → x ≡ (y || z) → x ≡ true → (y ≡ true) ⊎ (z ≡ true)
@@ -301,44 +301,44 @@ either x false z is h = inr (sym is ∙ h)
 
 folded_gives : (mappings : List FoldEntry) (set : List Bounds) (folded closed : ℕ → Bool) (c : ℕ) → ClosesOver mappings set folded closed →
     folded c ≡ true →
-    (m : ℕ) × (is_member set m ≡ true) × (image mappings m ≡ image mappings c)
+    (m : ℕ) × (is_member set m ≡ true) × (mapped mappings m ≡ mapped mappings c)
 folded_gives mappings set folded closed c over h = elim (either (folded c) (is_member set c) (maps_to_by forward mappings (is_member set) c)
-    (over.images c) h) [
+    (over.targets c) h) [
       | inl member ↦ (c, member, refl)
       | inr maps_to ↦ (
           let found = mappings_forward_gives 0 mappings (is_member set) c over.in_order over.good maps_to in
-          (found.0, found.3, sym (over.idempotent found.0) ∙ ap (image mappings) found.2))
+          (found.0, found.3, sym (over.idempotent found.0) ∙ ap (mapped mappings) found.2))
     ]
 
 closed_gives : (mappings : List FoldEntry) (set : List Bounds) (folded closed : ℕ → Bool) (c : ℕ) → ClosesOver mappings set folded closed →
     closed c ≡ true →
-    (m : ℕ) × (is_member set m ≡ true) × (image mappings m ≡ image mappings c)
+    (m : ℕ) × (is_member set m ≡ true) × (mapped mappings m ≡ mapped mappings c)
 closed_gives mappings set folded closed c over h = elim (either (closed c) (folded c) (maps_to_by backward mappings folded c) (over.sources c) h) [
   | inl in_folded ↦ folded_gives mappings set folded closed c over in_folded
   | inr maps_to ↦ (
       let found = mappings_backward_gives 0 mappings folded c over.in_order over.good maps_to in
-      let from = folded_gives mappings set folded closed (image mappings c) over found.1 in
+      let from = folded_gives mappings set folded closed (mapped mappings c) over found.1 in
       (from.0, from.1, from.2 ∙ over.idempotent c))
 ]
 
-image_folded : (mappings : List FoldEntry) (set : List Bounds) (folded closed : ℕ → Bool) (m : ℕ) → ClosesOver mappings set folded closed →
-    is_member set m ≡ true → folded (image mappings m) ≡ true
-image_folded mappings set folded closed m over member = elim (cases_eq (image mappings m) m) [
-  | inl stays ↦ over.images (image mappings m) ∙ (let here : is_member set (image mappings m) ≡ true = ap (is_member set) stays ∙ member in rw here)
-  | inr other ↦ over.images (image mappings m) ∙ rw (mappings_forward_from mappings (is_member set) m over.good other member)
-      (or-true (is_member set (image mappings m)))
+mapped_folded : (mappings : List FoldEntry) (set : List Bounds) (folded closed : ℕ → Bool) (m : ℕ) → ClosesOver mappings set folded closed →
+    is_member set m ≡ true → folded (mapped mappings m) ≡ true
+mapped_folded mappings set folded closed m over member = elim (cases_eq (mapped mappings m) m) [
+  | inl stays ↦ over.targets (mapped mappings m) ∙ (let here : is_member set (mapped mappings m) ≡ true = ap (is_member set) stays ∙ member in rw here)
+  | inr other ↦ over.targets (mapped mappings m) ∙ rw (mappings_forward_from mappings (is_member set) m over.good other member)
+      (or-true (is_member set (mapped mappings m)))
 ]
 
 closed_from : (mappings : List FoldEntry) (set : List Bounds) (folded closed : ℕ → Bool) (m c : ℕ) → ClosesOver mappings set folded closed →
-    is_member set m ≡ true → image mappings m ≡ image mappings c → closed c ≡ true
+    is_member set m ≡ true → mapped mappings m ≡ mapped mappings c → closed c ≡ true
 closed_from mappings set folded closed m c over member same =
-    let there : folded (image mappings c) ≡ true = ap folded (sym same) ∙ image_folded mappings set folded closed m over member in
-    elim (cases_eq (image mappings c) c) [
+    let there : folded (mapped mappings c) ≡ true = ap folded (sym same) ∙ mapped_folded mappings set folded closed m over member in
+    elim (cases_eq (mapped mappings c) c) [
       | inl stays ↦ over.sources c ∙ (let here : folded c ≡ true = ap folded (sym stays) ∙ there in rw here)
       | inr other ↦ over.sources c ∙ rw (mappings_backward_from mappings folded c over.good other there) (or-true (folded c))
     ]
 
-pub closure_is : (t : Table) (mappings : List FoldEntry) (set : List Bounds) (folded closed : ℕ → Bool) → ((x : ℕ) → t.fold x ≡ image mappings x) →
+pub closure_is : (t : Table) (mappings : List FoldEntry) (set : List Bounds) (folded closed : ℕ → Bool) → ((x : ℕ) → t.fold x ≡ mapped mappings x) →
     ClosesOver mappings set folded closed →
     ((c : ℕ) → closed c ≡ true → c ≤ code_point_max) → (c : ℕ) → closed c ≡ is_in_closure t set c
 closure_is t mappings set folded closed same over bound c = same_tests (closed c) (is_in_closure t set c)

@@ -7,7 +7,7 @@ use Rattle.std.specs.Prelude.{alloc_error}
 use Rattle.regress_unicode.specs.declared.tables_error.Which.TheVariants.{Fold, Upper}
 use Rattle.regress_unicode.specs.declared.tables_error.TablesError.{TablesError}
 use Rattle.regress_unicode.specs.declared.tables_error.TablesError.TheVariants.{RangeOrder, TargetOutOfRange, NotIdempotent, ClassTooLarge, IdentifierPunctuation, BadString, Memory}
-use Rattle.regress_unicode.specs.FoldEntries.{FoldEntry, image, is_in_order, are_targets_in_range}
+use Rattle.regress_unicode.specs.FoldEntries.{FoldEntry, mapped, is_in_order, are_targets_in_range}
 use Rattle.regress_base.specs.Table.{Named, IsIdempotent, HasSmallClasses, is_string}
 use Rattle.regress_unicode.specs.Parts.{Parts, AreValidEntries, strings_of}
 use Rattle.regress_unicode.specs.ConstructionErrors.{Meets, position, IsFirstError}
@@ -78,10 +78,10 @@ meets_by_mappings p q folds uppers (RangeOrder Fold) lt h = subst (λ (mappings 
 meets_by_mappings p q folds uppers (RangeOrder Upper) lt h = subst (λ (mappings : List FoldEntry). IsTrue (is_in_order mappings)) uppers h
 meets_by_mappings p q folds uppers (TargetOutOfRange Fold) lt h = subst (λ (mappings : List FoldEntry). IsTrue (are_targets_in_range mappings)) folds h
 meets_by_mappings p q folds uppers (TargetOutOfRange Upper) lt h = subst (λ (mappings : List FoldEntry). IsTrue (are_targets_in_range mappings)) uppers h
-meets_by_mappings p q folds uppers (NotIdempotent Fold) lt h = subst (λ (mappings : List FoldEntry). IsIdempotent (image mappings)) folds h
-meets_by_mappings p q folds uppers (NotIdempotent Upper) lt h = subst (λ (mappings : List FoldEntry). IsIdempotent (image mappings)) uppers h
-meets_by_mappings p q folds uppers (ClassTooLarge Fold) lt h = subst (λ (mappings : List FoldEntry). HasSmallClasses (image mappings)) folds h
-meets_by_mappings p q folds uppers (ClassTooLarge Upper) lt h = subst (λ (mappings : List FoldEntry). HasSmallClasses (image mappings)) uppers h
+meets_by_mappings p q folds uppers (NotIdempotent Fold) lt h = subst (λ (mappings : List FoldEntry). IsIdempotent (mapped mappings)) folds h
+meets_by_mappings p q folds uppers (NotIdempotent Upper) lt h = subst (λ (mappings : List FoldEntry). IsIdempotent (mapped mappings)) uppers h
+meets_by_mappings p q folds uppers (ClassTooLarge Fold) lt h = subst (λ (mappings : List FoldEntry). HasSmallClasses (mapped mappings)) folds h
+meets_by_mappings p q folds uppers (ClassTooLarge Upper) lt h = subst (λ (mappings : List FoldEntry). HasSmallClasses (mapped mappings)) uppers h
 meets_by_mappings p q folds uppers IdentifierPunctuation lt h = absurd (omega arith)
 meets_by_mappings p q folds uppers BadString lt h = absurd (omega arith)
 meets_by_mappings p q folds uppers (Memory error) lt h = absurd (omega arith)

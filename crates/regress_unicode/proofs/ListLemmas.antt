@@ -8,7 +8,7 @@ use Rattle.std.specs.Ordering.{ordering_index, MatchOrdering}
 use Rattle.std.specs.declared.cmp.Ordering.{Ordering}
 use Rattle.std.specs.declared.cmp.Ordering.TheVariants.{Less, Equal, Greater}
 use Rattle.regress_base.specs.Intervals.{code_point_max}
-use Rattle.regress_unicode.specs.FoldEntries.{FoldEntry, moved, is_in_mapping, image_in_mapping, image, is_in_order_from, is_in_order, stays_in_range, is_target_in_range, are_targets_in_range}
+use Rattle.regress_unicode.specs.FoldEntries.{FoldEntry, moved, is_in_mapping, mapped_in_mapping, mapped, is_in_order_from, is_in_order, stays_in_range, is_target_in_range, are_targets_in_range}
 
 -- how an entry compares with a number
 unfoldable pub position_of_mapping : ℕ → FoldEntry → Ordering
@@ -28,12 +28,12 @@ pub order_parts : (low : ℕ) (mapping : FoldEntry) (mappings : List FoldEntry) 
 order_parts low mapping mappings h = grind (arith, nat_tests)
 
 -- a number below all entries is in no range
-pub below_image : (low : ℕ) (mappings : List FoldEntry) (c : ℕ) → IsTrue (is_in_order_from low mappings) → c < low → image mappings c ≡ c
-unfolding image
-below_image low [] c h lt = refl
-below_image low (mapping ∷ mappings) c h lt =
+pub below_mapped : (low : ℕ) (mappings : List FoldEntry) (c : ℕ) → IsTrue (is_in_order_from low mappings) → c < low → mapped mappings c ≡ c
+unfolding mapped
+below_mapped low [] c h lt = refl
+below_mapped low (mapping ∷ mappings) c h lt =
     let parts = order_parts low mapping mappings h in
-    let rest : image mappings c ≡ c = below_image (mapping.start + mapping.length) mappings c parts.rest (omega (arith, parts.above)) in
+    let rest : mapped mappings c ≡ c = below_mapped (mapping.start + mapping.length) mappings c parts.rest (omega (arith, parts.above)) in
     grind (arith, nat_tests, parts.above, rest)
 
 -- each entry begins at `low` or above
@@ -63,23 +63,23 @@ target_at (mapping ∷ mappings) zero d h lt = grind (arith, nat_tests)
 target_at (mapping ∷ mappings) (suc k) d h lt = target_at mappings k d (grind (arith, nat_tests)) (omega arith)
 
 -- the entry with a number in its range determines what it is mapped to
-pub image_at : (low : ℕ) (mappings : List FoldEntry) (k : ℕ) (d : FoldEntry) (c : ℕ) → IsTrue (is_in_order_from low mappings) → k < length mappings →
-    IsTrue (is_in_mapping (get_or mappings k d) c) → image mappings c ≡ image_in_mapping (get_or mappings k d) c
-unfolding image
-image_at low [] k d c h lt within = absurd (omega arith)
-image_at low (mapping ∷ mappings) zero d c h lt within = grind (arith, nat_tests)
-image_at low (mapping ∷ mappings) (suc k) d c h lt within =
+pub mapped_at : (low : ℕ) (mappings : List FoldEntry) (k : ℕ) (d : FoldEntry) (c : ℕ) → IsTrue (is_in_order_from low mappings) → k < length mappings →
+    IsTrue (is_in_mapping (get_or mappings k d) c) → mapped mappings c ≡ mapped_in_mapping (get_or mappings k d) c
+unfolding mapped
+mapped_at low [] k d c h lt within = absurd (omega arith)
+mapped_at low (mapping ∷ mappings) zero d c h lt within = grind (arith, nat_tests)
+mapped_at low (mapping ∷ mappings) (suc k) d c h lt within =
     let parts = order_parts low mapping mappings h in
-    let rest = image_at (mapping.start + mapping.length) mappings k d c parts.rest (omega arith) within in
+    let rest = mapped_at (mapping.start + mapping.length) mappings k d c parts.rest (omega arith) within in
     let above = order_at (mapping.start + mapping.length) mappings k d parts.rest (omega arith) in
     let beyond : is_in_mapping mapping c ≡ false = grind (arith, nat_tests, above) in
     rw beyond rest
 
-pub image_nowhere : (mappings : List FoldEntry) (c : ℕ) (d : FoldEntry) → ((k : ℕ) → k < length mappings → is_in_mapping (get_or mappings k d) c ≡ false) →
-    image mappings c ≡ c
-unfolding image
-image_nowhere [] c d h = refl
-image_nowhere (mapping ∷ mappings) c d h = rw (h zero (omega arith)) (image_nowhere mappings c d (λ k lt. h (suc k) (omega arith)))
+pub mapped_nowhere : (mappings : List FoldEntry) (c : ℕ) (d : FoldEntry) → ((k : ℕ) → k < length mappings → is_in_mapping (get_or mappings k d) c ≡ false) →
+    mapped mappings c ≡ c
+unfolding mapped
+mapped_nowhere [] c d h = refl
+mapped_nowhere (mapping ∷ mappings) c d h = rw (h zero (omega arith)) (mapped_nowhere mappings c d (λ k lt. h (suc k) (omega arith)))
 
 -- the result of the delta for a number of the range
 pub shifted_is : (mapping : FoldEntry) (c : ℕ) → IsTrue (is_target_in_range mapping) → IsTrue (is_in_mapping mapping c) →
@@ -139,11 +139,11 @@ mappings_rise c mappings h i j d le lt =
     ]
 
 -- a number for which the search finds no entry is mapped to itself
-pub not_found_image : (c : ℕ) (mappings : List FoldEntry) (i : ℕ) → IsTrue (is_in_order mappings) →
-    IsBinarySearchResult (position_of_mapping c) mappings (Err i) → image mappings c ≡ c
-not_found_image c mappings i h at =
+pub not_found_mapped : (c : ℕ) (mappings : List FoldEntry) (i : ℕ) → IsTrue (is_in_order mappings) →
+    IsBinarySearchResult (position_of_mapping c) mappings (Err i) → mapped mappings c ≡ c
+not_found_mapped c mappings i h at =
     let parts = at (mappings_rise c mappings h) in
-    image_nowhere mappings c no_mapping (λ k lt. elim (cases_lt k i) [
+    mapped_nowhere mappings c no_mapping (λ k lt. elim (cases_lt k i) [
       | inl before ↦ mapping-Less c _ (parts.0 k no_mapping (omega arith) before)
       | inr after ↦ mapping-Greater c _ (parts.1 k no_mapping after lt)
     ])

@@ -3,7 +3,7 @@ use Rattle.std.proofs.Common.{◌≡◌, ℕ, IsTrue, List, String, Vec, Global,
 use Rattle.std.specs.List.{list_all}
 use Rattle.std.proofs.lemmas.List.Sums.{AllPass-from_list_all}
 use Rattle.regress_base.specs.Intervals.{Bounds, is_canonical_from}
-use Rattle.regress_unicode.specs.FoldEntries.{FoldEntry, image}
+use Rattle.regress_unicode.specs.FoldEntries.{FoldEntry, mapped}
 use Rattle.regress_base.specs.Table.{Named, HasCanonicalSets}
 use Rattle.regress_unicode.specs.Parts.{AreValidEntries, IsSound, parts_from, sets_of, strings_of}
 use Rattle.regress_unicode.specs.SmallTable.{small_folds, small_uppers, small_parts}
@@ -11,11 +11,11 @@ use Rattle.regress_unicode.proofs.lemmas.Soundness.{sound_mappings, sound_from}
 use Rattle.regress_properties.proofs.lemmas.Identifiers.{word_ascii}
 
 sound_folds : AreValidEntries small_folds
-unfolding image
+unfolding mapped
 sound_folds = sound_mappings small_folds refl refl refl
 
 sound_uppers : AreValidEntries small_uppers
-unfolding image
+unfolding mapped
 sound_uppers = sound_mappings small_uppers refl refl refl
 
 canonical_sets : (entries : List (Named (List Bounds))) → IsTrue (list_all (λ entry. is_canonical_from 0 entry.value) entries) →

@@ -5,8 +5,8 @@ use Rattle.std.proofs.lemmas.Bool.Decides.{nat_tests}
 use Rattle.std.proofs.lemmas.List.Folds.{list_any_more}
 use Rattle.std.specs.List.{list_any}
 use Rattle.std.proofs.Math.Bool.{or-false}
-use Rattle.regress_unicode.specs.FoldEntries.{FoldEntry, moved, is_in_mapping, image_in_mapping, is_source, image, is_in_order_from}
-use Rattle.regress_unicode.proofs.ListLemmas.{order_parts, below_image}
+use Rattle.regress_unicode.specs.FoldEntries.{FoldEntry, moved, is_in_mapping, mapped_in_mapping, is_source, mapped, is_in_order_from}
+use Rattle.regress_unicode.proofs.ListLemmas.{order_parts, below_mapped}
 
 -- whether an entry maps the code point to the target
 unfoldable pub has_source : List FoldEntry → ℕ → ℕ → Bool
@@ -28,29 +28,29 @@ below_source low (mapping ∷ mappings) target c h lt =
 
 -- a canonical form is its own canonical form also under the entries after the first
 own_later : (low : ℕ) (mapping : FoldEntry) (mappings : List FoldEntry) (target : ℕ) → IsTrue (is_in_order_from low (mapping ∷ mappings)) →
-    image (mapping ∷ mappings) target ≡ target → image mappings target ≡ target
-unfolding image
+    mapped (mapping ∷ mappings) target ≡ target → mapped mappings target ≡ target
+unfolding mapped
 own_later low mapping mappings target h own = by_mapping (is_in_mapping mapping target) refl own
   where
-    by_mapping : (b : Bool) → is_in_mapping mapping target ≡ b → cond b (image_in_mapping mapping target) (image mappings target) ≡ target →
-        image mappings target ≡ target
-    by_mapping true e own = below_image (mapping.start + mapping.length) mappings target (order_parts low mapping mappings h).rest (grind (arith, nat_tests, e))
+    by_mapping : (b : Bool) → is_in_mapping mapping target ≡ b → cond b (mapped_in_mapping mapping target) (mapped mappings target) ≡ target →
+        mapped mappings target ≡ target
+    by_mapping true e own = below_mapped (mapping.start + mapping.length) mappings target (order_parts low mapping mappings h).rest (grind (arith, nat_tests, e))
     by_mapping false e own = own
 
 -- a canonical form is mapped to itself by its own entry
-own_in_mapping : (mapping : FoldEntry) (mappings : List FoldEntry) (target : ℕ) → image (mapping ∷ mappings) target ≡ target → is_in_mapping mapping target ≡ true →
-    image_in_mapping mapping target ≡ target
-unfolding image
+own_in_mapping : (mapping : FoldEntry) (mappings : List FoldEntry) (target : ℕ) → mapped (mapping ∷ mappings) target ≡ target → is_in_mapping mapping target ≡ true →
+    mapped_in_mapping mapping target ≡ target
+unfolding mapped
 own_in_mapping mapping mappings target own e = rw e at own
 
-pub has_image : (low : ℕ) (mappings : List FoldEntry) (target c : ℕ) → IsTrue (is_in_order_from low mappings) → image mappings target ≡ target →
-    (image mappings c == target) ≡ ((c == target) || has_source mappings target c)
-unfolding image has_source
-has_image low [] target c h own = grind (arith, nat_tests)
-has_image low (mapping ∷ mappings) target c h own =
+pub has_mapped : (low : ℕ) (mappings : List FoldEntry) (target c : ℕ) → IsTrue (is_in_order_from low mappings) → mapped mappings target ≡ target →
+    (mapped mappings c == target) ≡ ((c == target) || has_source mappings target c)
+unfolding mapped has_source
+has_mapped low [] target c h own = grind (arith, nat_tests)
+has_mapped low (mapping ∷ mappings) target c h own =
     by_mapping (is_in_mapping mapping c) refl
     (λ e. below_source (mapping.start + mapping.length) mappings target c (order_parts low mapping mappings h).rest (grind (arith, nat_tests, e)))
-    (has_image (mapping.start + mapping.length) mappings target c (order_parts low mapping mappings h).rest (own_later low mapping mappings target h own))
+    (has_mapped (mapping.start + mapping.length) mappings target c (order_parts low mapping mappings h).rest (own_later low mapping mappings target h own))
   where
     in_list : (t : Bool) → ((c - mapping.start) % mapping.modulo == 0) ≡ t → is_in_mapping mapping c ≡ true →
         (cond t (moved mapping.delta c) c == target) ≡ ((c == target) || (t && (moved mapping.delta c == target)))
@@ -70,8 +70,8 @@ has_image low (mapping ∷ mappings) target c h own =
     ]
 
     by_mapping : (b : Bool) → is_in_mapping mapping c ≡ b → (is_in_mapping mapping c ≡ true → has_source mappings target c ≡ false) →
-        (image mappings c == target) ≡ ((c == target) || has_source mappings target c) →
-        (cond b (image_in_mapping mapping c) (image mappings c) == target) ≡
+        (mapped mappings c == target) ≡ ((c == target) || has_source mappings target c) →
+        (cond b (mapped_in_mapping mapping c) (mapped mappings c) == target) ≡
         ((c == target) || ((b && (((c - mapping.start) % mapping.modulo == 0) && (moved mapping.delta c == target))) || has_source mappings target c))
     by_mapping true e none rest = rw (none e, or-false (((c - mapping.start) % mapping.modulo == 0) && (moved mapping.delta c == target)))
         (in_list ((c - mapping.start) % mapping.modulo == 0) refl e)

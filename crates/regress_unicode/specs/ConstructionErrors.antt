@@ -4,7 +4,7 @@ use Rattle.regress_unicode.specs.declared.tables_error.Which.{Which}
 use Rattle.regress_unicode.specs.declared.tables_error.Which.TheVariants.{Fold, Upper}
 use Rattle.regress_unicode.specs.declared.tables_error.TablesError.{TablesError}
 use Rattle.regress_unicode.specs.declared.tables_error.TablesError.TheVariants.{RangeOrder, TargetOutOfRange, NotIdempotent, ClassTooLarge, IdentifierPunctuation, BadString, Memory}
-use Rattle.regress_unicode.specs.FoldEntries.{FoldEntry, image, is_in_order, are_targets_in_range}
+use Rattle.regress_unicode.specs.FoldEntries.{FoldEntry, mapped, is_in_order, are_targets_in_range}
 use Rattle.regress_base.specs.Table.{IsIdempotent, HasSmallClasses, HasWordAscii, HasStrings}
 use Rattle.regress_unicode.specs.Parts.{Parts}
 
@@ -17,8 +17,8 @@ mappings_of parts Upper = parts.uppers
 abbrev pub Meets : Parts → TablesError → Type 0
 Meets parts (RangeOrder which) = IsTrue (is_in_order (mappings_of parts which))
 Meets parts (TargetOutOfRange which) = IsTrue (are_targets_in_range (mappings_of parts which))
-Meets parts (NotIdempotent which) = IsIdempotent (image (mappings_of parts which))
-Meets parts (ClassTooLarge which) = HasSmallClasses (image (mappings_of parts which))
+Meets parts (NotIdempotent which) = IsIdempotent (mapped (mappings_of parts which))
+Meets parts (ClassTooLarge which) = HasSmallClasses (mapped (mappings_of parts which))
 Meets parts IdentifierPunctuation = HasWordAscii parts.id_start × HasWordAscii parts.id_continue
 Meets parts BadString = HasStrings parts.strings
 Meets parts (Memory error) = Unit {0}

@@ -44,8 +44,8 @@ abbrev pub is_in_mapping : FoldEntry → ℕ → Bool
 is_in_mapping mapping c = nat_le mapping.start c && nat_lt c (mapping.start + mapping.length)
 
 -- what a code point of the range is mapped to
-abbrev pub image_in_mapping : FoldEntry → ℕ → ℕ
-image_in_mapping mapping c = if (c - mapping.start) % mapping.modulo == 0 then moved mapping.delta c else c
+abbrev pub mapped_in_mapping : FoldEntry → ℕ → ℕ
+mapped_in_mapping mapping c = if (c - mapping.start) % mapping.modulo == 0 then moved mapping.delta c else c
 
 -- whether the code point is in the range, and the delta maps it to the target
 abbrev pub is_source : FoldEntry → ℕ → ℕ → Bool
@@ -54,9 +54,9 @@ is_source mapping target c =
 
 -- What a table of entries maps a code point to: the first entry with the code point in its range determines it. A code
 -- point in no range is mapped to itself.
-unfoldable pub image : List FoldEntry → ℕ → ℕ
-image [] c = c
-image (mapping ∷ mappings) c = if is_in_mapping mapping c then image_in_mapping mapping c else image mappings c
+unfoldable pub mapped : List FoldEntry → ℕ → ℕ
+mapped [] c = c
+mapped (mapping ∷ mappings) c = if is_in_mapping mapping c then mapped_in_mapping mapping c else mapped mappings c
 
 -- Each range begins at `low` or above, and after the end of the one before it.
 abbrev pub is_in_order_from : ℕ → List FoldEntry → Bool

@@ -1,7 +1,7 @@
 -- The code points that a case mapping table maps to others, one by one.
 use Rattle.std.specs.Prelude.{◌≢◌, ℕ, ◌+◌, ◌<◌, Bool, not, ◌==◌, slice_index, List, map, filter, length}
 use Rattle.std.specs.List.{range_with_len, flat_map}
-use Rattle.regress_unicode.specs.FoldEntries.{FoldEntry, image}
+use Rattle.regress_unicode.specs.FoldEntries.{FoldEntry, mapped}
 
 -- the code points in the range of an entry
 abbrev pub run : FoldEntry → List ℕ
@@ -20,8 +20,8 @@ abbrev pub mapped_code_points : (ℕ → ℕ) → List FoldEntry → List ℕ
 mapped_code_points f mappings = filter (moves f) (codes mappings)
 
 -- what they are mapped to
-abbrev pub images : List FoldEntry → List ℕ
-images mappings = map (image mappings) (mapped_code_points (image mappings) mappings)
+abbrev pub targets : List FoldEntry → List ℕ
+targets mappings = map (mapped mappings) (mapped_code_points (mapped mappings) mappings)
 
 -- the number of occurrences of d in the list
 abbrev pub count_of : ℕ → List ℕ → ℕ

@@ -2,7 +2,7 @@
 use Rattle.std.specs.Prelude.{ℕ, Bool, if◌then◌else◌, List, [], map, IsTrue, String, string_bytes, Vec}
 use Rattle.std.specs.declared.alloc.Global.{Global}
 use Rattle.regress_base.specs.Intervals.{Bounds}
-use Rattle.regress_unicode.specs.FoldEntries.{FoldEntry, image, is_in_order, are_targets_in_range}
+use Rattle.regress_unicode.specs.FoldEntries.{FoldEntry, mapped, is_in_order, are_targets_in_range}
 use Rattle.regress_base.specs.Table.{Table, Named, IsIdempotent, HasSmallClasses, IsValidTable}
 use Rattle.regress_properties.specs.Listed.{values_of}
 use Rattle.regress_properties.specs.Properties.{unicode_id_start, unicode_id_continue, unicode_general_category, unicode_script, unicode_script_extensions, unicode_binary, unicode_strings}
@@ -22,8 +22,8 @@ pub record Parts : Type 0 where
 -- the table with the parts
 abbrev pub table_from : Parts → Table
 table_from parts = record {
-  fold = image parts.folds;
-  uppercase = image parts.uppers;
+  fold = mapped parts.folds;
+  uppercase = mapped parts.uppers;
   id_start = parts.id_start;
   id_continue = parts.id_continue;
   general_category = parts.general_category;
@@ -50,8 +50,8 @@ strings_of entries = map (λ entry. record { name = string_bytes entry.0; value 
 pub record AreValidEntries (mappings : List FoldEntry) : Type 0 where
   pub in_order : IsTrue (is_in_order mappings)
   pub in_range : IsTrue (are_targets_in_range mappings)
-  pub idempotent : IsIdempotent (image mappings)
-  pub small_classes : HasSmallClasses (image mappings)
+  pub idempotent : IsIdempotent (mapped mappings)
+  pub small_classes : HasSmallClasses (mapped mappings)
 
 -- The invariant of `Tables`.
 pub record IsSound (parts : Parts) : Type 0 where

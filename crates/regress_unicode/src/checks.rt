@@ -4,12 +4,12 @@ ghost use Rattle.std.specs.List.{list_all};
 ghost use Rattle.regress_base.specs.Intervals.{is_member};
 ghost use Rattle.regress_base.specs.Classes.{word_characters};
 ghost use Rattle.regress_unicode.specs.declared.tables_error.TablesError.TheVariants.{RangeOrder, TargetOutOfRange, NotIdempotent, ClassTooLarge, Memory};
-ghost use Rattle.regress_unicode.specs.FoldEntries.{image as image_of, is_in_order, are_targets_in_range};
-ghost use Rattle.regress_unicode.specs.Moves.{codes, images as images_of, count_of, HasNoFour};
+ghost use Rattle.regress_unicode.specs.FoldEntries.{mapped as mapped_of, is_in_order, are_targets_in_range};
+ghost use Rattle.regress_unicode.specs.Moves.{codes, targets as targets_of, count_of, HasNoFour};
 ghost use Rattle.regress_base.specs.Table.{IsIdempotent, is_string, HasWordAscii, HasCanonicalSets};
 ghost use Rattle.regress_unicode.specs.Parts.{sets_of};
 
-use super::images::image;
+use super::mapping::mapped;
 use super::{FoldRange, TablesError, Which};
 use regress_base::codepointset::CodePointSet;
 use regress_base::sets::{are_code_points, set_is_canonical};
@@ -53,53 +53,53 @@ fn targets_are_in_range(mappings: &[FoldRange]) -> bool
 pub(super) fn collect_mapped(alloc: Global, mappings: &[FoldRange]) -> Result<Vec<u32>, AllocError>
     requires in_order { IsTrue (is_in_order mappings.now) }
     requires in_range { IsTrue (are_targets_in_range mappings.now) }
-    ensures { IfOk result (λ images. images.items ≡ images_of mappings.now) }
+    ensures { IfOk result (λ targets. targets.items ≡ targets_of mappings.now) }
 {
     mappings
         .iter()
         .flat_map(|mapping| mapping.first()..mapping.last() + 1)
-        .filter(|c| image(mappings, *c) != *c)
-        .map(|c| image(mappings, c))
+        .filter(|c| mapped(mappings, *c) != *c)
+        .map(|c| mapped(mappings, c))
         .collect(alloc)
 }
 
-/// Rejects a mapping that is not idempotent: one of `images` is mapped to another code point. Takes one binary search
+/// Rejects a mapping that is not idempotent: one of `targets` is mapped to another code point. Takes one binary search
 /// for each.
 pub(super) fn check_idempotent(
     which: Which,
     mappings: &[FoldRange],
-    images: &[u32],
+    targets: &[u32],
 ) -> Result<(), TablesError>
     requires in_order { IsTrue (is_in_order mappings.now) }
     requires in_range { IsTrue (are_targets_in_range mappings.now) }
-    requires images { images.now ≡ images_of mappings.now }
-    ensures { MatchResult result (λ _. IsIdempotent (image_of mappings.now))
-        (λ e. (e ≡ NotIdempotent which) × ¬ IsIdempotent (image_of mappings.now)) }
+    requires targets { targets.now ≡ targets_of mappings.now }
+    ensures { MatchResult result (λ _. IsIdempotent (mapped_of mappings.now))
+        (λ e. (e ≡ NotIdempotent which) × ¬ IsIdempotent (mapped_of mappings.now)) }
 {
-    if are_own_images(mappings, images) {
+    if are_own_targets(mappings, targets) {
         Ok(())
     } else {
         Err(TablesError::NotIdempotent(which))
     }
 }
 
-fn are_own_images(mappings: &[FoldRange], images: &[u32]) -> bool
+fn are_own_targets(mappings: &[FoldRange], targets: &[u32]) -> bool
     requires in_order { IsTrue (is_in_order mappings.now) }
     requires in_range { IsTrue (are_targets_in_range mappings.now) }
-    ensures { IsTrue result ↔ All (λ c. image_of mappings.now c ≡ c) images.now }
+    ensures { IsTrue result ↔ All (λ c. mapped_of mappings.now c ≡ c) targets.now }
 {
-    images.iter().all(|c| image(mappings, *c) == *c)
+    targets.iter().all(|c| mapped(mappings, *c) == *c)
 }
 
-/// Rejects `images` in which a number occurs four times, since with that number itself five code points have the same
+/// Rejects `targets` in which a number occurs four times, since with that number itself five code points have the same
 /// canonical form. Sorts them.
-pub(super) fn check_classes(which: Which, mut images: Vec<u32>) -> Result<(), TablesError>
-    ensures ok { IfOk result (λ _. (d : ℕ) → count_of d images.items ≤ 3) }
+pub(super) fn check_classes(which: Which, mut targets: Vec<u32>) -> Result<(), TablesError>
+    ensures ok { IfOk result (λ _. (d : ℕ) → count_of d targets.items ≤ 3) }
     ensures err { IfErr result (λ e. (e ≡ Memory alloc_error)
-        ⊎ (e ≡ ClassTooLarge which) × (d : ℕ) × (4 ≤ count_of d images.items)) }
+        ⊎ (e ≡ ClassTooLarge which) × (d : ℕ) × (4 ≤ count_of d targets.items)) }
 {
-    images.sort()?;
-    if occurs_four_times(&images) {
+    targets.sort()?;
+    if occurs_four_times(&targets) {
         Err(TablesError::ClassTooLarge(which))
     } else {
         Ok(())

@@ -50,14 +50,14 @@ pub fn add_icase_code_points(
 {
     let alloc = *tables.folds.allocator();
     let mut closure = input;
-    add_images(alloc, &mut closure, &tables.folds)?;
+    add_targets(alloc, &mut closure, &tables.folds)?;
     add_sources(alloc, &mut closure, &tables.folds)?;
     set_is_canonical(&closure);
     Ok(closure)
 }
 
 /// Adds the canonical forms of the members.
-fn add_images(
+fn add_targets(
     alloc: Global,
     set: &mut CodePointSet,
     mappings: &[FoldRange],
@@ -67,8 +67,8 @@ fn add_images(
     ensures { OnOk result ((c : ℕ) →
         is_member set.new c ≡ (is_member set.old c || maps_to_by forward mappings.now (is_member set.old) c)) }
 {
-    let images = images(alloc, mappings, set.intervals())?;
-    add_unordered(set, images)
+    let targets = targets(alloc, mappings, set.intervals())?;
+    add_unordered(set, targets)
 }
 
 /// Adds the code points that are mapped to a member.
@@ -111,7 +111,7 @@ fn set_of_unordered(intervals: Vec<Interval>) -> Result<CodePointSet, AllocError
 
 /// Returns the canonical forms of the members that are mapped to another code point, except for members. Traverses the
 /// entries and the intervals at once, since both ascend, up to the end of either.
-fn images(
+fn targets(
     alloc: Global,
     mappings: &[FoldRange],
     intervals: &[Interval],
@@ -131,7 +131,7 @@ fn images(
             return Ok(found);
         }
         if rest[0].first() <= mapping.last() {
-            push_images(&mut found, &Shift::forward(mapping), intervals)?;
+            push_targets(&mut found, &Shift::forward(mapping), intervals)?;
         }
     }
     Ok(found)
@@ -157,7 +157,7 @@ fn sources(
     for mapping in mappings {
         let first = mapping.shifted(mapping.first());
         if first <= high && low <= mapping.shifted(mapping.last()) {
-            push_images(&mut found, &Shift::backward(mapping), intervals)?;
+            push_targets(&mut found, &Shift::backward(mapping), intervals)?;
         }
     }
     Ok(found)
@@ -197,7 +197,7 @@ fn search(intervals: &[Interval], low: u32) -> &[Interval]
 }
 
 /// Appends what the shift maps the members of the intervals to, unless it maps its whole range to members.
-fn push_images(
+fn push_targets(
     found: &mut Vec<Interval>,
     shift: &Shift,
     intervals: &[Interval],
@@ -268,8 +268,8 @@ fn push_overlap(
     }
     for c in first..last + 1 {
         if shift.moves(c) {
-            let image = shift.apply(c);
-            found.push(Interval::new(image, image))?;
+            let mapped = shift.apply(c);
+            found.push(Interval::new(mapped, mapped))?;
         }
     }
     Ok(())

@@ -1,6 +1,6 @@
 //! A packed entry of a case mapping table.
 ghost use Rattle.std.specs.Prelude.{◌≡◌, ℕ, ◌+◌, ◌-◌, ◌*◌, ◌/◌, ◌%◌, ◌^◌, ◌<◌, ◌≤◌, ◌↔◌, ◌==◌, false, IfSome, IfNone, pos, negsuc, ◌≤ℤ◌, IsTrue};
-ghost use Rattle.regress_unicode.specs.FoldEntries.{is_in_mapping, image_in_mapping, is_source, is_target_in_range, stays_in_range as stays_in_range_spec, moved, IsModulo};
+ghost use Rattle.regress_unicode.specs.FoldEntries.{is_in_mapping, mapped_in_mapping, is_source, is_target_in_range, stays_in_range as stays_in_range_spec, moved, IsModulo};
 ghost use Rattle.regress_base.specs.Intervals.{code_point_max};
 ghost use Rattle.std.specs.declared.cmp.Ordering.TheVariants.{Less, Equal, Greater};
 
@@ -124,7 +124,7 @@ impl FoldRange {
     pub(super) fn apply(&self, c: u32) -> u32
         requires target { IsTrue (is_target_in_range self.now) }
         requires within { IsTrue (is_in_mapping self.now c) }
-        ensures { result ≡ image_in_mapping self.now c }
+        ensures { result ≡ mapped_in_mapping self.now c }
     {
         if (c - self.first()).is_multiple_of(self.modulo()) {
             self.shifted(c)

@@ -28,12 +28,12 @@ fn check_entries(
     check_order(Which::Upper, uppers)?;
     check_targets(Which::Fold, folds)?;
     check_targets(Which::Upper, uppers)?;
-    let fold_images = collect_mapped(alloc, folds)?;
-    let upper_images = collect_mapped(alloc, uppers)?;
-    check_idempotent(Which::Fold, folds, &fold_images)?;
-    check_idempotent(Which::Upper, uppers, &upper_images)?;
-    check_classes(Which::Fold, fold_images)?;
-    check_classes(Which::Upper, upper_images)
+    let fold_targets = collect_mapped(alloc, folds)?;
+    let upper_targets = collect_mapped(alloc, uppers)?;
+    check_idempotent(Which::Fold, folds, &fold_targets)?;
+    check_idempotent(Which::Upper, uppers, &upper_targets)?;
+    check_classes(Which::Fold, fold_targets)?;
+    check_classes(Which::Upper, upper_targets)
 }
 
 impl Tables {

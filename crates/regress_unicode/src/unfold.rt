@@ -2,7 +2,7 @@
 ghost use Rattle.std.specs.Prelude.{◌≡◌, ◌<◌, ◌≤◌, ◌==◌, ◌||◌, ℕ, length, get_or, IsTrue, IfOk, OnOk};
 ghost use Rattle.std.specs.List.{AllWithin, insert};
 ghost use Rattle.regress_base.specs.Intervals.{code_point_max};
-ghost use Rattle.regress_unicode.specs.FoldEntries.{image, is_in_order, are_targets_in_range};
+ghost use Rattle.regress_unicode.specs.FoldEntries.{mapped, is_in_order, are_targets_in_range};
 ghost use Rattle.regress_base.specs.Listing.{lists, is_ascending, IsListing};
 ghost use Rattle.regress_base.specs.Table.{denotes};
 ghost use Rattle.regress_unicode.specs.LaterTargets.{HasLaterTargets};
@@ -125,8 +125,8 @@ fn unfold_to(
     requires code_point { target ≤ code_point_max }
     requires in_order { IsTrue (is_in_order mappings.now) }
     requires in_range { IsTrue (are_targets_in_range mappings.now) }
-    requires own_image { image mappings.now target ≡ target }
-    ensures { IfOk result (λ list. IsListing (λ x. image mappings.now x == target) list.items) }
+    requires own_mapped { mapped mappings.now target ≡ target }
+    ensures { IfOk result (λ list. IsListing (λ x. mapped mappings.now x == target) list.items) }
 {
     let mut list = Vec::with_capacity(alloc, MOST)?;
     let entries = entries_to(mappings, later, target);

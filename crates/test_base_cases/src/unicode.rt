@@ -12,7 +12,7 @@ use test_notation::{Call, parse_flags};
 pub(crate) fn response(call: &mut Call, name: &str, tables: &Tables) -> bool {
     match name {
         "close" => close(call, tables),
-        "fold" | "uppercase" => images(call, tables, name == "fold"),
+        "fold" | "uppercase" => targets(call, tables, name == "fold"),
         "unfold" | "unfold_upper" => unfold(call, tables, name == "unfold"),
         "expand" => expand(call, tables),
         "starts" => members(call, tables.id_start()),
@@ -31,14 +31,14 @@ fn close(call: &mut Call, tables: &Tables) {
 }
 
 /// Reports the folded characters of code points, or their upper cases.
-fn images(call: &mut Call, tables: &Tables, by_fold: bool) {
+fn targets(call: &mut Call, tables: &Tables, by_fold: bool) {
     for point in &call.points() {
-        let image = if by_fold {
+        let mapped = if by_fold {
             fold(*point, tables)
         } else {
             uppercase(*point, tables)
         };
-        call.report(&image);
+        call.report(&mapped);
     }
 }
 

@@ -27,8 +27,8 @@ fn check_all(call: &mut Call, tables: &Tables) {
     match call.field() {
         "idempotent" => {
             for point in 0..=CODE_POINT_MAX {
-                let image = fold(point, tables);
-                call.check(fold(image, tables) == image, Promise::Idempotent);
+                let mapped = fold(point, tables);
+                call.check(fold(mapped, tables) == mapped, Promise::Idempotent);
             }
         }
         "planes 15 and 16 are unchanged" => {
@@ -72,10 +72,10 @@ fn moves(alloc: Global, tables: &Tables) -> Result<Vec<Move>, AllocError> {
 }
 
 /// Returns a folded character and the code points that fold to it, ascending.
-fn unfold_to(alloc: Global, moves: &[Move], image: u32) -> Result<Vec<u32>, AllocError> {
-    let mut points = vec![in alloc; image]?;
+fn unfold_to(alloc: Global, moves: &[Move], mapped: u32) -> Result<Vec<u32>, AllocError> {
+    let mut points = vec![in alloc; mapped]?;
     for Move { from, to } in moves {
-        if *to == image {
+        if *to == mapped {
             points.push(*from)?;
         }
     }
@@ -123,7 +123,7 @@ fn check_closure(call: &mut Call, tables: &Tables, moves: &[Move], interval: Int
     let mut expected = set_of(call, interval);
     let closed = add_icase_code_points(set, tables);
     let closed = call.made(closed, CodePointSet::new(call.alloc()));
-    add_images(call, &mut expected, interval, moves);
+    add_targets(call, &mut expected, interval, moves);
     call.check(closed == expected, Promise::Closed);
 }
 
@@ -134,7 +134,7 @@ fn set_of(call: &mut Call, interval: Interval) -> CodePointSet {
 }
 
 /// Adds the code points with the folded character of one of the interval's code points.
-fn add_images(call: &mut Call, closure: &mut CodePointSet, interval: Interval, moves: &[Move]) {
+fn add_targets(call: &mut Call, closure: &mut CodePointSet, interval: Interval, moves: &[Move]) {
     let alloc = call.alloc();
     for Move { from, to } in moves {
         if interval.contains(*from) || interval.contains(*to) {

@@ -157,12 +157,12 @@ All-from_lists P [] h = All-nil P
 All-from_lists P (x ∷ xs) h = All-cons P x xs (h x (lists-head x xs)) (All-from_lists P xs (λ c e. h c (lists-tail x xs c e)))
 
 -- at most four code points have the same canonical form
-pub few_of_canonical_form : (f : ℕ → ℕ) (image : ℕ) (xs : List ℕ) → HasSmallClasses f → IsListing (λ x. f x == image) xs → length xs ≤ 4
-few_of_canonical_form f image xs small listing =
-    small image xs listing.ascending (All-from_lists (λ x. f x ≡ image) xs (λ c e.
-    (let both : (nat_le c code_point_max && (f c == image)) ≡ true = sym (listing.members c) ∙ e in
-    let yes : (f c == image) ≡ true = grind (arith, nat_tests, both) in
-    eqb-true (f c) image yes)))
+pub few_of_canonical_form : (f : ℕ → ℕ) (mapped : ℕ) (xs : List ℕ) → HasSmallClasses f → IsListing (λ x. f x == mapped) xs → length xs ≤ 4
+few_of_canonical_form f mapped xs small listing =
+    small mapped xs listing.ascending (All-from_lists (λ x. f x ≡ mapped) xs (λ c e.
+    (let both : (nat_le c code_point_max && (f c == mapped)) ≡ true = sym (listing.members c) ∙ e in
+    let yes : (f c == mapped) ≡ true = grind (arith, nat_tests, both) in
+    eqb-true (f c) mapped yes)))
 
 -- ---- inserting a number in order
 

@@ -11,21 +11,21 @@ use Rattle.regress_base.specs.Listing.{lists}
 use Rattle.regress_base.specs.Table.{HasWordAscii, HasCanonicalSets, HasStrings}
 use Rattle.regress_base.proofs.lemmas.Listings.{All-from_lists, ascending_above, lists-filter, lists-run}
 use Rattle.regress_properties.proofs.lemmas.Properties.{id_start-canonical, id_continue-canonical, id_start-ascii, id_continue-ascii, general_category-canonical, script-canonical, script_extensions-canonical, binary-canonical, strings-valid}
-use Rattle.regress_unicode.specs.FoldEntries.{FoldEntry, is_in_mapping, image_in_mapping, image, is_in_order_from, is_in_order, are_targets_in_range}
-use Rattle.regress_unicode.specs.Moves.{run, codes, moves, mapped_code_points, images, count_of}
+use Rattle.regress_unicode.specs.FoldEntries.{FoldEntry, is_in_mapping, mapped_in_mapping, mapped, is_in_order_from, is_in_order, are_targets_in_range}
+use Rattle.regress_unicode.specs.Moves.{run, codes, moves, mapped_code_points, targets, count_of}
 use Rattle.regress_unicode.specs.Parts.{Parts, AreValidEntries, IsSound, with_unicode_properties}
 use Rattle.regress_unicode.proofs.ListLemmas.{order_parts}
-use Rattle.regress_unicode.proofs.CaseMapLemmas.{All-lists, ascending_codes, case_map, idempotent_from_movers, lists-map, small_from_images}
+use Rattle.regress_unicode.proofs.CaseMapLemmas.{All-lists, ascending_codes, case_map, idempotent_from_movers, lists-map, small_from_targets}
 
 -- ---- the results of the mapping, entry by entry
 
-abbrev pub images_of_mapping : FoldEntry → List ℕ
-images_of_mapping mapping = map (image_in_mapping mapping) (filter (moves (image_in_mapping mapping)) (run mapping))
+abbrev pub targets_of_mapping : FoldEntry → List ℕ
+targets_of_mapping mapping = map (mapped_in_mapping mapping) (filter (moves (mapped_in_mapping mapping)) (run mapping))
 
-same_images : (f g : ℕ → ℕ) (xs : List ℕ) → All (λ c. f c ≡ g c) xs → map f (filter (moves f) xs) ≡ map g (filter (moves g) xs)
-same_images f g [] h = refl
-same_images f g (x ∷ xs) h =
-    let rest = same_images f g xs (All-tail (λ c. f c ≡ g c) x xs h) in
+same_targets : (f g : ℕ → ℕ) (xs : List ℕ) → All (λ c. f c ≡ g c) xs → map f (filter (moves f) xs) ≡ map g (filter (moves g) xs)
+same_targets f g [] h = refl
+same_targets f g (x ∷ xs) h =
+    let rest = same_targets f g xs (All-tail (λ c. f c ≡ g c) x xs h) in
     rw (All-head (λ c. f c ≡ g c) x xs h) (by_test (moves g x) rest)
   where
     by_test : (b : Bool) → map f (filter (moves f) xs) ≡ map g (filter (moves g) xs) →
@@ -34,40 +34,40 @@ same_images f g (x ∷ xs) h =
     by_test false rest = rest
 
 -- entries in order have no code point in common, so each determines its own results
-images_by_mappings : (low : ℕ) (mappings : List FoldEntry) → IsTrue (is_in_order_from low mappings) → images mappings ≡ flat_map images_of_mapping mappings
-unfolding image
-images_by_mappings low [] h = refl
-images_by_mappings low (mapping ∷ mappings) h =
+targets_by_mappings : (low : ℕ) (mappings : List FoldEntry) → IsTrue (is_in_order_from low mappings) → targets mappings ≡ flat_map targets_of_mapping mappings
+unfolding mapped
+targets_by_mappings low [] h = refl
+targets_by_mappings low (mapping ∷ mappings) h =
     let parts = order_parts low mapping mappings h in
-    let f : ℕ → ℕ = image (mapping ∷ mappings) in
-    let here : All (λ c. f c ≡ image_in_mapping mapping c) (run mapping) =
-    All-from_lists (λ c. f c ≡ image_in_mapping mapping c) (run mapping) (λ c e.
+    let f : ℕ → ℕ = mapped (mapping ∷ mappings) in
+    let here : All (λ c. f c ≡ mapped_in_mapping mapping c) (run mapping) =
+    All-from_lists (λ c. f c ≡ mapped_in_mapping mapping c) (run mapping) (λ c e.
     (let within : is_in_mapping mapping c ≡ true = sym (lists-run mapping.start mapping.length c) ∙ e in rw within)) in
-    let later : All (λ c. f c ≡ image mappings c) (codes mappings) =
-    All-from_lists (λ c. f c ≡ image mappings c) (codes mappings) (λ c e.
+    let later : All (λ c. f c ≡ mapped mappings c) (codes mappings) =
+    All-from_lists (λ c. f c ≡ mapped mappings c) (codes mappings) (λ c e.
     (let above = ascending_above (mapping.start + mapping.length) (codes mappings) c (ascending_codes (mapping.start + mapping.length) mappings parts.rest) e in
     let beyond : is_in_mapping mapping c ≡ false = grind (arith, nat_tests, above) in rw beyond)) in
     ap (map f) (filter-append (moves f) (run mapping) (codes mappings))
     ∙ map-append f (filter (moves f) (run mapping)) (filter (moves f) (codes mappings))
-    ∙ ap₂ (λ xs ys. xs ++ ys) (same_images f (image_in_mapping mapping) (run mapping) here)
-    (same_images f (image mappings) (codes mappings) later ∙ images_by_mappings (mapping.start + mapping.length) mappings parts.rest)
+    ∙ ap₂ (λ xs ys. xs ++ ys) (same_targets f (mapped_in_mapping mapping) (run mapping) here)
+    (same_targets f (mapped mappings) (codes mappings) later ∙ targets_by_mappings (mapping.start + mapping.length) mappings parts.rest)
 
 -- ---- results that are mapped to themselves, no four of which are equal, by bisection
 
 pub record AreSettled (mappings : List FoldEntry) (xs : List ℕ) : Type 0 where
-  pub own : (d : ℕ) → lists xs d ≡ true → image mappings d ≡ d
+  pub own : (d : ℕ) → lists xs d ≡ true → mapped mappings d ≡ d
   pub few : (d : ℕ) → count_of d xs ≤ 3
 
 -- entries without the number in their range can be dropped
-image_kept : (q : FoldEntry → Bool) (c : ℕ) → ((mapping : FoldEntry) → is_in_mapping mapping c ≡ true → q mapping ≡ true) → (mappings : List FoldEntry) →
-    image (filter q mappings) c ≡ image mappings c
-unfolding image
-image_kept q c h [] = refl
-image_kept q c h (mapping ∷ mappings) = by_tests (q mapping) (is_in_mapping mapping c) refl (h mapping) (image_kept q c h mappings)
+mapped_kept : (q : FoldEntry → Bool) (c : ℕ) → ((mapping : FoldEntry) → is_in_mapping mapping c ≡ true → q mapping ≡ true) → (mappings : List FoldEntry) →
+    mapped (filter q mappings) c ≡ mapped mappings c
+unfolding mapped
+mapped_kept q c h [] = refl
+mapped_kept q c h (mapping ∷ mappings) = by_tests (q mapping) (is_in_mapping mapping c) refl (h mapping) (mapped_kept q c h mappings)
   where
     by_tests : (keep within : Bool) → is_in_mapping mapping c ≡ within → (is_in_mapping mapping c ≡ true → keep ≡ true) →
-        image (filter q mappings) c ≡ image mappings c →
-        image (cond keep (mapping ∷ filter q mappings) (filter q mappings)) c ≡ cond within (image_in_mapping mapping c) (image mappings c)
+        mapped (filter q mappings) c ≡ mapped mappings c →
+        mapped (cond keep (mapping ∷ filter q mappings) (filter q mappings)) c ≡ cond within (mapped_in_mapping mapping c) (mapped mappings c)
     by_tests true true e kept rest = rw e
     by_tests true false e kept rest = rw e rest
     by_tests false true e kept rest = let no : false ≡ true = kept e in cc
@@ -86,7 +86,7 @@ count_kept p d h (x ∷ xs) = by_tests (p x) (x == d) refl refl (count_kept p d 
 
 -- at most three results, each mapped to itself
 abbrev are_few_own : List FoldEntry → List ℕ → Bool
-are_few_own mappings xs = nat_le (length xs) 3 && list_all (λ d. image mappings d == d) xs
+are_few_own mappings xs = nat_le (length xs) 3 && list_all (λ d. mapped mappings d == d) xs
 
 -- The numbers below a bound and those from it on, each with the entries that can contain them, are split until at most
 -- three remain.
@@ -102,11 +102,11 @@ are_settled (suc k) low mappings xs = elim (nat_le (length xs) 3) [
 
 settled_few : (mappings : List FoldEntry) (xs : List ℕ) → IsTrue (are_few_own mappings xs) → AreSettled mappings xs
 settled_few mappings xs h =
-    let parts = and_parts (nat_le (length xs) 3) (list_all (λ d. image mappings d == d) xs) h in
+    let parts = and_parts (nat_le (length xs) 3) (list_all (λ d. mapped mappings d == d) xs) h in
     let short : length xs ≤ 3 = grind (arith, nat_tests, parts.0) in
     record {
-      own = λ d e. eqb-true (image mappings d) d (All-lists (λ x. (image mappings x == x) ≡ true) xs d
-          (AllPass-from_list_all (λ x. image mappings x == x) xs parts.1) e);
+      own = λ d e. eqb-true (mapped mappings d) d (All-lists (λ x. (mapped mappings x == x) ≡ true) xs d
+          (AllPass-from_list_all (λ x. mapped mappings x == x) xs parts.1) e);
       few = λ d. omega (arith, short, length-filter (λ x. x == d) xs, count_by-le-length (λ x. x == d) xs);
     }
 
@@ -118,12 +118,12 @@ settled_halves mappings xs bound low high = record {
   own = λ d e. elim (cases_lt d bound) [
     | inl below ↦ (
         let yes : nat_lt d bound ≡ true = grind (arith, nat_tests, below) in
-        let kept = image_kept (λ mapping. nat_lt mapping.start bound) d (λ mapping within. grind (arith, nat_tests, below, within)) mappings in
+        let kept = mapped_kept (λ mapping. nat_lt mapping.start bound) d (λ mapping within. grind (arith, nat_tests, below, within)) mappings in
         let listed : (nat_lt d bound && lists xs d) ≡ true = rw (yes, e) in
         sym kept ∙ low.own d (lists-filter (λ x. nat_lt x bound) xs d ∙ listed))
     | inr above ↦ (
         let yes : nat_le bound d ≡ true = grind (arith, nat_tests, above) in
-        let kept = image_kept (λ mapping. nat_lt bound (mapping.start + mapping.length)) d (λ mapping within. grind (arith, nat_tests, above, within)) mappings in
+        let kept = mapped_kept (λ mapping. nat_lt bound (mapping.start + mapping.length)) d (λ mapping within. grind (arith, nat_tests, above, within)) mappings in
         let listed : (nat_le bound d && lists xs d) ≡ true = rw (yes, e) in
         sym kept ∙ high.own d (lists-filter (λ x. nat_le bound x) xs d ∙ listed))
   ];
@@ -161,16 +161,16 @@ settled (suc k) low mappings xs h =
 
 -- all results are below 2 ^ 21
 pub sound_mappings : (mappings : List FoldEntry) → IsTrue (is_in_order mappings) → IsTrue (are_targets_in_range mappings) →
-    IsTrue (are_settled 21 0 mappings (flat_map images_of_mapping mappings)) → AreValidEntries mappings
+    IsTrue (are_settled 21 0 mappings (flat_map targets_of_mapping mappings)) → AreValidEntries mappings
 sound_mappings mappings order range h =
-    let images_settled : AreSettled mappings (images mappings) =
-    subst (AreSettled mappings) (sym (images_by_mappings 0 mappings order)) (settled 21 0 mappings (flat_map images_of_mapping mappings) h) in
+    let targets_settled : AreSettled mappings (targets mappings) =
+    subst (AreSettled mappings) (sym (targets_by_mappings 0 mappings order)) (settled 21 0 mappings (flat_map targets_of_mapping mappings) h) in
     record {
       in_order = order;
       in_range = range;
-      idempotent = idempotent_from_movers mappings (λ c e. images_settled.own (image mappings c)
-          (lists-map (image mappings) (mapped_code_points (image mappings) mappings) c e));
-      small_classes = small_from_images mappings order images_settled.few;
+      idempotent = idempotent_from_movers mappings (λ c e. targets_settled.own (mapped mappings c)
+          (lists-map (mapped mappings) (mapped_code_points (mapped mappings) mappings) c e));
+      small_classes = small_from_targets mappings order targets_settled.few;
     }
 
 -- ---- all parts

@@ -5,8 +5,8 @@ use Rattle.regress_unicode.specs.TableOf.{table_of}
 use Rattle.regress_leaves.proofs.characters.denotes.Goals as goal
 
 occurs_for_itself : (t : Table) (icase unicode : Bool) (c x : ℕ) → x ≡ c → true ≡ denotes t icase unicode c x
-occurs_for_itself t true true c x same = let image = ap t.fold same in grind (arith, nat_tests, image)
-occurs_for_itself t true false c x same = let image = ap t.uppercase same in grind (arith, nat_tests, image)
+occurs_for_itself t true true c x same = let mapped = ap t.fold same in grind (arith, nat_tests, mapped)
+occurs_for_itself t true false c x same = let mapped = ap t.uppercase same in grind (arith, nat_tests, mapped)
 occurs_for_itself t false unicode c x same = grind (arith, nat_tests)
 
 pub returns-then-x-c : goal.returns-then-x-c

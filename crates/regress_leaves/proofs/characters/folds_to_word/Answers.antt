@@ -23,8 +23,8 @@ returns-then-is_word c =
     let member : is_member word_characters c.args.c ≡ true = sym c.is_word.ensures ∙ c.if-is_word.true in
     sym (closure_from (table_of c.args.known.tables.now) word_characters c.args.c c.args.c (omega (arith, c.if-c-gt1114111.false)) member refl)
 
-pub returns-then-fold-image : goal.returns-then-fold-image
-returns-then-fold-image c =
+pub returns-then-fold-mapped : goal.returns-then-fold-mapped
+returns-then-fold-mapped c =
     let table = table_of c.args.known.tables.now in
     let m = c.loop-m.m in
     let member : is_member word_characters m ≡ true = search rules in
@@ -42,12 +42,12 @@ returns c =
 pub returns-then-known : goal.returns-then-known
 returns-then-known c =
     let table = table_of c.args.known.tables.now in
-    let image = table.fold c.args.c in
-    let image-is : c.is_word-then-known.result ≡ is_member word_characters image =
-    c.is_word-then-known.ensures ∙ ap (is_member word_characters) c.fold-image.ensures in
+    let mapped = table.fold c.args.c in
+    let mapped-is : c.is_word-then-known.result ≡ is_member word_characters mapped =
+    c.is_word-then-known.ensures ∙ ap (is_member word_characters) c.fold-mapped.ensures in
     same_tests c.is_word-then-known.result (is_in_closure table word_characters c.args.c)
-    (λ word. closure_from table word_characters image c.args.c (omega (arith, c.if-c-gt1114111.false)) (sym image-is ∙ word)
+    (λ word. closure_from table word_characters mapped c.args.c (omega (arith, c.if-c-gt1114111.false)) (sym mapped-is ∙ word)
     (c.args.known.tables.now.sound.lawful.fold.idempotent c.args.c))
     (λ e.
     let found = closure_gives table word_characters c.args.c e in
-    image-is ∙ ap (is_member word_characters) (sym found.3) ∙ words_fold_to_words table (c.args.known.holds.fold c.if-known.true) found.1 found.2)
+    mapped-is ∙ ap (is_member word_characters) (sym found.3) ∙ words_fold_to_words table (c.args.known.holds.fold c.if-known.true) found.1 found.2)

@@ -14,17 +14,17 @@ returns-clause-members c =
     let sound = c.args.tables.now.sound.folds in
     let nonempty = subst (λ (mappings : List FoldEntry). All (λ mapping. 1 ≤ mapping.length) mappings) c.deref-2.ensures.value
     c.in_ok-add_sources.ensures.nonempty in
-    let over : ClosesOver mappings c.args.input (is_member c.add_images.new.set) (is_member c.add_sources.new.set) = record {
+    let over : ClosesOver mappings c.args.input (is_member c.add_targets.new.set) (is_member c.add_sources.new.set) = record {
       in_order = sound.in_order;
       good = good_mappings mappings sound.in_range nonempty;
       idempotent = sound.idempotent;
-      images = λ x. c.in_ok-add_images.ensures x
+      targets = λ x. c.in_ok-add_targets.ensures x
           ∙ ap (λ (rs : List FoldEntry). is_member c.args.input x || maps_to_by forward rs (is_member c.args.input) x) c.deref.ensures.value;
       sources = λ x. c.in_ok-add_sources.ensures.members x
-          ∙ ap (λ (rs : List FoldEntry). is_member c.add_images.new.set x || maps_to_by backward rs (is_member c.add_images.new.set) x)
+          ∙ ap (λ (rs : List FoldEntry). is_member c.add_targets.new.set x || maps_to_by backward rs (is_member c.add_targets.new.set) x)
           c.deref-2.ensures.value;
     } in
-    closure_is (table_of c.args.tables.now) mappings c.args.input (is_member c.add_images.new.set) (is_member c.add_sources.new.set)
+    closure_is (table_of c.args.tables.now) mappings c.args.input (is_member c.add_targets.new.set) (is_member c.add_sources.new.set)
     (λ x. refl) over
     (λ x member. (member_above 0 c.add_sources.new.set x c.set_is_canonical.ensures member).1)
 

@@ -37,7 +37,7 @@ loop-c-preserved c =
       | then-moves+in_ok-push-2 w ↦ λ x. rw w.found-is
           (between_more c.args.shift.now c.max-first.result c.loop-c.c x _ _ _ c.requires (omega arith)
           (sym c.moves.ensures ∙ w.if-moves.true) (c.loop-c.invariant x)
-          (pushed_one _ _ _ _ _ x w.in_ok-push-2.ensures.items w.new-then-moves.ensures w.apply-image.ensures.value))
+          (pushed_one _ _ _ _ _ x w.in_ok-push-2.ensures.items w.new-then-moves.ensures w.apply-mapped.ensures.value))
       | else-moves w ↦ λ x. rw w.found-is
           (between_no_more c.args.shift.now c.max-first.result c.loop-c.c x _ _ (omega arith) (sym c.moves.ensures ∙ w.if-moves.false)
           (c.loop-c.invariant x))

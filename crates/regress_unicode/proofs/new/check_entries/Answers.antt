@@ -26,7 +26,7 @@ returns-in_err-check_classes-clause-err c =
     rw (p.1, p.2) (λ known. elim c.in_err-check_classes.ensures.err [
       | inl memory ↦ absurd (known memory)
       | inr large ↦ reported mappings _ (ClassTooLarge Fold) large.0 (lit< tt)
-          (large_classes_from c.args.folds.now c.in_ok-fold_images.fold_images.items large.1 c.in_ok-fold_images.ensures
+          (large_classes_from c.args.folds.now c.in_ok-fold_targets.fold_targets.items large.1 c.in_ok-fold_targets.ensures
           c.in_ok-check_order.ensures c.in_ok-check_idempotent.ensures large.2)
           (meets_six mappings (meets_five mappings c.in_ok-check_order.ensures c.in_ok-check_order-2.ensures c.in_ok-check_targets.ensures
           c.in_ok-check_targets-2.ensures c.in_ok-check_idempotent.ensures) c.in_ok-check_idempotent-2.ensures)
@@ -34,21 +34,21 @@ returns-in_err-check_classes-clause-err c =
 
 pub returns-clause-ok : goal.returns-clause-ok
 returns-clause-ok c =
-    IfOk-weaker c.check_classes-2.result (λ _. (d : ℕ) → count_of d c.in_ok-upper_images.upper_images.items ≤ 3)
+    IfOk-weaker c.check_classes-2.result (λ _. (d : ℕ) → count_of d c.in_ok-upper_targets.upper_targets.items ≤ 3)
     (λ _. AreValidEntries c.args.folds.now × AreValidEntries c.args.uppers.now)
     (λ _ few. (
       record {
         in_order = c.in_ok-check_order.ensures;
         in_range = c.in_ok-check_targets.ensures;
         idempotent = c.in_ok-check_idempotent.ensures;
-        small_classes = small_classes_from c.args.folds.now c.in_ok-fold_images.fold_images.items c.in_ok-fold_images.ensures
+        small_classes = small_classes_from c.args.folds.now c.in_ok-fold_targets.fold_targets.items c.in_ok-fold_targets.ensures
             c.in_ok-check_order.ensures c.in_ok-check_classes.ensures.ok;
       },
       record {
         in_order = c.in_ok-check_order-2.ensures;
         in_range = c.in_ok-check_targets-2.ensures;
         idempotent = c.in_ok-check_idempotent-2.ensures;
-        small_classes = small_classes_from c.args.uppers.now c.in_ok-upper_images.upper_images.items c.in_ok-upper_images.ensures
+        small_classes = small_classes_from c.args.uppers.now c.in_ok-upper_targets.upper_targets.items c.in_ok-upper_targets.ensures
             c.in_ok-check_order-2.ensures few;
       },
     ))
@@ -57,15 +57,15 @@ returns-clause-ok c =
 pub returns-clause-err : goal.returns-clause-err
 returns-clause-err c =
     let mappings : Parts = mappings_alone c.args.folds.now c.args.uppers.now in
-    let small = small_classes_from c.args.folds.now c.in_ok-fold_images.fold_images.items c.in_ok-fold_images.ensures
+    let small = small_classes_from c.args.folds.now c.in_ok-fold_targets.fold_targets.items c.in_ok-fold_targets.ensures
     c.in_ok-check_order.ensures c.in_ok-check_classes.ensures.ok in
     IfErr-weaker c.check_classes-2.result
-    (λ e. (e ≡ Memory alloc_error) ⊎ ((e ≡ ClassTooLarge Upper) × (d : ℕ) × (4 ≤ count_of d c.in_ok-upper_images.upper_images.items)))
+    (λ e. (e ≡ Memory alloc_error) ⊎ ((e ≡ ClassTooLarge Upper) × (d : ℕ) × (4 ≤ count_of d c.in_ok-upper_targets.upper_targets.items)))
     (λ e. e ≢ Memory alloc_error → (position e < 8) × IsFirstError mappings e)
     (λ e why known. elim why [
       | inl memory ↦ absurd (known memory)
       | inr large ↦ reported mappings e (ClassTooLarge Upper) large.0 (lit< tt)
-          (large_classes_from c.args.uppers.now c.in_ok-upper_images.upper_images.items large.1 c.in_ok-upper_images.ensures
+          (large_classes_from c.args.uppers.now c.in_ok-upper_targets.upper_targets.items large.1 c.in_ok-upper_targets.ensures
           c.in_ok-check_order-2.ensures c.in_ok-check_idempotent-2.ensures large.2)
           (meets_seven mappings (meets_six mappings (meets_five mappings c.in_ok-check_order.ensures c.in_ok-check_order-2.ensures
           c.in_ok-check_targets.ensures c.in_ok-check_targets-2.ensures c.in_ok-check_idempotent.ensures)

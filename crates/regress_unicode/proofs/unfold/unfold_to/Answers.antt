@@ -6,7 +6,7 @@ use Rattle.regress_unicode.specs.FoldEntries.{FoldEntry, is_target_in_range}
 use Rattle.regress_base.specs.Listing.{is_ascending}
 use Rattle.regress_base.proofs.lemmas.Listings.{listed_source}
 use Rattle.regress_unicode.proofs.ListLemmas.{target_at}
-use Rattle.regress_unicode.proofs.SourceLemmas.{has_source, has_source-nil, has_source-more, has_source-no_more, has_source-same, has_image}
+use Rattle.regress_unicode.proofs.SourceLemmas.{has_source, has_source-nil, has_source-more, has_source-no_more, has_source-same, has_mapped}
 use Rattle.regress_unicode.proofs.UnfoldLemmas.{listed_none, none_listed, pushed_ascending, pushed_lists, source_within, below_mappings, target_added}
 use Rattle.regress_unicode.proofs.unfold.unfold_to.Goals as goal
 use Rattle.regress_unicode.proofs.unfold.unfold_to.Goals.{in-Some+in_ok-push, in_default}
@@ -60,5 +60,5 @@ returns c = record {
       ∙ ap (λ b. nat_le x code_point_max && b) (ap (λ (rs : List FoldEntry). (x == c.args.target) || has_source rs c.args.target x)
       (take_all c.loop-mapping.mapping-index c.entries_to-entries.result.now c.loop-mapping-test.false)
       ∙ ap (λ b. (x == c.args.target) || b) (has_source-same c.entries_to-entries.result.now c.args.mappings.now c.args.target x (c.entries_to-entries.ensures.sources x))
-      ∙ sym (has_image 0 c.args.mappings.now c.args.target x c.requires.in_order c.requires.own_image));
+      ∙ sym (has_mapped 0 c.args.mappings.now c.args.target x c.requires.in_order c.requires.own_mapped));
 }

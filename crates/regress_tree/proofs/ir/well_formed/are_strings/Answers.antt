@@ -3,7 +3,7 @@ use Rattle.std.specs.Box.{boxed_slice_items}
 use Rattle.std.proofs.lemmas.Bool.{false≢true}
 use Rattle.std.proofs.lemmas.List.{take_all}
 use Rattle.regress_base.specs.Intervals.{code_point_max}
-use Rattle.regress_tree.proofs.TextLemmas.{at-image}
+use Rattle.regress_tree.proofs.TextLemmas.{at-mapped}
 use Rattle.regress_tree.proofs.ir.well_formed.are_strings.Goals as goal
 
 pub returns-then-not-are_code_points : goal.returns-then-not-are_code_points
@@ -12,7 +12,7 @@ returns-then-not-are_code_points c =
       λ denied. absurd (false≢true denied),
       λ all. c.if-not-are_code_points.ensures.all.1
           (rw c.deref.ensures.value
-          (at-image (All (λ c. c ≤ code_point_max)) boxed_slice_items c.args.strings.now c.loop-string.string-index _ c.string-item.result in_list
+          (at-mapped (All (λ c. c ≤ code_point_max)) boxed_slice_items c.args.strings.now c.loop-string.string-index _ c.string-item.result in_list
           c.string-item.is all)),
     )
 

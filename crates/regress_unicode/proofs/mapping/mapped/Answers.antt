@@ -1,9 +1,9 @@
 -- The search compares each entry with `c`, and the results do not decrease.
 use Rattle.std.proofs.Common.{ap, sym, subst, ◌∙◌, get_or, IsTrue, rules}
 use Rattle.std.proofs.lemmas.Fn.{always_returns_same}
-use Rattle.regress_unicode.specs.FoldEntries.{FoldEntry, is_in_mapping, image_in_mapping, is_target_in_range}
-use Rattle.regress_unicode.proofs.ListLemmas.{position_of_mapping, mapping-Equal, image_at, target_at, not_found_image}
-use Rattle.regress_unicode.proofs.images.image.Goals as goal
+use Rattle.regress_unicode.specs.FoldEntries.{FoldEntry, is_in_mapping, mapped_in_mapping, is_target_in_range}
+use Rattle.regress_unicode.proofs.ListLemmas.{position_of_mapping, mapping-Equal, mapped_at, target_at, not_found_mapped}
+use Rattle.regress_unicode.proofs.mapping.mapped.Goals as goal
 
 pub apply-requires-clause-target : goal.apply-requires-clause-target
 apply-requires-clause-target c =
@@ -22,12 +22,12 @@ unfolding position_of_mapping
 returns-in-Ok c =
     let placed = c.in-Ok.ensures.position (position_of_mapping c.args.c) (always_returns_same _ _ _ (λ a r f' k. search rules)) in
     c.apply.ensures
-    ∙ ap (λ r. image_in_mapping r c.args.c) c.index-mappings-position.is
-    ∙ sym (image_at 0 c.args.mappings.now c.in-Ok.position c.index-mappings-position.result c.args.c c.requires.in_order c.in-Ok.ensures.bound
+    ∙ ap (λ r. mapped_in_mapping r c.args.c) c.index-mappings-position.is
+    ∙ sym (mapped_at 0 c.args.mappings.now c.in-Ok.position c.index-mappings-position.result c.args.c c.requires.in_order c.in-Ok.ensures.bound
     (mapping-Equal c.args.c (get_or c.args.mappings.now c.in-Ok.position c.index-mappings-position.result) (placed c.index-mappings-position.result)))
 
 pub returns-in-Err : goal.returns-in-Err
 unfolding position_of_mapping
 returns-in-Err c =
     let placed = c.in-Err.ensures.position (position_of_mapping c.args.c) (always_returns_same _ _ _ (λ a r f' k. search rules)) in
-    sym (not_found_image c.args.c c.args.mappings.now _ c.requires.in_order placed)
+    sym (not_found_mapped c.args.c c.args.mappings.now _ c.requires.in_order placed)

@@ -1,16 +1,16 @@
 //! Case mapping of single code points.
 ghost use Rattle.std.specs.Prelude.{◌≡◌, ℕ, IsTrue};
-ghost use Rattle.regress_unicode.specs.FoldEntries.{image as image_of, is_in_order, are_targets_in_range};
+ghost use Rattle.regress_unicode.specs.FoldEntries.{mapped as mapped_of, is_in_order, are_targets_in_range};
 ghost use Rattle.regress_unicode.specs.TableOf.{table_of};
 
 use super::Tables;
 use super::fold_range::FoldRange;
 
 /// Returns what the entries map `c` to. A binary search.
-pub(super) fn image(mappings: &[FoldRange], c: u32) -> u32
+pub(super) fn mapped(mappings: &[FoldRange], c: u32) -> u32
     requires in_order { IsTrue (is_in_order mappings.now) }
     requires in_range { IsTrue (are_targets_in_range mappings.now) }
-    ensures { result ≡ image_of mappings.now c }
+    ensures { result ≡ mapped_of mappings.now c }
 {
     match mappings.binary_search_by(|mapping| mapping.compare(c)) {
         Ok(position) => mappings[position].apply(c),
@@ -33,7 +33,7 @@ pub(super) fn image(mappings: &[FoldRange], c: u32) -> u32
 pub fn fold(c: u32, tables: &Tables) -> u32
     ensures { result ≡ (table_of tables.now).fold c }
 {
-    image(&tables.folds, c)
+    mapped(&tables.folds, c)
 }
 
 /// Returns the upper case of `c`, if it is one code point, and else `c` (ECMA-262, Canonicalize without the flags u and
@@ -52,5 +52,5 @@ pub fn fold(c: u32, tables: &Tables) -> u32
 pub fn uppercase(c: u32, tables: &Tables) -> u32
     ensures { result ≡ (table_of tables.now).uppercase c }
 {
-    image(&tables.uppers, c)
+    mapped(&tables.uppers, c)
 }

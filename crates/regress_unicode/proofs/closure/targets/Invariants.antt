@@ -3,7 +3,7 @@ use Rattle.std.proofs.Common.{◌≡◌, ℕ, ◌<◌, ◌≤◌, ◌||◌, leng
 use Rattle.regress_base.specs.Intervals.{is_member, IsCanonical}
 use Rattle.regress_unicode.specs.FoldEntries.{FoldEntry}
 use Rattle.regress_unicode.specs.Shifts.{maps_to_by, forward}
-use Rattle.regress_unicode.proofs.closure.images.Given as goal
+use Rattle.regress_unicode.proofs.closure.targets.Given as goal
 
 abbrev pub invariant-loop-mapping : goal.invariant-loop-mapping
 invariant-loop-mapping l = record {

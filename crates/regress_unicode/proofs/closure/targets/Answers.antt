@@ -7,8 +7,8 @@ use Rattle.regress_unicode.specs.Shifts.{forward}
 use Rattle.regress_unicode.proofs.ListLemmas.{target_at}
 use Rattle.regress_unicode.proofs.ShiftLemmas.{mappings_more}
 use Rattle.regress_unicode.proofs.ClosingLemmas.{found_none, mapping_no_more, mappings_done, left, below_first_none, no_members, positive}
-use Rattle.regress_unicode.proofs.closure.images.Goals as goal
-use Rattle.regress_unicode.proofs.closure.images.Goals.{then-first-last+in_ok-push_images, else-first-last}
+use Rattle.regress_unicode.proofs.closure.targets.Goals as goal
+use Rattle.regress_unicode.proofs.closure.targets.Goals.{then-first-last+in_ok-push_targets, else-first-last}
 
 pub loop-mapping-init : goal.loop-mapping-init
 loop-mapping-init c = record {
@@ -46,10 +46,10 @@ loop-mapping-preserved c =
     rest i mapping (le_refl i) c.loop-mapping-test.true y (subst (λ (r : FoldEntry). r.start ≤ y) c.mapping-item.is from) in
     let same = λ (k : ℕ) (d : FoldEntry) (le : i + 1 ≤ k). rest k d (omega arith) in
     elim c.if-first-last.branch [
-      | then-first-last+in_ok-push_images w ↦ rw w.found-is (record {
+      | then-first-last+in_ok-push_targets w ↦ rw w.found-is (record {
         members = λ x. mappings_more forward (is_member c.args.intervals.now) mappings i x mapping w.forward.result
             (is_member c.args.intervals.now x) _ _ c.loop-mapping-test.true c.mapping-item.is w.forward.ensures.value
-            (c.loop-mapping.invariant.members x) (w.in_ok-push_images.ensures x);
+            (c.loop-mapping.invariant.members x) (w.in_ok-push_targets.ensures x);
         canonical = c.skip_below-rest.ensures.canonical;
         same = same;
       })

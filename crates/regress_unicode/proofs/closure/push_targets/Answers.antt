@@ -4,7 +4,7 @@ use Rattle.regress_base.specs.Intervals.{is_member}
 use Rattle.regress_base.proofs.lemmas.Sets.{or_assoc}
 use Rattle.regress_unicode.specs.Shifts.{maps_to}
 use Rattle.regress_unicode.proofs.ShiftLemmas.{maps_to-same}
-use Rattle.regress_unicode.proofs.closure.push_images.Goals as goal
+use Rattle.regress_unicode.proofs.closure.push_targets.Goals as goal
 
 pub returns-in_ok-push_moved : goal.returns-in_ok-push_moved
 returns-in_ok-push_moved c x =
