@@ -1,7 +1,8 @@
 -- The text of a match.
 use Rattle.std.specs.Prelude.{◌≡◌, ℕ, List, slice_range}
 use Rattle.regress_front.specs.Steps.{MatchState}
-use Rattle.regress_match.specs.Matched.{IsLeftmost, Match, start_of, state_of}
+use Rattle.regress_found.specs.Found.{IsLeftmost, start_of, state_of}
+use Rattle.regress_found.specs.declared.found.Match.{Match}
 
 -- The part is the slice of the text from the start to the end of the leftmost match. `at` has the outcomes of the
 -- pattern from each position.

@@ -2,7 +2,7 @@
 //! matches in a text.
 ghost use Rattle.std.specs.Prelude.{◌≡◌, IfOk};
 ghost use Rattle.regress_front.specs.Tree.{tree};
-ghost use Rattle.regress_match.specs.Matcher.{matcher_tree};
+ghost use Rattle.regress_match.specs.Pattern.{matcher_tree};
 
 use regress_front::ir::Regex;
 use regress_front::optimizer::parse_and_optimize;

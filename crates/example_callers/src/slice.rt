@@ -1,8 +1,8 @@
 //! Slices a text by a match. docs/guide.md shows parts of it.
 ghost use Rattle.std.specs.Prelude.{◌≡◌, None, IfOk, IfSome};
 ghost use Rattle.regress_front.specs.WellFormed.{IsWellFormed};
-ghost use Rattle.regress_match.specs.Matched.{Finds};
-ghost use Rattle.regress_match.specs.Matcher.{matcher_outcomes, matcher_tree};
+ghost use Rattle.regress_found.specs.Results.{IsSearchResult};
+ghost use Rattle.regress_match.specs.Pattern.{matcher_outcomes, matcher_tree};
 ghost use Rattle.example_callers.specs.MatchedText.{IsMatchedText};
 
 use regress_match::{Found, Matcher, Outcome};
@@ -39,7 +39,7 @@ pub fn first_match<'a>(
 ) -> Result<Option<&'a str>, SearchError>
     requires { IsWellFormed (matcher_tree matcher.now) }
     ensures found { IfOk result (λ found. IfSome found (λ part. IsMatchedText text.now (matcher_outcomes matcher.now text.now) part.now)) }
-    ensures none { IfOk result (λ found. found ≡ None → Finds text.now (matcher_outcomes matcher.now text.now) 0 Outcome.NoMatch) }
+    ensures none { IfOk result (λ found. found ≡ None → IsSearchResult text.now (matcher_outcomes matcher.now text.now) 0 Outcome.NoMatch) }
 {
     let Found { outcome, .. } = matcher.find(alloc, text, 0, steps)?;
     match outcome {

@@ -1,7 +1,7 @@
 -- What loops over matches and groups have written as JSON.
 use Rattle.std.proofs.Common.{◌≡◌, ◌∙◌, ℕ, ◌+◌, List, ◌++◌, Option, Some, flat_map, length, map, take, ap, sym, append_assoc, codes}
-use Rattle.regress_match.specs.Matched as matcher
-use Rattle.regress_match.specs.Matched.{IsInside}
+use Rattle.regress_found.specs.Found as matcher
+use Rattle.regress_found.specs.Found.{IsInside}
 use Rattle.regress_tree.specs.Steps.{CaptureSpan}
 use Rattle.regress.specs.Compiled.{groups_of}
 use Rattle.regress.specs.Found.{match_of}

@@ -5,8 +5,8 @@ use Rattle.std.specs.Str.Lossy.{utf8_invalid_len, utf8_valid_len}
 use Rattle.std.proofs.lemmas.Fn.{FoldsTo-push}
 use Rattle.std.proofs.lemmas.List.Elements.{All-map}
 use Rattle.std.proofs.lemmas.List.{drop_all, drop_at, get_or-map, length-append, length-map, take_at}
-use Rattle.regress_match.specs.Matched.{IsInside, start_of}
-use Rattle.regress_match.specs.Searched.{AreAllMatches}
+use Rattle.regress_found.specs.Found.{IsInside, start_of}
+use Rattle.regress_found.specs.Repeated.{AreAllMatches}
 use Rattle.regress_replace.specs.Expansion.{end_of, matched_text}
 use Rattle.regress_replace.specs.Replaced.{replaced}
 use Rattle.regress_replace.proofs.lemmas.Order.{IsBefore, before_first, before_next, next_match}

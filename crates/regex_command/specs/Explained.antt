@@ -2,8 +2,9 @@
 use Rattle.std.specs.Prelude.{◌≡◌, ◌⊎◌, ⊤, ℕ, Bool, true, false, List, [], ◌++◌, map, Option, Some, None, codes, option_map}
 use Rattle.std.specs.declared.ops.Range.{Range}
 use Rattle.regress_explain.specs.Page.{IsPage}
-use Rattle.regress_match.specs.Matched.{Match, start_of, state_of}
-use Rattle.regress_match.specs.Searched.{AreAllMatches}
+use Rattle.regress_found.specs.declared.found.Match.{Match}
+use Rattle.regress_found.specs.Found.{start_of, state_of}
+use Rattle.regress_found.specs.Repeated.{AreAllMatches}
 use Rattle.regress_parse.specs.Accepted.{IsAccepted, NoneIsAccepted}
 use Rattle.regress_syntax.specs.Syntax.{Pattern}
 use Rattle.regress_tree.specs.Setting.{Setting}

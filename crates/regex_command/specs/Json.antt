@@ -2,8 +2,9 @@
 use Rattle.std.specs.Prelude.{◌≡◌, ℕ, ◌+◌, List, [], ◌∷◌, ◌++◌, flat_map, map, Option, Some, None, if◌then◌else◌, ◌==◌, codes, slice_range}
 use Rattle.std.specs.Fmt.{decimal}
 use Rattle.regress_display.specs.Fault.{json_text}
-use Rattle.regress_match.specs.Matched.{Match, start_of, state_of}
-use Rattle.regress_match.specs.Searched.{AreAllMatches}
+use Rattle.regress_found.specs.declared.found.Match.{Match}
+use Rattle.regress_found.specs.Found.{start_of, state_of}
+use Rattle.regress_found.specs.Repeated.{AreAllMatches}
 use Rattle.regress_tree.specs.Steps.{CaptureSpan}
 use Rattle.regress_tree.specs.WellFormed.{Capture}
 use Rattle.regress.specs.Compiled.{groups_of, outcomes_of}

@@ -1,8 +1,8 @@
 -- What is written for a line.
 use Rattle.std.specs.Prelude.{◌≡◌, ◌↔◌, ℕ, Bool, true, false, not, IsTrue, List, [], ◌++◌, flat_map, length, if◌then◌else◌, ◌==◌, codes}
 use Rattle.std.specs.List.{Any, FoldsTo}
-use Rattle.regress_match.specs.Matched.{Match}
-use Rattle.regress_match.specs.Searched.{AreAllMatches}
+use Rattle.regress_found.specs.declared.found.Match.{Match}
+use Rattle.regress_found.specs.Repeated.{AreAllMatches}
 use Rattle.regress_replace.specs.Expansion.{expansion, matched_text}
 use Rattle.regress.specs.Compiled.{groups_of, outcomes_of}
 use Rattle.regress.specs.Found.{MatchesSomewhere}

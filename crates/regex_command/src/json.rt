@@ -1,6 +1,6 @@
 //! Matches as JSON.
 ghost use Rattle.std.specs.Prelude.{◌≡◌, IfOk, IfSome, None, OnOk, drop, map, option_map, slice_index_or, string_bytes};
-ghost use Rattle.regress_match.specs.Matched.{IsInside};
+ghost use Rattle.regress_found.specs.Found.{IsInside};
 ghost use Rattle.regress_tree.specs.Inside.{IsSpanInside};
 ghost use Rattle.regress.specs.Compiled.{groups_of};
 ghost use Rattle.regress.specs.Found.{match_of, span_of};

@@ -1,6 +1,6 @@
 //! Matches in color.
 ghost use Rattle.std.specs.Prelude.{◌≡◌, ◌++◌, All, OnOk, map};
-ghost use Rattle.regress_match.specs.Matched.{IsInside};
+ghost use Rattle.regress_found.specs.Found.{IsInside};
 ghost use Rattle.regress_replace.specs.Expansion.{matched_text};
 ghost use Rattle.regress_replace.specs.Order.{AreInOrder};
 ghost use Rattle.regress_replace.specs.Replaced.{replaced};

@@ -11,10 +11,9 @@ use Rattle.regress_front.specs.Tree.{Tree}
 use Rattle.regress_ecma.specs.Compared.{IsComparable}
 use Rattle.regress_ecma.specs.Exec.{builtin_exec, found_in_bytes}
 use Rattle.regress_ecma.proofs.lemmas.Searches.{HasMeaning, outcomes_from, decoded, leftmost, nowhere}
-use Rattle.regress_match.specs.Matched.{outcomes_at}
+use Rattle.regress_found.specs.Found.{outcomes_at, Finds, start_of, state_of}
 use Rattle.regress_parse.proofs.lemmas.{length-names, length-captures-tree_of}
-use Rattle.regress_program.specs.Found.{Finds, start_of, state_of}
-use Rattle.regress_program.specs.declared.found.Match.{Match}
+use Rattle.regress_found.specs.declared.found.Match.{Match}
 use Rattle.regress_tree.proofs.lemmas.Characters.{byte_position-zero}
 use Rattle.regress.specs.Accepted.{IsTreeOf}
 use Rattle.regress.specs.Compiled.{IsCompiledFrom, outcomes_of, tree_of}

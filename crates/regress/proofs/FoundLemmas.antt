@@ -5,17 +5,16 @@ use Rattle.std.proofs.lemmas.List.{map-append}
 use Rattle.std.proofs.lemmas.List.Elements.{All-cons, All-head, All-nil, All-push, All-tail}
 use Rattle.regress_front.specs.Steps.{MatchState}
 use Rattle.regress_front.specs.WellFormed.{Capture}
-use Rattle.regress_match.specs.Matched as matcher
-use Rattle.regress_match.specs.Matched.{IsInside}
-use Rattle.regress_match.specs.Matched.{IfOutOfSteps, Outcome}
-use Rattle.regress_match.specs.Matched.outcomes
+use Rattle.regress_found.specs.Found as matcher
+use Rattle.regress_found.specs.Found.{IsInside, IsLeftmost, start_of}
+use Rattle.regress_found.specs.Results.{IfOutOfSteps}
+use Rattle.regress_found.specs.declared.outcome.Outcome.{Outcome}
 use Rattle.regress_match.specs.Costs.{IsWithinFindCost}
 use Rattle.regress_match.specs.Matcher.{IsLimited, IsLinear}
 use Rattle.regress_match.specs.declared.matcher.Matcher.{Matcher}
-use Rattle.regress_match.specs.Searched.{AreAllMatches, AreMatches}
+use Rattle.regress_found.specs.Repeated.{AreAllMatches, AreMatches}
 use Rattle.regress_match.proofs.lemmas.Searched.{AreMatches-more}
-use Rattle.regress_program.specs.Found as one
-use Rattle.regress_program.specs.Found.{IsLeftmost, start_of}
+use Rattle.regress_found.specs.Found as one
 use Rattle.regress_replace.specs.Order.{AreInOrder}
 use Rattle.regress_replace.proofs.lemmas.Found.{AreMatches-in_order}
 use Rattle.regress.specs.Found.{MatchesSomewhere, groups_in, match_of}

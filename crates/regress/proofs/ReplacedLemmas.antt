@@ -8,8 +8,7 @@ use Rattle.std.specs.List.{FoldsTo}
 use Rattle.std.proofs.lemmas.Fn.{FoldsTo-push}
 use Rattle.std.proofs.lemmas.List.Elements.{All-map}
 use Rattle.std.proofs.lemmas.List.{drop_all, get_or-map, length-map, map-append, take_all, take_more}
-use Rattle.regress_program.specs.Found.{start_of}
-use Rattle.regress_match.specs.Matched.{IsInside}
+use Rattle.regress_found.specs.Found.{start_of, IsInside}
 use Rattle.regress_replace.specs.Expansion.{end_of}
 use Rattle.regress_replace.specs.Replaced.{joined, split_pieces}
 use Rattle.regress_replace.proofs.lemmas.Order.{IsBefore, before_first, before_next, next_match}

@@ -5,8 +5,7 @@ use Rattle.std.specs.Prelude.{IfSome}
 use Rattle.regress_front.specs.Setting.{Setting}
 use Rattle.regress_front.specs.Tree.{Tree}
 use Rattle.regress_front.specs.WellFormed.{captures}
-use Rattle.regress_match.specs.Matched.{outcomes_at}
-use Rattle.regress_program.specs.Found.{no_groups}
+use Rattle.regress_found.specs.Found.{outcomes_at, initial_state}
 use Rattle.regress_required.specs.Required.{AbsentFrom, IsRequiredLiteral}
 use Rattle.regress_required.proofs.lemmas.Required.{no_matches}
 use Rattle.regress.specs.Compiled.{setting_of, tree_of}
@@ -17,7 +16,7 @@ use Rattle.regress.specs.declared.pattern.Regex.{Regex}
 never_matches : (setting : Setting) (t : Tree) (literal text : List ℕ) → IsRequiredLiteral literal t → AbsentFrom literal text 0 →
     MatchesSomewhere text (outcomes_at setting text t) → ⊥
 never_matches setting t literal text is absent (p, boundary, some) =
-    some (no_matches (AbsentFrom literal) t is setting text (no_groups (length (captures t)) p) (λ k from. absent k (omega arith)))
+    some (no_matches (AbsentFrom literal) t is setting text (initial_state (length (captures t)) p) (λ k from. absent k (omega arith)))
 
 pub literal_is_required : (r : Regex) (found : Option (Bor (List ℕ))) → IfSome found (λ literal. IsRequiredLiteral literal.now (tree_of r)) →
     IfSome found (λ literal. RequiresLiteral r literal.now)

@@ -1,5 +1,5 @@
 -- A compiled regular expression.
-use Rattle.std.specs.Prelude.{◌≡◌, ℕ, List, Option, map, string_bytes, chars, encode_utf8_all, if◌then◌else◌}
+use Rattle.std.specs.Prelude.{◌≡◌, ℕ, List, map, string_bytes, chars, encode_utf8_all, if◌then◌else◌}
 use Rattle.std.specs.List.Sorted.{IsNonDecreasingBy, IsPermutation}
 use Rattle.regress_front.specs.Setting.{Setting}
 use Rattle.regress_front.specs.Source.{Source}
@@ -8,12 +8,9 @@ use Rattle.regress_front.specs.Tree.{Tree}
 use Rattle.regress_front.specs.Utf8.{is_scalar}
 use Rattle.regress_front.specs.WellFormed.{Capture, captures}
 use Rattle.regress_front.specs.declared.types.Flags.{Flags}
-use Rattle.regress_match.specs.Costs.{IsWithinFindCost}
-use Rattle.regress_match.specs.Matched.{outcomes_at}
-use Rattle.regress_match.specs.Matcher as matcher
-use Rattle.regress_match.specs.Matcher.{matcher_setting, matcher_tree}
+use Rattle.regress_found.specs.Found.{outcomes_at}
+use Rattle.regress_match.specs.Pattern.{matcher_setting, matcher_tree}
 use Rattle.regress_match.specs.Names.{capture_of}
-use Rattle.regress_match.specs.declared.nonlinear.Nonlinear.{Nonlinear}
 use Rattle.regress_ucd.specs.UnicodeTable.{unicode_table}
 use Rattle.regress.specs.Accepted.{IsTreeOf}
 use Rattle.regress.specs.declared.pattern.Regex.{Regex}
@@ -37,27 +34,6 @@ groups_of r = map capture_of r.groups.items
 -- the outcomes of the pattern on a text, from each position
 abbrev pub outcomes_of : Regex → (text : List ℕ) → (position : ℕ) → List MatchState
 outcomes_of r text = outcomes_at (setting_of r) text (tree_of r)
-
--- an upper bound for the steps of a search for all matches for each byte of a text, and once more; none if such searches
--- are not known to take linear time
-abbrev pub factor_of : Regex → Option ℕ
-factor_of r = matcher.factor_of r.matcher
-
--- the same for a search for one match
-abbrev pub find_factor_of : Regex → Option ℕ
-find_factor_of r = matcher.find_factor_of r.matcher
-
--- the step limit of a search if they are not known to
-abbrev pub limit_of : Regex → ℕ
-limit_of r = r.steps
-
--- A search from there on costs at least the step limit.
-abbrev pub CostsLimit : Regex → (text : List ℕ) → (from : ℕ) → Type 0
-CostsLimit r text from = IsWithinFindCost r.matcher text from (limit_of r)
-
--- why searches for all matches are not known to take linear time; none if they do
-abbrev pub nonlinear_of : Regex → Option Nonlinear
-nonlinear_of r = matcher.nonlinear_of r.matcher
 
 -- the flags, and the table of all of Unicode
 abbrev pub unicode_setting : Flags → Setting

@@ -4,8 +4,8 @@ use Rattle.std.specs.Str.{IsCharBoundary}
 use Rattle.std.specs.declared.ops.Range.{Range}
 use Rattle.regress_front.specs.Steps.{CaptureSpan, MatchState}
 use Rattle.regress_front.specs.WellFormed.{Capture}
-use Rattle.regress_match.specs.Matched as matcher
-use Rattle.regress_match.specs.Matched.{start_of, state_of}
+use Rattle.regress_found.specs.Found as matcher
+use Rattle.regress_found.specs.Found.{start_of, state_of}
 use Rattle.regress_match.specs.Names.{capture_of}
 use Rattle.regress.specs.declared.found.Match.{Match}
 

@@ -2,7 +2,8 @@
 use Rattle.std.specs.Prelude.{ℕ, List, [], ◌∷◌, flat_map, map, drop, Option, Some, None, slice_index_or}
 use Rattle.regress_front.specs.Steps.{CaptureSpan}
 use Rattle.regress_front.specs.WellFormed.{Capture}
-use Rattle.regress_match.specs.Matched.{Match, start_of, state_of}
+use Rattle.regress_found.specs.declared.found.Match.{Match}
+use Rattle.regress_found.specs.Found.{start_of, state_of}
 use Rattle.regress_match.specs.Names.{capture_of}
 use Rattle.regress.specs.declared.groups.Groups.{Groups}
 use Rattle.regress.specs.declared.groups.NamedGroups.{NamedGroups}

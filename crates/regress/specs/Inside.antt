@@ -1,7 +1,8 @@
 -- That matches are inside a text has at most one proof.
 use Rattle.std.specs.Prelude.{ℕ, List, All, Result, Ok, Err, IfOk}
 use Rattle.std.proofs.Props.{props}
-use Rattle.regress_match.specs.Matched.{IsInside, Match}
+use Rattle.regress_found.specs.Found.{IsInside}
+use Rattle.regress_found.specs.declared.found.Match.{Match}
 
 pub IsInside-prop : (text : List ℕ) (m : Match) → IsProp (IsInside text m)
 IsInside-prop text m = hlevel props

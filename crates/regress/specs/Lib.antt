@@ -1,5 +1,6 @@
 pub mod Accepted
 pub mod Compiled
+pub mod Costs
 pub mod Failures
 pub mod Found
 pub mod Groups

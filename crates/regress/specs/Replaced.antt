@@ -5,9 +5,9 @@ use Rattle.std.specs.declared.alloc.Global.{Global}
 use Rattle.std.specs.Fn.{CalledAt, Mut}
 use Rattle.std.specs.List.{FoldsTo}
 use Rattle.regress_front.specs.Steps.{MatchState}
-use Rattle.regress_match.specs.Matched as matcher
-use Rattle.regress_match.specs.Searched.{AreAllMatches, AreMatches}
-use Rattle.regress_program.specs.Found.{Finds}
+use Rattle.regress_found.specs.Found as matcher
+use Rattle.regress_found.specs.Repeated.{AreAllMatches, AreMatches}
+use Rattle.regress_found.specs.Found.{Finds}
 use Rattle.regress_replace.specs.Expansion.{matched_text}
 use Rattle.regress_replace.specs.Replaced.{joined, replaced, split_pieces}
 use Rattle.regress_replace.specs.Split.{all_parts, limited}

@@ -2,12 +2,12 @@
 use Rattle.std.specs.Prelude.{◌≡◌, ℕ, Bool, true, false, List, map, Option, Some, None, Result, Ok, Err}
 use Rattle.regress_front.specs.Steps.{MatchState}
 use Rattle.regress_front.specs.WellFormed.{Capture}
-use Rattle.regress_match.specs.Matched.{IsInside}
-use Rattle.regress_program.specs.Found as one
+use Rattle.regress_found.specs.Found.{IsInside}
+use Rattle.regress_found.specs.Found as one
 use Rattle.regress_match.specs.Names.{capture_of}
 use Rattle.regress_match.specs.Iterated.{iterated_from, iterated_matcher, iterated_outcomes, iterated_text, step_limit}
 use Rattle.regress_match.specs.Matcher.{factor_of}
-use Rattle.regress_match.specs.Searched.{next_offset}
+use Rattle.regress_found.specs.Repeated.{next_offset}
 use Rattle.regress.specs.Found.{groups_in, match_of}
 use Rattle.regress.specs.declared.failure.SearchError.{SearchError}
 use Rattle.regress.specs.declared.failure.SearchError.TheVariants.{OutOfSteps}

@@ -8,8 +8,8 @@ ghost use Rattle.regress_front.specs.Source.{Source};
 ghost use Rattle.regress_ecma.specs.Compared.{IsComparable};
 ghost use Rattle.regress_ecma.specs.CompiledClasses.{with_char_sets};
 ghost use Rattle.regress_ecma.specs.Exec.{builtin_exec, found_in_bytes};
-ghost use Rattle.regress_program.specs.Found.{Finds, start_of, state_of};
-ghost use Rattle.regress_program.specs.declared.found.Match.{Match};
+ghost use Rattle.regress_found.specs.Found.{Finds, start_of, state_of};
+ghost use Rattle.regress_found.specs.declared.found.Match.{Match};
 ghost use Rattle.regress.specs.Compiled.{IsCompiledFrom, outcomes_of};
 ghost use Rattle.regress.specs.declared.pattern.Regex.{Regex};
 

@@ -1,6 +1,6 @@
 //! A match, and the spans of its groups.
 ghost use Rattle.std.specs.Prelude.{◌≡◌};
-ghost use Rattle.regress_match.specs.Matched.{start_of, state_of};
+ghost use Rattle.regress_found.specs.Found.{start_of, state_of};
 ghost use Rattle.regress_match.specs.Names.{named_span};
 ghost use Rattle.regress.specs.Groups.{all_spans, named_left, named_spans, spans_left};
 ghost use Rattle.regress.specs.Found.{group_span, groups_in, match_of, span_of};

@@ -1,6 +1,6 @@
 //! Compiled regular expressions.
 ghost use Rattle.regress_front.specs.WellFormed.{IsWellFormed};
-ghost use Rattle.regress_match.specs.Matcher.{matcher_tree};
+ghost use Rattle.regress_match.specs.Pattern.{matcher_tree};
 
 use crate::compiling::optimized;
 use crate::failure::{Error, SearchError};
@@ -57,13 +57,13 @@ impl Regex {
     ghost use Rattle.regress_front.specs.Bound.{HasAtMost};
     ghost use Rattle.regress_front.specs.SettingOf.{setting_of as setting_under};
     ghost use Rattle.regress_front.specs.Source.{IsCodePoint};
-    ghost use Rattle.regress_match.specs.Matched.{IsInside};
+    ghost use Rattle.regress_found.specs.Found.{IsInside, Finds};
     ghost use Rattle.regress_match.specs.Matcher.{IsFactorOf, IsFindFactorOf, IsNonlinearOf};
-    ghost use Rattle.regress_match.specs.Searched.{AreAllMatches};
-    ghost use Rattle.regress_program.specs.Found.{Finds};
+    ghost use Rattle.regress_found.specs.Repeated.{AreAllMatches};
     ghost use Rattle.regress_program.specs.Size.{program_size};
     ghost use Rattle.regress_replace.specs.Order.{AreInOrder};
-    ghost use Rattle.regress.specs.Compiled.{CostsLimit, IsCompiled, IsCompiledFrom, factor_of, find_factor_of, groups_of, limit_of, nonlinear_of, outcomes_of, setting_of, source_of, text_of, tree_of, unicode_setting};
+    ghost use Rattle.regress.specs.Costs.{CostsLimit, factor_of, find_factor_of, limit_of, nonlinear_of};
+    ghost use Rattle.regress.specs.Compiled.{IsCompiled, IsCompiledFrom, groups_of, outcomes_of, setting_of, source_of, text_of, tree_of, unicode_setting};
     ghost use Rattle.regress.specs.Failures.{IsDue, IsDueWithLetters};
     ghost use Rattle.regress.specs.Found.{MatchesSomewhere, groups_in, match_of};
     ghost use Rattle.regress.specs.Groups.{names_left};

@@ -1,6 +1,6 @@
 //! Replacing matches in a text.
 ghost use Rattle.std.specs.Prelude.{All, IfOk, map, string_bytes};
-ghost use Rattle.regress_match.specs.Matched.{IsInside};
+ghost use Rattle.regress_found.specs.Found.{IsInside};
 ghost use Rattle.regress_replace.specs.Expansion.{expansion};
 ghost use Rattle.regress_replace.specs.Order.{AreInOrder};
 ghost use Rattle.regress.specs.Compiled.{groups_of, outcomes_of};

@@ -3,10 +3,10 @@ ghost use Rattle.std.specs.Prelude.{◌≡◌, All, IfErr, IfOk, IfSome, None};
 ghost use Rattle.regress_front.specs.WellFormed.{IsWellFormed};
 ghost use Rattle.regress_match.specs.Costs.{IsWithinFindCost};
 ghost use Rattle.regress_match.specs.Iterated.{iterated_matcher};
-ghost use Rattle.regress_match.specs.Matched.{IsInside};
-ghost use Rattle.regress_match.specs.Matcher.{factor_of, find_factor_of, matcher_outcomes, matcher_tree};
-ghost use Rattle.regress_match.specs.Searched.{AreAllMatches};
-ghost use Rattle.regress_program.specs.Found.{Finds};
+ghost use Rattle.regress_found.specs.Found.{IsInside, Finds};
+ghost use Rattle.regress_match.specs.Matcher.{factor_of, find_factor_of};
+ghost use Rattle.regress_match.specs.Pattern.{matcher_outcomes, matcher_tree};
+ghost use Rattle.regress_found.specs.Repeated.{AreAllMatches};
 ghost use Rattle.regress_replace.specs.Order.{AreInOrder};
 ghost use Rattle.regress.specs.declared.failure.SearchError.TheVariants.{OutOfSteps};
 

@@ -1,8 +1,8 @@
 //! Splitting a text at matches.
 ghost use Rattle.std.specs.Prelude.{All, ℕ, List, IfOk, map};
 ghost use Rattle.std.specs.Borrow.{Bor};
-ghost use Rattle.regress_match.specs.Matched.{IsInside};
-ghost use Rattle.regress_match.specs.Searched.{AreAllMatches};
+ghost use Rattle.regress_found.specs.Found.{IsInside};
+ghost use Rattle.regress_found.specs.Repeated.{AreAllMatches};
 ghost use Rattle.regress_replace.specs.Order.{AreInOrder};
 ghost use Rattle.regress_replace.specs.Split.{part_texts};
 ghost use Rattle.regress.specs.Compiled.{outcomes_of};

@@ -5,8 +5,8 @@ use Rattle.regress_tree.specs.Steps.{MatchState}
 use Rattle.regress_prefilter.specs.Candidates.{Skips}
 use Rattle.regress_prefilter.specs.declared.candidates.Candidates.{Candidates}
 use Rattle.regress_prefilter.specs.declared.candidates.Candidates.TheVariants as candidates
-use Rattle.regress_program.specs.Found as found
-use Rattle.regress_program.specs.Found.{NoneBefore}
+use Rattle.regress_found.specs.Found as found
+use Rattle.regress_found.specs.Found.{NoneBefore}
 use Rattle.regress_code.specs.Candidates.{IsCandidate}
 
 module _ (text : List ℕ) (from : ℕ) where

@@ -9,7 +9,7 @@ use Rattle.regress_base.specs.declared.bytesearch.bitmap.ByteBitmap.{ByteBitmap}
 use Rattle.regress_leaves.specs.Leaves.{exactly, put}
 use Rattle.regress_leaves.specs.Subject.{subject}
 use Rattle.regress_leaves.proofs.ReadingLemmas.{ascii_after}
-use Rattle.regress_program.specs.Found.{state}
+use Rattle.regress_found.specs.Found.{state}
 use Rattle.regress_program.specs.Cost.{Cost, compared, cost_after, cost_at, cost_of}
 use Rattle.regress_program.specs.Program.{matcher_of, Out}
 use Rattle.regress_tree.specs.Matching.{steps}

@@ -1,7 +1,7 @@
 -- The front of the first instruction.
 use Rattle.std.proofs.Common.{◌≡◌, ℕ, ◌-◌, List, length, slice_get, Some, true, [], sym, ap, ap₂, ◌∙◌, subst}
 use Rattle.regress_tree.specs.Reading.{forwards}
-use Rattle.regress_program.specs.Found.{no_groups}
+use Rattle.regress_found.specs.Found.{initial_state}
 use Rattle.regress_program.specs.Program.{At, IsSolution, Out, matcher_of, start}
 use Rattle.regress_unicode.specs.declared.Tables.{Tables}
 use Rattle.regress_code.specs.declared.code.Code.{Code}
@@ -19,7 +19,7 @@ entry_bounds code tables text input for front is outs solution k =
     let setting = setting_with code tables in
     let i = length program - 1 in
     let r = for.is.routine in
-    let s = no_groups (code_groups code) k in
+    let s = initial_state (code_groups code) k in
     let here : slice_get program i ≡ Some r = ap₂ (λ c j. slice_get (code_routines c) j) (sym for.code) (sym for.index) ∙ for.is.is in
     let first : At = record { pc = r.entry; moved = true; state = s; begins = [] } in
     let fronts : AreFrontsIn setting input.fronts.now r.direction r.ops = subst (λ x. AreFrontsIn x input.fronts.now r.direction r.ops) for.setting for.is.fronts in

@@ -9,7 +9,7 @@ use Rattle.regress_tree.specs.Reading.{Direction}
 use Rattle.regress_tree.specs.Setting.{Setting}
 use Rattle.regress_tree.specs.Steps.{MatchState, Matcher, CaptureSpan}
 use Rattle.regress_code.specs.declared.instruction.Instruction.{Instruction}
-use Rattle.regress_program.specs.Found.{state}
+use Rattle.regress_found.specs.Found.{state}
 use Rattle.regress_program.specs.Cost.{Cost, IsCost, cost_after, cost_of}
 use Rattle.regress_program.specs.Program.{Out, Routine, reach, start, matcher_of, outcomes_by, outcomes_at, IsSolution}
 use Rattle.regress_program.specs.Shape.{Fits, IsProgram}

@@ -8,23 +8,24 @@ use Rattle.regress_leaves.specs.Subject.{subject}
 use Rattle.regress_tree.specs.Tree.{Tree}
 use Rattle.regress_unicode.specs.declared.Tables.{Tables}
 use Rattle.regress_program.specs.Compiled.{IsPattern}
-use Rattle.regress_program.specs.declared.found.Match.{Match}
+use Rattle.regress_found.specs.declared.found.Match.{Match}
 use Rattle.regress_program.specs.Cost.{Cost, IsCost, cost_of}
-use Rattle.regress_program.specs.Found.{IsLeftmost, NoneBefore, no_groups, start_of, state_of, state}
+use Rattle.regress_found.specs.Found.{IsLeftmost, NoneBefore, initial_state, start_of, state_of, state}
 use Rattle.regress_program.specs.Program.{Out, IsSolution, matcher_of}
 use Rattle.regress_program.proofs.lemmas.Solutions.{solution}
 use Rattle.regress_backtrack.specs.declared.backtracker.Backtracker.{Backtracker}
 use Rattle.regress_code.specs.declared.code.Code.{Code}
 use Rattle.regress_backtrack.specs.declared.input.Input.{Input}
 use Rattle.regress_backtrack.specs.declared.machine.Machine.{Machine}
-use Rattle.regress_backtrack.specs.declared.outcome.Outcome.{Outcome}
-use Rattle.regress_backtrack.specs.declared.outcome.Outcome.TheVariants as outcomes
+use Rattle.regress_found.specs.declared.outcome.Outcome.{Outcome}
+use Rattle.regress_found.specs.declared.outcome.Outcome.TheVariants as outcomes
 use Rattle.regress_backtrack.specs.declared.run.Response.{Response}
 use Rattle.regress_backtrack.specs.declared.run.Response.TheVariants as responses
 use Rattle.regress_backtrack.specs.Backtracker.{AreCosts, AreOutcomes, SameRuns, cost_at, outcomes_at, run_code, run_tables, run_text, tree_outcomes_at}
 use Rattle.regress_code.specs.Code.{code_groups, code_routines, cost_from, outcomes_from, setting_with, tree_outcomes_from}
 use Rattle.regress_backtrack.specs.Run.{Answers}
-use Rattle.regress_backtrack.specs.Searched.{Finds, IsFirst, IsFor}
+use Rattle.regress_found.specs.Results.{IsSearchResult, IsMatchResult}
+use Rattle.regress_backtrack.specs.Searched.{IsFor}
 use Rattle.regress_backtrack.proofs.RunLemmas.{same_answers, same_cost}
 
 -- what is so for each solution is so for each tree of the program
@@ -33,11 +34,11 @@ pub of_tree : (code : Code) (tables : Tables) (text : List ℕ) (k : ℕ) → k 
     (t : Tree) → IsPattern (code_routines code) t → P (tree_outcomes_from code tables text t k)
 of_tree code tables text k le P all t pattern =
     let some = solution (setting_with code tables) text (code_routines code) code.is_program in
-    subst P (pattern.means (setting_with code tables) text some.0 some.1 (no_groups (code_groups code) k) le) (all some.0 some.1)
+    subst P (pattern.means (setting_with code tables) text some.0 some.1 (initial_state (code_groups code) k) le) (all some.0 some.1)
 
 -- outcomes that are the same inside the text
 same_finds : (text : List ℕ) (at at' : ℕ → List MatchState) (origin : ℕ) (outcome : Outcome) → ((k : ℕ) → k ≤ length text → at k ≡ at' k) →
-    Finds text at origin outcome → Finds text at' origin outcome
+    IsSearchResult text at origin outcome → IsSearchResult text at' origin outcome
 same_finds text at at' origin (outcomes.Matched m) same is = record {
   from = is.from;
   boundary = is.boundary;
@@ -49,13 +50,13 @@ same_finds text at at' origin outcomes.OutOfSteps same is = tt
 
 -- what a search finds for each solution it finds for each tree of the program
 pub tree_finds : (b : Backtracker) (origin : ℕ) (outcome : Outcome) →
-    ((outs : ℕ → Out) → AreOutcomes b outs → Finds (run_text b) (outcomes_at b outs) origin outcome) →
-    (t : Tree) → IsPattern (code_routines (run_code b)) t → Finds (run_text b) (tree_outcomes_at b t) origin outcome
+    ((outs : ℕ → Out) → AreOutcomes b outs → IsSearchResult (run_text b) (outcomes_at b outs) origin outcome) →
+    (t : Tree) → IsPattern (code_routines (run_code b)) t → IsSearchResult (run_text b) (tree_outcomes_at b t) origin outcome
 tree_finds b origin outcome all t pattern =
     let setting = setting_with (run_code b) (run_tables b) in
     let some = solution setting (run_text b) (code_routines (run_code b)) b.code.now.is_program in
     same_finds (run_text b) (outcomes_at b some.0) (tree_outcomes_at b t) origin outcome
-    (λ k le. pattern.means setting (run_text b) some.0 some.1 (no_groups (code_groups (run_code b)) k) le) (all some.0 some.1)
+    (λ k le. pattern.means setting (run_text b) some.0 some.1 (initial_state (code_groups (run_code b)) k) le) (all some.0 some.1)
 
 -- what is so of a program, case mappings and a text is so of equal ones
 pub same_parts : (P : Code → Tables → List ℕ → Type 0) (c c' : Code) (t t' : Tables) (x x' : List ℕ) → c' ≡ c → t' ≡ t → x' ≡ x → P c' t' x' → P c t x
@@ -129,7 +130,7 @@ run_cost b input captures k left left' outs costs is unset taken =
 
 -- the match that is found at a position, if no earlier position has an outcome
 pub found_leftmost : (text : List ℕ) (at : ℕ → List MatchState) (origin k : ℕ) (found : Match) → origin ≤ k → IsCharBoundary text k →
-    IsFirst k (at k) (outcomes.Matched found) → NoneBefore text at origin k → IsLeftmost text at origin found
+    IsMatchResult k (at k) (outcomes.Matched found) → NoneBefore text at origin k → IsLeftmost text at origin found
 found_leftmost text at origin k found low on first none = record {
   from = subst (λ i. origin ≤ i) (sym first.0) low;
   boundary = subst (IsCharBoundary text) (sym first.0) on;

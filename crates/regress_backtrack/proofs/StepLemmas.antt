@@ -10,7 +10,7 @@ use Rattle.regress_leaves.specs.Leaves.{exactly, put}
 use Rattle.regress_code.specs.declared.instruction.Instruction.{Instruction}
 use Rattle.regress_code.specs.declared.instruction.Instruction.TheVariants as insts
 use Rattle.regress_leaves.specs.declared.test.Test.{Test}
-use Rattle.regress_program.specs.Found.{state}
+use Rattle.regress_found.specs.Found.{state}
 use Rattle.regress_program.specs.Program.{Out, At}
 use Rattle.regress_program.specs.Shape.{Fits}
 use Rattle.regress_program.specs.Stays.{IsReached}

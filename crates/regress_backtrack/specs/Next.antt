@@ -2,7 +2,7 @@
 use Rattle.std.specs.Prelude.{◌≡◌, ℕ, ◌≤◌, ◌<◌, Bool, true, false, List, [], ◌∷◌, flat_map, length, slice_get, Some, take}
 use Rattle.regress_tree.specs.Reading.{direction_if}
 use Rattle.regress_tree.specs.Steps.{MatchState}
-use Rattle.regress_program.specs.Found.{state}
+use Rattle.regress_found.specs.Found.{state}
 use Rattle.regress_program.specs.Program.{At, IsSolution, Op, look, Out, Routine}
 use Rattle.regress_program.specs.Shape.{Fits}
 use Rattle.regress_leaves.specs.Subject.{subject}

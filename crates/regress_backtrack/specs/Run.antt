@@ -1,5 +1,5 @@
 -- The result of a run.
-use Rattle.regress_program.specs.Found.{state}
+use Rattle.regress_found.specs.Found.{state}
 use Rattle.std.specs.Prelude.{◌≡◌, Bool, not, List, [], ◌∷◌, if◌then◌else◌}
 use Rattle.regress_tree.specs.Steps.{MatchState}
 use Rattle.regress_backtrack.specs.declared.machine.Machine.{Machine}

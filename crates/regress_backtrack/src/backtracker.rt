@@ -9,16 +9,17 @@ ghost use Rattle.regress_program.specs.Program.{Out};
 ghost use Rattle.regress_code.specs.Code.{code_groups, code_routines};
 ghost use Rattle.regress_backtrack.specs.Run.{Answers};
 ghost use Rattle.regress_backtrack.specs.declared.run.Response.TheVariants as responses;
-ghost use Rattle.regress_backtrack.specs.Searched.{IsFirst, IsFor};
+ghost use Rattle.regress_found.specs.Results.{IsMatchResult};
+ghost use Rattle.regress_backtrack.specs.Searched.{IsFor};
 
 use crate::input::{Input, input_for};
 use crate::machine::Machine;
 use crate::outcome::Outcome;
 use crate::run::{Response, run};
 use regress_code::Code;
+use regress_found::Match;
 use regress_leaves::known::Known;
 use regress_leaves::rules::MatchContext;
-use regress_program::Match;
 use regress_program::groups::unset_groups;
 use std::alloc::{AllocError, Global};
 use std::mem;
@@ -41,7 +42,7 @@ pub struct Backtracker<'c, 'x> {
 
 impl<'c, 'x> Backtracker<'c, 'x> {
     ghost use Rattle.regress_backtrack.specs.Backtracker.{AreCosts, AreOutcomes, SameRuns, cost_at, outcomes_at, run_code, run_tables, run_text, tree_outcomes_at};
-    ghost use Rattle.regress_backtrack.specs.declared.outcome.Outcome.TheVariants.{OutOfSteps};
+    ghost use Rattle.regress_found.specs.declared.outcome.Outcome.TheVariants.{OutOfSteps};
 
     /// Returns a backtracker for a program and a text, under case mappings. The program has a cost in the text.
     ///
@@ -88,9 +89,9 @@ impl<'c, 'x> Backtracker<'c, 'x> {
     ) -> Result<Outcome, AllocError>
         requires { position ≤ length (run_text self.old) }
         ensures solved { IfOk result (λ outcome. (outs : ℕ → Out) → AreOutcomes self.old outs →
-            IsFirst position (outcomes_at self.old outs position) outcome) }
+            IsMatchResult position (outcomes_at self.old outs position) outcome) }
         ensures first { IfOk result (λ outcome. (t : Tree) → IsPattern (code_routines (run_code self.old)) t →
-            IsFirst position (tree_outcomes_at self.old t position) outcome) }
+            IsMatchResult position (tree_outcomes_at self.old t position) outcome) }
         ensures left { IfOk result (λ _. left.new ≤ left.old) }
         ensures costs { IfOk result (λ _. (outs : ℕ → Out) (costs : ℕ → Cost) → AreCosts self.old outs costs →
             left.old ≤ left.new + cost_at self.old costs position) }
@@ -119,9 +120,9 @@ impl<'c, 'x> Backtracker<'c, 'x> {
         requires input { IsFor (run_code self.old) (run_tables self.old) (run_text self.old) input.now }
         requires position { position ≤ length (run_text self.old) }
         ensures solved { IfOk result (λ outcome. (outs : ℕ → Out) → AreOutcomes self.old outs →
-            IsFirst position (outcomes_at self.old outs position) outcome) }
+            IsMatchResult position (outcomes_at self.old outs position) outcome) }
         ensures first { IfOk result (λ outcome. (t : Tree) → IsPattern (code_routines (run_code self.old)) t →
-            IsFirst position (tree_outcomes_at self.old t position) outcome) }
+            IsMatchResult position (tree_outcomes_at self.old t position) outcome) }
         ensures left { IfOk result (λ _. left.new ≤ left.old) }
         ensures costs { IfOk result (λ _. (outs : ℕ → Out) (costs : ℕ → Cost) → AreCosts self.old outs costs →
             left.old ≤ left.new + cost_at self.old costs position) }
@@ -134,7 +135,7 @@ impl<'c, 'x> Backtracker<'c, 'x> {
 
     /// Returns the result of a run from a position, by its response and the captures after it.
     fn outcome_of(&mut self, alloc: Global, response: Response, position: usize) -> Outcome
-        ensures first { (states : List MatchState) → Answers states self.old.machine response → IsFirst position states result }
+        ensures first { (states : List MatchState) → Answers states self.old.machine response → IsMatchResult position states result }
         ensures spent { result ≡ OutOfSteps → response ≡ responses.OutOfSteps }
         ensures same { SameRuns self.old self.new }
     {

@@ -5,12 +5,10 @@ mod alternatives;
 mod backtracker;
 mod input;
 mod machine;
-mod outcome;
 mod run;
 mod search;
 mod step;
 mod sweep;
 
 pub use backtracker::Backtracker;
-pub use outcome::{Found, Outcome};
 pub use search::match_at;

@@ -1,7 +1,7 @@
 //! Runs of routines, within a step limit.
 ghost use Rattle.std.specs.Prelude.{◌≡◌, ◌≤◌, ◌<◌, ◌+◌, ◌∷◌, ◌++◌, [], ℕ, All, IfOk, IfSome, MatchOption, flat_map, if◌then◌else◌, length, take, true};
 ghost use Rattle.regress_leaves.specs.Subject.{subject};
-ghost use Rattle.regress_program.specs.Found.{state};
+ghost use Rattle.regress_found.specs.Found.{state};
 ghost use Rattle.regress_program.specs.Cost.{Cost, IsCost, cost_of};
 ghost use Rattle.regress_program.specs.Program.{IsSolution, Out, goto, look, matcher_of, outcomes_by};
 ghost use Rattle.regress_program.specs.Shape.{IsProgram};

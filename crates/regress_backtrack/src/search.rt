@@ -7,9 +7,10 @@ ghost use Rattle.regress_program.specs.Cost.{Cost, IsCost};
 ghost use Rattle.regress_program.specs.Program.{IsSolution, Out};
 ghost use Rattle.regress_backtrack.specs.Backtracker.{AreCosts, AreOutcomes, SameRuns, outcomes_at, run_code, run_text, search_cost_at, tree_outcomes_at};
 ghost use Rattle.regress_code.specs.Code.{code_routines, cost_from, outcomes_from, setting_with, tree_outcomes_from};
-ghost use Rattle.regress_backtrack.specs.Searched.{Finds, IsFirst, IsFor};
+ghost use Rattle.regress_found.specs.Results.{IsSearchResult, IsMatchResult};
+ghost use Rattle.regress_backtrack.specs.Searched.{IsFor};
 ghost use Rattle.regress_code.specs.declared.code.Code.{Code};
-ghost use Rattle.regress_backtrack.specs.declared.outcome.Outcome.TheVariants.{OutOfSteps};
+ghost use Rattle.regress_found.specs.declared.outcome.Outcome.TheVariants.{OutOfSteps};
 
 use crate::backtracker::{Backtracker, input_of};
 use crate::input::{Input, front_at};
@@ -40,9 +41,9 @@ pub fn match_at(
     requires { position ≤ length text.now }
     ensures solved { IfOk result (λ found. (outs : ℕ → Out) →
         IsSolution (setting_with code.now known.entry.tables.now) text.now (code_routines code.now) outs →
-        IsFirst position (outcomes_from code.now known.entry.tables.now text.now outs position) found.outcome) }
+        IsMatchResult position (outcomes_from code.now known.entry.tables.now text.now outs position) found.outcome) }
     ensures first { IfOk result (λ found. (t : Tree) → IsPattern (code_routines code.now) t →
-        IsFirst position (tree_outcomes_from code.now known.entry.tables.now text.now t position) found.outcome) }
+        IsMatchResult position (tree_outcomes_from code.now known.entry.tables.now text.now t position) found.outcome) }
     ensures steps { IfOk result (λ found. found.steps ≤ steps) }
     ensures costs { IfOk result (λ found. (outs : ℕ → Out) (costs : ℕ → Cost) →
         IsCost (setting_with code.now known.entry.tables.now) text.now (code_routines code.now) outs costs →
@@ -85,9 +86,9 @@ impl Backtracker<'_, '_> {
         left: &mut u64,
     ) -> Result<Outcome, AllocError>
         ensures solved { IfOk result (λ outcome. (outs : ℕ → Out) → AreOutcomes self.old outs →
-            Finds (run_text self.old) (outcomes_at self.old outs) from outcome) }
+            IsSearchResult (run_text self.old) (outcomes_at self.old outs) from outcome) }
         ensures finds { IfOk result (λ outcome. (t : Tree) → IsPattern (code_routines (run_code self.old)) t →
-            Finds (run_text self.old) (tree_outcomes_at self.old t) from outcome) }
+            IsSearchResult (run_text self.old) (tree_outcomes_at self.old t) from outcome) }
         ensures left { IfOk result (λ _. left.new ≤ left.old) }
         ensures costs { IfOk result (λ _. (outs : ℕ → Out) (costs : ℕ → Cost) → AreCosts self.old outs costs →
             left.old ≤ left.new + search_cost_at self.old costs from) }

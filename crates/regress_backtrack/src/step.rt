@@ -7,7 +7,7 @@ ghost use Rattle.regress_leaves.specs.Subject.{subject};
 ghost use Rattle.regress_tree.specs.Matching.{steps};
 ghost use Rattle.regress_tree.specs.Steps.{Matcher};
 ghost use Rattle.regress_tree.specs.Tree.{tree};
-ghost use Rattle.regress_program.specs.Found.{state};
+ghost use Rattle.regress_found.specs.Found.{state};
 ghost use Rattle.regress_program.specs.Cost.{Cost, compared};
 ghost use Rattle.regress_program.specs.Program.{Out, goto, matcher_of, outcomes_by};
 ghost use Rattle.regress_program.specs.Shape.{IsPart};

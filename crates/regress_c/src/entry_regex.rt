@@ -1,6 +1,7 @@
 //! The functions that C calls to compile a pattern, and to search for it. include/regress.h documents them.
 ghost use Rattle.std.specs.Prelude.{◌≡◌, if◌then◌else◌, IfSome, IsUtf8, None, is_some, length, min, option_map, unwrap_or};
-ghost use Rattle.regress.specs.Compiled.{factor_of, find_factor_of, groups_of, nonlinear_of, outcomes_of};
+ghost use Rattle.regress.specs.Costs.{factor_of, find_factor_of, nonlinear_of};
+ghost use Rattle.regress.specs.Compiled.{groups_of, outcomes_of};
 ghost use Rattle.regress.specs.Found.{MatchesSomewhere};
 ghost use Rattle.regress_capi.specs.CompileResults.{CompileResult, limits_of};
 ghost use Rattle.regress_capi.specs.Reasons.{reason_number};
@@ -8,7 +9,7 @@ ghost use Rattle.regress_capi.specs.Request.{setting_by, IsTextRequest};
 ghost use Rattle.regress_capi.specs.SearchResults.{SearchResult, TestResult};
 ghost use Rattle.regress_capi.specs.Spans.{AreEndsOfAll, AreEndsOfFirst};
 ghost use Rattle.regress_capi.specs.TextResults.{HasGroup, HasKind, IsMessage, IsNameOf, TextResult};
-ghost use Rattle.regress_program.specs.Found.{Finds};
+ghost use Rattle.regress_found.specs.Found.{Finds};
 
 use regress_capi::compiling::write_handle;
 use regress_capi::handle::Handle;

@@ -5,9 +5,9 @@ use Rattle.std.specs.Prelude.{IfOk, MatchOption, MatchResult, None, Some, Result
 use Rattle.regress.specs.declared.failure.SearchError.{SearchError}
 use Rattle.regress.specs.declared.failure.SearchError.TheVariants.{Memory, OutOfSteps}
 use Rattle.regress_front.specs.Steps.{CaptureSpan, MatchState}
-use Rattle.regress_program.specs.Found as one
-use Rattle.regress_program.specs.declared.found.Match as found
-use Rattle.regress_match.specs.Searched.{AreMatches}
+use Rattle.regress_found.specs.Found as one
+use Rattle.regress_found.specs.declared.found.Match as found
+use Rattle.regress_found.specs.Repeated.{AreMatches}
 use Rattle.regress_match.proofs.lemmas.Searched.{AreMatches-more}
 use Rattle.regress.specs.Found.{match_of}
 use Rattle.regress.specs.Searched.{Advances, has_failed, next_from, searched_outcomes, searched_text}

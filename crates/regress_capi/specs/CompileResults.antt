@@ -3,7 +3,8 @@ use Rattle.std.specs.Prelude.{◌≡◌, ◌==◌, ℕ, List, Option, Some, char
 use Rattle.regress_front.specs.Setting.{Setting}
 use Rattle.regress_parse.specs.Accepted.{NoneIsAccepted}
 use Rattle.regress_match.specs.Matcher.{IsFactorOf, IsFindFactorOf, IsNonlinearOf}
-use Rattle.regress.specs.Compiled.{IsCompiled, factor_of, find_factor_of, limit_of, nonlinear_of, tree_of}
+use Rattle.regress.specs.Compiled.{IsCompiled, tree_of}
+use Rattle.regress.specs.Costs.{factor_of, find_factor_of, limit_of, nonlinear_of}
 use Rattle.regress.specs.Failures.{IsTooLarge}
 use Rattle.regress.specs.Limits.{default_options}
 use Rattle.regress.specs.declared.limits.Options.{Options}

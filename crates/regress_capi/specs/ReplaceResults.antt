@@ -3,7 +3,7 @@ use Rattle.std.specs.Prelude.{ℕ, List}
 use Rattle.regress.specs.Compiled.{groups_of, outcomes_of}
 use Rattle.regress.specs.Replaced.{ReplacesAll, ReplacesFirst}
 use Rattle.regress.specs.declared.pattern.Regex.{Regex}
-use Rattle.regress_program.specs.declared.found.Match.{Match}
+use Rattle.regress_found.specs.declared.found.Match.{Match}
 use Rattle.regress_replace.specs.Expansion.{expansion}
 
 -- what the template expands to at a match

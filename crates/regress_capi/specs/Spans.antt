@@ -2,9 +2,9 @@
 use Rattle.std.specs.Prelude.{◌≡◌, ℕ, ◌-◌, ◌^◌, List, [], ◌∷◌, flat_map, Option, None, Some}
 use Rattle.regress_front.specs.Steps.{CaptureSpan, MatchState}
 use Rattle.regress.specs.Groups.{all_spans}
-use Rattle.regress_match.specs.Searched.{AreMatches}
-use Rattle.regress_program.specs.Found.{Finds}
-use Rattle.regress_program.specs.declared.found.Match.{Match}
+use Rattle.regress_found.specs.Repeated.{AreAllMatchesFrom}
+use Rattle.regress_found.specs.Found.{Finds}
+use Rattle.regress_found.specs.declared.found.Match.{Match}
 
 -- the number in place of a position in the span of an unset group
 abbrev pub unset : ℕ
@@ -22,12 +22,6 @@ match_ends m = flat_map ends_of (all_spans m)
 -- the numbers of the leftmost match from an offset on
 abbrev pub AreEndsOfFirst : (text : List ℕ) → (at : ℕ → List MatchState) → (from : ℕ) → List ℕ → Type 0
 AreEndsOfFirst text at from numbers = (m : Match) × Finds text at from (Some m) × (numbers ≡ match_ends m)
-
--- The list has all matches that a repeated search from an offset finds in order: after the last one there is none.
-pub record AreAllMatchesFrom (text : List ℕ) (at : ℕ → List MatchState) (from : ℕ) (ms : List Match) : Type 0 where
-  pub to : ℕ
-  pub found : AreMatches text at from to ms
-  pub none : Finds text at to None
 
 -- the numbers of all these matches, one match after the other
 abbrev pub AreEndsOfAll : (text : List ℕ) → (at : ℕ → List MatchState) → (from : ℕ) → List ℕ → Type 0

@@ -4,7 +4,7 @@ ghost use Rattle.regress.specs.Compiled.{outcomes_of};
 ghost use Rattle.regress.specs.Found.{MatchesSomewhere, match_of, span_of};
 ghost use Rattle.regress_capi.specs.SearchResults.{IsBare, SearchResult, TestResult, status_of};
 ghost use Rattle.regress_capi.specs.Spans.{AreEndsOfAll, AreEndsOfFirst, ends_of, match_ends};
-ghost use Rattle.regress_program.specs.Found.{Finds};
+ghost use Rattle.regress_found.specs.Found.{Finds};
 
 use super::buffer::copy_to;
 use super::results::{BAD_INPUT, MEMORY, OK, ROOM};

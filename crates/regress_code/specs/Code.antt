@@ -10,7 +10,7 @@ use Rattle.regress_tree.specs.Tree.{Tree}
 use Rattle.regress_unicode.specs.declared.Tables.{Tables}
 use Rattle.regress_unicode.specs.TableOf.{table_of}
 use Rattle.regress_program.specs.Cost.{Cost, cost_of}
-use Rattle.regress_program.specs.Found.{no_groups}
+use Rattle.regress_found.specs.Found.{initial_state}
 use Rattle.regress_program.specs.Program.{Out, Routine, matcher_of}
 use Rattle.regress_code.specs.declared.code.Code.{Code}
 use Rattle.regress_code.specs.Views.{program_in}
@@ -35,17 +35,17 @@ setting_with code tables = record { flags = code_flags code; table = table_of ta
 abbrev pub outcomes_from : Code → Tables → (text : List ℕ) → (ℕ → Out) → (position : ℕ) → List MatchState
 outcomes_from code tables text outs position =
     matcher_of (setting_with code tables) text (code_routines code) outs (length (code_routines code) - 1)
-    (no_groups (code_groups code) position)
+    (initial_state (code_groups code) position)
 
 -- the outcomes of a tree from there
 abbrev pub tree_outcomes_from : Code → Tables → (text : List ℕ) → Tree → (position : ℕ) → List MatchState
-tree_outcomes_from code tables text t position = steps (setting_with code tables) text forwards t (no_groups (code_groups code) position)
+tree_outcomes_from code tables text t position = steps (setting_with code tables) text forwards t (initial_state (code_groups code) position)
 
 -- the cost of a run from a position with every group unset, by the costs in each routine
 abbrev pub cost_from : Code → Tables → (text : List ℕ) → (ℕ → Cost) → (position : ℕ) → ℕ
 cost_from code tables text costs position =
     cost_of (setting_with code tables) text (code_routines code) costs (length (code_routines code) - 1)
-    (no_groups (code_groups code) position)
+    (initial_state (code_groups code) position)
 
 -- the cost of a search from `from` on: 1 for each byte offset up to the end, and a run there
 abbrev pub search_cost : Code → Tables → (text : List ℕ) → (ℕ → Cost) → (from : ℕ) → ℕ

@@ -14,7 +14,8 @@ use Rattle.regress_match.specs.Compiled.{IsCodeOf}
 use Rattle.regress_match.specs.Costs.{AreCosts, IsWithinFindCost, find_cost}
 use Rattle.regress_match.specs.Iterated.{IsSameIteration, iterated_from, iterated_matcher, iterated_text, step_limit, steps_left}
 use Rattle.regress_match.specs.Kept.{IsRunOf}
-use Rattle.regress_match.specs.Matcher.{factor_of, matcher_setting, matcher_tree}
+use Rattle.regress_match.specs.Matcher.{factor_of}
+use Rattle.regress_match.specs.Pattern.{matcher_setting, matcher_tree}
 use Rattle.regress_match.specs.declared.matcher.Matcher.{Matcher}
 use Rattle.regress_match.specs.declared.matcher_matches.MatcherMatches.{MatcherMatches}
 

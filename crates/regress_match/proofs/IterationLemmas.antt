@@ -4,15 +4,15 @@ use Rattle.std.proofs.lemmas.Fn.{FoldsTo-push}
 use Rattle.std.specs.Borrow.{Bor}
 use Rattle.std.specs.Fn.{CalledAt, Mut}
 use Rattle.std.specs.List.{FoldsTo}
-use Rattle.regress_program.specs.declared.found.Match.{Match}
+use Rattle.regress_found.specs.declared.found.Match.{Match}
 use Rattle.regress_match.specs.Iterated.{IsSameIteration, iterated_from, iterated_matcher, iterated_text}
-use Rattle.regress_match.specs.Matched.{Finds}
-use Rattle.regress_match.specs.Matcher.{matcher_outcomes}
-use Rattle.regress_match.specs.Searched.{AreAllMatches, AreMatches, CalledOnMatches, next_offset}
+use Rattle.regress_found.specs.Results.{IsSearchResult}
+use Rattle.regress_match.specs.Pattern.{matcher_outcomes}
+use Rattle.regress_found.specs.Repeated.{AreAllMatches, AreMatches, CalledOnMatches, next_offset}
 use Rattle.regress_match.specs.declared.matcher.Matcher.{Matcher}
 use Rattle.regress_match.specs.declared.matcher_matches.MatcherMatches.{MatcherMatches}
-use Rattle.regress_backtrack.specs.declared.outcome.Outcome.{Outcome}
-use Rattle.regress_backtrack.specs.declared.outcome.Outcome.TheVariants as outcomes
+use Rattle.regress_found.specs.declared.outcome.Outcome.{Outcome}
+use Rattle.regress_found.specs.declared.outcome.Outcome.TheVariants as outcomes
 use Rattle.regress_match.proofs.lemmas.Searched.{AreMatches-more}
 
 -- the search has found these matches, and goes on after them
@@ -22,14 +22,14 @@ pub record HasFound (matcher : Matcher) (text : List ℕ) (now : MatcherMatches)
   pub found : AreMatches text (matcher_outcomes matcher text) 0 (iterated_from now) ms
 
 module _ (matcher : Matcher) (text : List ℕ) (now : MatcherMatches) (ms : List Match) (sofar : HasFound matcher text now ms) where
-  here : (outcome : Outcome) → Finds (iterated_text now) (matcher_outcomes (iterated_matcher now) (iterated_text now)) (iterated_from now) outcome →
-      Finds text (matcher_outcomes matcher text) (iterated_from now) outcome
+  here : (outcome : Outcome) → IsSearchResult (iterated_text now) (matcher_outcomes (iterated_matcher now) (iterated_text now)) (iterated_from now) outcome →
+      IsSearchResult text (matcher_outcomes matcher text) (iterated_from now) outcome
   here outcome finds =
-      subst (λ t. Finds t (matcher_outcomes matcher t) (iterated_from now) outcome) sofar.same_text
-      (subst (λ n. Finds (iterated_text now) (matcher_outcomes n (iterated_text now)) (iterated_from now) outcome) sofar.same_matcher finds)
+      subst (λ t. IsSearchResult t (matcher_outcomes matcher t) (iterated_from now) outcome) sofar.same_text
+      (subst (λ n. IsSearchResult (iterated_text now) (matcher_outcomes n (iterated_text now)) (iterated_from now) outcome) sofar.same_matcher finds)
 
   pub one_more : (new : MatcherMatches) (m : Match) →
-      Finds (iterated_text now) (matcher_outcomes (iterated_matcher now) (iterated_text now)) (iterated_from now) (outcomes.Matched m) →
+      IsSearchResult (iterated_text now) (matcher_outcomes (iterated_matcher now) (iterated_text now)) (iterated_from now) (outcomes.Matched m) →
       iterated_from new ≡ next_offset m → IsSameIteration now new → HasFound matcher text new (ms ++ m ∷ [])
   one_more new m finds next same = record {
     same_matcher = same.matcher ∙ sofar.same_matcher;
@@ -39,11 +39,11 @@ module _ (matcher : Matcher) (text : List ℕ) (now : MatcherMatches) (ms : List
   }
 
   -- no match remains
-  pub none_left : Finds (iterated_text now) (matcher_outcomes (iterated_matcher now) (iterated_text now)) (iterated_from now) outcomes.NoMatch →
-      Finds text (matcher_outcomes matcher text) (iterated_from now) outcomes.NoMatch
+  pub none_left : IsSearchResult (iterated_text now) (matcher_outcomes (iterated_matcher now) (iterated_text now)) (iterated_from now) outcomes.NoMatch →
+      IsSearchResult text (matcher_outcomes matcher text) (iterated_from now) outcomes.NoMatch
   none_left none = here outcomes.NoMatch none
 
-  pub all_found : Finds (iterated_text now) (matcher_outcomes (iterated_matcher now) (iterated_text now)) (iterated_from now) outcomes.NoMatch →
+  pub all_found : IsSearchResult (iterated_text now) (matcher_outcomes (iterated_matcher now) (iterated_text now)) (iterated_from now) outcomes.NoMatch →
       AreAllMatches text (matcher_outcomes matcher text) ms
   all_found none = record { to = iterated_from now; found = sofar.found; none = none_left none }
 
@@ -57,7 +57,7 @@ pub record HasCalled {F : Type 0} (g : Mut F (Bor Match × Unit {0}) (Unit {0}))
 module _ {F : Type 0} (g : Mut F (Bor Match × Unit {0}) (Unit {0})) (matcher : Matcher) (text : List ℕ) (now : MatcherMatches)
     (before between : F) (so_far : HasCalled g matcher text now before between) where
   pub one_more_call : (new : MatcherMatches) (m : Match) (after : F) →
-      Finds (iterated_text now) (matcher_outcomes (iterated_matcher now) (iterated_text now)) (iterated_from now) (outcomes.Matched m) →
+      IsSearchResult (iterated_text now) (matcher_outcomes (iterated_matcher now) (iterated_text now)) (iterated_from now) (outcomes.Matched m) →
       iterated_from new ≡ next_offset m → IsSameIteration now new → CalledAt g between m tt after → HasCalled g matcher text new before after
   one_more_call new m after found next same call = record {
     ms = so_far.ms ++ m ∷ [];
@@ -67,7 +67,7 @@ module _ {F : Type 0} (g : Mut F (Bor Match × Unit {0}) (Unit {0})) (matcher : 
 
   -- these are the first matches, and all of them if no match remains
   pub called_on : (ended : Type 0) →
-      (ended → Finds (iterated_text now) (matcher_outcomes (iterated_matcher now) (iterated_text now)) (iterated_from now) outcomes.NoMatch) →
+      (ended → IsSearchResult (iterated_text now) (matcher_outcomes (iterated_matcher now) (iterated_text now)) (iterated_from now) outcomes.NoMatch) →
       CalledOnMatches g text (matcher_outcomes matcher text) before between ended
   called_on ended none = record {
     ms = so_far.ms;

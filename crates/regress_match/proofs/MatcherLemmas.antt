@@ -15,8 +15,8 @@ use Rattle.regress_base.specs.declared.types.Flags.{Flags}
 use Rattle.regress_unicode.specs.TableOf.{table_of}
 use Rattle.regress_unicode.specs.declared.Tables.{Tables}
 use Rattle.regress_program.specs.Compiled.{IsPattern, total}
-use Rattle.regress_program.specs.Found as searches
-use Rattle.regress_program.specs.Found.{no_groups, start_of, state_of}
+use Rattle.regress_found.specs.Found as searches
+use Rattle.regress_found.specs.Found.{initial_state, start_of, state_of, IsInside, outcomes_at}
 use Rattle.regress_program.specs.Linear.{is_linear, reason}
 use Rattle.regress_program.specs.Program.{IsSolution, Out, Routine, matcher_of}
 use Rattle.regress_program.specs.declared.fault.CompileFault.{CompileFault}
@@ -26,7 +26,7 @@ use Rattle.regress_program.specs.Search.{groups_of, instructions_of, routines_of
 use Rattle.regress_tables.specs.Search.{capturing_steps, steps_up_to}
 use Rattle.regress_tables.specs.TextSearch.{searched_program, searched_text}
 use Rattle.regress_program.specs.Tidy.{is_tabled}
-use Rattle.regress_program.specs.declared.found.Match.{Match}
+use Rattle.regress_found.specs.declared.found.Match.{Match}
 use Rattle.regress_tables.specs.declared.found.Search.{Search}
 use Rattle.regress_program.specs.declared.program.Program.{Program}
 use Rattle.regress_tables.specs.declared.text.TextSearch.{TextSearch}
@@ -40,14 +40,15 @@ use Rattle.regress_backtrack.specs.Backtracker as runs
 use Rattle.regress_code.specs.Code.{code_flags, code_groups, code_routines, outcomes_from, setting_with}
 use Rattle.regress_backtrack.specs.declared.backtracker.Backtracker.{Backtracker}
 use Rattle.regress_code.specs.declared.code.Code.{Code}
-use Rattle.regress_backtrack.specs.declared.outcome.Found.{Found}
-use Rattle.regress_backtrack.specs.declared.outcome.Outcome.{Outcome}
-use Rattle.regress_backtrack.specs.declared.outcome.Outcome.TheVariants as outcomes
+use Rattle.regress_found.specs.declared.outcome.Found.{Found}
+use Rattle.regress_found.specs.declared.outcome.Outcome.{Outcome}
+use Rattle.regress_found.specs.declared.outcome.Outcome.TheVariants as outcomes
 use Rattle.regress_match.specs.Compiled.{IsCodeOf, IsProgramOf, all_outcomes}
 use Rattle.regress_match.specs.Kept.{IfKept, IsKept, IsRunOf}
-use Rattle.regress_match.specs.Matched.{Finds, IfMatched, IsFirst, IsInside, outcomes_at}
-use Rattle.regress_match.specs.Matcher.{factor, factor_of, factor_with, matcher_outcomes, matcher_setting, matcher_tree, nonlinear_by, nonlinear_with, outcome_if}
-use Rattle.regress_match.specs.Searched.{offset_after}
+use Rattle.regress_found.specs.Results.{IsSearchResult, IfMatched, IsMatchResult}
+use Rattle.regress_match.specs.Matcher.{factor, factor_of, factor_with, nonlinear_by, nonlinear_with, outcome_if}
+use Rattle.regress_match.specs.Pattern.{matcher_outcomes, matcher_setting, matcher_tree}
+use Rattle.regress_found.specs.Repeated.{offset_after}
 use Rattle.regress_match.specs.declared.matcher.Matcher.{Matcher}
 use Rattle.regress_match.proofs.lemmas.Inside.{first_inside}
 
@@ -56,8 +57,8 @@ pub code_means : (setting : Setting) (t : Tree) (tables : Tables) (c : Code) →
     setting_with c tables ≡ setting → code_groups c ≡ length (captures t) → IsCodeOf setting t tables c
 code_means setting t tables c pattern same groups = record {
   means = λ text outs solution k le.
-      pattern.means (setting_with c tables) text outs solution (no_groups (code_groups c) k) le
-      ∙ ap₂ (λ (s : Setting) (n : ℕ). steps s text forwards t (no_groups n k)) same groups;
+      pattern.means (setting_with c tables) text outs solution (initial_state (code_groups c) k) le
+      ∙ ap₂ (λ (s : Setting) (n : ℕ). steps s text forwards t (initial_state n k)) same groups;
 }
 
 pub same_setting : (c : Code) (tables : Tables) (flags : Flags) → code_flags c ≡ flags →
@@ -81,7 +82,7 @@ pub program_outcomes : (setting : Setting) (t : Tree) (tables : Tables) (c : Cod
 program_outcomes setting t tables c p is routines groups same =
     let Means : Setting → List Routine → ℕ → Type 0 =
     λ s rs n. (text : List ℕ) (outs : ℕ → Out) → IsSolution s text rs outs → (k : ℕ) → k ≤ length text →
-    matcher_of s text rs outs (length rs - 1) (no_groups n k) ≡ all_outcomes setting t text k in
+    matcher_of s text rs outs (length rs - 1) (initial_state n k) ≡ all_outcomes setting t text k in
     record {
       means = subst (λ s. Means s (routines_of p) (groups_of p)) (sym same)
           (subst (λ rs. Means (setting_with c tables) rs (groups_of p)) (sym routines)
@@ -107,13 +108,13 @@ distinct_none states is = ap dedup is
 -- what a match at a position is
 pub run_first : (setting : Setting) (t : Tree) (tables : Tables) (c : Code) (text : List ℕ) (position : ℕ) (outcome : Outcome) → IsCodeOf setting t tables c →
     position ≤ length text →
-    ((outs : ℕ → Out) → IsSolution (setting_with c tables) text (code_routines c) outs → IsFirst position (outcomes_from c tables text outs position) outcome) →
-    IsFirst position (outcomes_at setting text t position) outcome
+    ((outs : ℕ → Out) → IsSolution (setting_with c tables) text (code_routines c) outs → IsMatchResult position (outcomes_from c tables text outs position) outcome) →
+    IsMatchResult position (outcomes_at setting text t position) outcome
 run_first setting t tables c text position outcome is within solved =
     let some = solution (setting_with c tables) text (code_routines c) c.is_program in
-    distinct outcome (subst (λ states. IsFirst position states outcome) (is.means text some.0 some.1 position within) (solved some.0 some.1))
+    distinct outcome (subst (λ states. IsMatchResult position states outcome) (is.means text some.0 some.1 position within) (solved some.0 some.1))
   where
-    distinct : (o : Outcome) → IsFirst position (all_outcomes setting t text position) o → IsFirst position (outcomes_at setting text t position) o
+    distinct : (o : Outcome) → IsMatchResult position (all_outcomes setting t text position) o → IsMatchResult position (outcomes_at setting text t position) o
     distinct (outcomes.Matched m) f = (f.0, distinct_first (all_outcomes setting t text position) f.1.0 (state_of m) f.1.1)
     distinct outcomes.NoMatch f = distinct_none (all_outcomes setting t text position) f
     distinct outcomes.OutOfSteps f = tt
@@ -122,16 +123,16 @@ pub result_first : (m : Matcher) (tables : Tables) → tables ≡ arc_value m.ta
     IsCodeOf (matcher_setting m) (matcher_tree m) (arc_value m.tables) m.code → (text : List ℕ) (position : ℕ) → position ≤ length text →
     (r : Result Found AllocError) →
     IfOk r (λ found. (outs : ℕ → Out) → IsSolution (setting_with m.code tables) text (code_routines m.code) outs →
-    IsFirst position (outcomes_from m.code tables text outs position) found.outcome) →
-    IfOk r (λ found. IsFirst position (matcher_outcomes m text position) found.outcome)
+    IsMatchResult position (outcomes_from m.code tables text outs position) found.outcome) →
+    IfOk r (λ found. IsMatchResult position (matcher_outcomes m text position) found.outcome)
 result_first m tables same is text position within (Ok found) solved =
     run_first (matcher_setting m) (matcher_tree m) tables m.code text position found.outcome
     (subst (λ ts. IsCodeOf (matcher_setting m) (matcher_tree m) ts m.code) (sym same) is) within solved
 result_first m tables same is text position within (Err e) solved = tt
 
 -- Repeated outcomes make no difference to a search.
-finds_distinct : (text : List ℕ) (at : ℕ → List MatchState) (origin : ℕ) (outcome : Outcome) → Finds text at origin outcome →
-    Finds text (λ k. dedup (at k)) origin outcome
+finds_distinct : (text : List ℕ) (at : ℕ → List MatchState) (origin : ℕ) (outcome : Outcome) → IsSearchResult text at origin outcome →
+    IsSearchResult text (λ k. dedup (at k)) origin outcome
 finds_distinct text at origin outcomes.NoMatch none = λ p low on. distinct_none (at p) (none p low on)
 finds_distinct text at origin outcomes.OutOfSteps is = tt
 finds_distinct text at origin (outcomes.Matched m) is = record {
@@ -144,24 +145,24 @@ finds_distinct text at origin (outcomes.Matched m) is = record {
 -- what a search finds by tables
 pub table_finds : (setting : Setting) (t : Tree) (p : Program) (text : List ℕ) (origin : ℕ) (found : Option Match) → HasOutcomesOf setting t p →
     ((outs : ℕ → Out) → IsSolution (setting_of p) text (routines_of p) outs → searches.Finds text (program.outcomes_from p text outs) origin found) →
-    Finds text (outcomes_at setting text t) origin (outcome_if found)
+    IsSearchResult text (outcomes_at setting text t) origin (outcome_if found)
 table_finds setting t p text origin found is solved =
     finds_distinct text (all_outcomes setting t text) origin (outcome_if found)
     (as_outcome found (finds_by (setting_of p) text (routines_of p) p.is_program (program.outcomes_from p text) (all_outcomes setting t text) origin found (is.means text) solved))
   where
-    as_outcome : (o : Option Match) → searches.Finds text (all_outcomes setting t text) origin o → Finds text (all_outcomes setting t text) origin (outcome_if o)
+    as_outcome : (o : Option Match) → searches.Finds text (all_outcomes setting t text) origin o → IsSearchResult text (all_outcomes setting t text) origin (outcome_if o)
     as_outcome None f = f
     as_outcome (Some m) f = f
 
 -- what a search finds by running the program
 pub run_finds : (setting : Setting) (t : Tree) (tables : Tables) (c : Code) (text : List ℕ) (origin : ℕ) (outcome : Outcome) → IsCodeOf setting t tables c →
-    ((outs : ℕ → Out) → IsSolution (setting_with c tables) text (code_routines c) outs → Finds text (outcomes_from c tables text outs) origin outcome) →
-    Finds text (outcomes_at setting text t) origin outcome
+    ((outs : ℕ → Out) → IsSolution (setting_with c tables) text (code_routines c) outs → IsSearchResult text (outcomes_from c tables text outs) origin outcome) →
+    IsSearchResult text (outcomes_at setting text t) origin outcome
 run_finds setting t tables c text origin outcome is solved =
     finds_distinct text (all_outcomes setting t text) origin outcome (by outcome solved)
   where
-    by : (o : Outcome) → ((outs : ℕ → Out) → IsSolution (setting_with c tables) text (code_routines c) outs → Finds text (outcomes_from c tables text outs) origin o) →
-        Finds text (all_outcomes setting t text) origin o
+    by : (o : Outcome) → ((outs : ℕ → Out) → IsSolution (setting_with c tables) text (code_routines c) outs → IsSearchResult text (outcomes_from c tables text outs) origin o) →
+        IsSearchResult text (all_outcomes setting t text) origin o
     by (outcomes.Matched m) f =
         finds_by (setting_with c tables) text (code_routines c) c.is_program (outcomes_from c tables text) (all_outcomes setting t text) origin (Some m) (is.means text) f
     by outcomes.NoMatch f =
@@ -169,14 +170,14 @@ run_finds setting t tables c text origin outcome is solved =
     by outcomes.OutOfSteps f = tt
 
 -- A match that is found starts inside the text, and is inside it.
-pub starts_inside : (text : List ℕ) (at : ℕ → List MatchState) (origin : ℕ) (outcome : Outcome) → Finds text at origin outcome →
+pub starts_inside : (text : List ℕ) (at : ℕ → List MatchState) (origin : ℕ) (outcome : Outcome) → IsSearchResult text at origin outcome →
     IfMatched outcome (λ x. start_of x ≤ length text)
 starts_inside text at origin outcomes.NoMatch is = tt
 starts_inside text at origin outcomes.OutOfSteps is = tt
 starts_inside text at origin (outcomes.Matched m) is = is.boundary.0
 
 pub found_inside : (setting : Setting) (text : List ℕ) → IsUtf8 text → (t : Tree) (origin : ℕ) (outcome : Outcome) →
-    Finds text (outcomes_at setting text t) origin outcome → IsWellFormed t → IfMatched outcome (IsInside text)
+    IsSearchResult text (outcomes_at setting text t) origin outcome → IsWellFormed t → IfMatched outcome (IsInside text)
 found_inside setting text utf8 t origin outcomes.NoMatch is well_formed = tt
 found_inside setting text utf8 t origin outcomes.OutOfSteps is well_formed = tt
 found_inside setting text utf8 t origin (outcomes.Matched m) is well_formed =
@@ -191,7 +192,7 @@ sums c fill s t s' a d b e before more sum is small =
 -- the steps of one more search
 pub more_steps : (instructions : ℕ) (text : List ℕ) (from s t s' : ℕ) (at : ℕ → List MatchState) (found : Option Match) →
     s ≤ 2 * instructions * (length text + 1) + 2 * (2 * instructions + 1) * min from (length text + 1) →
-    t ≤ steps_up_to instructions text from found → s' ≤ s + t → Finds text at from (outcome_if found) →
+    t ≤ steps_up_to instructions text from found → s' ≤ s + t → IsSearchResult text at from (outcome_if found) →
     IfSome found (λ m. (state_of m).position ≤ length text) →
     s' ≤ 2 * instructions * (length text + 1) + 2 * (2 * instructions + 1) * min (offset_after text from (outcome_if found)) (length text + 1)
 more_steps instructions text from s t s' at None before more sum is inside =
@@ -305,7 +306,7 @@ module _ (m : Matcher) (text : List ℕ) (from taken : ℕ) (s : TextSearch) (ke
     (inside : IfSome search.found (λ x. (state_of x).position ≤ length (searched_text s)))
     (steps : search.steps ≤ steps_up_to (instructions_of (searched_program s)) (searched_text s) from search.found
     + capturing_steps (instructions_of (searched_program s)) (inner_groups (routines_of (searched_program s))) * (length (searched_text s) + 1)) where
-  pub kept_finds : Finds text (matcher_outcomes m text) from (outcome_if search.found)
+  pub kept_finds : IsSearchResult text (matcher_outcomes m text) from (outcome_if search.found)
   kept_finds =
       table_finds (matcher_setting m) (matcher_tree m) (searched_program s) text from search.found (record { means = kept.program.means })
       (subst (λ (t : List ℕ). (outs : ℕ → Out) → IsSolution (setting_of (searched_program s)) t (routines_of (searched_program s)) outs →
@@ -338,12 +339,12 @@ module _ (m : Matcher) (text : List ℕ) (from taken : ℕ) (s : TextSearch) (ke
 -- ---- a run of the program
 
 module _ (m : Matcher) (text : List ℕ) (b : Backtracker) (is : IsRunOf m text b) (from : ℕ) (outcome : Outcome)
-    (solved : (outs : ℕ → Out) → AreOutcomes b outs → Finds (run_text b) (runs.outcomes_at b outs) from outcome) where
-  pub run_matches : Finds text (matcher_outcomes m text) from outcome
+    (solved : (outs : ℕ → Out) → AreOutcomes b outs → IsSearchResult (run_text b) (runs.outcomes_at b outs) from outcome) where
+  pub run_matches : IsSearchResult text (matcher_outcomes m text) from outcome
   run_matches =
       run_finds (matcher_setting m) (matcher_tree m) (run_tables b) (run_code b) text from outcome is.code
       (subst (λ (t : List ℕ). (outs : ℕ → Out) → IsSolution (setting_with (run_code b) (run_tables b)) t (code_routines (run_code b)) outs →
-      Finds t (outcomes_from (run_code b) (run_tables b) t outs) from outcome) is.same_text solved)
+      IsSearchResult t (outcomes_from (run_code b) (run_tables b) t outs) from outcome) is.same_text solved)
 
   pub run_starts : IfMatched outcome (λ x. start_of x ≤ length text)
   run_starts = starts_inside text (matcher_outcomes m text) from outcome run_matches

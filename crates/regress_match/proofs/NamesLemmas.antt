@@ -4,7 +4,7 @@ use Rattle.std.specs.Prelude.{slice_index_or}
 use Rattle.std.specs.Option.{option_or}
 use Rattle.regress_tree.specs.Steps.{CaptureSpan}
 use Rattle.regress_tree.specs.WellFormed.{Capture}
-use Rattle.regress_program.specs.Found.{state_of}
+use Rattle.regress_found.specs.Found.{state_of}
 use Rattle.regress_match.specs.Listing.{Lists, Finds}
 use Rattle.regress_match.specs.Names.{capture_of, is_named, named_span}
 use Rattle.regress_match.specs.declared.names.Finder.{Finder}

@@ -4,20 +4,21 @@ use Rattle.std.specs.Arc.{arc_value}
 use Rattle.std.specs.Prelude.{if◌then◌else◌, is_some, option_map}
 use Rattle.regress_unicode.specs.declared.Tables.{Tables}
 use Rattle.regress_program.specs.Compiled.{total}
-use Rattle.regress_program.specs.Found as searches
+use Rattle.regress_found.specs.Found as searches
 use Rattle.regress_program.specs.Program.{IsSolution, Out, Routine}
 use Rattle.regress_program.specs.Ranges.{inner_groups}
 use Rattle.regress_program.specs.Search as program
 use Rattle.regress_program.specs.Search.{groups_of, routines_of, setting_of}
 use Rattle.regress_tables.specs.Search.{capturing_steps, per_character}
 use Rattle.regress_program.specs.Tidy.{is_tabled}
-use Rattle.regress_program.specs.declared.found.Match.{Match}
+use Rattle.regress_found.specs.declared.found.Match.{Match}
 use Rattle.regress_program.specs.declared.program.Program.{Program}
 use Rattle.regress_program.proofs.lemmas.Strict.{linear-tabled}
 use Rattle.regress_code.specs.Code.{code_groups, code_routines, setting_with}
 use Rattle.regress_match.specs.Compiled.{IsCodeOf}
-use Rattle.regress_match.specs.Matched.{Finds, IfOutOfSteps}
-use Rattle.regress_match.specs.Matcher.{factor, factor_with, find_factor, find_factor_with, matcher_outcomes, matcher_setting, matcher_tree, outcome_if}
+use Rattle.regress_found.specs.Results.{IsSearchResult, IfOutOfSteps}
+use Rattle.regress_match.specs.Matcher.{factor, factor_with, find_factor, find_factor_with, outcome_if}
+use Rattle.regress_match.specs.Pattern.{matcher_outcomes, matcher_setting, matcher_tree}
 use Rattle.regress_match.specs.declared.matcher.Matcher.{Matcher}
 use Rattle.regress_match.proofs.MatcherLemmas.{bound_linear, program_outcomes, table_finds}
 
@@ -70,7 +71,7 @@ pub tables_find : (m : Matcher) (text : List ℕ) (from : ℕ) (tables : Tables)
     IsCodeOf (matcher_setting m) (matcher_tree m) (arc_value m.tables) m.code →
     routines_of p ≡ code_routines m.code → groups_of p ≡ code_groups m.code → setting_of p ≡ setting_with m.code tables → q ≡ p →
     ((outs : ℕ → Out) → IsSolution (setting_of q) text (routines_of q) outs → searches.Finds text (program.outcomes_from q text outs) from found) →
-    Finds text (matcher_outcomes m text) from (outcome_if found)
+    IsSearchResult text (matcher_outcomes m text) from (outcome_if found)
 tables_find m text from tables p q found is_tables compiled routines groups setting same solved =
     table_finds (matcher_setting m) (matcher_tree m) p text from found
     (program_outcomes (matcher_setting m) (matcher_tree m) (arc_value m.tables) m.code p compiled routines groups

@@ -7,16 +7,15 @@ use Rattle.memchr.specs.Find.{IsFirstByte, is_byte}
 use Rattle.regress_tree.specs.Setting.{Setting}
 use Rattle.regress_tree.specs.Tree.{Tree}
 use Rattle.regress_tree.specs.WellFormed.{captures}
-use Rattle.regress_program.specs.Found.{no_groups}
+use Rattle.regress_found.specs.Found.{initial_state, outcomes_at}
 use Rattle.regress_required.specs.Required.{IsRequired, NoneFrom}
 use Rattle.regress_required.proofs.lemmas.Required.{no_matches}
-use Rattle.regress_match.specs.Matched.{outcomes_at}
-use Rattle.regress_match.specs.Searched.{EndsHere}
+use Rattle.regress_found.specs.Repeated.{EndsHere}
 
 pub nothing_left : (setting : Setting) (t : Tree) (text : List ℕ) (byte from to : ℕ) → IsRequired byte t → NoneFrom byte text from →
     to ≡ length text + 1 → EndsHere text (outcomes_at setting text t) from to
 nothing_left setting t text byte from to is none past = record {
-  none = λ p later on. no_matches (NoneFrom byte) t is setting text (no_groups (length (captures t)) p) (λ k le. none k (omega (arith, later, le)));
+  none = λ p later on. no_matches (NoneFrom byte) t is setting text (initial_state (length (captures t)) p) (λ k le. none k (omega (arith, later, le)));
   past = past;
 }
 

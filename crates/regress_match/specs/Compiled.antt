@@ -8,7 +8,7 @@ use Rattle.regress_tree.specs.Steps.{MatchState}
 use Rattle.regress_tree.specs.Tree.{Tree}
 use Rattle.regress_tree.specs.WellFormed.{captures}
 use Rattle.regress_unicode.specs.declared.Tables.{Tables}
-use Rattle.regress_program.specs.Found.{no_groups}
+use Rattle.regress_found.specs.Found.{initial_state}
 use Rattle.regress_program.specs.Linear.{is_linear}
 use Rattle.regress_program.specs.Program.{Out, IsSolution}
 use Rattle.regress_program.specs.Search as program
@@ -20,7 +20,7 @@ use Rattle.regress_code.specs.declared.code.Code.{Code}
 module _ (setting : Setting) (t : Tree) where
   -- the outcomes of a tree from a position with every group unset, where an outcome may be repeated
   abbrev pub all_outcomes : (text : List ℕ) → (position : ℕ) → List MatchState
-  all_outcomes text position = steps setting text forwards t (no_groups (length (captures t)) position)
+  all_outcomes text position = steps setting text forwards t (initial_state (length (captures t)) position)
 
   -- At each position the outcomes of the program under the case mappings are those of the tree.
   pub record IsCodeOf (tables : Tables) (code : Code) : Type 0 where

@@ -1,7 +1,7 @@
 -- Repeated searches with a matcher.
 use Rattle.std.specs.Prelude.{◌≡◌, ℕ, List}
 use Rattle.regress_tree.specs.Steps.{MatchState}
-use Rattle.regress_match.specs.Matcher.{matcher_outcomes}
+use Rattle.regress_match.specs.Pattern.{matcher_outcomes}
 use Rattle.regress_match.specs.declared.matcher.Matcher.{Matcher}
 use Rattle.regress_match.specs.declared.matcher_matches.MatcherMatches.{MatcherMatches}
 

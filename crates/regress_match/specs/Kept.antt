@@ -11,7 +11,8 @@ use Rattle.regress_backtrack.specs.Backtracker.{run_code, run_tables, run_text, 
 use Rattle.regress_backtrack.specs.declared.backtracker.Backtracker.{Backtracker}
 use Rattle.regress_match.specs.Compiled.{IsCodeOf, IsCodeOf-prop, IsProgramOf, IsProgramOf-prop, MatchState-set}
 use Rattle.regress_match.specs.Costs.{AreCosts, find_cost}
-use Rattle.regress_match.specs.Matcher.{factor, factor_of, matcher_setting, matcher_tree}
+use Rattle.regress_match.specs.Matcher.{factor, factor_of}
+use Rattle.regress_match.specs.Pattern.{matcher_setting, matcher_tree}
 use Rattle.regress_match.specs.declared.matcher.Matcher.{Matcher}
 
 -- The program that is run is one of the matcher's pattern, with the costs of the matcher's, and the text is this one.

@@ -3,8 +3,7 @@ pub mod Costs
 pub mod Iterated
 pub mod Kept
 pub mod Limits
-pub mod Matched
 pub mod Matcher
-pub mod Searched
+pub mod Pattern
 pub mod Names
 pub mod Listing

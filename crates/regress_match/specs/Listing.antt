@@ -2,7 +2,7 @@
 use Rattle.std.specs.Prelude.{◌≡◌, true, List, ◌++◌, map, is_ok}
 use Rattle.std.specs.Option.{option_or}
 use Rattle.regress_tree.specs.WellFormed.{Capture}
-use Rattle.regress_program.specs.Found.{state_of}
+use Rattle.regress_found.specs.Found.{state_of}
 use Rattle.regress_match.specs.Names.{capture_of, named_span}
 use Rattle.regress_match.specs.declared.names.Finder.{Finder}
 use Rattle.regress_match.specs.declared.names.Listing.{Listing}

@@ -1,38 +1,22 @@
--- Searches with a pattern that is compiled into a program.
+-- The costs of searches with a matcher.
 use Rattle.std.specs.Prelude.{◌≡◌, if◌then◌else◌, ℕ, ◌+◌, ◌*◌, ◌≤◌, Bool, ◌&&◌, nat_le, List, length, Option, Some, None, option_map}
-use Rattle.std.specs.Arc.{arc_value}
-use Rattle.regress_tree.specs.Setting.{Setting}
-use Rattle.regress_tree.specs.Steps.{MatchState}
-use Rattle.regress_tree.specs.Tree.{Tree, tree}
-use Rattle.regress_unicode.specs.TableOf.{table_of}
+use Rattle.regress_tree.specs.Tree.{Tree}
 use Rattle.regress_program.specs.Compiled.{IsPattern, total}
 use Rattle.regress_program.specs.Linear.{is_linear, reason}
 use Rattle.regress_program.specs.Program.{Routine}
 use Rattle.regress_tables.specs.Search.{capturing_steps}
 use Rattle.regress_program.specs.Size.{program_size}
 use Rattle.regress_program.specs.Tidy.{table_groups}
-use Rattle.regress_program.specs.declared.found.Match.{Match}
+use Rattle.regress_found.specs.declared.found.Match.{Match}
 use Rattle.regress_program.specs.declared.nonlinear.Nonlinear.{Nonlinear as Reason}
 use Rattle.regress_program.specs.declared.nonlinear.Nonlinear.TheVariants as reasons
 use Rattle.regress_code.specs.Code.{code_routines}
-use Rattle.regress_backtrack.specs.declared.outcome.Outcome.{Outcome}
-use Rattle.regress_backtrack.specs.declared.outcome.Outcome.TheVariants as outcomes
-use Rattle.regress_match.specs.Matched.{IfOutOfSteps, outcomes_at}
+use Rattle.regress_found.specs.declared.outcome.Outcome.{Outcome}
+use Rattle.regress_found.specs.declared.outcome.Outcome.TheVariants as outcomes
+use Rattle.regress_found.specs.Results.{IfOutOfSteps}
 use Rattle.regress_match.specs.declared.matcher.Matcher.{Matcher}
 use Rattle.regress_match.specs.declared.nonlinear.Nonlinear.{Nonlinear}
 use Rattle.regress_match.specs.declared.nonlinear.Nonlinear.TheVariants.{BackReference, CapturingLookaround, TooManyInstructions}
-
--- the flags and the case mappings of a matcher
-abbrev pub matcher_setting : Matcher → Setting
-matcher_setting m = record { flags = m.regex.flags; table = table_of (arc_value m.tables) }
-
--- the tree of its pattern
-abbrev pub matcher_tree : Matcher → Tree
-matcher_tree m = tree m.regex.node
-
--- the outcomes of its pattern on a text, from each position
-abbrev pub matcher_outcomes : Matcher → (text : List ℕ) → (position : ℕ) → List MatchState
-matcher_outcomes m text = outcomes_at (matcher_setting m) text (matcher_tree m)
 
 -- An upper bound for the steps for each character, and once more for the end of the text: those of backtracking until
 -- the tables are made, of making them, and of all searches in them.

@@ -10,7 +10,8 @@ ghost use Rattle.regress_program.specs.declared.fault.CompileFault.TheVariants.{
 ghost use Rattle.regress_code.specs.Code.{code_routines};
 ghost use Rattle.regress_match.specs.Compiled.{IsCodeOf};
 ghost use Rattle.regress_match.specs.Costs.{HasCosts};
-ghost use Rattle.regress_match.specs.Matcher.{IsFactorOf, IsFindFactorOf, IsNonlinearOf, factor, factor_of, find_factor, find_factor_of, matcher_setting, matcher_tree, nonlinear_of};
+ghost use Rattle.regress_match.specs.Matcher.{IsFactorOf, IsFindFactorOf, IsNonlinearOf, factor, factor_of, find_factor, find_factor_of, nonlinear_of};
+ghost use Rattle.regress_match.specs.Pattern.{matcher_setting, matcher_tree};
 
 use crate::limits::Limits;
 use crate::matcher::Matcher;

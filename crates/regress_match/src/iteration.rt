@@ -6,16 +6,18 @@ ghost use Rattle.regress_program.specs.Program.{Out};
 ghost use Rattle.regress_match.specs.Costs.{AreCosts, IsWithinFindCost, find_cost};
 ghost use Rattle.regress_match.specs.Iterated.{IsSameIteration, iterated_from, iterated_matcher, iterated_text, step_limit, steps_left};
 ghost use Rattle.regress_match.specs.Kept.{IsRunOf};
-ghost use Rattle.regress_match.specs.Matched.{Finds, IfMatched, IfOutOfSteps, IsInside, start_of};
-ghost use Rattle.regress_match.specs.Matcher.{factor_of, matcher_outcomes, matcher_tree, outcome_if};
-ghost use Rattle.regress_match.specs.Searched.{EndsHere, offset_after};
+ghost use Rattle.regress_found.specs.Results.{IsSearchResult, IfMatched, IfOutOfSteps};
+ghost use Rattle.regress_found.specs.Found.{IsInside, start_of};
+ghost use Rattle.regress_match.specs.Matcher.{factor_of, outcome_if};
+ghost use Rattle.regress_match.specs.Pattern.{matcher_outcomes, matcher_tree};
+ghost use Rattle.regress_found.specs.Repeated.{EndsHere, offset_after};
 ghost use Rattle.regress_required.specs.Required.{NoneFrom};
 
 use crate::matcher::Matcher;
 use crate::matcher_matches::MatcherMatches;
 use memchr::memchr;
-use regress_backtrack::{Backtracker, Outcome};
-use regress_program::Match;
+use regress_backtrack::Backtracker;
+use regress_found::{Match, Outcome};
 use regress_tables::Linear;
 use std::alloc::{AllocError, Global};
 
@@ -54,7 +56,7 @@ impl<'m> MatcherMatches<'m> {
     /// assert_eq!(rt; ends.as_slice(), [2, 5].as_slice());
     /// ```
     pub fn next(&mut self, alloc: Global) -> Result<Outcome, AllocError>
-        ensures finds { IfOk result (Finds (iterated_text self.old) (matcher_outcomes (iterated_matcher self.old) (iterated_text self.old)) (iterated_from self.old)) }
+        ensures finds { IfOk result (IsSearchResult (iterated_text self.old) (matcher_outcomes (iterated_matcher self.old) (iterated_text self.old)) (iterated_from self.old)) }
         ensures inside { IfOk result (λ outcome. IsWellFormed (matcher_tree (iterated_matcher self.old)) → IfMatched outcome (IsInside (iterated_text self.old))) }
         ensures goes_on { IfOk result (λ outcome. iterated_from self.new ≡ offset_after (iterated_text self.old) (iterated_from self.old) outcome) }
         ensures stays { OnErr result (iterated_from self.new ≡ iterated_from self.old) }
@@ -130,7 +132,7 @@ impl<'m> MatcherMatches<'m> {
     /// Returns the next match by backtracking, or [`Outcome::OutOfSteps`] if its steps are used up.
     fn backtrack(&mut self, alloc: Global) -> Result<Outcome, AllocError>
         requires { IsNone self.old.search }
-        ensures finds { IfOk result (Finds (iterated_text self.old) (matcher_outcomes (iterated_matcher self.old) (iterated_text self.old)) (iterated_from self.old)) }
+        ensures finds { IfOk result (IsSearchResult (iterated_text self.old) (matcher_outcomes (iterated_matcher self.old) (iterated_text self.old)) (iterated_from self.old)) }
         ensures inside { IfOk result (λ outcome. IsWellFormed (matcher_tree (iterated_matcher self.old)) → IfMatched outcome (IsInside (iterated_text self.old))) }
         ensures goes_on { IfOk result (λ outcome. iterated_from self.new ≡ offset_after (iterated_text self.old) (iterated_from self.old) outcome) }
         ensures stays { OnErr result (iterated_from self.new ≡ iterated_from self.old) }
@@ -174,7 +176,7 @@ impl<'m> MatcherMatches<'m> {
 
     /// Returns the next match by the tables, or [`Outcome::OutOfSteps`] if there are none.
     fn find_in_tables(&mut self, alloc: Global) -> Result<Outcome, AllocError>
-        ensures finds { IfOk result (Finds (iterated_text self.old) (matcher_outcomes (iterated_matcher self.old) (iterated_text self.old)) (iterated_from self.old)) }
+        ensures finds { IfOk result (IsSearchResult (iterated_text self.old) (matcher_outcomes (iterated_matcher self.old) (iterated_text self.old)) (iterated_from self.old)) }
         ensures inside { IfOk result (λ outcome. IsWellFormed (matcher_tree (iterated_matcher self.old)) → IfMatched outcome (IsInside (iterated_text self.old))) }
         ensures goes_on { IfOk result (λ outcome. iterated_from self.new ≡ offset_after (iterated_text self.old) (iterated_from self.old) outcome) }
         ensures stays { OnErr result (iterated_from self.new ≡ iterated_from self.old) }

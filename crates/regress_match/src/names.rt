@@ -4,12 +4,12 @@ ghost use Rattle.std.specs.List.Sorted.{IsNonDecreasingBy, IsPermutation};
 ghost use Rattle.regress_tree.specs.Gathered.{own_group};
 ghost use Rattle.regress_tree.specs.Tree.{tree};
 ghost use Rattle.regress_tree.specs.WellFormed.{captures};
-ghost use Rattle.regress_program.specs.Found.{state_of};
+ghost use Rattle.regress_found.specs.Found.{state_of};
 ghost use Rattle.regress_match.specs.Listing.{Lists, Finds};
 ghost use Rattle.regress_match.specs.Names.{capture_of, is_named, named_span};
 
 use regress_base::types::{CaptureGroupID, CaptureGroupName};
-use regress_program::Match;
+use regress_found::Match;
 use regress_tree::ir::{Node, Regex, Walk, walk};
 use std::alloc::{AllocError, Global};
 

@@ -1,13 +1,15 @@
 //! One match in linear time, where lookarounds capture.
 ghost use Rattle.std.specs.Prelude.{◌≡◌, ◌+◌, ◌*◌, ◌≤◌, ◌&&◌, not, IfOk, IfSome, None, is_some, length};
 ghost use Rattle.regress_tree.specs.WellFormed.{IsWellFormed};
-ghost use Rattle.regress_match.specs.Matched.{Finds, IfMatched, IfOutOfSteps, IsInside};
-ghost use Rattle.regress_match.specs.Matcher.{IsLinear, factor_of, find_factor_of, matcher_outcomes, matcher_tree};
+ghost use Rattle.regress_found.specs.Results.{IsSearchResult, IfMatched, IfOutOfSteps};
+ghost use Rattle.regress_found.specs.Found.{IsInside};
+ghost use Rattle.regress_match.specs.Matcher.{IsLinear, factor_of, find_factor_of};
+ghost use Rattle.regress_match.specs.Pattern.{matcher_outcomes, matcher_tree};
 
 use crate::iteration::outcome_of;
 use crate::matcher::Matcher;
 use crate::searches::steps_before_tables;
-use regress_backtrack::{Found, Outcome};
+use regress_found::{Found, Outcome};
 use regress_tables::Linear;
 use std::alloc::{AllocError, Global};
 
@@ -34,7 +36,7 @@ impl Matcher {
         from: usize,
     ) -> Result<Found, AllocError>
         requires { factor_of self.now ≡ None }
-        ensures finds { IfOk result (λ found. Finds text.now (matcher_outcomes self.now text.now) from found.outcome) }
+        ensures finds { IfOk result (λ found. IsSearchResult text.now (matcher_outcomes self.now text.now) from found.outcome) }
         ensures inside { IfOk result (λ found. IsWellFormed (matcher_tree self.now) → IfMatched found.outcome (IsInside text.now)) }
         ensures bounded { IfOk result (λ found. IfSome (find_factor_of self.now) (λ n. IsLinear n text.now found.outcome found.steps)) }
     {
@@ -57,7 +59,7 @@ impl Matcher {
     /// # Errors
     /// Returns [`AllocError`] if an allocation fails.
     fn find_by_tables(&self, alloc: Global, text: &str, from: usize) -> Result<Found, AllocError>
-        ensures finds { IfOk result (λ found. Finds text.now (matcher_outcomes self.now text.now) from found.outcome) }
+        ensures finds { IfOk result (λ found. IsSearchResult text.now (matcher_outcomes self.now text.now) from found.outcome) }
         ensures inside { IfOk result (λ found. IsWellFormed (matcher_tree self.now) → IfMatched found.outcome (IsInside text.now)) }
         ensures bounded { IfOk result (λ found. IfSome (find_factor_of self.now) (λ n.
             (found.steps + 64 * (length text.now + 1) ≤ n * (length text.now + 1)) × IfOutOfSteps found.outcome ⊥)) }

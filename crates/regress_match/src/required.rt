@@ -1,6 +1,6 @@
 //! What each match contains.
 ghost use Rattle.std.specs.Prelude.{IfSome};
-ghost use Rattle.regress_match.specs.Matcher.{matcher_tree};
+ghost use Rattle.regress_match.specs.Pattern.{matcher_tree};
 ghost use Rattle.regress_required.specs.Required.{IsRequired, IsRequiredLiteral};
 
 use crate::matcher::Matcher;

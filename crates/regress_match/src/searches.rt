@@ -3,14 +3,16 @@ ghost use Rattle.std.specs.Prelude.{◌≡◌, ◌+◌, ◌*◌, ◌≤◌, Ok, 
 ghost use Rattle.regress_tree.specs.WellFormed.{IsWellFormed};
 ghost use Rattle.regress_match.specs.Costs.{IsWithinFindCost, IsWithinMatchCost};
 ghost use Rattle.regress_match.specs.Iterated.{iterated_from, iterated_matcher, iterated_text, step_limit, steps_left};
-ghost use Rattle.regress_match.specs.Matched.{Finds, IfMatched, IsFirst, IsInside};
-ghost use Rattle.regress_match.specs.Matcher.{IsLimited, IsLinear, factor_of, find_factor_of, matcher_outcomes, matcher_tree};
-ghost use Rattle.regress_match.specs.Searched.{AreAllMatches, CalledOnMatches};
+ghost use Rattle.regress_found.specs.Results.{IsSearchResult, IfMatched, IsMatchResult};
+ghost use Rattle.regress_found.specs.Found.{IsInside};
+ghost use Rattle.regress_match.specs.Matcher.{IsLimited, IsLinear, factor_of, find_factor_of};
+ghost use Rattle.regress_match.specs.Pattern.{matcher_outcomes, matcher_tree};
+ghost use Rattle.regress_found.specs.Repeated.{AreAllMatches, CalledOnMatches};
 
 use crate::matcher::Matcher;
 use crate::matcher_matches::MatcherMatches;
-use regress_backtrack::{Found, Outcome, match_at};
-use regress_program::Match;
+use regress_backtrack::match_at;
+use regress_found::{Found, Match, Outcome};
 use std::alloc::{AllocError, Global};
 
 /// The number of steps of backtracking for each byte of a text, and once more, after which tables are made.
@@ -60,7 +62,7 @@ impl Matcher {
         from: usize,
         steps: u64,
     ) -> Result<Found, AllocError>
-        ensures finds { IfOk result (λ found. Finds text.now (matcher_outcomes self.now text.now) from found.outcome) }
+        ensures finds { IfOk result (λ found. IsSearchResult text.now (matcher_outcomes self.now text.now) from found.outcome) }
         ensures inside { IfOk result (λ found. IsWellFormed (matcher_tree self.now) → IfMatched found.outcome (IsInside text.now)) }
         ensures linear { IfOk result (λ found. IfSome (factor_of self.now) (λ n. IsLinear n text.now found.outcome found.steps)) }
         ensures bounded { IfOk result (λ found. IfSome (find_factor_of self.now) (λ n. IsLinear n text.now found.outcome found.steps)) }
@@ -82,7 +84,7 @@ impl Matcher {
         from: usize,
         steps: u64,
     ) -> Result<Found, AllocError>
-        ensures finds { IfOk result (λ found. Finds text.now (matcher_outcomes self.now text.now) from found.outcome) }
+        ensures finds { IfOk result (λ found. IsSearchResult text.now (matcher_outcomes self.now text.now) from found.outcome) }
         ensures inside { IfOk result (λ found. IsWellFormed (matcher_tree self.now) → IfMatched found.outcome (IsInside text.now)) }
         ensures linear { IfOk result (λ found. IfSome (factor_of self.now) (λ n. IsLinear n text.now found.outcome found.steps)) }
         ensures limited { IfOk result (λ found. IfNone (factor_of self.now) (IsLimited steps found.outcome found.steps)) }
@@ -129,7 +131,7 @@ impl Matcher {
         steps: u64,
     ) -> Result<Found, AllocError>
         requires { position ≤ length text.now }
-        ensures first { IfOk result (λ found. IsFirst position (matcher_outcomes self.now text.now position) found.outcome) }
+        ensures first { IfOk result (λ found. IsMatchResult position (matcher_outcomes self.now text.now position) found.outcome) }
         ensures limited { IfOk result (λ found. IsLimited steps found.outcome found.steps) }
         ensures costs { IfOk result (λ found. IsWithinMatchCost self.now text.now position found.steps) }
     {

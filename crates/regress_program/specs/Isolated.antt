@@ -3,7 +3,7 @@ use Rattle.std.specs.Prelude.{◌≡◌, ℕ, List, [], ◌∷◌, length, slice
 use Rattle.regress_tree.specs.Setting.{Setting}
 use Rattle.regress_tree.specs.Steps.{CaptureSpan, MatchState}
 use Rattle.regress_program.specs.declared.ranges.GroupRange.{GroupRange}
-use Rattle.regress_program.specs.Found.{no_groups}
+use Rattle.regress_found.specs.Found.{initial_state}
 use Rattle.regress_program.specs.Program.{Out, Routine, matcher_of}
 use Rattle.regress_program.specs.Ranges.{IsIn}
 
@@ -26,7 +26,7 @@ first_captures (s ∷ later) = s.captures
 -- the captures that a routine sets from a position, of n groups that are unset
 abbrev pub captures_from : (setting : Setting) (bytes : List ℕ) (program : List Routine) (outs : ℕ → Out) (n : ℕ) → (routine position : ℕ) → Captures
 captures_from setting bytes program outs n routine position =
-    first_captures (matcher_of setting bytes program outs routine (no_groups n position))
+    first_captures (matcher_of setting bytes program outs routine (initial_state n position))
 
 -- Inside the range the captures are those of `first`, and outside of it they are as before.
 pub record IsReplaced (range : GroupRange) (first before after : Captures) : Type 0 where

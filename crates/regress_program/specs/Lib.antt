@@ -4,7 +4,6 @@ pub mod Claims
 pub mod CodeOf
 pub mod Compiled
 pub mod Cost
-pub mod Found
 pub mod Isolated
 pub mod Iterates
 pub mod Linear

@@ -8,7 +8,7 @@ use Rattle.regress_tree.specs.Tree.{Tree}
 use Rattle.regress_unicode.specs.TableOf.{table_of}
 use Rattle.regress_program.specs.declared.program.Program.{Program}
 use Rattle.regress_program.specs.Compiled.{total}
-use Rattle.regress_program.specs.Found.{no_groups}
+use Rattle.regress_found.specs.Found.{initial_state}
 use Rattle.regress_program.specs.Program.{Routine, Out, matcher_of}
 use Rattle.regress_program.specs.Views.{program_of}
 
@@ -31,8 +31,8 @@ instructions_of p = total (routines_of p)
 -- the outcomes of a program from a position with every group unset, by the outcomes in each routine
 abbrev pub outcomes_from : Program → (text : List ℕ) → (ℕ → Out) → (position : ℕ) → List MatchState
 outcomes_from p text outs position =
-    matcher_of (setting_of p) text (routines_of p) outs (length (routines_of p) - 1) (no_groups (groups_of p) position)
+    matcher_of (setting_of p) text (routines_of p) outs (length (routines_of p) - 1) (initial_state (groups_of p) position)
 
 -- the outcomes of a tree from there
 abbrev pub tree_outcomes_from : Program → (text : List ℕ) → Tree → (position : ℕ) → List MatchState
-tree_outcomes_from p text t position = steps (setting_of p) text forwards t (no_groups (groups_of p) position)
+tree_outcomes_from p text t position = steps (setting_of p) text forwards t (initial_state (groups_of p) position)

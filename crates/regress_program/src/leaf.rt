@@ -4,7 +4,7 @@ ghost use Rattle.regress_base.specs.Table.{denotes};
 ghost use Rattle.regress_leaves.specs.Leaves.{put};
 ghost use Rattle.regress_leaves.specs.Subject.{subject};
 ghost use Rattle.regress_program.specs.Cost.{compared, length_of};
-ghost use Rattle.regress_program.specs.Found.{state};
+ghost use Rattle.regress_found.specs.Found.{state};
 ghost use Rattle.regress_program.specs.Shape.{IsPart};
 ghost use Rattle.regress_tree.specs.Matching.{steps};
 ghost use Rattle.regress_tree.specs.Reading.{of_bytes};

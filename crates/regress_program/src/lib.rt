@@ -8,7 +8,6 @@ mod compile;
 mod compiler;
 mod contents;
 mod fault;
-pub mod found;
 pub mod groups;
 mod inner;
 pub mod instruction;
@@ -24,6 +23,5 @@ mod tabled;
 mod tidy;
 
 pub use fault::CompileFault;
-pub use found::Match;
 pub use nonlinear::Nonlinear;
 pub use program::Program;

@@ -2,9 +2,8 @@
 use Rattle.std.proofs.Common.{◌≡◌, ℕ, ◌+◌, ◌<◌, List, [], ◌∷◌, ◌++◌, drop, length, get_or, slice_range, All, sym, ap, ◌∙◌, append_assoc, append-nil, map}
 use Rattle.std.proofs.lemmas.List.Elements.{All-head, All-tail}
 use Rattle.std.proofs.lemmas.List.Folds.{drop_split}
-use Rattle.regress_program.specs.Found.{start_of}
-use Rattle.regress_program.specs.declared.found.Match.{Match}
-use Rattle.regress_match.specs.Matched.{IsInside}
+use Rattle.regress_found.specs.Found.{start_of, IsInside}
+use Rattle.regress_found.specs.declared.found.Match.{Match}
 use Rattle.regress_replace.specs.Expansion.{end_of, matched_text}
 use Rattle.regress_replace.specs.Order.{AreInOrder}
 use Rattle.regress_replace.specs.Replaced.{joined, replaced, split_pieces}

@@ -2,8 +2,8 @@
 use Rattle.std.proofs.Common.{◌≡◌, ℕ, ◌+◌, ◌<◌, ◌≤◌, false, List, [], ◌∷◌, ◌++◌, Option, Some, None, drop, length, IsSomeAnd, get_or, map, option_map, All, refl, sym, ap, ◌∙◌, arith}
 use Rattle.std.proofs.lemmas.List.{length-map, take-map, take-append-le}
 use Rattle.std.specs.Borrow.{Bor}
-use Rattle.regress_program.specs.declared.found.Match.{Match}
-use Rattle.regress_match.specs.Matched.{IsInside}
+use Rattle.regress_found.specs.declared.found.Match.{Match}
+use Rattle.regress_found.specs.Found.{IsInside}
 use Rattle.regress_replace.specs.Expansion.{end_of}
 use Rattle.regress_replace.specs.Split.{all_parts, limited, part_texts, split_parts, splits}
 use Rattle.regress_replace.proofs.lemmas.Order.{AreInOrder-from, IsBefore, before_first, match_inside, next_match}

@@ -3,8 +3,8 @@ use Rattle.std.proofs.Common.{◌≡◌, ◌≢◌, ℕ, zero, suc, ◌+◌, ◌
 use Rattle.std.proofs.lemmas.Bool.Decides.{nat_tests}
 use Rattle.std.specs.Char.{is_ascii_digit}
 use Rattle.std.specs.Option.{unwrap_or}
-use Rattle.regress_program.specs.Found.{state_of}
-use Rattle.regress_program.specs.declared.found.Match.{Match}
+use Rattle.regress_found.specs.Found.{state_of}
+use Rattle.regress_found.specs.declared.found.Match.{Match}
 use Rattle.regress_tree.specs.WellFormed.{Capture}
 use Rattle.regress_replace.specs.Expansion.{expand_piece, expansion_with}
 use Rattle.std.specs.Borrow.{Bor}

@@ -3,8 +3,8 @@ use Rattle.std.specs.Prelude.{ℕ, Bool, List, [], Option, Some, None, flat_map,
 use Rattle.std.specs.List.{list_any}
 use Rattle.regress_tree.specs.Steps.{CaptureSpan}
 use Rattle.regress_tree.specs.WellFormed.{Capture}
-use Rattle.regress_program.specs.Found.{start_of, state_of}
-use Rattle.regress_program.specs.declared.found.Match.{Match}
+use Rattle.regress_found.specs.Found.{start_of, state_of}
+use Rattle.regress_found.specs.declared.found.Match.{Match}
 use Rattle.regress_match.specs.Names.{named_span}
 use Rattle.regress_replace.specs.Template.{Piece, plain, text_before, whole_match, text_after, by_number, by_name, pieces_of}
 

@@ -1,7 +1,7 @@
 -- Matches from left to right.
 use Rattle.std.specs.Prelude.{ℕ, ◌≤◌, List, [], ◌∷◌}
-use Rattle.regress_program.specs.Found.{start_of}
-use Rattle.regress_program.specs.declared.found.Match.{Match}
+use Rattle.regress_found.specs.Found.{start_of}
+use Rattle.regress_found.specs.declared.found.Match.{Match}
 use Rattle.regress_replace.specs.Expansion.{end_of}
 
 -- The first match starts at `from` or later, and each other one at the end of the one before it or later.

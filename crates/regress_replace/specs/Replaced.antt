@@ -1,7 +1,7 @@
 -- A text with its matches replaced, and the parts of a text between its matches.
 use Rattle.std.specs.Prelude.{ℕ, List, [], ◌∷◌, ◌++◌, drop, slice_range}
-use Rattle.regress_program.specs.Found.{start_of}
-use Rattle.regress_program.specs.declared.found.Match.{Match}
+use Rattle.regress_found.specs.Found.{start_of}
+use Rattle.regress_found.specs.declared.found.Match.{Match}
 use Rattle.regress_replace.specs.Expansion.{end_of}
 
 -- the text `t` from the byte offset `from` on, in which the span of each match is replaced

@@ -2,8 +2,8 @@
 use Rattle.std.specs.Prelude.{ℕ, Bool, not, ◌&&◌, List, [], ◌∷◌, ◌++◌, Option, Some, None, map, option_map, take, drop, length, slice_range, if◌then◌else◌, ◌==◌, nat_lt}
 use Rattle.std.specs.Borrow.{Bor}
 use Rattle.regress_tree.specs.Steps.{CaptureSpan}
-use Rattle.regress_program.specs.Found.{start_of, state_of}
-use Rattle.regress_program.specs.declared.found.Match.{Match}
+use Rattle.regress_found.specs.Found.{start_of, state_of}
+use Rattle.regress_found.specs.declared.found.Match.{Match}
 use Rattle.regress_replace.specs.Expansion.{end_of}
 
 -- A match splits a text, unless it starts at the end of the text, or ends where the part before it starts.

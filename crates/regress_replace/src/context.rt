@@ -1,8 +1,7 @@
 //! What a template expands to at a match.
 ghost use Rattle.std.specs.Prelude.{◌≡◌, ◌++◌, ◌∷◌, ◌≤◌, IfOk, length, map, string_bytes};
 ghost use Rattle.regress_tree.specs.Inside.{IsCaptureInside};
-ghost use Rattle.regress_program.specs.Found.{state_of};
-ghost use Rattle.regress_match.specs.Matched.{IsInside};
+ghost use Rattle.regress_found.specs.Found.{state_of, IsInside};
 ghost use Rattle.regress_match.specs.Names.{capture_of};
 ghost use Rattle.regress_replace.specs.Expansion.{any_named, captured_text, expand_piece, expansion, expansion_with};
 ghost use Rattle.regress_replace.specs.Parsed.{piece_of};

@@ -2,8 +2,7 @@
 ghost use Rattle.std.specs.Prelude.{◌≡◌, ◌++◌, ◌≤◌, true, All, List, ℕ, IfOk, IsSomeAnd, length, map, option_map, slice_range};
 ghost use Rattle.std.specs.Borrow.{Bor};
 ghost use Rattle.regress_tree.specs.Inside.{IsCaptureInside};
-ghost use Rattle.regress_program.specs.Found.{state_of};
-ghost use Rattle.regress_match.specs.Matched.{IsInside};
+ghost use Rattle.regress_found.specs.Found.{state_of, IsInside};
 ghost use Rattle.regress_replace.specs.Expansion.{matched_text};
 ghost use Rattle.regress_replace.specs.Order.{AreInOrder};
 ghost use Rattle.regress_replace.specs.Replaced.{joined, split_pieces};

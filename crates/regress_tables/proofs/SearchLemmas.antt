@@ -2,8 +2,8 @@
 use Rattle.std.proofs.Common.{◌≡◌, ℕ, ◌≤◌, List, ◌∷◌, Result, Ok, Err, IfOk, sym, ap, ◌∙◌, subst}
 use Rattle.std.specs.Str.{IsCharBoundary}
 use Rattle.regress_tree.specs.Steps.{MatchState}
-use Rattle.regress_program.specs.declared.found.Match.{Match}
-use Rattle.regress_program.specs.Found.{IsLeftmost, NoneBefore, start_of, state_of}
+use Rattle.regress_found.specs.declared.found.Match.{Match}
+use Rattle.regress_found.specs.Found.{IsLeftmost, NoneBefore, start_of, state_of}
 
 -- a match with this start and this state
 pub leftmost_by : (text : List ℕ) (at : ℕ → List MatchState) (origin start : ℕ) (state : MatchState) (m : Match) → start_of m ≡ start → state_of m ≡ state →

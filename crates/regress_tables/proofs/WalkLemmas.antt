@@ -14,7 +14,7 @@ use Rattle.regress_tree.specs.Steps.{CaptureSpan, MatchState}
 use Rattle.regress_tree.specs.Tree.{Tree}
 use Rattle.regress_leaves.specs.Leaves.{put}
 use Rattle.regress_program.specs.declared.ranges.GroupRange.{GroupRange}
-use Rattle.regress_program.specs.Found.{no_groups, NoneBefore}
+use Rattle.regress_found.specs.Found.{initial_state, NoneBefore}
 use Rattle.regress_program.specs.Below.{Below}
 use Rattle.regress_program.specs.Program.{Out, At, Routine, Op, accept, look, goto, enter, reach, either, ended, outcomes_by, outcomes_at, matcher_of, start, IsSolution}
 use Rattle.regress_program.specs.Isolated.{Captures, AreUnset, capture_at, captures_from}
@@ -275,21 +275,21 @@ can_walk input r t op a program none can pc_in within is = record {
 -- a walk begins at the entry of its routine, with every group unset
 pub walk-begins : (setting : Setting) (bytes : List ℕ) (program : List Routine) (outs : ℕ → Out) (i n p : ℕ) (r : Routine) (w : Walker)
     (capture_of : (routine position id : ℕ) → Option CaptureSpan) → slice_get program i ≡ Some r → w.pc ≡ r.entry → w.moved ≡ true → w.position ≡ p →
-    w.slots.items ≡ replicate n slots.Unset → w.begins.items ≡ [] → matcher_of setting bytes program outs i (no_groups n p) ≡ outs i (at_of capture_of w)
+    w.slots.items ≡ replicate n slots.Unset → w.begins.items ≡ [] → matcher_of setting bytes program outs i (initial_state n p) ≡ outs i (at_of capture_of w)
 walk-begins setting bytes program outs i n p r w capture_of is pc moved position unset begins =
-    ap (λ o. outs i (start setting bytes o (no_groups n p))) is
+    ap (λ o. outs i (start setting bytes o (initial_state n p))) is
     ∙ ap (outs i)
-    (at-same (start setting bytes (Some r) (no_groups n p)) (at_of capture_of w) (sym pc) (sym moved) (sym position)
+    (at-same (start setting bytes (Some r) (initial_state n p)) (at_of capture_of w) (sym pc) (sym moved) (sym position)
     (sym (resolved-none capture_of n) ∙ ap (resolved capture_of) (sym unset)) (ap reverse (sym begins)))
 
 -- A position whose bit is not set has no outcome.
 pub entry-none : (setting : Setting) (bytes : List ℕ) (program : List Routine) (outs : ℕ → Out) (i n p : ℕ) (r : Routine) (t : Table) →
     slice_get program i ≡ Some r → IsRight (outs i) t → IsFull t → r.entry < t.width → p ≤ t.length → cell t r.entry true p ≡ false →
-    matcher_of setting bytes program outs i (no_groups n p) ≡ []
+    matcher_of setting bytes program outs i (initial_state n p) ≡ []
 entry-none setting bytes program outs i n p r t is right full lt le none =
-    has-none (matcher_of setting bytes program outs i (no_groups n p))
-    (ap (λ o. has_outcome (outs i (start setting bytes o (no_groups n p)))) is
-    ∙ full_tells (outs i) t r.entry true p full right lt le (start setting bytes (Some r) (no_groups n p)) refl refl refl ∙ none)
+    has-none (matcher_of setting bytes program outs i (initial_state n p))
+    (ap (λ o. has_outcome (outs i (start setting bytes o (initial_state n p)))) is
+    ∙ full_tells (outs i) t r.entry true p full right lt le (start setting bytes (Some r) (initial_state n p)) refl refl refl ∙ none)
 
 -- one more position without an outcome
 pub none-more : (text : List ℕ) (at : ℕ → List MatchState) (origin start' : ℕ) → NoneBefore text at origin start' →

@@ -1,8 +1,8 @@
 -- The steps of a search by tables.
 use Rattle.std.specs.Prelude.{ℕ, ◌+◌, ◌*◌, ◌-◌, List, length, Option, Some, None}
-use Rattle.regress_program.specs.declared.found.Match.{Match}
+use Rattle.regress_found.specs.declared.found.Match.{Match}
 use Rattle.regress_program.specs.declared.program.Program.{Program}
-use Rattle.regress_program.specs.Found.{start_of, state_of}
+use Rattle.regress_found.specs.Found.{start_of, state_of}
 use Rattle.regress_program.specs.Ranges.{inner_groups}
 use Rattle.regress_program.specs.Search.{instructions_of, routines_of}
 

@@ -2,7 +2,7 @@
 use Rattle.std.specs.Prelude.{◌≡◌, ℕ, ◌≤◌, true, List, [], ◌∷◌, length, slice_get, Option, Some, None}
 use Rattle.regress_leaves.specs.Subject.{Subject, subject}
 use Rattle.regress_tree.specs.Steps.{CaptureSpan, MatchState}
-use Rattle.regress_program.specs.Found.{no_groups}
+use Rattle.regress_found.specs.Found.{initial_state}
 use Rattle.regress_program.specs.Program.{Out, Routine, IsSolution, matcher_of}
 use Rattle.regress_program.specs.Ranges.{inner_groups, ranges_of}
 use Rattle.regress_program.specs.Shape.{IsProgram}
@@ -40,7 +40,7 @@ width_at program index = width (slice_get program index)
 
 -- the outcomes of a routine from a position, with n groups that are unset
 abbrev pub outcomes_in : Filled → (ℕ → Out) → (index n position : ℕ) → List MatchState
-outcomes_in f outs index n position = matcher_of (subject_of f).setting f.input.text.now (program_in f) outs index (no_groups n position)
+outcomes_in f outs index n position = matcher_of (subject_of f).setting f.input.text.now (program_in f) outs index (initial_state n position)
 
 -- what lookarounds capture
 abbrev pub captures_in : Filled → (ℕ → Out) → (n : ℕ) → (routine position id : ℕ) → Option CaptureSpan

@@ -1,6 +1,6 @@
 //! What a search finds.
 
-use regress_program::Match;
+use regress_found::Match;
 
 /// The result of a search.
 #[derive(Debug, Drop)]

@@ -1,7 +1,7 @@
 //! The leftmost match, by the tables of a program.
 ghost use Rattle.std.specs.Prelude.{◌≡◌, ◌≤◌, ◌<◌, ◌+◌, ◌-◌, ◌*◌, ℕ, IfOk, IfSome, length};
 ghost use Rattle.regress_program.specs.Compiled.{total};
-ghost use Rattle.regress_program.specs.Found.{Finds, state_of};
+ghost use Rattle.regress_found.specs.Found.{Finds, state_of};
 ghost use Rattle.regress_program.specs.Program.{Out};
 ghost use Rattle.regress_program.specs.Shape.{IsForwards};
 ghost use Rattle.regress_tables.specs.Search.{positions_tried, steps_up_to};
@@ -12,7 +12,7 @@ use crate::first::first_outcome;
 use crate::found::Search;
 use crate::resolve::resolve;
 use crate::slots::captures_of;
-use regress_program::Match;
+use regress_found::Match;
 use std::alloc::{AllocError, Global};
 
 /// Returns the leftmost match that starts at the byte offset `from` or later.

@@ -2,7 +2,7 @@
 ghost use Rattle.std.specs.Prelude.{◌≡◌, ◌≤◌, ◌<◌, ◌+◌, ◌*◌, ℕ, IfOk, length, min, true};
 ghost use Rattle.regress_tree.specs.Tree.{Tree};
 ghost use Rattle.regress_program.specs.Compiled.{IsPattern};
-ghost use Rattle.regress_program.specs.Found.{Finds};
+ghost use Rattle.regress_found.specs.Found.{Finds};
 ghost use Rattle.regress_program.specs.Program.{IsSolution, Out};
 ghost use Rattle.regress_program.specs.Search.{instructions_of, outcomes_from, routines_of, setting_of, tree_outcomes_from};
 ghost use Rattle.regress_program.specs.Tidy.{has_no_back_reference};

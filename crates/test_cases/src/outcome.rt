@@ -1,7 +1,7 @@
 //! The question that a test case asks about a text, and the notation of its outcome.
 ghost use Rattle.std.specs.Prelude.{◌≡◌, IfSome};
 ghost use Rattle.regress_tree.specs.Tree.{tree};
-ghost use Rattle.regress_match.specs.Matcher.{matcher_tree};
+ghost use Rattle.regress_match.specs.Pattern.{matcher_tree};
 
 use crate::positions::{byte_position, characters_before};
 use regress_match::{CompileFault, Found, Limits, Match, Matcher, Outcome};

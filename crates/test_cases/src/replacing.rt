@@ -1,6 +1,6 @@
 //! Replacing the matches in a text, and splitting a text at them.
 ghost use Rattle.regress_tree.specs.WellFormed.{IsWellFormed};
-ghost use Rattle.regress_match.specs.Matcher.{matcher_tree};
+ghost use Rattle.regress_match.specs.Pattern.{matcher_tree};
 
 use crate::matching::{read_text, split_expected};
 use crate::outcome::{STEPS, matcher_of};

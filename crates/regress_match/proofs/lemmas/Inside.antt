@@ -9,16 +9,15 @@ use Rattle.regress_tree.specs.Steps.{MatchState}
 use Rattle.regress_tree.specs.Tree.{Tree}
 use Rattle.regress_tree.specs.WellFormed.{IsWellFormed, captures}
 use Rattle.regress_tree.proofs.lemmas.Inside.{IsReachedInside, well_formed_stays_inside}
-use Rattle.regress_program.specs.Found.{no_groups, start_of, state_of}
-use Rattle.regress_program.specs.declared.found.Match.{Match}
-use Rattle.regress_match.specs.Matched.{IsInside, outcomes_at}
+use Rattle.regress_found.specs.Found.{initial_state, start_of, state_of, IsInside, outcomes_at}
+use Rattle.regress_found.specs.declared.found.Match.{Match}
 
 pub first_inside : (setting : Setting) (text : List ℕ) → IsUtf8 text → (t : Tree) → IsWellFormed t → (position : ℕ) →
     IsCharBoundary text position → (m : Match) (rest : List MatchState) → start_of m ≡ position →
     outcomes_at setting text t position ≡ state_of m ∷ rest → IsInside text m
 first_inside setting text utf8 t well_formed position on m rest start first =
     let n = length (captures t) in
-    let s = no_groups n position in
+    let s = initial_state n position in
     let is : IsStateInside text s = record { position = on; captures = All-replicate (IsCaptureInside text) n None tt } in
     let all = well_formed_stays_inside setting text utf8 t well_formed forwards s is in
     let reached = All-head (IsReachedInside text forwards s) (state_of m) rest (subst (All (IsReachedInside text forwards s)) first all) in

@@ -1,10 +1,10 @@
 -- Finding one more match with a matcher moves the search to the right.
 use Rattle.std.proofs.Common.{◌≡◌, ℕ, ◌+◌, ◌-◌, ◌<◌, length, ap, ap₂, arith}
-use Rattle.regress_program.specs.Found.{IsLeftmost}
-use Rattle.regress_program.specs.declared.found.Match.{Match}
+use Rattle.regress_found.specs.Found.{IsLeftmost}
+use Rattle.regress_found.specs.declared.found.Match.{Match}
 use Rattle.regress_match.specs.Iterated.{IsSameIteration, iterated_from, iterated_outcomes, iterated_text}
-use Rattle.regress_match.specs.Matcher.{matcher_outcomes}
-use Rattle.regress_match.specs.Searched.{next_offset}
+use Rattle.regress_match.specs.Pattern.{matcher_outcomes}
+use Rattle.regress_found.specs.Repeated.{next_offset}
 use Rattle.regress_match.specs.declared.matcher_matches.MatcherMatches.{MatcherMatches}
 
 -- the measure of a loop over all matches

@@ -11,7 +11,7 @@ use Rattle.regress_tree.specs.Steps.{MatchState, Matcher}
 use Rattle.regress_tree.specs.Tree.{Tree}
 use Rattle.regress_leaves.specs.Leaves.{put}
 use Rattle.regress_program.specs.Below.{Below, place_of}
-use Rattle.regress_program.specs.Found.{no_groups}
+use Rattle.regress_found.specs.Found.{initial_state}
 use Rattle.regress_program.specs.Isolated.{Captures, AreUnset, captures_from, first_captures, IsReplaced}
 use Rattle.regress_program.specs.Linear.{is_back_reference}
 use Rattle.regress_program.specs.Program.{Out, At, Routine, Op, accept, fail, part, split, begin_loop, repeat, end_loop, unsets, begin_group, end_group, look, goto, enter, reach, either, ended, outcomes_by, outcomes_at, start, matcher_of, IsSolution}
@@ -215,7 +215,7 @@ pub isolated : (setting : Setting) (bytes : List â„•) (program : List Routine) â
     IsReplaced range (captures_from setting bytes program outs (length s.captures) i s.position) s.captures o.captures
 isolated setting bytes program is_program plain outs solution i r is s within unset o later first =
     let range = slice_index_or (ranges_of program) i empty_range in
-    let from = no_groups (length s.captures) s.position in
+    let from = initial_state (length s.captures) s.position in
     let agree : Agree (IsIn range) s from = record {
       position = refl;
       captures = record {

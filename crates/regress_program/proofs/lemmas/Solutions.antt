@@ -2,10 +2,10 @@
 use Rattle.std.proofs.Common.{◌≡◌, ℕ, ◌≤◌, List, length, Option, Some, None, sym, ◌∙◌}
 use Rattle.regress_tree.specs.Setting.{Setting}
 use Rattle.regress_tree.specs.Steps.{MatchState}
-use Rattle.regress_program.specs.Found.{Finds, start_of}
+use Rattle.regress_found.specs.Found.{Finds, start_of}
 use Rattle.regress_program.specs.Program.{Out, Routine, IsSolution}
 use Rattle.regress_program.specs.Shape.{IsProgram}
-use Rattle.regress_program.specs.declared.found.Match.{Match}
+use Rattle.regress_found.specs.declared.found.Match.{Match}
 use Rattle.regress_program.proofs.RunLemmas.{outcomes, outcomes-solve}
 
 -- Outcomes that are the same inside the text make no difference.

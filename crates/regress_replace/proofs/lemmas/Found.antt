@@ -6,10 +6,9 @@ use Rattle.regress_tree.specs.Setting.{Setting}
 use Rattle.regress_tree.specs.Steps.{MatchState}
 use Rattle.regress_tree.specs.Tree.{Tree}
 use Rattle.regress_tree.specs.WellFormed.{IsWellFormed}
-use Rattle.regress_program.specs.Found.{start_of}
-use Rattle.regress_program.specs.declared.found.Match.{Match}
-use Rattle.regress_match.specs.Matched.{IsInside, outcomes_at}
-use Rattle.regress_match.specs.Searched.{AreAllMatches, AreMatches, next_offset}
+use Rattle.regress_found.specs.Found.{start_of, IsInside, outcomes_at}
+use Rattle.regress_found.specs.declared.found.Match.{Match}
+use Rattle.regress_found.specs.Repeated.{AreAllMatches, AreMatches, next_offset}
 use Rattle.regress_match.proofs.lemmas.Inside.{first_inside}
 use Rattle.regress_replace.specs.Expansion.{end_of}
 use Rattle.regress_replace.specs.Order.{AreInOrder}

@@ -1,9 +1,8 @@
 -- Matches in order: parts of a list, and a loop over them.
 use Rattle.std.proofs.Common.{◌≡◌, ◌∙◌, ℕ, zero, suc, ◌+◌, ◌<◌, take, drop, get_or, length, ◌≤◌, List, [], ◌∷◌, All, sym, subst, ap, add-one, drop-cons, arith}
 use Rattle.std.specs.Str.{IsCharBoundary}
-use Rattle.regress_program.specs.Found.{start_of}
-use Rattle.regress_program.specs.declared.found.Match.{Match}
-use Rattle.regress_match.specs.Matched.{IsInside}
+use Rattle.regress_found.specs.Found.{start_of, IsInside}
+use Rattle.regress_found.specs.declared.found.Match.{Match}
 use Rattle.regress_replace.specs.Expansion.{end_of}
 use Rattle.regress_replace.specs.Order.{AreInOrder}
 

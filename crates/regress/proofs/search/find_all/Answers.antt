@@ -1,4 +1,5 @@
-use Rattle.regress_match.specs.Matcher.{factor_of, matcher_outcomes, matcher_setting, matcher_tree}
+use Rattle.regress_match.specs.Matcher.{factor_of}
+use Rattle.regress_match.specs.Pattern.{matcher_outcomes, matcher_setting, matcher_tree}
 use Rattle.regress_replace.proofs.lemmas.Found.{AreAllMatches-in_order, AreAllMatches-inside}
 use Rattle.regress.proofs.FoundLemmas.{never_none}
 use Rattle.regress.proofs.search.find_all.Goals as goal

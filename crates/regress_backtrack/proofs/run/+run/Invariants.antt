@@ -2,7 +2,7 @@
 -- with the steps that were taken.
 use Rattle.std.proofs.Common.{◌≡◌, ◌+◌, ◌*◌, ◌≤◌, ◌∷◌, ℕ, All, flat_map}
 use Rattle.regress_leaves.specs.Subject.{subject}
-use Rattle.regress_program.specs.Found.{state}
+use Rattle.regress_found.specs.Found.{state}
 use Rattle.regress_program.specs.Cost.{Cost, cost_of}
 use Rattle.regress_program.specs.Program.{IsSolution, Out, matcher_of}
 use Rattle.regress_code.specs.Code.{code_routines}

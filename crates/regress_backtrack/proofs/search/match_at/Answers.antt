@@ -1,7 +1,7 @@
 use Rattle.std.proofs.Common.{◌+◌, ◌≤◌, arith}
 use Rattle.regress_program.specs.Cost.{IsCost}
 use Rattle.regress_code.specs.Code.{code_routines, cost_from, setting_with}
-use Rattle.regress_backtrack.specs.Searched.{IsFirst}
+use Rattle.regress_found.specs.Results.{IsMatchResult}
 use Rattle.regress_backtrack.proofs.SearchLemmas.{for_solution, for_tree, same_parts}
 use Rattle.regress_backtrack.proofs.search.match_at.Goals as goal
 
@@ -9,13 +9,13 @@ pub returns-clause-solved : goal.returns-clause-solved
 returns-clause-solved c =
     let made = c.in_ok-backtracker.ensures in
     for_solution c.in_ok-backtracker.backtracker c.args.code.now c.args.known.tables.now c.args.text.now
-    (λ text at. IsFirst c.args.position (at c.args.position) c.in_ok-outcome.outcome) made.code made.tables made.text c.in_ok-outcome.ensures.solved
+    (λ text at. IsMatchResult c.args.position (at c.args.position) c.in_ok-outcome.outcome) made.code made.tables made.text c.in_ok-outcome.ensures.solved
 
 pub returns-clause-first : goal.returns-clause-first
 returns-clause-first c =
     let made = c.in_ok-backtracker.ensures in
     for_tree c.in_ok-backtracker.backtracker c.args.code.now c.args.known.tables.now c.args.text.now
-    (λ text at. IsFirst c.args.position (at c.args.position) c.in_ok-outcome.outcome) made.code made.tables made.text c.in_ok-outcome.ensures.first
+    (λ text at. IsMatchResult c.args.position (at c.args.position) c.in_ok-outcome.outcome) made.code made.tables made.text c.in_ok-outcome.ensures.first
 
 pub returns-clause-costs : goal.returns-clause-costs
 returns-clause-costs c = λ outs costs has.

@@ -1,6 +1,6 @@
 use Rattle.std.proofs.Common.{subst, inl, inr}
 use Rattle.std.proofs.lemmas.Bool.{cases_lt}
-use Rattle.regress_program.specs.Found.{no_groups}
+use Rattle.regress_found.specs.Found.{initial_state}
 use Rattle.regress_prefilter.specs.Candidates.{Skips}
 use Rattle.regress_code.specs.Code.{code_groups, setting_with}
 use Rattle.regress_backtrack.proofs.CandidateLemmas.{passes, passes_all}
@@ -12,7 +12,7 @@ returns-in-Some-clause-passed c = λ tables for outs solution k low le lt.
     let text = c.args.text.now in
     let position = c.in-Some.position in
     elim (cases_lt k position) [
-      | inl before ↦ code.begins (setting_with code tables) text outs solution (no_groups (code_groups code) k) le
+      | inl before ↦ code.begins (setting_with code tables) text outs solution (initial_state (code_groups code) k) le
           (passes text c.args.from code.candidates position (subst (Skips code.candidates text c.args.from) c.in-Some.is c.next_candidate_from.ensures.skips) k low before)
       | inr after ↦ c.next_by_front.ensures.passed code tables for outs solution k after lt
     ]
@@ -21,5 +21,5 @@ pub returns-in-None-clause-passed : goal.returns-in-None-clause-passed
 returns-in-None-clause-passed c = λ tables for outs solution k low le any.
     let code = c.args.code.now in
     let text = c.args.text.now in
-    code.begins (setting_with code tables) text outs solution (no_groups (code_groups code) k) le
+    code.begins (setting_with code tables) text outs solution (initial_state (code_groups code) k) le
     (passes_all text c.args.from code.candidates (subst (Skips code.candidates text c.args.from) c.in-None.is c.next_candidate_from.ensures.skips) k low)

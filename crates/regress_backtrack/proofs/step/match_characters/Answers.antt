@@ -1,4 +1,4 @@
-use Rattle.regress_program.specs.Found.{state}
+use Rattle.regress_found.specs.Found.{state}
 use Rattle.std.proofs.Common.{slice_get, refl}
 use Rattle.regress_leaves.specs.Subject.{subject}
 use Rattle.regress_backtrack.proofs.CostLemmas.{characters_cost}

@@ -2,7 +2,7 @@ use Rattle.std.proofs.Common.{◌++◌, ap, ◌∙◌, option_map, subst}
 use Rattle.regress.specs.Compiled.{outcomes_of}
 use Rattle.regress.specs.Found.{match_of}
 use Rattle.regress_capi.specs.Spans.{match_ends}
-use Rattle.regress_program.specs.Found.{Finds}
+use Rattle.regress_found.specs.Found.{Finds}
 use Rattle.regress_capi.proofs.searches.first_ends.Goals as goal
 
 pub returns-in_ok-push_ends-in-Some : goal.returns-in_ok-push_ends-in-Some

@@ -3,7 +3,7 @@ use Rattle.std.specs.Prelude.{IsUtf8, None}
 use Rattle.regress.specs.Compiled.{outcomes_of}
 use Rattle.regress_capi.specs.SearchResults.{SearchResult, bad}
 use Rattle.regress_capi.specs.Spans.{AreEndsOfFirst}
-use Rattle.regress_program.specs.Found.{Finds}
+use Rattle.regress_found.specs.Found.{Finds}
 use Rattle.regress_capi.proofs.SearchLemmas.{search-reports}
 use Rattle.regress_capi.proofs.searches.write_first.Goals as goal
 

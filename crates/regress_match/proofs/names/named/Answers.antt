@@ -3,7 +3,7 @@ use Rattle.regress_tree.specs.Gathered.{own_group}
 use Rattle.regress_tree.specs.Steps.{CaptureSpan}
 use Rattle.regress_tree.specs.Tree.{tree}
 use Rattle.regress_tree.proofs.lemmas.Gathered.{visited_adds, gathered-groups}
-use Rattle.regress_program.specs.Found.{state_of}
+use Rattle.regress_found.specs.Found.{state_of}
 use Rattle.regress_match.specs.Listing.{Finds}
 use Rattle.regress_match.specs.Names.{named_span}
 use Rattle.regress_match.proofs.NamesLemmas.{finds_none, finds_both}

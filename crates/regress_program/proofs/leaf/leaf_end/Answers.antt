@@ -10,7 +10,7 @@ use Rattle.regress_tree.specs.Tree.{back_ref, tree, leaf, string_set}
 use Rattle.regress_program.specs.Cost.{compared, length_of}
 use Rattle.regress_program.specs.Shape.{IsPart}
 use Rattle.regress_program.proofs.LeafLemmas.{back_again, sole_of, one_string}
-use Rattle.regress_program.specs.Found.{state}
+use Rattle.regress_found.specs.Found.{state}
 use Rattle.regress_program.proofs.leaf.leaf_end.Goals as goal
 
 pub returns-in-BackRef-clause-to : goal.returns-in-BackRef-clause-to

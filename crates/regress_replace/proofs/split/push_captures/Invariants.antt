@@ -1,6 +1,6 @@
 -- The captures so far and the remaining ones are all captures.
 use Rattle.std.proofs.Common.{◌≡◌, ◌++◌, drop}
-use Rattle.regress_program.specs.Found.{state_of}
+use Rattle.regress_found.specs.Found.{state_of}
 use Rattle.regress_replace.specs.Split.{capture_texts, part_texts}
 use Rattle.regress_replace.proofs.split.push_captures.Given as goal
 

@@ -4,7 +4,7 @@ use Rattle.std.specs.Str.{IsCharBoundary}
 use Rattle.regress_tree.specs.Steps.{MatchState}
 use Rattle.regress_tree.specs.Reading.{forwards}
 use Rattle.regress_program.specs.Compiled.{total}
-use Rattle.regress_program.specs.Found.{state_of}
+use Rattle.regress_found.specs.Found.{state_of}
 use Rattle.regress_program.specs.Views.{routine_of}
 use Rattle.regress_program.specs.Isolated.{Captures}
 use Rattle.regress_program.specs.Program.{Out, Routine}

@@ -1,7 +1,7 @@
 -- No character boundary before the current position has an outcome. Each position before it is counted, and no step of a
 -- walk is.
 use Rattle.std.proofs.Common.{◌≡◌, length, ℕ, ◌+◌, ◌-◌, min}
-use Rattle.regress_program.specs.Found.{NoneBefore}
+use Rattle.regress_found.specs.Found.{NoneBefore}
 use Rattle.regress_program.specs.Program.{Out}
 use Rattle.regress_tables.specs.Searchable.{Solves, outcomes_in, program_in}
 use Rattle.regress_tables.proofs.leftmost.find_leftmost.Given as goal

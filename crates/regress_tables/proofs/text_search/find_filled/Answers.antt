@@ -2,7 +2,7 @@ use Rattle.std.proofs.Common.{◌≡◌, ℕ, ◌+◌, ◌-◌, ◌*◌, ◌≤�
 use Rattle.regress_leaves.specs.Subject.{Subject, subject}
 use Rattle.regress_tree.specs.Setting.{Setting}
 use Rattle.regress_program.specs.Compiled.{total}
-use Rattle.regress_program.specs.Found.{Finds, no_groups}
+use Rattle.regress_found.specs.Found.{Finds, initial_state}
 use Rattle.regress_program.specs.Program.{matcher_of, IsSolution, Out, Routine}
 use Rattle.regress_program.specs.Ranges.{inner_groups, ranges_of}
 use Rattle.regress_program.specs.Search.{routines_of, setting_of, groups_of, outcomes_from, tree_outcomes_from}
@@ -40,7 +40,7 @@ returns-clause-solved c =
     let text = c.args.text.now in
     let Solved : Setting → List Routine → ℕ → Type 0 = λ s rs n.
     IfOk c.find_leftmost.result (λ search. (outs : ℕ → Out) → IsSolution s text rs outs →
-    Finds text (λ k. matcher_of s text rs outs (length rs - 1) (no_groups n k)) c.args.from search.found) in
+    Finds text (λ k. matcher_of s text rs outs (length rs - 1) (initial_state n k)) c.args.from search.found) in
     let setting = (subject c.rules.result text).setting in
     subst (λ s. Solved s (routines_of p) (groups_of p)) (ap (λ (u : Subject). u.setting) (c.rules.ensures text))
     (subst (λ rs. Solved setting rs (groups_of p)) c.routines.ensures.routines
@@ -53,7 +53,7 @@ returns-clause-finds c =
     ok_map c.find_leftmost.result _ _
     (λ search found t pattern.
     finds_by (setting_of p) text (routines_of p) c.routines.ensures.program (outcomes_from p text) (tree_outcomes_from p text t) c.args.from search.found
-    (λ outs solution k le. pattern.means (setting_of p) text outs solution (no_groups (groups_of p) k) le) found)
+    (λ outs solution k le. pattern.means (setting_of p) text outs solution (initial_state (groups_of p) k) le) found)
     (returns-clause-solved c)
 
 pub returns-clause-steps : goal.returns-clause-steps

@@ -1,4 +1,4 @@
-use Rattle.regress_match.specs.Matcher.{matcher_setting, matcher_tree}
+use Rattle.regress_match.specs.Pattern.{matcher_setting, matcher_tree}
 use Rattle.regress_replace.proofs.lemmas.Found.{AreAllMatches-in_order, AreAllMatches-inside}
 use Rattle.test_cases.proofs.replacing.parts.Goals as goal
 

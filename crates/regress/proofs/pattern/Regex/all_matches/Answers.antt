@@ -1,6 +1,6 @@
 use Rattle.std.proofs.Math.Logic.{∥∥₁_elim}
 use Rattle.std.specs.Prelude.{All}
-use Rattle.regress_match.specs.Matched.{IsInside}
+use Rattle.regress_found.specs.Found.{IsInside}
 use Rattle.regress.specs.Inside.{AllInside-prop, IfOk-prop}
 use Rattle.regress.proofs.pattern.Regex.all_matches.Goals as goal
 

@@ -1,5 +1,6 @@
 use Rattle.std.proofs.Common.{Some, [], map, subst, sym}
-use Rattle.regress.specs.Compiled.{factor_of, groups_of, outcomes_of}
+use Rattle.regress.specs.Costs.{factor_of}
+use Rattle.regress.specs.Compiled.{groups_of, outcomes_of}
 use Rattle.regress.specs.Found.{match_of}
 use Rattle.regress.specs.Searched.{Advances}
 use Rattle.regress.proofs.FoundLemmas.{HasFoundWith, all_found, begins_with, inside_each, one_more_with}

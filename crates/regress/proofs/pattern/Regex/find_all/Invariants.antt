@@ -1,5 +1,6 @@
 -- The list has the matches that the iteration has found.
-use Rattle.regress.specs.Compiled.{factor_of, groups_of, outcomes_of}
+use Rattle.regress.specs.Costs.{factor_of}
+use Rattle.regress.specs.Compiled.{groups_of, outcomes_of}
 use Rattle.regress.proofs.FoundLemmas.{HasFoundWith}
 use Rattle.regress.proofs.pattern.Regex.find_all.Given as goal
 

@@ -1,10 +1,10 @@
 use Rattle.std.proofs.Common.{rules, arith, ◌≤◌, ◌<◌, ℕ, length, sym, ap, subst, IfSome, MatchOption}
 use Rattle.std.specs.Str.{IsCharBoundary}
-use Rattle.regress_program.specs.Found.{NoneBefore}
+use Rattle.regress_found.specs.Found.{NoneBefore}
 use Rattle.regress_program.specs.Program.{Out}
 use Rattle.regress_backtrack.specs.Backtracker.{AreOutcomes, cost_at, outcomes_at, run_tables, run_text}
-use Rattle.regress_backtrack.specs.Searched.{IsFirst}
-use Rattle.regress_backtrack.specs.declared.outcome.Outcome.TheVariants as outcomes
+use Rattle.regress_found.specs.Results.{IsMatchResult}
+use Rattle.regress_found.specs.declared.outcome.Outcome.TheVariants as outcomes
 use Rattle.regress_backtrack.proofs.CandidateLemmas.{none_after, none_before}
 use Rattle.regress_backtrack.proofs.CostLemmas.{searched, tried_on}
 use Rattle.regress_backtrack.proofs.SearchLemmas.{SameRuns-trans, found_leftmost, none_more, not_true, same_input, same_solved, same_taken, tree_finds}
@@ -42,8 +42,8 @@ returns-in-Matched-clause-solved c = λ outs are.
     let on : IsCharBoundary (run_text a) k = search rules in
     let within = subst (λ r. IfSome r (λ (p : ℕ). (c.loop-from.from ≤ p) × (p ≤ length (run_text a)))) c.in-Some.is c.next_start.ensures.within in
     found_leftmost (run_text a) (outcomes_at a outs) c.args.from k c.in-Matched.found (omega (arith, c.loop-from.invariant.from, within.0)) on
-    (subst (IsFirst k (outcomes_at a outs k)) c.in-Matched.is
-    (same_solved a b (λ states. IsFirst k states c.in_ok-found.field-0) k c.loop-from.invariant.same c.in_ok-found.ensures.solved outs are))
+    (subst (IsMatchResult k (outcomes_at a outs k)) c.in-Matched.is
+    (same_solved a b (λ states. IsMatchResult k states c.in_ok-found.field-0) k c.loop-from.invariant.same c.in_ok-found.ensures.solved outs are))
     (none_before (run_text a) (outcomes_at a outs) c.args.from c.loop-from.from (c.loop-from.invariant.solved outs are) k
     (λ p low le lt. c.next_start.ensures.passed (run_tables a) c.input_of-input.ensures outs are p low le (subst (λ r. MatchOption r Unit (λ q. p < q)) (sym c.in-Some.is) lt)))
 
@@ -69,8 +69,8 @@ loop-from-preserved c =
         left = omega (arith, w.left-is, w.in_ok-found.ensures.left, c.saturating_sub.ensures, so_far.left);
         solved = λ outs are.
             none_more text (outcomes_at a outs) c.args.from k (none outs are)
-            (λ on. subst (IsFirst k (outcomes_at a outs k)) w.in-NoMatch.is
-            (same_solved a b (λ states. IsFirst k states w.in_ok-found.field-0) k so_far.same w.in_ok-found.ensures.solved outs are));
+            (λ on. subst (IsMatchResult k (outcomes_at a outs k)) w.in-NoMatch.is
+            (same_solved a b (λ states. IsMatchResult k states w.in_ok-found.field-0) k so_far.same w.in_ok-found.ensures.solved outs are));
         costs = λ outs costs are.
             let before = so_far.costs outs costs are in
             let taken = same_taken a b k c.saturating_sub.result w.match_in.new.left outs costs so_far.same (w.in_ok-found.ensures.costs outs costs) are in

@@ -1,6 +1,6 @@
 -- No character boundary before the current position has an outcome, and the steps so far are at most the cost up to there.
 use Rattle.std.proofs.Common.{◌≤◌, ◌+◌, ◌-◌, ℕ, length}
-use Rattle.regress_program.specs.Found.{NoneBefore}
+use Rattle.regress_found.specs.Found.{NoneBefore}
 use Rattle.regress_program.specs.Cost.{Cost}
 use Rattle.regress_program.specs.Program.{Out}
 use Rattle.regress_backtrack.specs.Backtracker.{AreCosts, AreOutcomes, SameRuns, cost_at, outcomes_at, run_text, search_cost_at}

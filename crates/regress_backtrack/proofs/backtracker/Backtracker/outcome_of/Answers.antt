@@ -1,5 +1,5 @@
 use Rattle.std.proofs.Common.{rules, ◌≡◌, ap, ◌∙◌, subst}
-use Rattle.regress_program.specs.Found.{state}
+use Rattle.regress_found.specs.Found.{state}
 use Rattle.regress_backtrack.specs.Run.{Answers}
 use Rattle.regress_backtrack.proofs.SearchLemmas.{is_first}
 use Rattle.regress_backtrack.proofs.backtracker.Backtracker.outcome_of.Goals as goal

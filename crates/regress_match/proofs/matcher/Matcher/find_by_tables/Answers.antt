@@ -2,8 +2,9 @@ use Rattle.std.proofs.Common.{IfSome, subst, sym, ap, ◌∙◌}
 use Rattle.std.specs.Prelude.{◌≡◌, ◌+◌, ◌*◌, ◌≤◌, length}
 use Rattle.regress_program.specs.Search.{routines_of}
 use Rattle.regress_code.specs.Code.{code_routines}
-use Rattle.regress_match.specs.Matched.{Finds, IfOutOfSteps}
-use Rattle.regress_match.specs.Matcher.{find_factor_of, matcher_outcomes, matcher_setting, matcher_tree}
+use Rattle.regress_found.specs.Results.{IsSearchResult, IfOutOfSteps}
+use Rattle.regress_match.specs.Matcher.{find_factor_of}
+use Rattle.regress_match.specs.Pattern.{matcher_outcomes, matcher_setting, matcher_tree}
 use Rattle.regress_match.proofs.MatcherLemmas.{found_inside}
 use Rattle.regress_match.proofs.OneMatchLemmas.{searched_bounded, tables_find}
 use Rattle.regress_match.proofs.matcher.Matcher.find_by_tables.Goals as goal
@@ -14,7 +15,7 @@ returns-clause-finds c =
     let text = c.args.text.now in
     let made = c.in_ok-program.ensures in
     let same : c.in-Some.linear.program ≡ c.in_ok-program.program = rw c.in-Some.is at c.in_ok-linear.ensures.same in
-    subst (Finds text (matcher_outcomes m text) c.args.from) (sym c.outcome_of.ensures)
+    subst (IsSearchResult text (matcher_outcomes m text) c.args.from) (sym c.outcome_of.ensures)
     (tables_find m text c.args.from c.deref.result.now c.in_ok-program.program c.in-Some.linear.program c.in_ok-search.search.found
     c.deref.ensures m.compiled made.routines made.groups made.setting same c.in_ok-search.ensures.solved)
 

@@ -1,7 +1,8 @@
 use Rattle.std.proofs.Common.{◌≤◌, IfSome, length, subst, sym, arith}
 use Rattle.std.specs.Str.{IsUtf8}
 use Rattle.regress_match.specs.Kept.{IsRunOf}
-use Rattle.regress_match.specs.Matched.{IfMatched, start_of}
+use Rattle.regress_found.specs.Results.{IfMatched}
+use Rattle.regress_found.specs.Found.{start_of}
 use Rattle.regress_match.proofs.CostLemmas.{runs_on}
 use Rattle.regress_match.proofs.MatcherLemmas.{kept_none, run_inside, run_matches, run_starts}
 use Rattle.regress_match.proofs.matcher_matches.MatcherMatches.backtrack.Goals as goal

@@ -2,9 +2,11 @@ use Rattle.std.proofs.Common.{◌≡◌, ◌≤◌, length, sym, ◌∙◌, ap, 
 use Rattle.std.specs.Str.{IsUtf8}
 use Rattle.regress_tree.specs.WellFormed.{IsWellFormed}
 use Rattle.regress_match.specs.Kept.{IfKept, IsKept}
-use Rattle.regress_match.specs.Matched.{Finds, IfMatched, IsInside, start_of}
-use Rattle.regress_match.specs.Matcher.{matcher_outcomes, matcher_tree, outcome_if}
-use Rattle.regress_match.specs.Searched.{offset_after}
+use Rattle.regress_found.specs.Results.{IsSearchResult, IfMatched}
+use Rattle.regress_found.specs.Found.{IsInside, start_of}
+use Rattle.regress_match.specs.Pattern.{matcher_outcomes, matcher_tree}
+use Rattle.regress_match.specs.Matcher.{outcome_if}
+use Rattle.regress_found.specs.Repeated.{offset_after}
 use Rattle.regress_match.proofs.MatcherLemmas.{kept_finds, kept_inside, kept_more, kept_starts}
 use Rattle.regress_match.proofs.matcher_matches.MatcherMatches.find_in_tables.Goals as goal
 
@@ -39,7 +41,7 @@ returns-clause-finds c =
     let s = c.args.self.now in
     let kept : IsKept s.matcher.now s.text.now s.from s.searched c.in-Some.search = subst (IfKept s.matcher.now s.text.now s.from s.searched) c.in-Some.is s.kept in
     let found = c.in_ok-found.ensures in
-    subst (Finds s.text.now (matcher_outcomes s.matcher.now s.text.now) s.from) (sym c.outcome_of-outcome.ensures)
+    subst (IsSearchResult s.text.now (matcher_outcomes s.matcher.now s.text.now) s.from) (sym c.outcome_of-outcome.ensures)
     (kept_finds s.matcher.now s.text.now s.from s.searched c.in-Some.search kept c.in_ok-found.found found.solved found.inside found.steps)
 
 pub returns-clause-inside : goal.returns-clause-inside

@@ -1,14 +1,13 @@
 -- Repeated searches: all non-overlapping matches from left to right.
-use Rattle.std.specs.Prelude.{◌≡◌, ℕ, ◌+◌, List, [], ◌∷◌, length, max}
+use Rattle.std.specs.Prelude.{◌≡◌, ℕ, ◌+◌, List, [], ◌∷◌, None, length, max}
 use Rattle.std.specs.Borrow.{Bor}
 use Rattle.std.specs.Fn.{CalledAt, Mut}
 use Rattle.std.specs.List.{FoldsTo}
 use Rattle.regress_tree.specs.Steps.{MatchState}
-use Rattle.regress_program.specs.Found.{IsLeftmost, start_of, state_of}
-use Rattle.regress_program.specs.declared.found.Match.{Match}
-use Rattle.regress_match.specs.Matched.{Finds}
-use Rattle.regress_backtrack.specs.declared.outcome.Outcome.{Outcome}
-use Rattle.regress_backtrack.specs.declared.outcome.Outcome.TheVariants as outcomes
+use Rattle.regress_found.specs.Found.{Finds, IsLeftmost, start_of, state_of}
+use Rattle.regress_found.specs.declared.found.Match.{Match}
+use Rattle.regress_found.specs.declared.outcome.Outcome.{Outcome}
+use Rattle.regress_found.specs.declared.outcome.Outcome.TheVariants as outcomes
 
 -- The offset from which the next match is searched: the end of the last one, or one byte after its start if it is empty
 -- (AdvanceStringIndex, for UTF-8).
@@ -23,7 +22,7 @@ offset_after text from outcomes.OutOfSteps = from
 
 -- No match is left, and the search is past the text.
 pub record EndsHere (text : List ℕ) (at : ℕ → List MatchState) (from to : ℕ) : Type 0 where
-  pub none : Finds text at from outcomes.NoMatch
+  pub none : Finds text at from None
   pub past : to ≡ length text + 1
 
 -- The list has the matches that a repeated search finds in order, each the leftmost one, from the offset `from` until
@@ -32,11 +31,15 @@ abbrev pub AreMatches : (text : List ℕ) → (at : ℕ → List MatchState) →
 AreMatches text at from to [] = to ≡ from
 AreMatches text at from to (m ∷ ms) = IsLeftmost text at from m × AreMatches text at (next_offset m) to ms
 
--- The list has all matches that a repeated search finds in order: after the last one there is none.
-pub record AreAllMatches (text : List ℕ) (at : ℕ → List MatchState) (ms : List Match) : Type 0 where
+-- The list has all matches that a repeated search from an offset finds in order: after the last one there is none.
+pub record AreAllMatchesFrom (text : List ℕ) (at : ℕ → List MatchState) (from : ℕ) (ms : List Match) : Type 0 where
   pub to : ℕ
-  pub found : AreMatches text at 0 to ms
-  pub none : Finds text at to outcomes.NoMatch
+  pub found : AreMatches text at from to ms
+  pub none : Finds text at to None
+
+-- the same from the start of the text
+abbrev pub AreAllMatches : (text : List ℕ) → (at : ℕ → List MatchState) → List Match → Type 0
+AreAllMatches text at ms = AreAllMatchesFrom text at 0 ms
 
 -- A closure was called on the first matches of a repeated search, once on each and in order, which took it from the
 -- state `before` to `after`. If `ended` holds, they are all matches.
@@ -46,4 +49,4 @@ pub record CalledOnMatches {F : Type 0} (g : Mut F (Bor Match × Unit {0}) (Unit
   pub to : ℕ
   pub found : AreMatches text at 0 to ms
   pub calls : FoldsTo (λ f m f'. CalledAt g f m tt f') before ms after
-  pub none : ended → Finds text at to outcomes.NoMatch
+  pub none : ended → Finds text at to None

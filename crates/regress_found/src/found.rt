@@ -1,6 +1,6 @@
 //! Matches.
 ghost use Rattle.std.specs.Prelude.{◌≡◌, None, length, slice_index_or};
-ghost use Rattle.regress_program.specs.Found.{start_of, state_of};
+ghost use Rattle.regress_found.specs.Found.{start_of, state_of};
 
 /// A match: a span of the text, and the captures of the groups, in byte offsets.
 #[derive(Debug, Drop)]

@@ -1,0 +1,21 @@
+-- The pattern of a matcher.
+use Rattle.std.specs.Prelude.{ℕ, List}
+use Rattle.std.specs.Arc.{arc_value}
+use Rattle.regress_tree.specs.Setting.{Setting}
+use Rattle.regress_tree.specs.Steps.{MatchState}
+use Rattle.regress_tree.specs.Tree.{Tree, tree}
+use Rattle.regress_unicode.specs.TableOf.{table_of}
+use Rattle.regress_found.specs.Found.{outcomes_at}
+use Rattle.regress_match.specs.declared.matcher.Matcher.{Matcher}
+
+-- the flags and the case mappings of a matcher
+abbrev pub matcher_setting : Matcher → Setting
+matcher_setting m = record { flags = m.regex.flags; table = table_of (arc_value m.tables) }
+
+-- the tree of its pattern
+abbrev pub matcher_tree : Matcher → Tree
+matcher_tree m = tree m.regex.node
+
+-- the outcomes of its pattern on a text, from each position
+abbrev pub matcher_outcomes : Matcher → (text : List ℕ) → (position : ℕ) → List MatchState
+matcher_outcomes m text = outcomes_at (matcher_setting m) text (matcher_tree m)
