@@ -2,6 +2,7 @@
 ghost use Rattle.std.specs.Prelude.{◌≡◌, ◌<◌, length, min};
 ghost use Rattle.regress_program.specs.Compiled.{total};
 ghost use Rattle.regress_program.specs.Linear.{reason};
+ghost use Rattle.regress_program.specs.Ranges.{GroupRanges-set, ranges_of};
 ghost use Rattle.regress_program.specs.Shape.{IsForwards, IsProgram};
 ghost use Rattle.regress_program.specs.Tidy.{table_groups as groups_by_tables};
 ghost use Rattle.regress_program.specs.Unique.{forwards-prop, program-prop};
@@ -15,6 +16,7 @@ use regress_base::types::Flags;
 use regress_leaves::test::Test;
 use regress_prefilter::candidates::Candidates;
 use regress_program::Nonlinear;
+use regress_program::ranges::GroupRange;
 
 /// A program that owns what it runs. It is a copy of a [`Program`](regress_program::Program), and refers neither to the
 /// tree nor to the case mappings.
@@ -34,6 +36,8 @@ pub struct Code {
     pub nonlinear: Option<Nonlinear>,
     /// The number of groups that lookarounds may set, if it is searched by tables.
     pub table_groups: Option<usize>,
+    /// The groups that each routine changes.
+    pub ranges: Vec<GroupRange>,
     /// Where matches can begin.
     pub candidates: Candidates,
     /// Whether the fronts hold only where canonical forms of ASCII characters are those of ASCII.
@@ -47,6 +51,7 @@ pub struct Code {
     ghost passing: { HavePasses routines.items } by { HavePasses-prop routines.items },
     ghost linear_unless: { nonlinear ≡ reason (program_in tests.items routines.items) },
     ghost tabled: { table_groups ≡ groups_by_tables (program_in tests.items routines.items) },
+    ghost ranged: { ranges.items ≡ ranges_of (program_in tests.items routines.items) } by { GroupRanges-set ranges.items (ranges_of (program_in tests.items routines.items)) },
 }
 
 impl Code {

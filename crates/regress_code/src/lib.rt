@@ -4,7 +4,6 @@
 mod code;
 pub mod front;
 pub mod instruction;
-mod lent;
 mod owned;
 pub mod passes;
 

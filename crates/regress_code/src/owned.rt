@@ -26,6 +26,7 @@ use regress_prefilter::candidates::{Candidates, candidates_of};
 use regress_program::instruction::{
     Instruction as BorrowedInstruction, Routine as BorrowedRoutine,
 };
+use regress_program::ranges::ranges_of;
 use regress_program::{CompileFault, Program};
 use regress_tree::ir::{Node, Regex};
 use regress_unicode::Tables;
@@ -78,8 +79,10 @@ fn own(alloc: Global, program: &Program<'_, '_>, candidates: Candidates) -> Resu
     let mut tests = Vec::new(alloc);
     let flags = program.rules(false).flags;
     let folds = flags.icase;
-    let routines = own_routines(alloc, program.routines(), folds, &mut tests)?;
+    let borrowed = program.routines();
+    let routines = own_routines(alloc, borrowed, folds, &mut tests)?;
     let table_groups = program.table_groups(alloc)?;
+    let ranges = ranges_of(alloc, borrowed)?;
     Ok(Code {
         tests,
         routines,
@@ -88,6 +91,7 @@ fn own(alloc: Global, program: &Program<'_, '_>, candidates: Candidates) -> Resu
         instructions: program.instructions(),
         nonlinear: program.nonlinear(),
         table_groups,
+        ranges,
         candidates,
         folds,
     })

@@ -18,17 +18,14 @@ use Rattle.regress_program.specs.Compiled.{IsPattern, total}
 use Rattle.regress_found.specs.Found as searches
 use Rattle.regress_found.specs.Found.{initial_state, start_of, state_of, IsInside, outcomes_at}
 use Rattle.regress_program.specs.Linear.{is_linear, reason}
-use Rattle.regress_program.specs.Program.{IsSolution, Out, Routine, matcher_of}
+use Rattle.regress_program.specs.Program.{IsSolution, Out, Routine}
 use Rattle.regress_program.specs.declared.fault.CompileFault.{CompileFault}
-use Rattle.regress_program.specs.Search as program
 use Rattle.regress_program.specs.Ranges.{inner_groups}
-use Rattle.regress_program.specs.Search.{groups_of, instructions_of, routines_of, setting_of}
 use Rattle.regress_tables.specs.Search.{capturing_steps, steps_up_to}
-use Rattle.regress_tables.specs.TextSearch.{searched_program, searched_text}
+use Rattle.regress_tables.specs.TextSearch.{searched_code, searched_size, searched_tables, searched_text}
 use Rattle.regress_program.specs.Tidy.{is_tabled}
 use Rattle.regress_found.specs.declared.found.Match.{Match}
 use Rattle.regress_tables.specs.declared.found.Search.{Search}
-use Rattle.regress_program.specs.declared.program.Program.{Program}
 use Rattle.regress_tables.specs.declared.text.TextSearch.{TextSearch}
 use Rattle.regress_program.specs.declared.nonlinear.Nonlinear.{Nonlinear as Reason}
 use Rattle.regress_program.specs.declared.nonlinear.Nonlinear.TheVariants as reasons
@@ -43,7 +40,7 @@ use Rattle.regress_code.specs.declared.code.Code.{Code}
 use Rattle.regress_found.specs.declared.outcome.Found.{Found}
 use Rattle.regress_found.specs.declared.outcome.Outcome.{Outcome}
 use Rattle.regress_found.specs.declared.outcome.Outcome.TheVariants as outcomes
-use Rattle.regress_match.specs.Compiled.{IsCodeOf, IsProgramOf, all_outcomes}
+use Rattle.regress_match.specs.Compiled.{IsCodeOf, all_outcomes}
 use Rattle.regress_match.specs.Kept.{IfKept, IsKept, IsRunOf}
 use Rattle.regress_found.specs.Results.{IsSearchResult, IfMatched, IsMatchResult}
 use Rattle.regress_match.specs.Matcher.{factor, factor_of, factor_with, nonlinear_by, nonlinear_with, outcome_if}
@@ -71,31 +68,6 @@ pub result_means : (t : Tree) (tables : Tables) (flags : Flags) (groups : ℕ) (
 result_means t tables flags groups (Ok c) pattern same counted all =
     code_means (record { flags = flags; table = table_of tables }) t tables c pattern (same_setting c tables flags same) (counted ∙ all)
 result_means t tables flags groups (Err e) pattern same counted all = tt
-
--- So does a program with the same routines.
-pub record HasOutcomesOf (setting : Setting) (t : Tree) (p : Program) : Type 0 where
-  pub means : (text : List ℕ) (outs : ℕ → Out) → IsSolution (setting_of p) text (routines_of p) outs → (k : ℕ) → k ≤ length text →
-      program.outcomes_from p text outs k ≡ all_outcomes setting t text k
-
-pub program_outcomes : (setting : Setting) (t : Tree) (tables : Tables) (c : Code) (p : Program) → IsCodeOf setting t tables c →
-    routines_of p ≡ code_routines c → groups_of p ≡ code_groups c → setting_of p ≡ setting_with c tables → HasOutcomesOf setting t p
-program_outcomes setting t tables c p is routines groups same =
-    let Means : Setting → List Routine → ℕ → Type 0 =
-    λ s rs n. (text : List ℕ) (outs : ℕ → Out) → IsSolution s text rs outs → (k : ℕ) → k ≤ length text →
-    matcher_of s text rs outs (length rs - 1) (initial_state n k) ≡ all_outcomes setting t text k in
-    record {
-      means = subst (λ s. Means s (routines_of p) (groups_of p)) (sym same)
-          (subst (λ rs. Means (setting_with c tables) rs (groups_of p)) (sym routines)
-          (subst (λ n. Means (setting_with c tables) (code_routines c) n) (sym groups) is.means));
-    }
-
-pub program_means : (setting : Setting) (t : Tree) (tables : Tables) (c : Code) (p : Program) → IsCodeOf setting t tables c →
-    routines_of p ≡ code_routines c → groups_of p ≡ code_groups c → setting_of p ≡ setting_with c tables →
-    is_linear (code_routines c) ≡ true → IsProgramOf setting t p
-program_means setting t tables c p is routines groups same linear = record {
-  linear = subst (λ rs. is_linear rs ≡ true) (sym routines) linear;
-  means = (program_outcomes setting t tables c p is routines groups same).means;
-}
 
 -- Removing repetitions keeps the first outcome.
 distinct_first : (states rest : List MatchState) (s : MatchState) → states ≡ s ∷ rest →
@@ -142,18 +114,6 @@ finds_distinct text at origin (outcomes.Matched m) is = record {
   least = λ p low high on. distinct_none (at p) (is.least p low high on);
 }
 
--- what a search finds by tables
-pub table_finds : (setting : Setting) (t : Tree) (p : Program) (text : List ℕ) (origin : ℕ) (found : Option Match) → HasOutcomesOf setting t p →
-    ((outs : ℕ → Out) → IsSolution (setting_of p) text (routines_of p) outs → searches.Finds text (program.outcomes_from p text outs) origin found) →
-    IsSearchResult text (outcomes_at setting text t) origin (outcome_if found)
-table_finds setting t p text origin found is solved =
-    finds_distinct text (all_outcomes setting t text) origin (outcome_if found)
-    (as_outcome found (finds_by (setting_of p) text (routines_of p) p.is_program (program.outcomes_from p text) (all_outcomes setting t text) origin found (is.means text) solved))
-  where
-    as_outcome : (o : Option Match) → searches.Finds text (all_outcomes setting t text) origin o → IsSearchResult text (all_outcomes setting t text) origin (outcome_if o)
-    as_outcome None f = f
-    as_outcome (Some m) f = f
-
 -- what a search finds by running the program
 pub run_finds : (setting : Setting) (t : Tree) (tables : Tables) (c : Code) (text : List ℕ) (origin : ℕ) (outcome : Outcome) → IsCodeOf setting t tables c →
     ((outs : ℕ → Out) → IsSolution (setting_with c tables) text (code_routines c) outs → IsSearchResult text (outcomes_from c tables text outs) origin outcome) →
@@ -168,6 +128,25 @@ run_finds setting t tables c text origin outcome is solved =
     by outcomes.NoMatch f =
         finds_by (setting_with c tables) text (code_routines c) c.is_program (outcomes_from c tables text) (all_outcomes setting t text) origin None (is.means text) f
     by outcomes.OutOfSteps f = tt
+
+-- an equal program, under equal case mappings
+pub code_of : (m : Matcher) (tables : Tables) (c : Code) → tables ≡ arc_value m.tables → c ≡ m.code →
+    IsCodeOf (matcher_setting m) (matcher_tree m) (arc_value m.tables) m.code → IsCodeOf (matcher_setting m) (matcher_tree m) tables c
+code_of m tables c same code is =
+    subst (λ ts. IsCodeOf (matcher_setting m) (matcher_tree m) ts c) (sym same)
+    (subst (IsCodeOf (matcher_setting m) (matcher_tree m) (arc_value m.tables)) (sym code) is)
+
+-- what a search finds by tables
+pub table_finds : (setting : Setting) (t : Tree) (tables : Tables) (c : Code) (text : List ℕ) (origin : ℕ) (found : Option Match) → IsCodeOf setting t tables c →
+    ((outs : ℕ → Out) → IsSolution (setting_with c tables) text (code_routines c) outs → searches.Finds text (outcomes_from c tables text outs) origin found) →
+    IsSearchResult text (outcomes_at setting text t) origin (outcome_if found)
+table_finds setting t tables c text origin found is solved = run_finds setting t tables c text origin (outcome_if found) is (as_outcome found solved)
+  where
+    as_outcome : (o : Option Match) →
+        ((outs : ℕ → Out) → IsSolution (setting_with c tables) text (code_routines c) outs → searches.Finds text (outcomes_from c tables text outs) origin o) →
+        (outs : ℕ → Out) → IsSolution (setting_with c tables) text (code_routines c) outs → IsSearchResult text (outcomes_from c tables text outs) origin (outcome_if o)
+    as_outcome None f = f
+    as_outcome (Some m) f = f
 
 -- A match that is found starts inside the text, and is inside it.
 pub starts_inside : (text : List ℕ) (at : ℕ → List MatchState) (origin : ℕ) (outcome : Outcome) → IsSearchResult text at origin outcome →
@@ -270,8 +249,8 @@ module _ (m : Matcher) (text : List ℕ) (limit left from taken : ℕ) (search :
           let form = factor_form m n is in
           subst (λ k. steps ≤ k * (length text + 1)) (sym form.1) (let h : steps ≤ factor form.0 * (length text + 1) = omega (arith, none, small, sum) in h)
       in_tables n (Some s) k is small =
-          let same : factor (instructions_of (searched_program s)) ≡ n = let e : Some (factor (instructions_of (searched_program s))) ≡ Some n = sym k.size ∙ is in cc in
-          let all = all_steps (instructions_of (searched_program s)) (length text) limit left taken from steps small k.steps sum in
+          let same : factor (searched_size s) ≡ n = let e : Some (factor (searched_size s)) ≡ Some n = sym k.size ∙ is in cc in
+          let all = all_steps (searched_size s) (length text) limit left taken from steps small k.steps sum in
           subst (λ k. steps ≤ k * (length text + 1)) same all
 
       by : (o : Option ℕ) → factor_of m ≡ o → IfSome o (λ _. limit ≤ 64 * (length text + 1)) → IfSome o (λ n. steps ≤ n * (length text + 1))
@@ -301,16 +280,16 @@ no_captures i inner d most steps none is =
     omega (arith, small)
 
 module _ (m : Matcher) (text : List ℕ) (from taken : ℕ) (s : TextSearch) (kept : IsKept m text from taken s) (search : Search)
-    (solved : (outs : ℕ → Out) → IsSolution (setting_of (searched_program s)) (searched_text s) (routines_of (searched_program s)) outs →
-    searches.Finds (searched_text s) (program.outcomes_from (searched_program s) (searched_text s) outs) from search.found)
+    (solved : (outs : ℕ → Out) → IsSolution (setting_with (searched_code s) (searched_tables s)) (searched_text s) (code_routines (searched_code s)) outs →
+    searches.Finds (searched_text s) (outcomes_from (searched_code s) (searched_tables s) (searched_text s) outs) from search.found)
     (inside : IfSome search.found (λ x. (state_of x).position ≤ length (searched_text s)))
-    (steps : search.steps ≤ steps_up_to (instructions_of (searched_program s)) (searched_text s) from search.found
-    + capturing_steps (instructions_of (searched_program s)) (inner_groups (routines_of (searched_program s))) * (length (searched_text s) + 1)) where
+    (steps : search.steps ≤ steps_up_to (searched_size s) (searched_text s) from search.found
+    + capturing_steps (searched_size s) (inner_groups (code_routines (searched_code s))) * (length (searched_text s) + 1)) where
   pub kept_finds : IsSearchResult text (matcher_outcomes m text) from (outcome_if search.found)
   kept_finds =
-      table_finds (matcher_setting m) (matcher_tree m) (searched_program s) text from search.found (record { means = kept.program.means })
-      (subst (λ (t : List ℕ). (outs : ℕ → Out) → IsSolution (setting_of (searched_program s)) t (routines_of (searched_program s)) outs →
-      searches.Finds t (program.outcomes_from (searched_program s) t outs) from search.found) kept.same_text solved)
+      table_finds (matcher_setting m) (matcher_tree m) (searched_tables s) (searched_code s) text from search.found kept.code
+      (subst (λ (t : List ℕ). (outs : ℕ → Out) → IsSolution (setting_with (searched_code s) (searched_tables s)) t (code_routines (searched_code s)) outs →
+      searches.Finds t (outcomes_from (searched_code s) (searched_tables s) t outs) from search.found) kept.same_text solved)
 
   pub kept_starts : IfMatched (outcome_if search.found) (λ x. start_of x ≤ length text)
   kept_starts = starts_inside text (matcher_outcomes m text) from (outcome_if search.found) kept_finds
@@ -319,20 +298,21 @@ module _ (m : Matcher) (text : List ℕ) (from taken : ℕ) (s : TextSearch) (ke
   kept_inside utf8 = found_inside (matcher_setting m) text utf8 (matcher_tree m) from (outcome_if search.found) kept_finds
 
   -- in a linear program no lookaround captures
-  kept_steps : search.steps ≤ steps_up_to (instructions_of (searched_program s)) (searched_text s) from search.found
+  kept_steps : search.steps ≤ steps_up_to (searched_size s) (searched_text s) from search.found
   kept_steps =
-      no_captures (instructions_of (searched_program s)) (inner_groups (routines_of (searched_program s))) (length (searched_text s) + 1) _ search.steps
-      (linear-inner (routines_of (searched_program s)) kept.program.linear) steps
+      no_captures (searched_size s) (inner_groups (code_routines (searched_code s))) (length (searched_text s) + 1) _ search.steps
+      (linear-inner (code_routines (searched_code s)) kept.linear) steps
 
   pub kept_more : (from' taken' : ℕ) → taken' ≤ taken + search.steps → from' ≡ offset_after text from (outcome_if search.found) → IsKept m text from' taken' s
   kept_more from' taken' sum is = record {
-    program = kept.program;
+    code = kept.code;
+    linear = kept.linear;
     size = kept.size;
     same_text = kept.same_text;
-    steps = subst (λ k. taken' ≤ 2 * instructions_of (searched_program s) * (length text + 1) + 2 * (2 * instructions_of (searched_program s) + 1) * min k (length text + 1))
+    steps = subst (λ k. taken' ≤ 2 * searched_size s * (length text + 1) + 2 * (2 * searched_size s + 1) * min k (length text + 1))
         (sym is)
-        (more_steps (instructions_of (searched_program s)) text from taken search.steps taken' (matcher_outcomes m text) search.found kept.steps
-        (subst (λ t. search.steps ≤ steps_up_to (instructions_of (searched_program s)) t from search.found) kept.same_text kept_steps) sum kept_finds
+        (more_steps (searched_size s) text from taken search.steps taken' (matcher_outcomes m text) search.found kept.steps
+        (subst (λ t. search.steps ≤ steps_up_to (searched_size s) t from search.found) kept.same_text kept_steps) sum kept_finds
         (subst (λ t. IfSome search.found (λ x. (state_of x).position ≤ length t)) kept.same_text inside));
   }
 
@@ -354,21 +334,18 @@ module _ (m : Matcher) (text : List ℕ) (b : Backtracker) (is : IsRunOf m text 
 
 -- ---- the tables of a text, before the first search
 
-pub tables_kept : (m : Matcher) (text : List ℕ) (from steps : ℕ) (tables : Tables) (p : Program) (s : TextSearch) → is_some (factor_of m) ≡ true →
-    tables ≡ arc_value m.tables → IsCodeOf (matcher_setting m) (matcher_tree m) (arc_value m.tables) m.code →
-    routines_of p ≡ code_routines m.code → groups_of p ≡ code_groups m.code → setting_of p ≡ setting_with m.code tables →
-    searched_program s ≡ p → searched_text s ≡ text →
-    steps ≤ 2 * instructions_of (searched_program s) * (length (searched_text s) + 1) → IsKept m text from steps s
-tables_kept m text from steps tables p s is_fast is_tables compiled routines groups setting program same_text counted =
+pub tables_kept : (m : Matcher) (text : List ℕ) (from steps : ℕ) (s : TextSearch) → is_some (factor_of m) ≡ true →
+    IsCodeOf (matcher_setting m) (matcher_tree m) (arc_value m.tables) m.code → searched_code s ≡ m.code → searched_tables s ≡ arc_value m.tables →
+    searched_text s ≡ text → steps ≤ 2 * searched_size s * (length (searched_text s) + 1) → IsKept m text from steps s
+tables_kept m text from steps s is_fast compiled code tables same_text counted =
     let bound = bound_linear (code_routines m.code) m.within is_fast in
-    let means : IsProgramOf (matcher_setting m) (matcher_tree m) p =
-    program_means (matcher_setting m) (matcher_tree m) (arc_value m.tables) m.code p compiled routines groups (setting ∙ ap (setting_with m.code) is_tables) bound.0 in
     record {
-      program = subst (IsProgramOf (matcher_setting m) (matcher_tree m)) (sym program) means;
-      size = bound.1 ∙ ap (λ rs. Some (factor (total rs))) (sym (ap routines_of program ∙ routines));
+      code = code_of m (searched_tables s) (searched_code s) tables code compiled;
+      linear = subst (λ (c : Code). is_linear (code_routines c) ≡ true) (sym code) bound.0;
+      size = bound.1 ∙ ap (λ (c : Code). Some (factor (total (code_routines c)))) (sym code);
       same_text = same_text;
       steps = let same = ap length same_text in
-          let all : steps ≤ 2 * instructions_of (searched_program s) * (length text + 1) =
-          subst (λ n. steps ≤ 2 * instructions_of (searched_program s) * (n + 1)) same counted in
+          let all : steps ≤ 2 * searched_size s * (length text + 1) =
+          subst (λ n. steps ≤ 2 * searched_size s * (n + 1)) same counted in
           omega (arith, all);
     }

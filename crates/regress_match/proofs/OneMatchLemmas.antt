@@ -7,20 +7,18 @@ use Rattle.regress_program.specs.Compiled.{total}
 use Rattle.regress_found.specs.Found as searches
 use Rattle.regress_program.specs.Program.{IsSolution, Out, Routine}
 use Rattle.regress_program.specs.Ranges.{inner_groups}
-use Rattle.regress_program.specs.Search as program
-use Rattle.regress_program.specs.Search.{groups_of, routines_of, setting_of}
 use Rattle.regress_tables.specs.Search.{capturing_steps, per_character}
 use Rattle.regress_program.specs.Tidy.{is_tabled}
 use Rattle.regress_found.specs.declared.found.Match.{Match}
-use Rattle.regress_program.specs.declared.program.Program.{Program}
 use Rattle.regress_program.proofs.lemmas.Strict.{linear-tabled}
-use Rattle.regress_code.specs.Code.{code_groups, code_routines, setting_with}
+use Rattle.regress_code.specs.Code.{code_routines, outcomes_from, setting_with}
+use Rattle.regress_code.specs.declared.code.Code.{Code}
 use Rattle.regress_match.specs.Compiled.{IsCodeOf}
 use Rattle.regress_found.specs.Results.{IsSearchResult, IfOutOfSteps}
 use Rattle.regress_match.specs.Matcher.{factor, factor_with, find_factor, find_factor_with, outcome_if}
 use Rattle.regress_match.specs.Pattern.{matcher_outcomes, matcher_setting, matcher_tree}
 use Rattle.regress_match.specs.declared.matcher.Matcher.{Matcher}
-use Rattle.regress_match.proofs.MatcherLemmas.{bound_linear, program_outcomes, table_finds}
+use Rattle.regress_match.proofs.MatcherLemmas.{bound_linear, code_of, table_finds}
 
 -- ---- which searches take linear time
 
@@ -50,11 +48,11 @@ never_ends_early None = tt
 never_ends_early (Some m) = tt
 
 -- A search by tables leaves the steps of backtracking.
-pub searched_bounded : (routines : List Routine) (within : Bool) (p : Program) (text : List ℕ) (found : Option Match) (steps : ℕ) →
-    routines_of p ≡ routines → steps ≤ per_character p * (length text + 1) →
+pub searched_bounded : (routines : List Routine) (within : Bool) (c : Code) (text : List ℕ) (found : Option Match) (steps : ℕ) →
+    code_routines c ≡ routines → steps ≤ per_character c * (length text + 1) →
     IfSome (find_factor_with routines within) (λ n. (steps + 64 * (length text + 1) ≤ n * (length text + 1)) × IfOutOfSteps (outcome_if found) ⊥)
-searched_bounded routines false p text found steps same few = tt
-searched_bounded routines true p text found steps same few = by (is_tabled routines)
+searched_bounded routines false c text found steps same few = tt
+searched_bounded routines true c text found steps same few = by (is_tabled routines)
   where
     by : (b : Bool) → IfSome (option_map (find_factor (total routines)) (if b then Some (inner_groups routines) else None))
         (λ n. (steps + 64 * (length text + 1) ≤ n * (length text + 1)) × IfOutOfSteps (outcome_if found) ⊥)
@@ -67,14 +65,9 @@ searched_bounded routines true p text found steps same few = by (is_tabled routi
 
 -- ---- what it finds
 
-pub tables_find : (m : Matcher) (text : List ℕ) (from : ℕ) (tables : Tables) (p q : Program) (found : Option Match) → tables ≡ arc_value m.tables →
+pub tables_find : (m : Matcher) (text : List ℕ) (from : ℕ) (tables : Tables) (c : Code) (found : Option Match) → tables ≡ arc_value m.tables → c ≡ m.code →
     IsCodeOf (matcher_setting m) (matcher_tree m) (arc_value m.tables) m.code →
-    routines_of p ≡ code_routines m.code → groups_of p ≡ code_groups m.code → setting_of p ≡ setting_with m.code tables → q ≡ p →
-    ((outs : ℕ → Out) → IsSolution (setting_of q) text (routines_of q) outs → searches.Finds text (program.outcomes_from q text outs) from found) →
+    ((outs : ℕ → Out) → IsSolution (setting_with c tables) text (code_routines c) outs → searches.Finds text (outcomes_from c tables text outs) from found) →
     IsSearchResult text (matcher_outcomes m text) from (outcome_if found)
-tables_find m text from tables p q found is_tables compiled routines groups setting same solved =
-    table_finds (matcher_setting m) (matcher_tree m) p text from found
-    (program_outcomes (matcher_setting m) (matcher_tree m) (arc_value m.tables) m.code p compiled routines groups
-    (setting ∙ ap (setting_with m.code) is_tables))
-    (subst (λ (x : Program). (outs : ℕ → Out) → IsSolution (setting_of x) text (routines_of x) outs →
-    searches.Finds text (program.outcomes_from x text outs) from found) same solved)
+tables_find m text from tables c found same code compiled =
+    table_finds (matcher_setting m) (matcher_tree m) tables c text from found (code_of m tables c same code compiled)

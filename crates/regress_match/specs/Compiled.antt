@@ -1,5 +1,5 @@
 -- What is known of the program of a pattern.
-use Rattle.std.specs.Prelude.{◌≡◌, ℕ, ◌≤◌, true, List, length}
+use Rattle.std.specs.Prelude.{◌≡◌, ℕ, ◌≤◌, List, length}
 use Rattle.std.proofs.Props.{props}
 use Rattle.regress_tree.specs.Matching.{steps}
 use Rattle.regress_tree.specs.Reading.{forwards}
@@ -9,11 +9,7 @@ use Rattle.regress_tree.specs.Tree.{Tree}
 use Rattle.regress_tree.specs.WellFormed.{captures}
 use Rattle.regress_unicode.specs.declared.Tables.{Tables}
 use Rattle.regress_found.specs.Found.{initial_state}
-use Rattle.regress_program.specs.Linear.{is_linear}
 use Rattle.regress_program.specs.Program.{Out, IsSolution}
-use Rattle.regress_program.specs.Search as program
-use Rattle.regress_program.specs.Search.{routines_of, setting_of}
-use Rattle.regress_program.specs.declared.program.Program.{Program}
 use Rattle.regress_code.specs.Code.{code_routines, outcomes_from, setting_with}
 use Rattle.regress_code.specs.declared.code.Code.{Code}
 
@@ -27,18 +23,9 @@ module _ (setting : Setting) (t : Tree) where
     pub means : (text : List ℕ) (outs : ℕ → Out) → IsSolution (setting_with code tables) text (code_routines code) outs → (k : ℕ) →
         k ≤ length text → outcomes_from code tables text outs k ≡ all_outcomes text k
 
-  -- The same of a program that is linear.
-  pub record IsProgramOf (p : Program) : Type 0 where
-    pub linear : is_linear (routines_of p) ≡ true
-    pub means : (text : List ℕ) (outs : ℕ → Out) → IsSolution (setting_of p) text (routines_of p) outs → (k : ℕ) → k ≤ length text →
-        program.outcomes_from p text outs k ≡ all_outcomes text k
-
 -- Each property has at most one proof.
 pub MatchState-set : IsSet MatchState
 MatchState-set = hlevel props
 
 pub IsCodeOf-prop : (setting : Setting) (t : Tree) (tables : Tables) (code : Code) → IsProp (IsCodeOf setting t tables code)
 IsCodeOf-prop setting t tables code = hlevel (props, MatchState-set)
-
-pub IsProgramOf-prop : (setting : Setting) (t : Tree) (p : Program) → IsProp (IsProgramOf setting t p)
-IsProgramOf-prop setting t p = hlevel (props, MatchState-set)

@@ -1,15 +1,16 @@
 -- What a repeated search keeps from one match to the next.
-use Rattle.std.specs.Prelude.{◌≡◌, ℕ, ◌+◌, ◌*◌, ◌≤◌, List, length, min, Option, Some, MatchOption, IfSome}
+use Rattle.std.specs.Prelude.{◌≡◌, ℕ, ◌+◌, ◌*◌, ◌≤◌, true, List, length, min, Option, Some, MatchOption, IfSome}
 use Rattle.std.proofs.Props.{props}
-use Rattle.regress_program.specs.Search.{instructions_of}
-use Rattle.regress_tables.specs.TextSearch.{searched_program, searched_text}
+use Rattle.regress_program.specs.Linear.{is_linear}
+use Rattle.regress_code.specs.Code.{code_routines}
+use Rattle.regress_tables.specs.TextSearch.{searched_code, searched_size, searched_tables, searched_text}
 use Rattle.regress_tables.specs.declared.text.TextSearch.{TextSearch}
 use Rattle.regress_program.specs.Cost.{Cost}
 use Rattle.regress_program.specs.Program.{Out}
 use Rattle.regress_backtrack.specs.Backtracker as runs
 use Rattle.regress_backtrack.specs.Backtracker.{run_code, run_tables, run_text, search_cost_at}
 use Rattle.regress_backtrack.specs.declared.backtracker.Backtracker.{Backtracker}
-use Rattle.regress_match.specs.Compiled.{IsCodeOf, IsCodeOf-prop, IsProgramOf, IsProgramOf-prop, MatchState-set}
+use Rattle.regress_match.specs.Compiled.{IsCodeOf, IsCodeOf-prop, MatchState-set}
 use Rattle.regress_match.specs.Costs.{AreCosts, find_cost}
 use Rattle.regress_match.specs.Matcher.{factor, factor_of}
 use Rattle.regress_match.specs.Pattern.{matcher_setting, matcher_tree}
@@ -22,14 +23,15 @@ pub record IsRunOf (m : Matcher) (text : List ℕ) (b : Backtracker) : Type 0 wh
   pub find_cost : (costs : ℕ → Cost) (from : ℕ) → search_cost_at b costs from ≡ find_cost m text costs from
   pub same_text : run_text b ≡ text
 
--- The tables are those of a program of the matcher's pattern and of the text. The steps are those of making them, and of
+-- The tables are those of a linear program of the matcher's pattern and of the text. The steps are those of making them, and of
 -- searches in them, each of which took at most one walk for each character that it has passed.
 pub record IsKept (m : Matcher) (text : List ℕ) (from taken : ℕ) (s : TextSearch) : Type 0 where
-  pub program : IsProgramOf (matcher_setting m) (matcher_tree m) (searched_program s)
-  pub size : factor_of m ≡ Some (factor (instructions_of (searched_program s)))
+  pub code : IsCodeOf (matcher_setting m) (matcher_tree m) (searched_tables s) (searched_code s)
+  pub linear : is_linear (code_routines (searched_code s)) ≡ true
+  pub size : factor_of m ≡ Some (factor (searched_size s))
   pub same_text : searched_text s ≡ text
-  pub steps : taken ≤ 2 * instructions_of (searched_program s) * (length text + 1)
-      + 2 * (2 * instructions_of (searched_program s) + 1) * min from (length text + 1)
+  pub steps : taken ≤ 2 * searched_size s * (length text + 1)
+      + 2 * (2 * searched_size s + 1) * min from (length text + 1)
 
 -- the same, or no step was taken before there are tables
 abbrev pub IfKept : (m : Matcher) (text : List ℕ) (from steps : ℕ) → Option TextSearch → Type 0
@@ -43,7 +45,7 @@ pub IfRunOf-prop : (m : Matcher) (text : List ℕ) (b : Option Backtracker) → 
 IfRunOf-prop m text b = hlevel (props, IsRunOf-prop)
 
 pub IsKept-prop : (m : Matcher) (text : List ℕ) (from steps : ℕ) (s : TextSearch) → IsProp (IsKept m text from steps s)
-IsKept-prop m text from steps s = hlevel (props, IsProgramOf-prop)
+IsKept-prop m text from steps s = hlevel (props, IsCodeOf-prop)
 
 pub IfKept-prop : (m : Matcher) (text : List ℕ) (from steps : ℕ) (s : Option TextSearch) → IsProp (IfKept m text from steps s)
 IfKept-prop m text from steps s = hlevel (props, IsKept-prop)

@@ -164,8 +164,7 @@ impl<'m> MatcherMatches<'m> {
     {
         let matcher = self.matcher;
         if matcher.is_linear() {
-            let program = matcher.code.program(alloc, &matcher.tables)?;
-            if let Some(linear) = Linear::new(alloc, program)? {
+            if let Some(linear) = Linear::new(&matcher.code, matcher.known()) {
                 let search = linear.search(alloc, self.text)?;
                 self.searched = search.steps();
                 self.search = Some(search);

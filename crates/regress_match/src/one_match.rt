@@ -64,8 +64,7 @@ impl Matcher {
         ensures bounded { IfOk result (λ found. IfSome (find_factor_of self.now) (λ n.
             (found.steps + 64 * (length text.now + 1) ≤ n * (length text.now + 1)) × IfOutOfSteps found.outcome ⊥)) }
     {
-        let program = self.code.program(alloc, &self.tables)?;
-        let Some(linear) = Linear::new(alloc, program)? else {
+        let Some(linear) = Linear::new(&self.code, self.known()) else {
             return Ok(Found {
                 outcome: Outcome::OutOfSteps,
                 steps: 0,

@@ -1,5 +1,6 @@
 //! Which groups the routines of a program change.
-ghost use Rattle.std.specs.Prelude.{◌≡◌, IfOk};
+ghost use Rattle.std.specs.Prelude.{◌≡◌, ℕ, IfOk};
+ghost use Rattle.regress_program.specs.Program.{look};
 ghost use Rattle.regress_program.specs.Ranges.{changed_by, changed_by_all, hull, ranges_of};
 ghost use Rattle.regress_program.specs.Views.{op_of, ops_of, program_of};
 
@@ -66,7 +67,7 @@ fn changed_by_all(earlier: &[GroupRange], instructions: &[Instruction<'_>]) -> G
 }
 
 /// Returns the range of the groups that an instruction changes, by those of the routines before its own.
-pub fn changed_by(earlier: &[GroupRange], instruction: &Instruction<'_>) -> GroupRange
+pub(crate) fn changed_by(earlier: &[GroupRange], instruction: &Instruction<'_>) -> GroupRange
     ensures { result ≡ changed_by earlier.now (op_of instruction.now) }
 {
     match *instruction {
@@ -82,16 +83,21 @@ pub fn changed_by(earlier: &[GroupRange], instruction: &Instruction<'_>) -> Grou
             end: usize::from(id) + 1,
         },
         Instruction::Look {
-            negate: false,
+            negate,
             routine,
             ..
-        } => {
-            if routine < earlier.len() {
-                earlier[routine]
-            } else {
-                NO_GROUPS
-            }
-        }
+        } => changed_by_look(earlier, negate, routine),
         _ => NO_GROUPS,
+    }
+}
+
+/// Returns the range of the groups that a lookaround changes: those of its routine, or none if it is negated.
+pub fn changed_by_look(earlier: &[GroupRange], negate: bool, routine: usize) -> GroupRange
+    ensures { (next : ℕ) → result ≡ changed_by earlier.now (look negate routine next) }
+{
+    if !negate && routine < earlier.len() {
+        earlier[routine]
+    } else {
+        NO_GROUPS
     }
 }

@@ -9,7 +9,6 @@ use crate::instruction::Routine;
 use crate::program::Program;
 use regress_base::types::Flags;
 use regress_leaves::known::Known;
-use regress_unicode::Tables;
 
 impl<'n, 't> Program<'n, 't> {
     /// Returns a program of these routines, for a pattern with these flags and this number of groups.
@@ -35,29 +34,5 @@ impl<'n, 't> Program<'n, 't> {
             known,
             groups,
         }
-    }
-
-    /// Returns the program of these routines, for a pattern with these flags and this number of groups. It is for the
-    /// matchers of this repository, which keep the routines of a program in a form of their own.
-    ///
-    /// # Preconditions
-    /// There is at least one routine. A routine refers to earlier ones only, and its instructions are as
-    /// [`Program::compile`] emits them: each but [`Instruction::Repeat`](crate::instruction::Instruction::Repeat) names
-    /// only instructions before it. The last routine matches forwards.
-    pub fn from_routines(
-        routines: Vec<Routine<'n>>,
-        flags: Flags,
-        tables: &'t Tables,
-        groups: usize,
-    ) -> Program<'n, 't>
-        requires program { IsProgram (program_of routines.items) }
-        requires some { 0 < length routines.items }
-        requires forwards { IsForwards (program_of routines.items) }
-        ensures routines { routines_of result ≡ program_of routines.entry.items }
-        ensures setting { setting_of result ≡ record { flags = flags; table = table_of tables.now } }
-        ensures groups { groups_of result ≡ groups }
-    {
-        let known = Known::new(tables, flags);
-        Program::new(routines, flags, known, groups)
     }
 }

@@ -12,8 +12,12 @@ use Rattle.regress_tree.specs.Reading.{Direction, forwards, backwards, direction
 use Rattle.regress_tree.specs.References.{all_of, in_order}
 use Rattle.regress_tree.specs.Setting.{Setting}
 use Rattle.regress_tree.specs.Steps.{MatchState, Matcher}
-use Rattle.regress_tree.specs.Tree.{Tree, leaf, string_set}
-use Rattle.regress_leaves.specs.Leaves.{put}
+use Rattle.regress_tree.specs.Tree.{Tree, leaf, string_set, tree}
+use Rattle.regress_leaves.specs.Leaves.{exactly, put}
+use Rattle.regress_leaves.specs.declared.test.Test.{Test}
+use Rattle.regress_code.specs.declared.instruction.Instruction.{Instruction}
+use Rattle.regress_code.specs.declared.instruction.Instruction.TheVariants as insts
+use Rattle.regress_code.specs.Views.{characters_of, op_in, part_of}
 use Rattle.regress_leaves.specs.Subject.{Subject}
 use Rattle.regress_leaves.proofs.lemmas.Leaves.{any-nil, any-cons}
 use Rattle.regress_program.specs.Below.{row_of, column, place}
@@ -149,6 +153,15 @@ pub sole_of : (strings : List (BoxedSlice ℕ Global)) (icase : Bool) → IsPart
 sole_of [] icase is = absurd is
 sole_of (string ∷ []) icase is = (omega arith, λ d. refl)
 sole_of (string ∷ another ∷ strings) icase is = absurd is
+
+-- what an instruction for a leaf does
+pub leaf_is : (tests : List Test) (i : Instruction) (k next : ℕ) (test : Test) → i ≡ insts.Leaf k next → slice_get tests k ≡ Some test →
+    op_in tests i ≡ part (tree test.node) next
+leaf_is tests i k next test is some = ap (op_in tests) is ∙ ap (λ o. part_of o next) some
+
+pub characters_is : (tests : List Test) (i : Instruction) (k count next : ℕ) (test : Test) → i ≡ insts.Characters k count next →
+    slice_get tests k ≡ Some test → op_in tests i ≡ part (exactly count (tree test.node)) next
+characters_is tests i k count next test is some = ap (op_in tests) is ∙ ap (λ o. characters_of o count next) some
 
 -- ---- lookarounds
 

@@ -10,8 +10,8 @@ use Rattle.regress_tree.specs.Setting.{Setting}
 use Rattle.regress_program.specs.Below.{row_of, column, place}
 use Rattle.regress_program.specs.Program.{Out, Routine, Op, outcomes_by, outcomes_at, matcher_of, IsSolution}
 use Rattle.regress_program.specs.Tidy.{has_no_back_reference}
-use Rattle.regress_program.specs.Shape.{Fits, IsProgram}
-use Rattle.regress_program.specs.Views.{program_of}
+use Rattle.regress_program.specs.Shape.{Fits}
+use Rattle.regress_code.specs.Code.{code_routines}
 use Rattle.regress_tables.specs.Bits.{bits_of}
 use Rattle.regress_tables.specs.declared.table.Table.{Table}
 use Rattle.regress_tables.specs.declared.evaluate.Input.{Input}
@@ -101,13 +101,13 @@ module _ (input : Input) (r : Routine) (t t' : Table) (pc : ℕ) (moved : Bool) 
     at = same-index t t' pc moved position same ∙ index-more t pc moved position ∙ ap (λ n. n + pc) at ∙ sym more;
   }
 
-  pub can_evaluate : (op : Op) → IsProgram (program_of input.routines.now) → has_no_back_reference (program_of input.routines.now) ≡ true → slice_get r.ops pc ≡ Some op → CanEvaluate input t' op moved position
-  can_evaluate op program none is = record {
+  pub can_evaluate : (op : Op) → has_no_back_reference (code_routines input.code.now) ≡ true → slice_get r.ops pc ≡ Some op → CanEvaluate input t' op moved position
+  can_evaluate op none is = record {
     pc = pc;
     next = is_next;
-    fits = subst (λ w. Fits (take (length input.tables.now) (program_of input.routines.now)) w pc op) (sym (same.width ∙ can.of.width))
-        ((program _ r can.is).fit pc op (omega arith) lt is);
-    no_reference = no_reference-at (program_of input.routines.now) _ r pc op none can.is is;
+    fits = subst (λ w. Fits (take (length input.tables.now) (code_routines input.code.now)) w pc op) (sym (same.width ∙ can.of.width))
+        ((input.code.now.is_program _ r can.is).fit pc op (omega arith) lt is);
+    no_reference = no_reference-at (code_routines input.code.now) _ r pc op none can.is is;
     length = same.length ∙ can.of.text;
     backwards = same.backwards ∙ can.backwards;
   }

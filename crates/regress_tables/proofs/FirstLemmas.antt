@@ -5,11 +5,12 @@ use Rattle.std.proofs.lemmas.Option.{same_Some, slice_get-map, slice_get_read}
 use Rattle.regress_leaves.specs.Subject.{subject}
 use Rattle.regress_tree.specs.Reading.{forwards, direction_if}
 use Rattle.regress_tree.specs.Steps.{MatchState}
-use Rattle.regress_program.specs.declared.instruction.Instruction.{Instruction}
-use Rattle.regress_program.specs.declared.instruction.Routine as declared
+use Rattle.regress_code.specs.declared.instruction.Instruction.{Instruction}
+use Rattle.regress_code.specs.declared.instruction.Routine as declared
 use Rattle.regress_program.specs.Program.{Op, At, Out, Routine, IsSolution, accept, matcher_of, outcomes_by}
-use Rattle.regress_program.specs.Shape.{IsProgram}
-use Rattle.regress_program.specs.Views.{op_of, ops_of, program_of, routine_of}
+use Rattle.regress_code.specs.Code.{code_routines}
+use Rattle.regress_code.specs.Views.{op_in, ops_in, routine_in}
+use Rattle.regress_leaves.specs.declared.test.Test.{Test}
 use Rattle.regress_tables.specs.declared.evaluate.Input.{Input}
 use Rattle.regress_tables.specs.declared.filled.Filled.{Filled}
 use Rattle.regress_tables.specs.declared.slots.Slot.{Slot}
@@ -29,26 +30,27 @@ use Rattle.regress_tables.proofs.WalkLemmas.{Leads-trans, entry-none, solved-by,
 -- ---- where a walk goes
 
 -- what the instruction at an index does
-pub op-here : (items : List Instruction) (pc : ℕ) (i : Instruction) → pc < length (ops_of items) → i ≡ get_or items pc i →
-    slice_get (ops_of items) pc ≡ Some (op_of i)
-op-here items pc i lt is =
-    slice_get-map op_of items pc ∙ ap (option_map op_of) (slice_get_read items _ pc i refl (omega (arith, lt, length-map items op_of)) is)
+pub op-here : (tests : List Test) (items : List Instruction) (pc : ℕ) (i : Instruction) → pc < length (ops_in tests items) → i ≡ get_or items pc i →
+    slice_get (ops_in tests items) pc ≡ Some (op_in tests i)
+op-here tests items pc i lt is =
+    slice_get-map (op_in tests) items pc
+    ∙ ap (option_map (op_in tests)) (slice_get_read items _ pc i refl (omega (arith, lt, length-map items (op_in tests))) is)
 
 -- where a walk is, where n groups are unset at first
 abbrev pub place_in : Input → (outs : ℕ → Out) (n : ℕ) → Walker → At
 place_in input outs n w =
-    at_of (capture_in (subject input.rules input.text.now).setting input.text.now (program_of input.routines.now) outs n) w
+    at_of (capture_in (subject input.rules input.text.now).setting input.text.now (code_routines input.code.now) outs n) w
 
 -- the outcomes of an instruction from where a walk is
 abbrev pub states_at : Input → (outs : ℕ → Out) (n : ℕ) → Op → Walker → List MatchState
 states_at input outs n op w =
     outcomes_by (subject input.rules input.text.now).setting input.text.now (subject input.rules input.text.now).direction
-    (matcher_of (subject input.rules input.text.now).setting input.text.now (program_of input.routines.now) outs) (outs (length input.tables.now)) op
+    (matcher_of (subject input.rules input.text.now).setting input.text.now (code_routines input.code.now) outs) (outs (length input.tables.now)) op
     (place_in input outs n w)
 
 -- `outs` are the outcomes of the program, and the table tells which states have one.
 pub record Knows (input : Input) (t : Table) (outs : ℕ → Out) : Type 0 where
-  pub solution : IsSolution (subject input.rules input.text.now).setting input.text.now (program_of input.routines.now) outs
+  pub solution : IsSolution (subject input.rules input.text.now).setting input.text.now (code_routines input.code.now) outs
   pub full : IsFull t
   pub right : IsRight (outs (length input.tables.now)) t
 
@@ -69,7 +71,7 @@ module _ (input : Input) (r : Routine) (t : Table) (op : Op) (first w : Walker) 
     (some : has_outcome (outs (length input.tables.now) (place_in input outs (length first.slots.items) first)) ≡ true) where
   solved : outs (length input.tables.now) (place_in input outs (length first.slots.items) w) ≡ states_at input outs (length first.slots.items) op w
   solved =
-      solved-by (subject input.rules input.text.now).setting input.text.now (program_of input.routines.now) outs (length input.tables.now) r op
+      solved-by (subject input.rules input.text.now).setting input.text.now (code_routines input.code.now) outs (length input.tables.now) r op
       (subject input.rules input.text.now).direction (place_in input outs (length first.slots.items) w) knows.solution can.is is (omega (arith, pc, can.of.width))
       (sym can.of.direction ∙ ap direction_if can.backwards) (omega (arith, within, can.of.text))
 
@@ -106,23 +108,24 @@ pub record TableAt (f : Filled) (index : ℕ) (r : Routine) (t : Table) : Type 0
   pub before : length (take index f.input.tables.now) ≡ index
 
 pub table-at : (f : Filled) (index : ℕ) (x : declared.Routine) (t : Table) → IsSearchable f → index < length (program_in f) →
-    x ≡ get_or f.input.routines.now index x → t ≡ get_or f.input.tables.now index t →
-    TableAt f index (routine_of (get_or f.input.routines.now index x)) (get_or f.input.tables.now index t)
+    x ≡ get_or f.input.code.now.routines.items index x → t ≡ get_or f.input.tables.now index t →
+    TableAt f index (routine_in f.input.code.now.tests.items x) (get_or f.input.tables.now index t)
 table-at f index x t searchable lt is_x is_t =
-    let routines = f.input.routines.now in
+    let view = routine_in f.input.code.now.tests.items in
+    let routines = f.input.code.now.routines.items in
     let tables = f.input.tables.now in
-    let r = routine_of (get_or routines index x) in
+    let r = view x in
     let u = get_or tables index t in
     let filled = searchable.filled in
-    let in_routines : index < length routines = omega (arith, lt, length-map routines routine_of) in
+    let in_routines : index < length routines = omega (arith, lt, length-map routines view) in
     let in_tables : index < length tables = omega (arith, lt, filled.all) in
     let is : slice_get (program_in f) index ≡ Some r =
-    slice_get-map routine_of routines index ∙ ap (option_map routine_of) (slice_get_read routines _ index x refl in_routines is_x ∙ ap Some is_x) in
+    slice_get-map view routines index ∙ ap (option_map view) (slice_get_read routines _ index x refl in_routines is_x) in
     let table : slice_get tables index ≡ Some u = slice_get_read tables _ index t refl in_tables is_t ∙ ap Some is_t in
     let of = filled.are.of index r u is table in
     record {
       is = is;
-      entry = omega (arith, (searchable.program index r is).entry, of.width);
+      entry = omega (arith, (f.input.code.now.is_program index r is).entry, of.width);
       of = of;
       full = filled.are.full index u table;
       right = λ outs solves. filled.right outs solves index u table;
@@ -212,9 +215,9 @@ module _ (f : Filled) (index n position : ℕ) (r : Routine) (t : Table) (at : T
         )
 
     -- Every program has outcomes, so the walk ends.
-    pub first-ends : IsProgram (program_in f) → ended ≡ true
-    first-ends is_program =
-        let some = solution (subject_of f).setting f.input.text.now (program_in f) is_program in
+    pub first-ends : ended ≡ true
+    first-ends =
+        let some = solution (subject_of f).setting f.input.text.now (program_in f) f.input.code.now.is_program in
         (first-some some.0 some.1).0
 
 -- ---- the steps of a walk

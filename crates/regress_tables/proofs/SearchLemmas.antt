@@ -1,8 +1,11 @@
 -- What a search by tables finds.
-use Rattle.std.proofs.Common.{◌≡◌, ℕ, ◌≤◌, List, ◌∷◌, Result, Ok, Err, IfOk, sym, ap, ◌∙◌, subst}
+use Rattle.std.proofs.Common.{◌≡◌, ℕ, ◌≤◌, Bool, true, false, List, ◌∷◌, Some, None, Result, Ok, Err, IfOk, if◌then◌else◌, refl, sym, ap, ◌∙◌, subst}
 use Rattle.std.specs.Str.{IsCharBoundary}
 use Rattle.regress_tree.specs.Steps.{MatchState}
 use Rattle.regress_found.specs.declared.found.Match.{Match}
+use Rattle.regress_program.specs.Program.{Routine}
+use Rattle.regress_program.specs.Ranges.{inner_groups}
+use Rattle.regress_program.specs.Tidy.{is_tabled, table_groups}
 use Rattle.regress_found.specs.Found.{IsLeftmost, NoneBefore, start_of, state_of}
 
 -- a match with this start and this state
@@ -19,3 +22,12 @@ leftmost_by text at origin start state m starts has from boundary rest first lea
 pub ok_map : {X E : Type 0} (r : Result X E) (P Q : X → Type 0) → ((x : X) → P x → Q x) → IfOk r P → IfOk r Q
 ok_map (Ok x) P Q f is = f x is
 ok_map (Err e) P Q f is = tt
+
+-- A program that tables lead through, and the groups that its lookarounds set.
+pub tabled_by : (program : List Routine) (inner : ℕ) → table_groups program ≡ Some inner →
+    (is_tabled program ≡ true) × (inner ≡ inner_groups program)
+tabled_by program inner is = by (is_tabled program) is
+  where
+    by : (b : Bool) → (if b then Some (inner_groups program) else None) ≡ Some inner → (b ≡ true) × (inner ≡ inner_groups program)
+    by true same = (refl, let h : inner ≡ inner_groups program = cc in h)
+    by false same = absurd (cc)

@@ -22,10 +22,13 @@ use Rattle.regress_program.specs.Ranges as ranges
 use Rattle.regress_program.specs.Ranges.{changed_by, ranges_of}
 use Rattle.regress_program.specs.Shape.{Fits, IsProgram}
 use Rattle.regress_program.specs.Stays.{IsOnward}
-use Rattle.regress_program.specs.declared.instruction.Instruction.{Instruction}
-use Rattle.regress_program.specs.declared.instruction.Instruction.TheVariants as insts
+use Rattle.regress_code.specs.declared.instruction.Instruction.{Instruction}
+use Rattle.regress_code.specs.declared.instruction.Instruction.TheVariants as insts
 use Rattle.regress_program.specs.Tidy.{has_no_back_reference}
-use Rattle.regress_program.specs.Views.{op_of, program_of}
+use Rattle.regress_code.specs.Code.{code_routines}
+use Rattle.regress_code.specs.declared.code.Code.{Code}
+use Rattle.regress_code.specs.Views.{characters_of, op_in, part_of}
+use Rattle.regress_leaves.specs.declared.test.Test.{Test}
 use Rattle.regress_tables.specs.declared.slots.Slot.{Slot}
 use Rattle.regress_tables.specs.declared.slots.Slot.TheVariants as slots
 use Rattle.regress_tables.specs.declared.table.Table.{Table}
@@ -100,6 +103,11 @@ pub record Passed (ranges : List GroupRange) (negate : Bool) (j next : ℕ) (w v
   pub position : v.position ≡ w.position
   pub begins : v.begins.items ≡ w.begins.items
   pub slots : SetInside (changed_by ranges (look negate j next)) j w.position w.slots.items v.slots.items
+
+-- the groups that a lookaround changes, by those of the program's routines
+pub look_range : (code : Code) (range : GroupRange) (negate : Bool) (j next : ℕ) (known : List GroupRange) → known ≡ code.ranges.items →
+    ((n : ℕ) → range ≡ changed_by known (look negate j n)) → range ≡ changed_by (ranges_of (code_routines code)) (look negate j next)
+look_range code range negate j next known same is = is next ∙ ap (λ rs. changed_by rs (look negate j next)) (same ∙ code.ranged)
 
 -- A state that stays where it is has not advanced.
 still : (moved : Bool) (k : ℕ) → (moved || not (k == k)) ≡ moved
@@ -236,20 +244,27 @@ Leads-trans out first states a b one is two = record {
   some = two.some;
 }
 
-pub accepts-only : (i : Instruction) → op_of i ≡ accept → i ≡ insts.Accept
-accepts-only insts.Accept is = refl
-accepts-only insts.Fail is = cc
-accepts-only (insts.Leaf node next) is = cc
-accepts-only (insts.Characters node count next) is = cc
-accepts-only (insts.Text characters icase next) is = cc
-accepts-only (insts.Split first second) is = cc
-accepts-only (insts.BeginLoop greedy body next) is = cc
-accepts-only (insts.Repeat greedy body next) is = cc
-accepts-only (insts.EndLoop next) is = cc
-accepts-only (insts.Unset start end next) is = cc
-accepts-only (insts.BeginGroup next) is = cc
-accepts-only (insts.EndGroup id next) is = cc
-accepts-only (insts.Look negate routine next) is = cc
+pub accepts-only : (tests : List Test) (i : Instruction) → op_in tests i ≡ accept → i ≡ insts.Accept
+accepts-only tests insts.Accept is = refl
+accepts-only tests insts.Fail is = cc
+accepts-only tests (insts.Leaf leaf next) is = by (slice_get tests leaf) is
+  where
+    by : (o : Option Test) → part_of o next ≡ accept → insts.Leaf leaf next ≡ insts.Accept
+    by None is = cc
+    by (Some t) is = cc
+accepts-only tests (insts.Characters leaf count next) is = by (slice_get tests leaf) is
+  where
+    by : (o : Option Test) → characters_of o count next ≡ accept → insts.Characters leaf count next ≡ insts.Accept
+    by None is = cc
+    by (Some t) is = cc
+accepts-only tests (insts.Split first second) is = cc
+accepts-only tests (insts.BeginLoop greedy body next) is = cc
+accepts-only tests (insts.Repeat greedy body next) is = cc
+accepts-only tests (insts.EndLoop next) is = cc
+accepts-only tests (insts.Unset start end next) is = cc
+accepts-only tests (insts.BeginGroup next) is = cc
+accepts-only tests (insts.EndGroup id next) is = cc
+accepts-only tests (insts.Look negate routine next) is = cc
 
 -- the outcomes at an instruction of a routine
 pub solved-by : (setting : Setting) (bytes : List ℕ) (program : List Routine) (outs : ℕ → Out) (i : ℕ) (r : Routine) (op : Op) (d : Direction) (a : At) →
@@ -259,15 +274,15 @@ solved-by setting bytes program outs i r op d a solution is_r is_op lt is_d with
     solution i r is_r a (omega arith) lt within
     ∙ ap₂ (λ x o. outcomes_at setting bytes x (matcher_of setting bytes program outs) (outs i) o a) is_d is_op
 
-pub can_walk : (input : Input) (r : Routine) (t : Table) (op : Op) (a : At) → IsProgram (program_of input.routines.now) →
-    has_no_back_reference (program_of input.routines.now) ≡ true → CanFill input r t → a.pc < t.width →
+pub can_walk : (input : Input) (r : Routine) (t : Table) (op : Op) (a : At) →
+    has_no_back_reference (code_routines input.code.now) ≡ true → CanFill input r t → a.pc < t.width →
     a.state.position ≤ t.length → slice_get r.ops a.pc ≡ Some op → CanWalk input t op a
-can_walk input r t op a program none can pc_in within is = record {
+can_walk input r t op a none can pc_in within is = record {
   pc = pc_in;
   position = within;
-  fits = subst (λ w. Fits (take (length input.tables.now) (program_of input.routines.now)) w a.pc op) (sym can.of.width)
-      ((program _ r can.is).fit a.pc op (omega arith) (omega (arith, pc_in, can.of.width)) is);
-  no_reference = no_reference-at (program_of input.routines.now) _ r a.pc op none can.is is;
+  fits = subst (λ w. Fits (take (length input.tables.now) (code_routines input.code.now)) w a.pc op) (sym can.of.width)
+      ((input.code.now.is_program _ r can.is).fit a.pc op (omega arith) (omega (arith, pc_in, can.of.width)) is);
+  no_reference = no_reference-at (code_routines input.code.now) _ r a.pc op none can.is is;
   length = can.of.text;
   backwards = can.backwards;
 }

@@ -1,10 +1,11 @@
 -- The steps of a search by tables.
 use Rattle.std.specs.Prelude.{ℕ, ◌+◌, ◌*◌, ◌-◌, List, length, Option, Some, None}
 use Rattle.regress_found.specs.declared.found.Match.{Match}
-use Rattle.regress_program.specs.declared.program.Program.{Program}
+use Rattle.regress_program.specs.Compiled.{total}
 use Rattle.regress_found.specs.Found.{start_of, state_of}
 use Rattle.regress_program.specs.Ranges.{inner_groups}
-use Rattle.regress_program.specs.Search.{instructions_of, routines_of}
+use Rattle.regress_code.specs.Code.{code_routines}
+use Rattle.regress_code.specs.declared.code.Code.{Code}
 
 -- An upper bound for the steps for each character, and once more for the end of the text, that it takes to find what
 -- lookarounds have captured: each routine is walked through at most once for each group that they may set.
@@ -13,8 +14,9 @@ capturing_steps instructions inner = 2 * instructions * inner
 
 -- An upper bound for the steps of a search for each character, and once more for the end of the text. Each instruction
 -- has two bits at a position, and the walk takes at most as many steps as the table of its routine has bits.
-abbrev pub per_character : Program → ℕ
-per_character p = 4 * instructions_of p + 1 + capturing_steps (instructions_of p) (inner_groups (routines_of p))
+abbrev pub per_character : Code → ℕ
+per_character code =
+    4 * total (code_routines code) + 1 + capturing_steps (total (code_routines code)) (inner_groups (code_routines code))
 
 -- An upper bound for the steps of a search from `origin` with this number of instructions, where the tables are filled:
 -- the positions that are tried, and for each up to the end of the match the steps of the walk.

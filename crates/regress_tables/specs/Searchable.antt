@@ -4,10 +4,9 @@ use Rattle.regress_leaves.specs.Subject.{Subject, subject}
 use Rattle.regress_tree.specs.Steps.{CaptureSpan, MatchState}
 use Rattle.regress_found.specs.Found.{initial_state}
 use Rattle.regress_program.specs.Program.{Out, Routine, IsSolution, matcher_of}
-use Rattle.regress_program.specs.Ranges.{inner_groups, ranges_of}
-use Rattle.regress_program.specs.Shape.{IsProgram}
+use Rattle.regress_program.specs.Ranges.{inner_groups}
 use Rattle.regress_program.specs.Tidy.{is_tabled}
-use Rattle.regress_program.specs.Views.{program_of}
+use Rattle.regress_code.specs.Code.{code_routines}
 use Rattle.regress_tables.specs.declared.filled.Filled.{Filled}
 use Rattle.regress_tables.specs.declared.first.FirstOutcome.{FirstOutcome}
 use Rattle.regress_tables.specs.declared.slots.Slot.{Slot}
@@ -17,16 +16,14 @@ use Rattle.regress_tables.specs.Slots.{AreInside, capture_in, resolved, value}
 
 -- the program, and the text with the flags and case mappings
 abbrev pub program_in : Filled → List Routine
-program_in f = program_of f.input.routines.now
+program_in f = code_routines f.input.code.now
 
 abbrev pub subject_of : Filled → Subject
 subject_of f = subject f.input.rules f.input.text.now
 
 -- The program is searched by tables, and these are its tables.
 pub record IsSearchable (f : Filled) : Type 0 where
-  pub program : IsProgram (program_in f)
   pub tabled : is_tabled (program_in f) ≡ true
-  pub ranges : f.ranges.now ≡ ranges_of (program_in f)
   pub inner : f.inner ≡ inner_groups (program_in f)
   pub filled : AreFilled (subject_of f).setting f.input.text.now (program_in f) f.input.tables.now
 

@@ -1,11 +1,22 @@
 -- A text that is prepared for searches with a program.
 use Rattle.std.specs.Prelude.{ℕ, List}
-use Rattle.regress_program.specs.declared.program.Program.{Program}
+use Rattle.regress_program.specs.Compiled.{total}
+use Rattle.regress_code.specs.Code.{code_routines}
+use Rattle.regress_code.specs.declared.code.Code.{Code}
 use Rattle.regress_tables.specs.declared.text.TextSearch.{TextSearch}
+use Rattle.regress_unicode.specs.declared.Tables.{Tables}
 
 -- the program with which a text is searched
-abbrev pub searched_program : TextSearch → Program
-searched_program s = s.linear.program
+abbrev pub searched_code : TextSearch → Code
+searched_code s = s.linear.code.now
+
+-- the number of its instructions
+abbrev pub searched_size : TextSearch → ℕ
+searched_size s = total (code_routines (searched_code s))
+
+-- the case mappings of the search
+abbrev pub searched_tables : TextSearch → Tables
+searched_tables s = s.linear.known.tables.now
 
 -- the text that is searched
 abbrev pub searched_text : TextSearch → List ℕ

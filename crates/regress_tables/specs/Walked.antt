@@ -6,7 +6,7 @@ use Rattle.regress_program.specs.Linear.{is_back_reference}
 use Rattle.regress_program.specs.Program.{Op, At, Out, Routine, goto, enter}
 use Rattle.regress_program.specs.Ranges.{IsIn}
 use Rattle.regress_program.specs.Shape.{Fits}
-use Rattle.regress_program.specs.Views.{program_of}
+use Rattle.regress_code.specs.Code.{code_routines}
 use Rattle.regress_tables.specs.declared.evaluate.Input.{Input}
 use Rattle.regress_tables.specs.declared.table.Table.{Table}
 use Rattle.regress_tables.specs.declared.slots.Slot.{Slot}
@@ -64,7 +64,7 @@ alternative t first second a = if cell t first a.moved a.state.position then fir
 pub record CanWalk (input : Input) (t : Table) (op : Op) (a : At) : Type 0 where
   pub pc : a.pc < t.width
   pub position : a.state.position ≤ t.length
-  pub fits : Fits (take (length input.tables.now) (program_of input.routines.now)) t.width a.pc op
+  pub fits : Fits (take (length input.tables.now) (code_routines input.code.now)) t.width a.pc op
   pub no_reference : is_back_reference op ≡ false
   pub length : t.length ≡ length input.text.now
   pub backwards : t.backwards ≡ input.rules.backwards
@@ -72,9 +72,9 @@ pub record CanWalk (input : Input) (t : Table) (op : Op) (a : At) : Type 0 where
 -- A walk of a routine is at this instruction, where the groups that it claims are unset.
 pub record StepsAt (input : Input) (op : Op) (w : Walker) : Type 0 where
   pub routine : Routine
-  pub is : slice_get (program_of input.routines.now) (length input.tables.now) ≡ Some routine
+  pub is : slice_get (code_routines input.code.now) (length input.tables.now) ≡ Some routine
   pub here : slice_get routine.ops w.pc ≡ Some op
-  pub clean : IsClean (program_of input.routines.now) routine w.pc w.slots.items
+  pub clean : IsClean (code_routines input.code.now) routine w.pc w.slots.items
 
 -- The first of the states is the first outcome from b.
 pub record Leads (states : List MatchState) (out : Out) (b : At) : Type 0 where

@@ -1,68 +1,83 @@
 //! Evaluating an instruction: whether there is an outcome from a state.
-ghost use Rattle.std.specs.Prelude.{◌≡◌, ℕ, ◌<◌, ◌≤◌, IfSome, false, length};
+ghost use Rattle.std.specs.Prelude.{◌≡◌, ℕ, ◌<◌, ◌≤◌, IfSome, MatchOption, None, Some, false, length, slice_get};
 ghost use Rattle.regress_leaves.specs.Leaves.{GoesTo};
 ghost use Rattle.regress_leaves.specs.Subject.{subject};
 ghost use Rattle.regress_tree.specs.Steps.{MatchState};
 ghost use Rattle.regress_tree.specs.Tree.{tree};
 ghost use Rattle.regress_program.specs.Linear.{is_back_ref};
 ghost use Rattle.regress_program.specs.Program.{Out, matcher_of, outcomes_by};
-ghost use Rattle.regress_program.specs.Shape.{IsPart, IsProgram};
-ghost use Rattle.regress_program.specs.Views.{op_of, program_of};
+ghost use Rattle.regress_program.specs.Shape.{IsPart};
+ghost use Rattle.regress_code.specs.Code.{code_routines};
+ghost use Rattle.regress_code.specs.Views.{op_in};
 ghost use Rattle.regress_tables.specs.Evaluated.{CanEvaluate, reached_cell};
 ghost use Rattle.regress_tables.specs.Table.{AreRight, AreTables, IsRight, TellsOf, has_outcome};
 
 use crate::table::Table;
+use regress_code::Code;
+use regress_code::instruction::Instruction;
 use regress_leaves::leaves::{all_of, exactly, simple_leaf};
 use regress_leaves::rules::MatchContext;
-use regress_program::instruction::{Instruction, Routine};
+use regress_leaves::test::Test;
 use regress_tree::ir::Node;
 
 /// What the bits of a routine are evaluated from.
 #[derive(Clone, Copy)]
-pub(crate) struct Input<'k, 'n, 't> {
+pub(crate) struct Input<'k, 't> {
     /// The text.
     pub(crate) text: &'t str,
     /// The flags and case mappings, with the direction of the routine.
     pub(crate) rules: MatchContext<'k>,
-    /// The routines of the program.
-    pub(crate) routines: &'t [Routine<'n>],
+    /// The program.
+    pub(crate) code: &'t Code,
     /// The full tables of the routines before this one.
     pub(crate) tables: &'t [Table],
 }
 
+impl<'t> Input<'_, 't> {
+    /// Returns a leaf of the program, or `None` if it has none with this index.
+    pub(crate) fn test(&self, leaf: usize) -> Option<&'t Test>
+        ensures { MatchOption result (slice_get self.now.code.now.tests.items leaf ≡ None)
+            (λ test. slice_get self.now.code.now.tests.items leaf ≡ Some test.now) }
+    {
+        let tests = &self.code.tests;
+        if leaf < tests.len() {
+            Some(&tests[leaf])
+        } else {
+            None
+        }
+    }
+}
+
 /// Returns whether there is an outcome from an instruction, by the bits that are evaluated already.
 pub(crate) fn evaluate(
-    input: Input<'_, '_, '_>,
+    input: Input<'_, '_>,
     table: &Table,
-    instruction: Instruction<'_>,
+    instruction: Instruction,
     moved: bool,
     position: usize,
 ) -> bool
-    requires program { IsProgram (program_of input.routines.now) }
-    requires tables { AreTables input.text.now (program_of input.routines.now) input.tables.now }
-    requires can { CanEvaluate input table.now (op_of instruction) moved position }
+    requires tables { AreTables input.text.now (code_routines input.code.now) input.tables.now }
+    requires can { CanEvaluate input table.now (op_in input.code.now.tests.items instruction) moved position }
     ensures { (outs : ℕ → Out) → AreRight outs input.entry.tables.now → IsRight (outs (length input.entry.tables.now)) table.now →
         (let u = subject input.entry.rules input.entry.text.now in
-        TellsOf (outcomes_by u.setting u.bytes u.direction (matcher_of u.setting u.bytes (program_of input.entry.routines.now) outs)
-        (outs (length input.entry.tables.now)) (op_of instruction.entry)) moved position result) }
+        TellsOf (outcomes_by u.setting u.bytes u.direction (matcher_of u.setting u.bytes (code_routines input.entry.code.now) outs)
+        (outs (length input.entry.tables.now)) (op_in input.entry.code.now.tests.items instruction)) moved position result) }
 {
     match instruction {
         Instruction::Accept => true,
         Instruction::Fail => false,
-        Instruction::Leaf { node, next } => {
-            let to = leaf_end(input.text, input.rules, node, position);
+        Instruction::Leaf { leaf, next } => {
+            let Some(test) = input.test(leaf) else {
+                return false;
+            };
+            let to = leaf_end(input.text, input.rules, &test.node, position);
             reached(table, next, moved, position, to)
         }
-        Instruction::Characters { node, count, next } => {
-            let to = exactly(input.text, input.rules, node, count, position);
-            reached(table, next, moved, position, to)
-        }
-        Instruction::Text {
-            characters,
-            icase,
-            next,
-        } => {
-            let to = all_of(input.text, input.rules, icase, characters, position);
+        Instruction::Characters { leaf, count, next } => {
+            let Some(test) = input.test(leaf) else {
+                return false;
+            };
+            let to = exactly(input.text, input.rules, &test.node, count, position);
             reached(table, next, moved, position, to)
         }
         Instruction::Split { first, second } => {
@@ -123,14 +138,13 @@ fn reached(table: &Table, next: usize, moved: bool, position: usize, to: Option<
 }
 
 /// Returns whether another routine has an outcome from a position.
-fn looks(input: Input<'_, '_, '_>, routine: usize, position: usize) -> bool
-    requires program { IsProgram (program_of input.routines.now) }
-    requires tables { AreTables input.text.now (program_of input.routines.now) input.tables.now }
+fn looks(input: Input<'_, '_>, routine: usize, position: usize) -> bool
+    requires tables { AreTables input.text.now (code_routines input.code.now) input.tables.now }
     requires earlier { routine < length input.tables.now }
     requires position { position ≤ length input.text.now }
     ensures { (outs : ℕ → Out) → AreRight outs input.entry.tables.now → (s : MatchState) → s.position ≡ position →
         (let u = subject input.entry.rules input.entry.text.now in
-        has_outcome (matcher_of u.setting u.bytes (program_of input.entry.routines.now) outs routine s) ≡ result) }
+        has_outcome (matcher_of u.setting u.bytes (code_routines input.entry.code.now) outs routine s) ≡ result) }
 {
-    input.tables[routine].cell(input.routines[routine].entry, true, position)
+    input.tables[routine].cell(input.code.routines[routine].entry, true, position)
 }

@@ -27,7 +27,7 @@ pub(crate) struct FirstOutcome {
 /// Returns [`AllocError`] if an allocation fails.
 pub(crate) fn first_outcome(
     alloc: Global,
-    filled: Filled<'_, '_, '_>,
+    filled: Filled<'_, '_>,
     index: usize,
     position: usize,
     groups: usize,
@@ -43,7 +43,7 @@ pub(crate) fn first_outcome(
     ensures forwards { IfOk result (λ first. IfSome first (λ o. (r : Code) → slice_get (program_in filled.entry) index ≡ Some r → r.direction ≡ forwards →
         (position ≤ o.end) × (steps.new ≤ steps.old + 2 * length r.ops * (o.end + 1 - position)))) }
 {
-    let routine = &filled.input.routines[index];
+    let routine = &filled.input.code.routines[index];
     let table = &filled.input.tables[index];
     if !table.cell(routine.entry, true, position) {
         return Ok(None);
@@ -63,7 +63,7 @@ pub(crate) fn first_outcome(
         slots: unset_slots(alloc, groups)?,
         begins: Vec::new(alloc),
     };
-    walk(input, filled.ranges, table, routine, &mut walker, steps)?;
+    walk(input, table, routine, &mut walker, steps)?;
     Ok(Some(FirstOutcome {
         end: walker.position,
         slots: walker.slots,

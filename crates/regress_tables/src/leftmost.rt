@@ -3,7 +3,6 @@ ghost use Rattle.std.specs.Prelude.{◌≡◌, ◌≤◌, ◌<◌, ◌+◌, ◌-
 ghost use Rattle.regress_program.specs.Compiled.{total};
 ghost use Rattle.regress_found.specs.Found.{Finds, state_of};
 ghost use Rattle.regress_program.specs.Program.{Out};
-ghost use Rattle.regress_program.specs.Shape.{IsForwards};
 ghost use Rattle.regress_tables.specs.Search.{positions_tried, steps_up_to};
 ghost use Rattle.regress_tables.specs.Searchable.{IsSearchable, Solves, outcomes_in, program_in};
 
@@ -21,13 +20,11 @@ use std::alloc::{AllocError, Global};
 /// Returns [`AllocError`] if an allocation fails.
 pub(crate) fn find_leftmost(
     alloc: Global,
-    filled: Filled<'_, '_, '_>,
+    filled: Filled<'_, '_>,
     groups: usize,
     from: usize,
 ) -> Result<Search, AllocError>
     requires searchable { IsSearchable filled }
-    requires some { 0 < length (program_in filled) }
-    requires forwards { IsForwards (program_in filled) }
     ensures solved { IfOk result (λ search. (outs : ℕ → Out) → Solves filled.entry outs → Finds filled.entry.input.text.now
         (outcomes_in filled.entry outs (length (program_in filled.entry) - 1) groups) from search.found) }
     ensures inside { IfOk result (λ search. IfSome search.found (λ m. (state_of m).position ≤ length filled.entry.input.text.now)) }
@@ -35,7 +32,7 @@ pub(crate) fn find_leftmost(
         + 2 * total (program_in filled.entry) * filled.entry.inner * (length filled.entry.input.text.now + 1)) }
     ensures tried { IfOk result (λ search. positions_tried filled.entry.input.text.now from search.found ≤ search.steps) }
 {
-    let last = filled.input.routines.len() - 1;
+    let last = filled.input.code.routines.len() - 1;
     let mut tried: u64 = 0;
     let mut walked = 0;
     for start in from..filled.input.text.len() + 1 {

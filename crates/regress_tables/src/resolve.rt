@@ -18,7 +18,7 @@ use std::alloc::{AllocError, Global};
 /// Returns [`AllocError`] if an allocation fails.
 pub(crate) fn resolve(
     alloc: Global,
-    filled: Filled<'_, '_, '_>,
+    filled: Filled<'_, '_>,
     routines: usize,
     slots: &mut Vec<Slot>,
     steps: &mut u64,
@@ -41,7 +41,7 @@ pub(crate) fn resolve(
 /// Returns [`AllocError`] if an allocation fails.
 fn resolve_routine(
     alloc: Global,
-    filled: Filled<'_, '_, '_>,
+    filled: Filled<'_, '_>,
     routine: usize,
     slots: &mut Vec<Slot>,
     steps: &mut u64,
@@ -67,7 +67,7 @@ fn resolve_routine(
 /// Returns [`AllocError`] if an allocation fails.
 fn slots_from(
     alloc: Global,
-    filled: Filled<'_, '_, '_>,
+    filled: Filled<'_, '_>,
     routine: usize,
     position: usize,
     groups: usize,

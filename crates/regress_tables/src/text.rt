@@ -1,6 +1,7 @@
 //! A text, prepared for searches with a program.
 ghost use Rattle.std.specs.Prelude.{◌≡◌, ◌+◌, ◌*◌, length, min};
-ghost use Rattle.regress_program.specs.Search.{instructions_of, routines_of, setting_of};
+ghost use Rattle.regress_program.specs.Compiled.{total};
+ghost use Rattle.regress_code.specs.Code.{code_routines, setting_with};
 ghost use Rattle.regress_tables.specs.Filled.{AreFilled, AreFilled-prop};
 
 use crate::linear::Linear;
@@ -17,6 +18,6 @@ pub struct TextSearch<'p> {
     pub(crate) tables: Vec<Table>,
     /// The number of bits of all tables, at most `u64::MAX`.
     pub(crate) steps: u64,
-    ghost filled: { AreFilled (setting_of linear.program) text.now (routines_of linear.program) tables.items } by { AreFilled-prop (setting_of linear.program) text.now (routines_of linear.program) tables.items },
-    ghost counted: { steps ≡ min (2 * instructions_of linear.program * (length text.now + 1)) 18446744073709551615 },
+    ghost filled: { AreFilled (setting_with linear.code.now linear.known.tables.now) text.now (code_routines linear.code.now) tables.items } by { AreFilled-prop (setting_with linear.code.now linear.known.tables.now) text.now (code_routines linear.code.now) tables.items },
+    ghost counted: { steps ≡ min (2 * total (code_routines linear.code.now) * (length text.now + 1)) 18446744073709551615 },
 }

@@ -1,14 +1,14 @@
 //! Searching a text whose tables are filled.
 ghost use Rattle.std.specs.Prelude.{◌≡◌, ◌≤◌, ◌+◌, ◌*◌, ℕ, IfOk, IfSome, length, min};
 ghost use Rattle.regress_tree.specs.Tree.{Tree};
-ghost use Rattle.regress_program.specs.Compiled.{IsPattern};
+ghost use Rattle.regress_program.specs.Compiled.{IsPattern, total};
 ghost use Rattle.regress_found.specs.Found.{Finds, state_of};
 ghost use Rattle.regress_program.specs.Program.{IsSolution, Out};
 ghost use Rattle.regress_program.specs.Ranges.{inner_groups};
-ghost use Rattle.regress_program.specs.Search.{instructions_of, outcomes_from, routines_of, setting_of, tree_outcomes_from};
+ghost use Rattle.regress_code.specs.Code.{code_routines, outcomes_from, setting_with, tree_outcomes_from};
 ghost use Rattle.regress_tables.specs.Filled.{AreFilled};
 ghost use Rattle.regress_tables.specs.Search.{capturing_steps, positions_tried, steps_up_to};
-ghost use Rattle.regress_tables.specs.TextSearch.{searched_program, searched_text};
+ghost use Rattle.regress_tables.specs.TextSearch.{searched_code, searched_size, searched_tables, searched_text};
 
 use crate::evaluate::Input;
 use crate::filled::Filled;
@@ -17,6 +17,7 @@ use crate::leftmost::find_leftmost;
 use crate::linear::Linear;
 use crate::table::Table;
 use crate::text::TextSearch;
+use regress_leaves::rules::MatchContext;
 use std::alloc::{AllocError, Global};
 
 impl<'p> TextSearch<'p> {
@@ -32,14 +33,14 @@ impl<'p> TextSearch<'p> {
     /// # Errors
     /// Returns [`AllocError`] if an allocation fails.
     pub fn find(&self, alloc: Global, from: usize) -> Result<Search, AllocError>
-        ensures solved { IfOk result (λ search. (let p = searched_program self.now in let text = searched_text self.now in
-            (outs : ℕ → Out) → IsSolution (setting_of p) text (routines_of p) outs → Finds text (outcomes_from p text outs) from search.found)) }
-        ensures finds { IfOk result (λ search. (let p = searched_program self.now in let text = searched_text self.now in
-            (t : Tree) → IsPattern (routines_of p) t → Finds text (tree_outcomes_from p text t) from search.found)) }
+        ensures solved { IfOk result (λ search. (let code = searched_code self.now in let tables = searched_tables self.now in let text = searched_text self.now in
+            (outs : ℕ → Out) → IsSolution (setting_with code tables) text (code_routines code) outs → Finds text (outcomes_from code tables text outs) from search.found)) }
+        ensures finds { IfOk result (λ search. (let code = searched_code self.now in let tables = searched_tables self.now in let text = searched_text self.now in
+            (t : Tree) → IsPattern (code_routines code) t → Finds text (tree_outcomes_from code tables text t) from search.found)) }
         ensures inside { IfOk result (λ search. IfSome search.found (λ m. (state_of m).position ≤ length (searched_text self.now))) }
-        ensures steps { IfOk result (λ search. (let p = searched_program self.now in let text = searched_text self.now in
-            search.steps ≤ steps_up_to (instructions_of p) text from search.found
-            + capturing_steps (instructions_of p) (inner_groups (routines_of p)) * (length text + 1))) }
+        ensures steps { IfOk result (λ search. (let size = searched_size self.now in let text = searched_text self.now in
+            search.steps ≤ steps_up_to size text from search.found
+            + capturing_steps size (inner_groups (code_routines (searched_code self.now))) * (length text + 1))) }
         ensures tried { IfOk result (λ search. positions_tried (searched_text self.now) from search.found ≤ search.steps) }
     {
         find_filled(alloc, &self.linear, self.text, &self.tables, from)
@@ -48,8 +49,8 @@ impl<'p> TextSearch<'p> {
     /// Returns the number of steps that it took to prepare the search, at most `u64::MAX`: of states that were evaluated,
     /// two for each instruction at each byte of the text, and once more.
     pub fn steps(&self) -> u64
-        ensures counted { result ≡ min (2 * instructions_of (searched_program self.now) * (length (searched_text self.now) + 1)) u64.MAX }
-        ensures within { result ≤ 2 * instructions_of (searched_program self.now) * (length (searched_text self.now) + 1) }
+        ensures counted { result ≡ min (2 * searched_size self.now * (length (searched_text self.now) + 1)) u64.MAX }
+        ensures within { result ≤ 2 * searched_size self.now * (length (searched_text self.now) + 1) }
     {
         self.steps
     }
@@ -69,27 +70,31 @@ pub(crate) fn find_filled(
     tables: &[Table],
     from: usize,
 ) -> Result<Search, AllocError>
-    requires filled { AreFilled (setting_of linear.now.program) text.now (routines_of linear.now.program) tables.now }
-    ensures solved { IfOk result (λ search. (outs : ℕ → Out) → IsSolution (setting_of linear.now.program) text.now (routines_of linear.now.program) outs →
-        Finds text.now (outcomes_from linear.now.program text.now outs) from search.found) }
-    ensures finds { IfOk result (λ search. (t : Tree) → IsPattern (routines_of linear.now.program) t →
-        Finds text.now (tree_outcomes_from linear.now.program text.now t) from search.found) }
+    requires filled { AreFilled (setting_with linear.now.code.now linear.now.known.tables.now) text.now (code_routines linear.now.code.now) tables.now }
+    ensures solved { IfOk result (λ search. (let code = linear.now.code.now in let mappings = linear.now.known.tables.now in
+        (outs : ℕ → Out) → IsSolution (setting_with code mappings) text.now (code_routines code) outs →
+        Finds text.now (outcomes_from code mappings text.now outs) from search.found)) }
+    ensures finds { IfOk result (λ search. (let code = linear.now.code.now in let mappings = linear.now.known.tables.now in
+        (t : Tree) → IsPattern (code_routines code) t → Finds text.now (tree_outcomes_from code mappings text.now t) from search.found)) }
     ensures inside { IfOk result (λ search. IfSome search.found (λ m. (state_of m).position ≤ length text.now)) }
-    ensures steps { IfOk result (λ search. search.steps ≤ steps_up_to (instructions_of linear.now.program) text.now from search.found
-        + capturing_steps (instructions_of linear.now.program) (inner_groups (routines_of linear.now.program)) * (length text.now + 1)) }
+    ensures steps { IfOk result (λ search. (let program = code_routines linear.now.code.now in
+        search.steps ≤ steps_up_to (total program) text.now from search.found
+        + capturing_steps (total program) (inner_groups program) * (length text.now + 1))) }
     ensures tried { IfOk result (λ search. positions_tried text.now from search.found ≤ search.steps) }
 {
-    let program = &linear.program;
     let input = Input {
         text,
-        rules: program.rules(false),
-        routines: program.routines(),
+        rules: MatchContext {
+            flags: linear.code.flags,
+            known: linear.known,
+            backwards: false,
+        },
+        code: linear.code,
         tables,
     };
     let filled = Filled {
         input,
-        ranges: &linear.ranges,
         inner: linear.inner,
     };
-    find_leftmost(alloc, filled, program.groups(), from)
+    find_leftmost(alloc, filled, linear.code.groups, from)
 }

@@ -1,7 +1,9 @@
 //! Searches by the tables of a program, for patterns without a back reference.
 
 use crate::outcome::{Question, report_spans};
-use regress_program::{CompileFault, Nonlinear, Program};
+use regress_code::Code;
+use regress_leaves::known::Known;
+use regress_program::{CompileFault, Nonlinear};
 use regress_tables::{Linear, TextSearch};
 use regress_tree::ir::Regex;
 use regress_unicode::Tables;
@@ -32,24 +34,23 @@ pub(crate) fn response_linear(
     };
     let alloc = call.alloc();
     let limit = instruction_limit(text);
-    let program = match Program::compile(alloc, regex, tables, limit) {
-        Ok(program) => program,
+    let code = match Code::compile(alloc, regex, tables, limit) {
+        Ok(code) => code,
         Err(CompileFault::Memory(_)) => {
             call.fail(Fault::Memory);
             return false;
         }
         Err(CompileFault::TooLong) => return false,
     };
-    if program.nonlinear() == Some(Nonlinear::BackReference) {
+    if code.nonlinear() == Some(Nonlinear::BackReference) {
         return false;
     }
-    match Linear::new(alloc, program) {
-        Ok(Some(linear)) => match linear.search(alloc, text) {
+    match Linear::new(&code, Known::new(tables, regex.flags)) {
+        Some(linear) => match linear.search(alloc, text) {
             Ok(search) => report_matches(call, &search, text, most),
             Err(_) => call.fail(Fault::Memory),
         },
-        Ok(None) => call.say("no tables"),
-        Err(_) => call.fail(Fault::Memory),
+        None => call.say("no tables"),
     }
     true
 }

@@ -1,12 +1,13 @@
 //! The examples of the doc comments of searches: each line of an example is here. Expected values are from ECMA-262.
 
+use regress_code::Code;
 use regress_front::optimizer::parse_and_optimize;
 use regress_front::parse::try_parse;
 use regress_front::types::Flags;
 use regress_front::unicode::Tables;
 use regress_front::util::code_points;
+use regress_leaves::known::Known;
 use regress_match::{Limits, Match, Matcher, Outcome};
-use regress_program::Program;
 use regress_tables::Linear;
 use std::test::Fail;
 
@@ -16,9 +17,9 @@ fn a_match_is_found(rt: HostRuntime) -> Result<(), Fail> {
     let tables = Tables::small(alloc)?;
     let points = code_points(alloc, "(a*)*b")?;
     let regex = try_parse(alloc, &points, Flags::default(), &tables)?;
-    let program = Program::compile(alloc, &regex, &tables, 1000)?;
+    let code = Code::compile(alloc, &regex, &tables, 1000)?;
     let mut end = 0;
-    if let Some(linear) = Linear::new(alloc, program)? {
+    if let Some(linear) = Linear::new(&code, Known::new(&tables, regex.flags)) {
         let search = linear.find(alloc, "xaaab", 0)?;
         if let Some(found) = &search.found {
             assert_eq!(rt; found.start(), 1);
@@ -36,8 +37,9 @@ fn a_program_has_a_back_reference(rt: HostRuntime) -> Result<(), Fail> {
     let tables = Tables::small(alloc)?;
     let points = code_points(alloc, "(a)\\1")?;
     let regex = try_parse(alloc, &points, Flags::default(), &tables)?;
-    let program = Program::compile(alloc, &regex, &tables, 1000)?;
-    assert!(rt; Linear::new(alloc, program)?.is_none());
+    let code = Code::compile(alloc, &regex, &tables, 1000)?;
+    let known = Known::new(&tables, regex.flags);
+    assert!(rt; Linear::new(&code, known).is_none());
     Ok(())
 }
 

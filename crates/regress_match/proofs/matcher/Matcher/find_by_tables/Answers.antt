@@ -1,6 +1,5 @@
 use Rattle.std.proofs.Common.{IfSome, subst, sym, ap, ◌∙◌}
 use Rattle.std.specs.Prelude.{◌≡◌, ◌+◌, ◌*◌, ◌≤◌, length}
-use Rattle.regress_program.specs.Search.{routines_of}
 use Rattle.regress_code.specs.Code.{code_routines}
 use Rattle.regress_found.specs.Results.{IsSearchResult, IfOutOfSteps}
 use Rattle.regress_match.specs.Matcher.{find_factor_of}
@@ -13,11 +12,9 @@ pub returns-clause-finds : goal.returns-clause-finds
 returns-clause-finds c =
     let m = c.args.self.now in
     let text = c.args.text.now in
-    let made = c.in_ok-program.ensures in
-    let same : c.in-Some.linear.program ≡ c.in_ok-program.program = rw c.in-Some.is at c.in_ok-linear.ensures.same in
     subst (IsSearchResult text (matcher_outcomes m text) c.args.from) (sym c.outcome_of.ensures)
-    (tables_find m text c.args.from c.deref.result.now c.in_ok-program.program c.in-Some.linear.program c.in_ok-search.search.found
-    c.deref.ensures m.compiled made.routines made.groups made.setting same c.in_ok-search.ensures.solved)
+    (tables_find m text c.args.from c.in-Some.linear.known.tables.now c.in-Some.linear.code.now c.in_ok-search.search.found
+    ((rw c.in-Some.is at c.new.ensures.tables) ∙ c.known.ensures) (rw c.in-Some.is at c.new.ensures.code) m.compiled c.in_ok-search.ensures.solved)
 
 pub returns-clause-inside : goal.returns-clause-inside
 returns-clause-inside c =
@@ -30,7 +27,6 @@ returns-clause-bounded c =
     let m = c.args.self.now in
     let n = length c.args.text.now + 1 in
     let search = c.in_ok-search.search in
-    let same : c.in-Some.linear.program ≡ c.in_ok-program.program = rw c.in-Some.is at c.in_ok-linear.ensures.same in
     subst (λ o. IfSome (find_factor_of m) (λ k. (search.steps + 64 * n ≤ k * n) × IfOutOfSteps o ⊥)) (sym c.outcome_of.ensures)
-    (searched_bounded (code_routines m.code) m.within c.in-Some.linear.program c.args.text.now search.found search.steps
-    (ap routines_of same ∙ c.in_ok-program.ensures.routines) c.in_ok-search.ensures.steps)
+    (searched_bounded (code_routines m.code) m.within c.in-Some.linear.code.now c.args.text.now search.found search.steps
+    (ap code_routines (rw c.in-Some.is at c.new.ensures.code)) c.in_ok-search.ensures.steps)

@@ -24,6 +24,16 @@ invariant_of-self-in-Break-branch-2 c =
       kept = s.kept;
     }
 
+pub invariant_of-self : goal.invariant_of-self
+invariant_of-self c =
+    let s = c.args.self.now in
+    record {
+      within = s.within;
+      short = s.short;
+      runs = subst (λ b. IfSome b (IsRunOf s.matcher.now s.text.now)) (sym c.take-kept.ensures.after) tt;
+      kept = s.kept;
+    }
+
 pub invariant_of-self-2 : goal.invariant_of-self-2
 invariant_of-self-2 c =
     let s = c.args.self.now in

@@ -1,6 +1,5 @@
 use Rattle.std.proofs.Common.{◌≡◌, false, ap, sym, ◌∙◌}
 use Rattle.std.specs.Prelude.{is_some}
-use Rattle.regress_program.specs.Search.{routines_of}
 use Rattle.regress_program.specs.Tidy.{is_tabled}
 use Rattle.regress_code.specs.Code.{code_routines}
 use Rattle.regress_match.proofs.MatcherLemmas.{linear_has_tables, tables_kept}
@@ -9,21 +8,18 @@ use Rattle.regress_match.proofs.matcher_matches.MatcherMatches.make_tables.Goals
 pub invariant_of-self : goal.invariant_of-self
 invariant_of-self c =
     let s = c.args.self.now in
-    let made = c.in_ok-program.ensures in
-    let same : c.in-Some.linear.program ≡ c.in_ok-program.program = rw c.in-Some.is at c.in_ok-linear.ensures.same in
+    let made = c.in_ok-search.ensures in
     record {
       within = s.within;
       short = s.short;
       runs = s.runs;
-      kept = tables_kept s.matcher.now s.text.now s.from c.steps-self.result c.deref.result.now c.in_ok-program.program c.in_ok-search.search
-          (sym c.is_linear.ensures ∙ c.if-is_linear.true) c.deref.ensures s.matcher.now.compiled made.routines made.groups made.setting
-          (c.in_ok-search.ensures.program ∙ same) c.in_ok-search.ensures.text c.steps-self.ensures.within;
+      kept = tables_kept s.matcher.now s.text.now s.from c.steps-self.result c.in_ok-search.search (sym c.is_linear.ensures ∙ c.if-is_linear.true)
+          s.matcher.now.compiled (made.code ∙ rw c.in-Some.is at c.new.ensures.code)
+          (made.tables ∙ (rw c.in-Some.is at c.new.ensures.tables) ∙ c.known.ensures) made.text c.steps-self.ensures.within;
     }
 
 pub returns-in_default-clause-made : goal.returns-in_default-clause-made
 returns-in_default-clause-made c =
     let m = c.args.self.now.matcher.now in
-    let none : is_tabled (routines_of c.in_ok-program.program) ≡ false = sym c.in_ok-linear.ensures.linear ∙ ap is_some c.in_default.is in
-    absurd
-    (linear_has_tables (code_routines m.code) m.within (sym c.is_linear.ensures ∙ c.if-is_linear.true)
-    (ap is_tabled (sym c.in_ok-program.ensures.routines) ∙ none))
+    let none : is_tabled (code_routines m.code) ≡ false = sym c.new.ensures.linear ∙ ap is_some c.in_default.is in
+    absurd (linear_has_tables (code_routines m.code) m.within (sym c.is_linear.ensures ∙ c.if-is_linear.true) none)

@@ -3,26 +3,31 @@ use Rattle.std.proofs.Math.Seq.{take-length}
 use Rattle.std.proofs.lemmas.List.{length-map}
 use Rattle.std.proofs.lemmas.Option.{slice_get-map, slice_get_read}
 use Rattle.regress_program.specs.Compiled.{total}
-use Rattle.regress_program.specs.Views.{program_of, routine_of}
+use Rattle.regress_code.specs.Code.{code_routines}
+use Rattle.regress_code.specs.Views.{routine_in}
 use Rattle.regress_tables.specs.Bits.{bits_of}
 use Rattle.regress_tables.specs.declared.table.Table.{Table}
 use Rattle.regress_tables.specs.Table.{IsTableOf, AreTables, AreRight, IsRight}
 use Rattle.regress_program.proofs.lemmas.Totals.{total-more}
 use Rattle.regress_tables.proofs.FillLemmas.{push_tables, push_are_right, more_bits}
-use Rattle.regress_tables.proofs.tables.fill_all.Goals as goal
+use Rattle.regress_tables.proofs.linear.Linear.fill_all.Goals as goal
 
 pub loop-routine-preserved : goal.loop-routine-preserved
 loop-routine-preserved c =
     let so_far = c.loop-routine.invariant in
-    let routines = c.args.routines.now in
-    let program = program_of routines in
+    let code = c.args.self.now.code.now in
+    let view = routine_in code.tests.items in
+    let routines = code.routines.items in
+    let same = c.deref-routine-items.ensures.value in
+    let program = code_routines code in
     let i = c.loop-routine.routine-index in
     let tables = c.loop-routine.tables.items in
     let t = c.in_ok-table.table in
     let n = length c.args.text.now in
-    let r = routine_of c.routine-item.result in
+    let r = view c.routine-item.result in
     let is : slice_get program i ≡ Some r =
-    slice_get-map routine_of routines i ∙ ap (option_map routine_of) (slice_get_read routines _ i _ refl c.loop-routine-test.true c.routine-item.is) in
+    slice_get-map view routines i ∙ ap (option_map view)
+    (subst (λ xs. slice_get xs i ≡ Some c.routine-item.result) same (slice_get_read _ _ i _ refl c.loop-routine-test.true c.routine-item.is)) in
     let of : IsTableOf c.args.text.now r t = c.in_ok-table.ensures.of in
     let pushed = c.in_ok-push.ensures.items in
     let last : slice_get program (length tables) ≡ Some r = ap (slice_get program) so_far.count ∙ is in
@@ -45,9 +50,12 @@ loop-routine-preserved c =
 pub returns : goal.returns
 returns c =
     let so_far = c.loop-routine.invariant in
-    let routines = c.args.routines.now in
-    let program = program_of routines in
-    let all : c.loop-routine.routine-index ≡ length program = omega (arith, length-map routines routine_of, c.loop-routine-test.false) in
+    let code = c.args.self.now.code.now in
+    let view = routine_in code.tests.items in
+    let routines = code.routines.items in
+    let same = c.deref-routine-items.ensures.value in
+    let program = code_routines code in
+    let all : c.loop-routine.routine-index ≡ length program = omega (arith, length-map routines view, ap length same, c.loop-routine-test.false) in
     let sum : total (take c.loop-routine.routine-index program) ≡ total program = ap (λ k. total (take k program)) all ∙ ap total (take-length program) in
     record {
       filled = record { are = so_far.tables; all = so_far.count ∙ all; right = so_far.right };
