@@ -8,7 +8,7 @@ use Rattle.regress_front.specs.SettingOf.{setting_of}
 use Rattle.regress_front.specs.declared.types.Flags.{Flags}
 use Rattle.regress_front.specs.declared.unicode.Tables.{Tables}
 use Rattle.regress.specs.Compiled.{IsCompiled, outcomes_of}
-use Rattle.regress.specs.Found.{MatchesSomewhere}
+use Rattle.regress.specs.Searched.{MatchesSomewhere}
 use Rattle.regress.specs.Letters.{no_flags}
 use Rattle.regress.specs.declared.pattern.Regex.{Regex}
 use Rattle.example_schema.specs.declared.validator.Validator.{Validator}

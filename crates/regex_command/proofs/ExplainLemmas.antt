@@ -12,7 +12,7 @@ use Rattle.regress_syntax.specs.Syntax.{Pattern}
 use Rattle.regress_ucd.specs.UnicodeTable.{unicode_table}
 use Rattle.regex_command.specs.Ending.{unaccepted}
 use Rattle.regex_command.specs.Explained.{Form, HasForm, IsAcceptedPattern, IsExplanationIn}
-use Rattle.regress.specs.Compiled.{unicode_setting}
+use Rattle.regress.specs.Unicode.{unicode_setting}
 use Rattle.regex_command.specs.declared.failure.Failure.{Failure}
 use Rattle.regex_command.proofs.LintLemmas.{appends_nothing}
 use Rattle.regex_command.proofs.SettingLemmas.{OnSyntax, under_unicode}

@@ -1,6 +1,7 @@
 -- What loops over matches and groups have written as JSON.
 use Rattle.std.proofs.Common.{◌≡◌, ◌∙◌, ℕ, ◌+◌, List, ◌++◌, Option, Some, flat_map, length, map, take, ap, sym, append_assoc, codes}
-use Rattle.regress_found.specs.Found as matcher
+use Rattle.regress_found.specs.Found as one
+use Rattle.regress_found.specs.declared.found.Match as matcher
 use Rattle.regress_found.specs.Found.{IsInside}
 use Rattle.regress_tree.specs.Steps.{CaptureSpan}
 use Rattle.regress.specs.Compiled.{groups_of}
@@ -43,14 +44,14 @@ group_of_parts run name span n p is_name is_part =
     ∙ ap (λ x. codes "{\"name\":" ++ x ++ codes "," ++ p ++ codes "}") is_name
     ∙ ap (λ x. codes "{\"name\":" ++ name_json name ++ codes "," ++ x ++ codes "}") is_part
 
-pub match_of_parts : (run : Run) (r : Regex) (m : matcher.Match) (start end : ℕ) (p g : List ℕ) → start ≡ matcher.start_of m →
-    end ≡ (matcher.state_of m).position → p ≡ part_json run (Some (start, end)) → g ≡ groups_json run m 0 (map (λ c. c.name) (groups_of r)) →
+pub match_of_parts : (run : Run) (r : Regex) (m : matcher.Match) (start end : ℕ) (p g : List ℕ) → start ≡ one.start_of m →
+    end ≡ (one.state_of m).position → p ≡ part_json run (Some (start, end)) → g ≡ groups_json run m 0 (map (λ c. c.name) (groups_of r)) →
     p ++ (codes ",\"groups\":[" ++ (g ++ codes "]}\n")) ≡ match_json run (groups_of r) m
 match_of_parts run r m start end p g is_start is_end is_part is_groups =
     let groups = groups_json run m 0 (map (λ c. c.name) (groups_of r)) in
     four p (codes ",\"groups\":[") g (codes "]}\n")
     ∙ ap (λ x. x ++ codes ",\"groups\":[" ++ g ++ codes "]}\n") (is_part ∙ (λ i. part_json run (Some (is_start i, is_end i))))
-    ∙ ap (λ x. part_json run (Some (matcher.start_of m, (matcher.state_of m).position)) ++ codes ",\"groups\":[" ++ x ++ codes "]}\n") is_groups
+    ∙ ap (λ x. part_json run (Some (one.start_of m, (one.state_of m).position)) ++ codes ",\"groups\":[" ++ x ++ codes "]}\n") is_groups
 
 module _ (run : Run) (m : matcher.Match) (all : List (Option (List ℕ))) where
   -- the groups from this number on have these names, and the others are written

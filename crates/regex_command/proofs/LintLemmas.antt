@@ -17,7 +17,7 @@ use Rattle.regress_parse.specs.declared.fault.PlacedFault.{PlacedFault}
 use Rattle.regress_parse.specs.declared.fault.PlacedFault.TheVariants as placed
 use Rattle.regex_command.specs.Ending.{unaccepted}
 use Rattle.regex_command.specs.Linted.{HasDifferences, IsListed, IsListedNext, IsReport, difference_line, is_nothing}
-use Rattle.regress.specs.Compiled.{unicode_setting}
+use Rattle.regress.specs.Unicode.{unicode_setting}
 use Rattle.regex_command.specs.declared.failure.Failure.{Failure}
 use Rattle.regex_command.proofs.SettingLemmas.{OnSyntax, under_unicode}
 

@@ -8,7 +8,7 @@ use Rattle.regress_parse.specs.declared.fault.PlacedFault.{PlacedFault}
 use Rattle.regress_parse.specs.declared.fault.PlacedFault.TheVariants as placed
 use Rattle.regress_tree.specs.Setting.{Setting}
 use Rattle.regress_ucd.specs.UnicodeTable.{unicode_table}
-use Rattle.regress.specs.Compiled.{unicode_setting}
+use Rattle.regress.specs.Unicode.{unicode_setting}
 
 module _ (flags : Flags) (points source : List ℕ) (table : Table) (characters : points ≡ source) (same : table ≡ unicode_table) where
   pub under_unicode : (P : Setting → List ℕ → Type 0) → P (record { flags = flags; table = table }) points → P (unicode_setting flags) source

@@ -8,7 +8,7 @@ use Rattle.regress_found.specs.Repeated.{AreAllMatches}
 use Rattle.regress_tree.specs.Steps.{CaptureSpan}
 use Rattle.regress_tree.specs.WellFormed.{Capture}
 use Rattle.regress.specs.Compiled.{groups_of, outcomes_of}
-use Rattle.regress.specs.Found.{group_span}
+use Rattle.regress.specs.Groups.{group_span}
 use Rattle.regress.specs.declared.pattern.Regex.{Regex}
 use Rattle.regex_command.specs.Runs.{Run}
 

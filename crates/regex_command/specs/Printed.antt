@@ -6,7 +6,8 @@ use Rattle.regress_base.specs.declared.types.Flags.{Flags}
 use Rattle.regress_escape.specs.Escape.{escaped}
 use Rattle.regress_front.specs.Accepted.{NoneIsAccepted}
 use Rattle.regress_tree.specs.Setting.{Setting}
-use Rattle.regress.specs.Compiled.{IsCompiled, unicode_setting}
+use Rattle.regress.specs.Compiled.{IsCompiled}
+use Rattle.regress.specs.Unicode.{unicode_setting}
 use Rattle.regress.specs.declared.pattern.Regex.{Regex}
 use Rattle.regress_display.specs.Request.{table_asked}
 use Rattle.regress_display.specs.Request as trees

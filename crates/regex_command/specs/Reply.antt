@@ -5,7 +5,7 @@ use Rattle.regress_found.specs.declared.found.Match.{Match}
 use Rattle.regress_found.specs.Repeated.{AreAllMatches}
 use Rattle.regress_replace.specs.Expansion.{expansion, matched_text}
 use Rattle.regress.specs.Compiled.{groups_of, outcomes_of}
-use Rattle.regress.specs.Found.{MatchesSomewhere}
+use Rattle.regress.specs.Searched.{MatchesSomewhere}
 use Rattle.regress.specs.Replaced.{IsSplit, ReplacesAll}
 use Rattle.regress.specs.declared.pattern.Regex.{Regex}
 use Rattle.regex_command.specs.declared.task.Selection.{Selection}

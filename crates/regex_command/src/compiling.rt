@@ -1,6 +1,7 @@
 //! Compiles a pattern.
 ghost use Rattle.std.specs.Prelude.{IfOk, IfErr};
-ghost use Rattle.regress.specs.Compiled.{IsCompiled, unicode_setting};
+ghost use Rattle.regress.specs.Compiled.{IsCompiled};
+ghost use Rattle.regress.specs.Unicode.{unicode_setting};
 ghost use Rattle.regex_command.specs.Printed.{IsRejected};
 
 use crate::failure::Failure;

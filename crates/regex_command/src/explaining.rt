@@ -1,7 +1,7 @@
 //! `explain`.
 ghost use Rattle.std.specs.Prelude.{◌≡◌, true, Ok, IfOk, IfErr, chars, map, string_bytes};
 ghost use Rattle.regress_arguments.specs.Output.{Took};
-ghost use Rattle.regress.specs.Compiled.{unicode_setting};
+ghost use Rattle.regress.specs.Unicode.{unicode_setting};
 ghost use Rattle.regress.specs.Found.{match_of};
 ghost use Rattle.regex_command.specs.Ending.{OrOutput};
 ghost use Rattle.regex_command.specs.Explained.{AreMatchRanges, HasForm, IsAcceptedPattern, IsExplanationIn, IsPageLine, MayFailToExplain, MayFailToFind, asked_form, range_of};

@@ -3,8 +3,8 @@ ghost use Rattle.std.specs.Prelude.{◌≡◌, IfOk, IfSome, None, OnOk, drop, m
 ghost use Rattle.regress_found.specs.Found.{IsInside};
 ghost use Rattle.regress_tree.specs.Inside.{IsSpanInside};
 ghost use Rattle.regress.specs.Compiled.{groups_of};
-ghost use Rattle.regress.specs.Found.{match_of, span_of};
-ghost use Rattle.regress.specs.Groups.{names_left};
+ghost use Rattle.regress.specs.Found.{match_of};
+ghost use Rattle.regress.specs.Groups.{names_left, span_of};
 ghost use Rattle.regex_command.specs.Json.{AddsJson, comma_before, group_json, groups_json, located_json, match_json, name_json, part_json};
 ghost use Rattle.regex_command.specs.Runs.{HasOffsets, run_of};
 

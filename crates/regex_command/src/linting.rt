@@ -3,7 +3,7 @@ ghost use Rattle.std.specs.Prelude.{◌≡◌, true, Ok, IfOk, IfErr, OnOk, char
 ghost use Rattle.regress_arguments.specs.Output.{Took};
 ghost use Rattle.regex_command.specs.Ending.{IsLate, OrOutput};
 ghost use Rattle.regex_command.specs.Linted.{IsListed, IsListedNext, IsReport, difference_line, is_nothing};
-ghost use Rattle.regress.specs.Compiled.{unicode_setting};
+ghost use Rattle.regress.specs.Unicode.{unicode_setting};
 
 use crate::failure::{Failure, reject};
 use crate::pattern::Pattern;

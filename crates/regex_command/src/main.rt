@@ -11,7 +11,7 @@ ghost use Rattle.regex_command.specs.Asked.{action, asked_of};
 ghost use Rattle.regex_command.specs.Ending.{IsLate, OrOutput};
 ghost use Rattle.regex_command.specs.Job.{job};
 ghost use Rattle.regex_command.specs.Printed.{Begins, Does, IsDue, IsQuiet, IsQuietAt, MayFail, MayFailAt, Prints, PrintsAll, PrintsEscaped, PrintsFirst, PrintsSome, changes, view_of};
-ghost use Rattle.regress.specs.Compiled.{unicode_setting};
+ghost use Rattle.regress.specs.Unicode.{unicode_setting};
 ghost use Rattle.regex_command.specs.Source.{IsUnread, OfText, source};
 ghost use Rattle.regex_command.specs.declared.failure.Failure.TheVariants.{Output, Usage};
 

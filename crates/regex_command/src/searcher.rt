@@ -18,7 +18,7 @@ pub(crate) struct Searcher<'r> {
 impl<'r> Searcher<'r> {
     ghost use Rattle.std.specs.Prelude.{◌≡◌, ◌↔◌, IfOk, IsTrue, true};
     ghost use Rattle.regress.specs.Compiled.{outcomes_of};
-    ghost use Rattle.regress.specs.Found.{MatchesSomewhere};
+    ghost use Rattle.regress.specs.Searched.{MatchesSomewhere};
 
     /// Returns a searcher for a regular expression.
     pub(crate) fn new(regex: &'r Regex) -> Searcher<'r>

@@ -1,6 +1,7 @@
 -- The tree of an accepted pattern, and the errors of a rejected one.
 use Rattle.std.proofs.Common.{◌≡◌, ◌∙◌, ℕ, ◌<◌, inr, List, [], ◌∷◌, length, map, sym, ap, subst, not-suc-le-zero, arith}
 use Rattle.std.proofs.lemmas.List.{get_or-map, length-map}
+use Rattle.std.proofs.lemmas.List.Sorted.{IsPermutation-trans, length_permutation}
 use Rattle.std.specs.List.Sorted.{IsNonDecreasingBy, IsPermutation}
 use Rattle.std.specs.Prelude.{Result, Ok, Err, IfErr, IfOk, IsErr, IsErrAnd, chars}
 use Rattle.std.specs.Str.{IsUtf8}
@@ -20,9 +21,10 @@ use Rattle.regress_front.specs.declared.parse.PlacedFault.TheVariants as fault
 use Rattle.regress_front.specs.declared.unicode.Tables.{Tables}
 use Rattle.regress_match.specs.Names.{capture_of}
 use Rattle.regress_match.specs.declared.names.Group.{Group}
-use Rattle.regress.specs.Accepted.{IsTreeOf}
+use Rattle.regress.specs.Compiled.{IsCompiled, IsCompiledFrom, IsTreeOf, groups_of, source_of, tree_of}
+use Rattle.regress.specs.Unicode.{unicode_setting}
+use Rattle.regress.specs.Source.{text_of}
 use Rattle.regress.specs.Compiled as regex
-use Rattle.regress.specs.Compiled.{IsCompiled, IsCompiledFrom, groups_of, source_of, text_of, tree_of, unicode_setting}
 use Rattle.regress.specs.Failures.{IsDue, IsDueWithLetters, compile_error_of, error_of}
 use Rattle.regress.specs.Letters.{AreFlags, flags_of}
 use Rattle.regress.specs.Limits.{default_options}
@@ -31,7 +33,7 @@ use Rattle.regress.specs.declared.failure.Error.TheVariants.{Flags as BadFlags, 
 use Rattle.regress.specs.declared.limits.Options.{Options}
 use Rattle.regress.specs.declared.pattern.Regex.{Regex}
 use Rattle.regress.proofs.SourceLemmas.{text_of-chars}
-use Rattle.regress_parse.proofs.lemmas.{length-captures-tree_of}
+use Rattle.regress_parse.proofs.lemmas.{length-pattern_groups}
 use Rattle.regress_program.specs.Size.{program_size}
 use Rattle.regress_program.specs.declared.fault.CompileFault.{CompileFault}
 use Rattle.regress_program.specs.declared.fault.CompileFault.TheVariants as compile_fault
@@ -97,12 +99,14 @@ sorted-map (first ∷ groups) sorted = λ i j d up within.
 pub compiled : (setting : Setting) (points : Source) (t : Tree) (r : Regex) → IsTreeOf setting points t → tree_of r ≡ t →
     regex.setting_of r ≡ setting → IsPermutation (captures t) (groups_of r) → IsNonDecreasingBy (λ group. group.id) r.groups.items →
     IsCompiledFrom setting points r
-compiled setting points t r is same_tree same_setting groups sorted = record {
-  tree = subst (IsTreeOf setting points) (sym same_tree) is;
-  groups = subst (λ u. IsPermutation (captures u) (groups_of r)) (sym same_tree) groups;
-  sorted = sorted-map r.groups.items sorted;
-  setting = same_setting;
-}
+compiled setting points t r is same_tree same_setting groups sorted =
+    let own = subst (IsTreeOf setting points) (sym same_tree) is in
+    record {
+      tree = own;
+      groups = IsPermutation-trans _ _ _ own.captures (subst (λ u. IsPermutation (captures u) (groups_of r)) (sym same_tree) groups);
+      sorted = sorted-map r.groups.items sorted;
+      setting = same_setting;
+    }
 
 -- What is compiled from the characters of a text is compiled from the text.
 pub from_characters : (setting : Setting) (text : List ℕ) (points : Source) → points ≡ chars text → IsUtf8 text →
@@ -118,7 +122,7 @@ from_characters setting text points same utf8 (Ok regex) compiled source = recor
 few_groups : (setting : Setting) (source : Source) (t : Tree) → IsTreeOf setting source t → length (captures t) < 18446744073709551615
 few_groups setting source t is =
     let groups = is.accepted.limits.groups in
-    omega (arith, groups, ap length is.captures, length-captures-tree_of setting.table is.pattern)
+    omega (arith, groups, length_permutation _ _ is.captures, length-pattern_groups is.pattern)
 
 -- An error of compiling that is converted is due.
 pub too_long_is_due : (setting : Setting) (source : Source) (options : Options) (t : Tree) → IsTreeOf setting source t →

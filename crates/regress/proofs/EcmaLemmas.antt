@@ -12,11 +12,11 @@ use Rattle.regress_ecma.specs.Compared.{IsComparable}
 use Rattle.regress_ecma.specs.Exec.{builtin_exec, found_in_bytes}
 use Rattle.regress_ecma.proofs.lemmas.Searches.{HasMeaning, outcomes_from, decoded, leftmost, nowhere}
 use Rattle.regress_found.specs.Found.{outcomes_at, Finds, start_of, state_of}
-use Rattle.regress_parse.proofs.lemmas.{length-names, length-captures-tree_of}
+use Rattle.regress_parse.proofs.lemmas.{length-names, length-pattern_groups}
+use Rattle.std.proofs.lemmas.List.Sorted.{length_permutation}
 use Rattle.regress_found.specs.declared.found.Match.{Match}
 use Rattle.regress_tree.proofs.lemmas.Characters.{byte_position-zero}
-use Rattle.regress.specs.Accepted.{IsTreeOf}
-use Rattle.regress.specs.Compiled.{IsCompiledFrom, outcomes_of, tree_of}
+use Rattle.regress.specs.Compiled.{IsCompiledFrom, IsTreeOf, outcomes_of, tree_of}
 use Rattle.regress.specs.declared.pattern.Regex.{Regex}
 
 -- what a search finds is what RegExpBuiltinExec finds, in byte offsets
@@ -27,7 +27,7 @@ IsMatchOf setting p input index found =
 has_meaning : (setting : Setting) (source : List ℕ) (t : Tree) (is : IsTreeOf setting source t) → HasMeaning setting t is.pattern
 has_meaning setting source t is = record {
   outcomes = is.meaning;
-  groups = ap length is.captures ∙ length-captures-tree_of setting.table is.pattern ∙ sym (length-names is.pattern);
+  groups = length_permutation _ _ is.captures ∙ length-pattern_groups is.pattern ∙ sym (length-names is.pattern);
 }
 
 over_characters : (setting : Setting) (p : Pattern) → IsComparable setting p → (t : Tree) → HasMeaning setting t p →

@@ -5,10 +5,11 @@ use Rattle.std.proofs.lemmas.List.{map-append}
 use Rattle.std.proofs.lemmas.List.Elements.{All-cons, All-head, All-nil, All-push, All-tail}
 use Rattle.regress_front.specs.Steps.{MatchState}
 use Rattle.regress_front.specs.WellFormed.{Capture}
-use Rattle.regress_found.specs.Found as matcher
+use Rattle.regress_found.specs.declared.found.Match as matcher
 use Rattle.regress_found.specs.Found.{IsInside, IsLeftmost, start_of}
 use Rattle.regress_found.specs.Results.{IfOutOfSteps}
 use Rattle.regress_found.specs.declared.outcome.Outcome.{Outcome}
+use Rattle.regress_found.specs.declared.outcome.Outcome.TheVariants as outcomes
 use Rattle.regress_match.specs.Costs.{IsWithinFindCost}
 use Rattle.regress_match.specs.Matcher.{IsLimited, IsLinear}
 use Rattle.regress_match.specs.declared.matcher.Matcher.{Matcher}
@@ -17,9 +18,9 @@ use Rattle.regress_match.proofs.lemmas.Searched.{AreMatches-more}
 use Rattle.regress_found.specs.Found as one
 use Rattle.regress_replace.specs.Order.{AreInOrder}
 use Rattle.regress_replace.proofs.lemmas.Found.{AreMatches-in_order}
-use Rattle.regress.specs.Found.{MatchesSomewhere, groups_in, match_of}
+use Rattle.regress.specs.Found.{groups_in, match_of}
+use Rattle.regress.specs.Searched.{Advances, MatchesSomewhere, has_failed, next_from, searched_factor, searched_groups, searched_outcomes, searched_text}
 use Rattle.regress.specs.Replaced.{AreFirstMatches}
-use Rattle.regress.specs.Searched.{Advances, has_failed, next_from, searched_factor, searched_groups, searched_outcomes, searched_text}
 use Rattle.regress.specs.declared.found.Match.{Match}
 use Rattle.regress.specs.declared.search.Matches.{Matches}
 

@@ -9,7 +9,7 @@ use Rattle.regress_found.specs.Found.{outcomes_at, initial_state}
 use Rattle.regress_required.specs.Required.{AbsentFrom, IsRequiredLiteral}
 use Rattle.regress_required.proofs.lemmas.Required.{no_matches}
 use Rattle.regress.specs.Compiled.{setting_of, tree_of}
-use Rattle.regress.specs.Found.{MatchesSomewhere}
+use Rattle.regress.specs.Searched.{MatchesSomewhere}
 use Rattle.regress.specs.Required.{RequiresLiteral}
 use Rattle.regress.specs.declared.pattern.Regex.{Regex}
 

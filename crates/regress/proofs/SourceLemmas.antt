@@ -6,7 +6,7 @@ use Rattle.std.proofs.Math.Utf8.{scalar, scalars}
 use Rattle.std.specs.Char.{encode_utf8}
 use Rattle.std.specs.Prelude.{chars}
 use Rattle.std.specs.Str.{IsUtf8}
-use Rattle.regress.specs.Compiled.{shown, text_of}
+use Rattle.regress.specs.Source.{shown, text_of}
 
 shown_scalar : (c : ℕ) → scalar c ≡ true → shown c ≡ c
 shown_scalar c is = grind arith

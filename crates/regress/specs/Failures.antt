@@ -13,8 +13,8 @@ use Rattle.regress_front.specs.Tree.{Tree}
 use Rattle.regress_program.specs.Size.{program_size}
 use Rattle.regress_program.specs.declared.fault.CompileFault.{CompileFault}
 use Rattle.regress_program.specs.declared.fault.CompileFault.TheVariants as compile_fault
-use Rattle.regress.specs.Accepted.{IsTreeOf}
-use Rattle.regress.specs.Compiled.{unicode_setting}
+use Rattle.regress.specs.Compiled.{IsTreeOf}
+use Rattle.regress.specs.Unicode.{unicode_setting}
 use Rattle.regress.specs.Letters.{AreFlags, flags_of}
 use Rattle.regress.specs.Limits.{default_options}
 use Rattle.regress.specs.declared.failure.Error.{Error}

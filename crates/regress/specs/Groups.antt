@@ -1,5 +1,6 @@
--- What the iterators over groups have still to return.
-use Rattle.std.specs.Prelude.{ℕ, List, [], ◌∷◌, flat_map, map, drop, Option, Some, None, slice_index_or}
+-- The spans of groups, and what the iterators over them have still to return.
+use Rattle.std.specs.Prelude.{◌==◌, ◌-◌, if◌then◌else◌, ℕ, List, [], ◌∷◌, flat_map, map, drop, Option, Some, None, option_map, slice_index_or}
+use Rattle.std.specs.declared.ops.Range.{Range}
 use Rattle.regress_front.specs.Steps.{CaptureSpan}
 use Rattle.regress_front.specs.WellFormed.{Capture}
 use Rattle.regress_found.specs.declared.found.Match.{Match}
@@ -8,6 +9,14 @@ use Rattle.regress_match.specs.Names.{capture_of}
 use Rattle.regress.specs.declared.groups.Groups.{Groups}
 use Rattle.regress.specs.declared.groups.NamedGroups.{NamedGroups}
 use Rattle.regress.specs.declared.groups.GroupNames.{GroupNames}
+
+-- a range as a span
+abbrev pub span_of : Option (Range ℕ) → Option CaptureSpan
+span_of range = option_map (λ r. (r.start, r.end)) range
+
+-- the span of the group with this number, where 0 is the whole match
+abbrev pub group_span : Match → ℕ → Option CaptureSpan
+group_span m n = if n == 0 then Some (start_of m, (state_of m).position) else slice_index_or (state_of m).captures (n - 1) None
 
 -- the span of the whole match, and then that of each group
 abbrev pub all_spans : Match → List (Option CaptureSpan)

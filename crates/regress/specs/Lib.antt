@@ -1,4 +1,3 @@
-pub mod Accepted
 pub mod Compiled
 pub mod Costs
 pub mod Failures
@@ -10,3 +9,5 @@ pub mod Limits
 pub mod Replaced
 pub mod Required
 pub mod Searched
+pub mod Source
+pub mod Unicode

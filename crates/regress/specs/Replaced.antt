@@ -5,7 +5,7 @@ use Rattle.std.specs.declared.alloc.Global.{Global}
 use Rattle.std.specs.Fn.{CalledAt, Mut}
 use Rattle.std.specs.List.{FoldsTo}
 use Rattle.regress_front.specs.Steps.{MatchState}
-use Rattle.regress_found.specs.Found as matcher
+use Rattle.regress_found.specs.declared.found.Match as matcher
 use Rattle.regress_found.specs.Repeated.{AreAllMatches, AreMatches}
 use Rattle.regress_found.specs.Found.{Finds}
 use Rattle.regress_replace.specs.Expansion.{matched_text}

@@ -2,7 +2,7 @@
 use Rattle.std.specs.Prelude.{ℕ, List}
 use Rattle.regress_required.specs.Required.{AbsentFrom}
 use Rattle.regress.specs.Compiled.{outcomes_of}
-use Rattle.regress.specs.Found.{MatchesSomewhere}
+use Rattle.regress.specs.Searched.{MatchesSomewhere}
 use Rattle.regress.specs.declared.pattern.Regex.{Regex}
 
 -- A text in which the literal does not occur has no match.

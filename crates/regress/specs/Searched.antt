@@ -1,5 +1,6 @@
--- Searches for all matches.
-use Rattle.std.specs.Prelude.{◌≡◌, ℕ, Bool, true, false, List, map, Option, Some, None, Result, Ok, Err}
+-- Whether there is a match, and searches for all matches.
+use Rattle.std.specs.Prelude.{◌≡◌, ◌≢◌, ℕ, Bool, true, false, List, [], map, Option, Some, None, Result, Ok, Err}
+use Rattle.std.specs.Str.{IsCharBoundary}
 use Rattle.regress_front.specs.Steps.{MatchState}
 use Rattle.regress_front.specs.WellFormed.{Capture}
 use Rattle.regress_found.specs.Found.{IsInside}
@@ -13,6 +14,10 @@ use Rattle.regress.specs.declared.failure.SearchError.{SearchError}
 use Rattle.regress.specs.declared.failure.SearchError.TheVariants.{OutOfSteps}
 use Rattle.regress.specs.declared.found.Match.{Match}
 use Rattle.regress.specs.declared.search.Matches.{Matches}
+
+-- Some character boundary has an outcome.
+abbrev pub MatchesSomewhere : (text : List ℕ) → (at : ℕ → List MatchState) → Type 0
+MatchesSomewhere text at = (p : ℕ) × IsCharBoundary text p × (at p ≢ [])
 
 -- the text that is searched
 abbrev pub searched_text : Matches → List ℕ

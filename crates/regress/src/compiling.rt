@@ -3,7 +3,7 @@ ghost use Rattle.std.specs.Prelude.{◌≡◌, All, IfOk, IfErr};
 ghost use Rattle.regress_front.specs.SettingOf.{setting_of};
 ghost use Rattle.regress_front.specs.Source.{IsCodePoint};
 ghost use Rattle.regress_front.specs.Tree.{tree};
-ghost use Rattle.regress.specs.Accepted.{IsTreeOf};
+ghost use Rattle.regress.specs.Compiled.{IsTreeOf};
 ghost use Rattle.regress.specs.Failures.{IsDue};
 ghost use Rattle.regress.specs.declared.limits.Options.{Options};
 

@@ -2,8 +2,7 @@
 ghost use Rattle.std.specs.Prelude.{◌≡◌, length, option_map};
 ghost use Rattle.std.specs.Iterator.{YieldsFirstBy, at_most};
 ghost use Rattle.regress_match.specs.Names.{capture_of};
-ghost use Rattle.regress.specs.Found.{span_of};
-ghost use Rattle.regress.specs.Groups.{named_left, names_left, spans_left};
+ghost use Rattle.regress.specs.Groups.{named_left, names_left, span_of, spans_left};
 
 use crate::found::range_of;
 use regress_match::{Group, Match as Found};

@@ -63,14 +63,16 @@ impl Regex {
     ghost use Rattle.regress_program.specs.Size.{program_size};
     ghost use Rattle.regress_replace.specs.Order.{AreInOrder};
     ghost use Rattle.regress.specs.Costs.{CostsLimit, factor_of, find_factor_of, limit_of, nonlinear_of};
-    ghost use Rattle.regress.specs.Compiled.{IsCompiled, IsCompiledFrom, groups_of, outcomes_of, setting_of, source_of, text_of, tree_of, unicode_setting};
+    ghost use Rattle.regress.specs.Compiled.{IsCompiled, IsCompiledFrom, groups_of, outcomes_of, setting_of, source_of, tree_of};
+    ghost use Rattle.regress.specs.Unicode.{unicode_setting};
+    ghost use Rattle.regress.specs.Source.{text_of};
     ghost use Rattle.regress.specs.Failures.{IsDue, IsDueWithLetters};
-    ghost use Rattle.regress.specs.Found.{MatchesSomewhere, groups_in, match_of};
+    ghost use Rattle.regress.specs.Found.{groups_in, match_of};
+    ghost use Rattle.regress.specs.Searched.{MatchesSomewhere, has_failed, next_from, search_limit, searched_factor, searched_groups, searched_outcomes, searched_text};
     ghost use Rattle.regress.specs.Groups.{names_left};
     ghost use Rattle.regress.specs.Letters.{AreFlags, flags_of, no_flags};
     ghost use Rattle.regress.specs.Limits.{default_options};
     ghost use Rattle.regress.specs.Required.{RequiresLiteral};
-    ghost use Rattle.regress.specs.Searched.{has_failed, next_from, search_limit, searched_factor, searched_groups, searched_outcomes, searched_text};
     ghost use Rattle.regress.specs.declared.failure.SearchError.TheVariants.{OutOfSteps};
 
     /// Compiles a pattern without flags, under the table of all of Unicode, within the default [`Options`].

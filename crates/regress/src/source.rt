@@ -1,6 +1,6 @@
 //! The text of a pattern of code points.
 ghost use Rattle.std.specs.Prelude.{◌≡◌, IfOk, string_bytes};
-ghost use Rattle.regress.specs.Compiled.{shown, text_of};
+ghost use Rattle.regress.specs.Source.{shown, text_of};
 
 use std::alloc::{AllocError, Global};
 

@@ -2,7 +2,7 @@
 ghost use Rattle.std.specs.Prelude.{◌≡◌, if◌then◌else◌, IfSome, IsUtf8, None, is_some, length, min, option_map, unwrap_or};
 ghost use Rattle.regress.specs.Costs.{factor_of, find_factor_of, nonlinear_of};
 ghost use Rattle.regress.specs.Compiled.{groups_of, outcomes_of};
-ghost use Rattle.regress.specs.Found.{MatchesSomewhere};
+ghost use Rattle.regress.specs.Searched.{MatchesSomewhere};
 ghost use Rattle.regress_capi.specs.CompileResults.{CompileResult, limits_of};
 ghost use Rattle.regress_capi.specs.Reasons.{reason_number};
 ghost use Rattle.regress_capi.specs.Request.{setting_by, IsTextRequest};

@@ -1,7 +1,9 @@
 //! The results of searches.
 ghost use Rattle.std.specs.Prelude.{◌≡◌, ◌++◌, ◌∷◌, [], IfOk, IsUtf8, MatchOption, MatchResult, None};
 ghost use Rattle.regress.specs.Compiled.{outcomes_of};
-ghost use Rattle.regress.specs.Found.{MatchesSomewhere, match_of, span_of};
+ghost use Rattle.regress.specs.Found.{match_of};
+ghost use Rattle.regress.specs.Searched.{MatchesSomewhere};
+ghost use Rattle.regress.specs.Groups.{span_of};
 ghost use Rattle.regress_capi.specs.SearchResults.{IsBare, SearchResult, TestResult, status_of};
 ghost use Rattle.regress_capi.specs.Spans.{AreEndsOfAll, AreEndsOfFirst, ends_of, match_ends};
 ghost use Rattle.regress_found.specs.Found.{Finds};

@@ -58,6 +58,7 @@ pub use Rattle.regress_syntax.specs.SameNames
 pub use Rattle.regress_syntax.specs.FirstErrors
 pub use Rattle.regress_parse.specs.TreeOf
 pub use Rattle.regress_parse.specs.Accepted
+pub use Rattle.regress_parse.specs.Groups
 pub use Rattle.regress_parse.specs.Fault
 pub use Rattle.regress_parse.specs.Settled
 pub use Rattle.regress_parse.specs.Spans

@@ -14,15 +14,11 @@ use Rattle.regress_tree.specs.WellFormed.{Capture, captures, captures_of_trees, 
 use Rattle.regress_tree.proofs.lemmas.ReversedParts.{captures-reverse_trees}
 use Rattle.regress_syntax.specs.Syntax.{Name, Atom, literal, dot, anchor, boundary, class_escape, class, class_set, string_property, back_reference, Group, grouping, modified, capture, look, Pattern, Terms, Item, one, either, no_terms, more_terms, atom, group, opened_by, counts, counts_of_quantifier, counts_of_terms, counts_of_term, counts_of_item, names, names_of_group, names_of_terms, names_of_item}
 use Rattle.regress_syntax.specs.Meaning.{is_in_class, direction_of_group, referred}
+use Rattle.regress_parse.specs.Groups.{numbered, pattern_groups}
 use Rattle.regress_parse.specs.TreeOf.{in_direction, concatenation, tree_of_group, tree_of_quantified, references, alternation, tree_of_atom, tree_of_pattern, trees_of_terms, tree_of_item, tree_of}
 use Rattle.regress_parse.specs.ClassParts.{class_parts}
 use Rattle.regress_parse.proofs.ClassTreeLemmas.{tree_of_class-parts}
 use Rattle.regress_parse.proofs.PartLemmas.{alternation-has, references-have, class_parts-have}
-
--- the groups of these names, with ids from n on
-abbrev pub numbered : ℕ → List (Option Name) → List Capture
-numbered n [] = []
-numbered n (name ∷ rest) = record { id = n; name = option_map encode_utf8_all name } ∷ numbered (n + 1) rest
 
 numbered-append : (n k : ℕ) (xs ys : List (Option Name)) → length xs ≡ k → numbered n (xs ++ ys) ≡ numbered n xs ++ numbered (n + k) ys
 numbered-append n k [] ys e = let same : n ≡ n + k = omega arith in ap (λ m. numbered m ys) same
@@ -223,6 +219,14 @@ module _ (table : Table) (all : List (Option Name)) where
 captures-of_whole : (table : Table) (p : Pattern) →
     captures (tree_of table p) ≡ captures (tree_of_pattern table (names p) forwards 0 p)
 captures-of_whole table p = append-nil (captures (tree_of_pattern table (names p) forwards 0 p))
+
+-- The tree has the groups of the pattern, in some order.
+pub permuted-tree_of : (table : Table) (p : Pattern) → IsPermutation (pattern_groups p) (captures (tree_of table p))
+permuted-tree_of table p =
+    subst (IsPermutation (pattern_groups p)) (sym (captures-of_whole table p)) (permuted-tree_of_pattern table (names p) forwards 0 p)
+
+pub length-pattern_groups : (p : Pattern) → length (pattern_groups p) ≡ (counts p).groups
+length-pattern_groups p = length-numbered 0 (names p) ∙ length-names p
 
 pub length-captures-tree_of : (table : Table) (p : Pattern) → length (captures (tree_of table p)) ≡ (counts p).groups
 length-captures-tree_of table p =

@@ -2,4 +2,4 @@
 pub mod Scanned
 pub mod Reported
 -- Lemmas on the groups of a pattern. Their comments are where they are proved.
-pub use Rattle.regress_parse.proofs.GroupLemmas.{length-names, length-captures-tree_of}
+pub use Rattle.regress_parse.proofs.GroupLemmas.{length-names, length-pattern_groups, permuted-tree_of}

@@ -5,7 +5,8 @@ use Rattle.regex_command.specs.Ending.{OrOutput}
 use Rattle.regex_command.specs.Inputs.{WritesSomeOf, inputs_of}
 use Rattle.regex_command.specs.Job.{job}
 use Rattle.regex_command.specs.Printed.{PrintsFirst, changes}
-use Rattle.regress.specs.Compiled.{IsCompiled, unicode_setting}
+use Rattle.regress.specs.Compiled.{IsCompiled}
+use Rattle.regress.specs.Unicode.{unicode_setting}
 use Rattle.regex_command.proofs.SearchLemmas.{or_output, passed_on}
 use Rattle.regex_command.proofs.print_search.Goals.{then-any, else-any}
 use Rattle.regex_command.proofs.print_search.Goals as goal

@@ -1,7 +1,7 @@
 use Rattle.std.proofs.Common.{refl}
 use Rattle.regex_command.specs.Runs.{Run}
 use Rattle.regress.specs.Compiled.{outcomes_of}
-use Rattle.regress.specs.Found.{MatchesSomewhere}
+use Rattle.regress.specs.Searched.{MatchesSomewhere}
 use Rattle.regex_command.proofs.RunLemmas.{none_further, none_matches, one_matches}
 use Rattle.regex_command.proofs.reply.match_in.Goals as goal
 

@@ -2,7 +2,7 @@
 use Rattle.std.proofs.Common.{All, take, map}
 use Rattle.regex_command.specs.Runs.{run_of}
 use Rattle.regress.specs.Compiled.{outcomes_of}
-use Rattle.regress.specs.Found.{MatchesSomewhere}
+use Rattle.regress.specs.Searched.{MatchesSomewhere}
 use Rattle.regex_command.proofs.reply.match_in.Given as goal
 
 abbrev pub invariant-loop-run : goal.invariant-loop-run

@@ -1,7 +1,10 @@
-use Rattle.std.proofs.Common.{◌∙◌, ap}
+use Rattle.std.proofs.Common.{◌∙◌, ap, subst, sym}
+use Rattle.std.specs.List.Sorted.{IsPermutation}
+use Rattle.regress_front.specs.Groups.{pattern_groups}
 use Rattle.regress_front.specs.SettingOf.{setting_of}
 use Rattle.regress_front.specs.Tree.{tree}
 use Rattle.regress_front.specs.WellFormed.{captures}
+use Rattle.regress_parse.proofs.lemmas.{permuted-tree_of}
 use Rattle.regress.proofs.CompiledLemmas.{failed, means_optimized}
 use Rattle.regress.proofs.compiling.optimized.Goals as goal
 
@@ -13,7 +16,8 @@ returns-clause-tree c =
       accepted = parsed.1;
       meaning = means_optimized (setting_of c.args.flags c.args.tables.now) (tree c.in_ok-regex.regex.node) (tree c.optimize.new.r.node) parsed.0
           (c.in_ok-regex.ensures.meaning parsed.0 parsed.1) c.optimize.ensures.meaning;
-      captures = c.optimize.ensures.captures ∙ ap captures parsed.2;
+      captures =
+          subst (IsPermutation (pattern_groups parsed.0)) (sym (c.optimize.ensures.captures ∙ ap captures parsed.2)) (permuted-tree_of _ parsed.0);
       well_formed = c.optimize.ensures.well_formed;
     }
 

@@ -1,7 +1,7 @@
 use Rattle.std.proofs.Common.{◌∙◌, ◌++◌, take, sym, ap}
 use Rattle.std.proofs.lemmas.List.{take_more}
 use Rattle.std.specs.Char.{encode_utf8}
-use Rattle.regress.specs.Compiled.{text_of}
+use Rattle.regress.specs.Source.{text_of}
 use Rattle.regress.proofs.SourceLemmas.{text_of-more}
 use Rattle.regress.proofs.source.text_of.Goals as goal
 

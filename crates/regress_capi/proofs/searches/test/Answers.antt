@@ -1,6 +1,6 @@
 use Rattle.std.proofs.Common.{◌≡◌, true, sym, subst}
 use Rattle.regress.specs.Compiled.{outcomes_of}
-use Rattle.regress.specs.Found.{MatchesSomewhere}
+use Rattle.regress.specs.Searched.{MatchesSomewhere}
 use Rattle.regress_capi.specs.SearchResults.{found, not_found, no_text}
 use Rattle.regress_capi.proofs.SearchLemmas.{test-fails}
 use Rattle.regress_capi.proofs.searches.test.Goals as goal

@@ -3,7 +3,7 @@ use Rattle.std.specs.Arc.{arc_value}
 use Rattle.std.specs.Prelude.{IfErr}
 use Rattle.regress_front.specs.SettingOf.{setting_of}
 use Rattle.regress_front.specs.Tree.{tree}
-use Rattle.regress.specs.Accepted.{IsTreeOf}
+use Rattle.regress.specs.Compiled.{IsTreeOf}
 use Rattle.regress.specs.Failures.{IsDue}
 use Rattle.regress.proofs.CompiledLemmas.{compiled, passed_on, too_long_is_due, with_tables}
 use Rattle.regress.proofs.pattern.Regex.from_unicode.Goals as goal

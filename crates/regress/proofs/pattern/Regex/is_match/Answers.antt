@@ -1,7 +1,7 @@
 use Rattle.std.proofs.Common.{subst, sym}
 use Rattle.std.specs.Prelude.{◌↔◌, IsTrue}
 use Rattle.regress.specs.Compiled.{outcomes_of}
-use Rattle.regress.specs.Found.{MatchesSomewhere}
+use Rattle.regress.specs.Searched.{MatchesSomewhere}
 use Rattle.regress.proofs.FoundLemmas.{somewhere}
 use Rattle.regress.proofs.pattern.Regex.is_match.Goals as goal
 

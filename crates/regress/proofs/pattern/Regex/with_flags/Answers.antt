@@ -1,7 +1,7 @@
 use Rattle.std.proofs.Common.{subst}
 use Rattle.std.proofs.lemmas.Result.{IfErr-weaker}
 use Rattle.std.specs.Prelude.{IfErr, chars}
-use Rattle.regress.specs.Compiled.{unicode_setting}
+use Rattle.regress.specs.Unicode.{unicode_setting}
 use Rattle.regress.specs.Failures.{IsDue}
 use Rattle.regress.specs.Limits.{default_options}
 use Rattle.regress.proofs.CompiledLemmas.{due_with_letters}
