@@ -1,6 +1,6 @@
 //! Searches by the tables of a program, for patterns without a back reference.
 
-use crate::outcome::{Question, report_spans};
+use crate::outcome::{INSTRUCTIONS, MATCHES, Question, report_spans};
 use regress_code::Code;
 use regress_leaves::known::Known;
 use regress_program::{CompileFault, Nonlinear};
@@ -9,12 +9,9 @@ use regress_tree::ir::Regex;
 use regress_unicode::Tables;
 use test_notation::{Call, Fault};
 
-/// The largest product of the number of instructions and of positions in the text for which tables are made.
-const MOST: usize = 1_000_000;
-
 /// Returns the largest number of instructions of a program that is searched by tables in this text.
 pub(crate) fn instruction_limit(text: &str) -> usize {
-    MOST / text.len().saturating_add(1)
+    INSTRUCTIONS / text.len().saturating_add(1)
 }
 
 /// Appends the outcome of a search by the tables of a program, as `response_question` does. Returns false if the pattern
@@ -29,7 +26,7 @@ pub(crate) fn response_linear(
 ) -> bool {
     let most = match question {
         Question::First(_) => 1,
-        Question::All => 100,
+        Question::All => MATCHES,
         Question::At(_) => return false,
     };
     let alloc = call.alloc();

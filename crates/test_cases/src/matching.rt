@@ -28,7 +28,7 @@ pub(crate) fn match_difference(
     tables: &Arc<Tables>,
 ) -> Result<Option<String>, Fault> {
     let (fields, expected) = split_expected(alloc, line)?;
-    if !fields.starts_with("linear\t") {
+    if !fields.starts_with("linear") {
         let found = difference_by(alloc, fields, &expected, tables, Way::Backtracking)?;
         if found.is_some() {
             return Ok(found);

@@ -9,10 +9,13 @@ use regress_tree::ir::Regex;
 use regress_unicode::Tables;
 use std::alloc::AllocError;
 use std::sync::Arc;
-use test_notation::{Call, Fault, parse_decimal};
+use test_notation::{Call, Fault, Promise, parse_decimal};
 
-/// The largest program of a test case.
-const INSTRUCTIONS: usize = 1_000_000;
+/// The largest program of a test case. With tables it is this number divided by the positions in the text.
+pub(crate) const INSTRUCTIONS: usize = 1_000_000;
+
+/// The number of matches after which a search for all ends.
+pub(crate) const MATCHES: u32 = 100;
 
 /// The step limit of a test case that states none.
 pub(crate) const STEPS: u64 = 10_000_000;
@@ -20,7 +23,7 @@ pub(crate) const STEPS: u64 = 10_000_000;
 /// The question about a text.
 #[derive(Clone, Copy)]
 pub(crate) enum Question {
-    /// The first match, with this step limit.
+    /// The first match, with this step limit if the search is not linear.
     First(u64),
     /// The match that starts after this number of characters.
     At(u32),
@@ -33,7 +36,7 @@ pub(crate) fn parse_question(call: &mut Call) -> Question {
     if field == "find" || field == "linear" {
         return Question::First(STEPS);
     }
-    if field == "all" {
+    if field == "all" || field == "linear all" {
         return Question::All;
     }
     let (name, number) = field.split_once(' ').unwrap_or((field, ""));
@@ -83,31 +86,42 @@ pub(crate) fn response_question(
 ) {
     match question {
         Question::First(steps) => {
+            let steps = if matcher.is_find_linear() { 0 } else { steps };
             let found = matcher.find(call.alloc(), text, 0, steps);
-            report_found(call, text, found);
+            report_found(call, text, found, steps);
         }
         Question::At(characters) => {
             let position = call.read(byte_position(text, characters), 0);
             let position = position.min(text.len());
             let found = matcher.match_at(call.alloc(), text, position, STEPS);
-            report_found(call, text, found);
+            report_found(call, text, found, STEPS);
         }
         Question::All => report_all(call, matcher, text),
     }
 }
 
-/// Appends what a search has found.
-fn report_found(call: &mut Call, text: &str, found: Result<Found, AllocError>) {
+/// Appends what a search has found. If it is out of steps, all of them have to be used.
+fn report_found(call: &mut Call, text: &str, found: Result<Found, AllocError>, steps: u64) {
     match found {
-        Ok(found) => report(call, text, &found.outcome),
+        Ok(
+            Found {
+                outcome,
+                steps: used,
+            },
+        ) => {
+            let is_out = matches!(&outcome, Outcome::OutOfSteps);
+            call.check(!is_out || used == steps, Promise::StepsAreUsed);
+            report(call, text, &outcome);
+        }
         Err(_) => call.fail(Fault::Memory),
     }
 }
 
-/// Appends all matches, separated by ` | `, at most a hundred.
+/// Appends all matches, separated by ` | `, at most [`MATCHES`]. A linear search has no step limit.
 fn report_all(call: &mut Call, matcher: &Matcher, text: &str) {
-    let mut matches = matcher.find_iter(text, 0, STEPS);
-    for number in 0..100 {
+    let steps = if matcher.is_linear() { 0 } else { STEPS };
+    let mut matches = matcher.find_iter(text, 0, steps);
+    for number in 0..MATCHES {
         let outcome = matches.next(call.alloc());
         let outcome = call.made(outcome, Outcome::NoMatch);
         let is_last = matches!(&outcome, Outcome::NoMatch);

@@ -1,6 +1,7 @@
 //! The result of a test case.
 
 use crate::generated::parts_of_large;
+use crate::instructions::report_limits;
 use crate::matching::match_difference;
 use crate::parsing::{find_fault, report_bound, report_spans};
 use crate::replacing::replace_difference;
@@ -63,7 +64,11 @@ fn rejected(call: Call) -> Result<Option<String>, Fault> {
     })
 }
 
-fn call_difference(alloc: Global, line: &str, tables: &Tables) -> Result<Option<String>, Fault> {
+fn call_difference(
+    alloc: Global,
+    line: &str,
+    tables: &Arc<Tables>,
+) -> Result<Option<String>, Fault> {
     let Some((fields, expected)) = line.rsplit_once('\t') else {
         return Err(Fault::Line);
     };
@@ -74,7 +79,7 @@ fn call_difference(alloc: Global, line: &str, tables: &Tables) -> Result<Option<
 }
 
 /// Makes the call with this name: one of the crates below, or else one of this crate.
-fn make(call: &mut Call, name: &str, tables: &Tables) {
+fn make(call: &mut Call, name: &str, tables: &Arc<Tables>) {
     if test_base_cases::response(call, name, tables) || test_tree_cases::response(call, name) {
         return;
     }
@@ -87,7 +92,7 @@ fn make(call: &mut Call, name: &str, tables: &Tables) {
 }
 
 /// Makes a call under flags: on literals, on a large pattern, or on a pattern.
-fn make_under_flags(call: &mut Call, name: &str, tables: &Tables) {
+fn make_under_flags(call: &mut Call, name: &str, tables: &Arc<Tables>) {
     let flags = call.flags();
     match name {
         "lower" => lower(call, flags, tables),
@@ -97,6 +102,7 @@ fn make_under_flags(call: &mut Call, name: &str, tables: &Tables) {
         "position" => find_fault(call, flags, tables),
         "spans" => report_spans(call, flags, tables),
         "bound" => report_bound(call, flags),
+        "instructions" => report_limits(call, flags, tables),
         _ => make_on_tree(call, name, flags, tables),
     }
 }

@@ -46,6 +46,10 @@ pub enum Promise {
     ClassIsRead,
     /// A syntax error has a text.
     FaultIsReported,
+    /// A search that is out of steps has used all of them.
+    StepsAreUsed,
+    /// A matcher that may make no tables is not linear.
+    NoTables,
 }
 
 impl From<AllocError> for Fault {

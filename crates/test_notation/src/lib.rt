@@ -20,5 +20,5 @@ mod pattern;
 pub use call::Call;
 pub use fault::{Fault, Promise};
 pub use letters::parse_flags;
-pub use lines::{Failure, Lines, Tally, report_tally, run_lines};
+pub use lines::{Failure, Lines, Run, report_run, run_lines};
 pub use numbers::parse_decimal;

@@ -24,7 +24,9 @@ pub enum Failure<'a> {
     Input(&'a str),
     /// The output cannot be written.
     Output,
-    /// There is no test case.
+    /// A file has no test case.
+    Empty(&'a str),
+    /// No test case has been run.
     NoLine,
 }
 
@@ -44,99 +46,125 @@ impl<'a> Failure<'a> {
             Failure::Memory => 3,
             Failure::Input(_) => 4,
             Failure::Output => 5,
-            Failure::NoLine => 6,
+            Failure::Empty(_) | Failure::NoLine => 6,
         }
     }
 }
 
-/// The number of lines read of the current file, and of test cases of all files that pass and fail. All three saturate.
+/// A run of the test cases that contain a text: its file, and how many pass and fail. The numbers saturate.
 #[derive(Clone, Copy)]
-pub struct Tally {
-    read: usize,
+pub struct Run<'a> {
+    only: &'a str,
+    file: &'a str,
+    /// The number of lines read of the file.
+    lines: usize,
+    /// The number of test cases in the file, with those that are not run.
+    cases: usize,
     hold: usize,
     differ: usize,
 }
 
-impl Tally {
-    /// Returns the tally before the first file.
-    pub fn new() -> Tally {
-        Tally {
-            read: 0,
+impl<'a> Run<'a> {
+    /// Returns the run of the test cases that contain `only`, before the first file.
+    pub fn new(only: &'a str) -> Run<'a> {
+        Run {
+            only,
+            file: "",
+            lines: 0,
+            cases: 0,
             hold: 0,
             differ: 0,
         }
     }
+
+    /// Returns the run at the start of a file.
+    pub fn at_file(self, file: &'a str) -> Run<'a> {
+        Run {
+            file,
+            lines: 0,
+            cases: 0,
+            ..self
+        }
+    }
+
+    /// Returns the number of test cases that were run.
+    pub fn count(&self) -> usize {
+        self.hold.saturating_add(self.differ)
+    }
 }
 
-/// Runs the test cases in `input`, the content of a file of this name, writes those that fail to `out`, and counts them
-/// in `tally`. Empty lines and lines that begin with `#` are skipped.
+/// Runs the test cases in `input`, the content of the file of `run`, writes those that fail to `out`, and counts them.
+/// Empty lines and lines that begin with `#` are skipped.
 ///
 /// # Errors
-/// Returns a [`Failure`] at the first malformed test case, failed allocation, or error of the input or output.
+/// Returns a [`Failure`] at the first malformed test case, failed allocation, or error of the input or output, and if
+/// there is no test case in the file.
 pub fn run_lines<'a, R: BufRead + Drop, W: Write, L: Lines>(
     alloc: Global,
-    file: &'a str,
+    run: &mut Run<'a>,
     input: R,
     out: &mut W,
     lines: &mut L,
-    tally: &mut Tally,
 ) -> Result<(), Failure<'a>> {
-    tally.read = 0;
     for line in input.lines(alloc) {
         match line {
-            Ok(line) => take_line(alloc, file, &line, out, lines, tally)?,
-            Err(error) => return Err(Failure::of_input(file, &error)),
+            Ok(line) => take_line(alloc, run, &line, out, lines)?,
+            Err(error) => return Err(Failure::of_input(run.file, &error)),
         }
+    }
+    if run.cases == 0 {
+        return Err(Failure::Empty(run.file));
     }
     Ok(())
 }
 
 fn take_line<'a, W: Write, L: Lines>(
     alloc: Global,
-    file: &'a str,
+    run: &mut Run<'a>,
     line: &str,
     out: &mut W,
     lines: &mut L,
-    tally: &mut Tally,
 ) -> Result<(), Failure<'a>> {
-    tally.read = tally.read.saturating_add(1);
+    run.lines = run.lines.saturating_add(1);
     if line.is_empty() || line.starts_with('#') {
+        return Ok(());
+    }
+    run.cases = run.cases.saturating_add(1);
+    if !line.contains(run.only) {
         return Ok(());
     }
     match lines.difference(alloc, line) {
         Ok(None) => {
-            tally.hold = tally.hold.saturating_add(1);
+            run.hold = run.hold.saturating_add(1);
             Ok(())
         }
-        Ok(Some(found)) => report_found(file, line, &found, out, tally),
-        Err(Fault::Broken(promise)) => report_broken(file, line, promise, out, tally),
-        Err(Fault::Line) => Err(Failure::Line(file, tally.read)),
+        Ok(Some(found)) => report_found(run, line, &found, out),
+        Err(Fault::Broken(promise)) => report_broken(run, line, promise, out),
+        Err(Fault::Line) => Err(Failure::Line(run.file, run.lines)),
         Err(Fault::Memory) => Err(Failure::Memory),
     }
 }
 
 fn report_found<'a, W: Write>(
-    file: &'a str,
+    run: &mut Run<'a>,
     line: &str,
     found: &str,
     out: &mut W,
-    tally: &mut Tally,
 ) -> Result<(), Failure<'a>> {
-    let number = tally.read;
-    tally.differ = tally.differ.saturating_add(1);
-    written(writeln!(out, "{file}:{number}: {line}\nfound: {found}"))
+    let Run { file, lines, .. } = *run;
+    run.differ = run.differ.saturating_add(1);
+    written(writeln!(out, "{file}:{lines}: {line}\nfound: {found}"))
 }
 
 fn report_broken<'a, W: Write>(
-    file: &'a str,
+    run: &mut Run<'a>,
     line: &str,
     promise: Promise,
     out: &mut W,
-    tally: &mut Tally,
 ) -> Result<(), Failure<'a>> {
-    let number = tally.read;
-    tally.differ = tally.differ.saturating_add(1);
-    written(writeln!(out, "{file}:{number}: {line}\nbroken: {promise:?}"))
+    let Run { file, lines, .. } = *run;
+    run.differ = run.differ.saturating_add(1);
+    written(writeln!(out, "{file}:{lines}: {line}\nbroken: {promise:?}"))
 }
 
 fn written<'a>(done: io::Result<()>) -> Result<(), Failure<'a>> {
@@ -147,21 +175,21 @@ fn written<'a>(done: io::Result<()>) -> Result<(), Failure<'a>> {
     }
 }
 
-/// Writes the number of test cases that fail, and of those that pass, if any. Returns 0 if all pass, else 1.
+/// Writes whether all test cases that were run pass, or how many of them fail. Returns 0 if all pass, else 1.
 ///
 /// # Errors
-/// Returns a [`Failure`] if the output cannot be written, or if there is no test case.
-pub fn report_tally<'a, W: Write>(tally: Tally, out: &mut W) -> Result<u8, Failure<'a>> {
-    let Tally { hold, differ, .. } = tally;
-    if differ > 0 {
-        written(writeln!(out, "{differ} test cases fail"))?;
-    }
-    if hold > 0 {
-        written(writeln!(out, "{hold} test cases pass"))?;
-    }
-    written(out.flush())?;
-    if hold == 0 && differ == 0 {
+/// Returns a [`Failure`] if the output cannot be written, or if no test case was run.
+pub fn report_run<'a, W: Write>(run: &Run<'a>, out: &mut W) -> Result<u8, Failure<'a>> {
+    let (count, differ) = (run.count(), run.differ);
+    if count == 0 {
+        written(out.flush())?;
         return Err(Failure::NoLine);
     }
+    if differ == 0 {
+        written(writeln!(out, "all test cases pass"))?;
+    } else {
+        written(writeln!(out, "{differ} of {count} test cases fail"))?;
+    }
+    written(out.flush())?;
     Ok(if differ == 0 { 0 } else { 1 })
 }
