@@ -14,7 +14,7 @@ ghost use Rattle.regress_backtrack.specs.Searched.{IsFor};
 
 use crate::input::{Input, input_for};
 use crate::machine::Machine;
-use crate::outcome::Outcome;
+use regress_found::Outcome;
 use crate::run::{Response, run};
 use regress_code::Code;
 use regress_found::Match;
