@@ -1,5 +1,5 @@
 use Rattle.std.proofs.Common.{IfSome, subst, sym, ap, ◌∙◌}
-use Rattle.std.specs.Prelude.{◌≡◌, ◌+◌, ◌*◌, ◌≤◌, length}
+use Rattle.std.specs.Prelude.{◌+◌, ◌*◌, ◌≤◌, length}
 use Rattle.regress_code.specs.Code.{code_routines}
 use Rattle.regress_found.specs.Results.{IsSearchResult, IfOutOfSteps}
 use Rattle.regress_match.specs.Matcher.{find_factor_of}
