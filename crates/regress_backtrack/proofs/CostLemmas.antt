@@ -17,8 +17,8 @@ use Rattle.regress_tree.specs.Reading.{direction_if, forwards}
 use Rattle.regress_tree.specs.Tree.{tree}
 use Rattle.regress_backtrack.specs.declared.alternatives.Looping.{Looping}
 use Rattle.regress_backtrack.specs.declared.input.Input.{Input}
-use Rattle.regress_code.specs.declared.instruction.Instruction.{Instruction}
-use Rattle.regress_code.specs.declared.instruction.Instruction.TheVariants as insts
+use Rattle.regress_program.specs.declared.instruction.Instruction.{Instruction}
+use Rattle.regress_program.specs.declared.instruction.Instruction.TheVariants as insts
 use Rattle.regress_backtrack.specs.declared.machine.Machine.{Machine}
 use Rattle.regress_backtrack.specs.declared.machine.Place.{Place}
 use Rattle.regress_leaves.specs.declared.start.Start.TheVariants as starts
@@ -30,7 +30,7 @@ use Rattle.regress_backtrack.specs.Machine.{Chosen, Groups, Ranged, at, groups_o
 use Rattle.regress_backtrack.specs.Next.{IsInput}
 use Rattle.regress_leaves.specs.Starts.{AreIn, IsStart}
 use Rattle.regress_backtrack.specs.Sweep.{IsSwept}
-use Rattle.regress_code.specs.Views.{characters_of, op_in, part_of}
+use Rattle.regress_program.specs.Views.{characters_of, op_in, part_of}
 use Rattle.regress_backtrack.proofs.RunLemmas.{op-is, width-is}
 use Rattle.regress_leaves.proofs.lemmas.Starts.{ascii_matches}
 use Rattle.regress_backtrack.proofs.StepLemmas.{Reaches}
@@ -39,7 +39,7 @@ module _ (input : Input) (is : IsInput input) (outs : ℕ → Out) (costs : ℕ 
   -- the cost at an instruction
   pub costed : (p : Place) (i : Instruction) → p.pc < length input.instructions.now → slice_get input.instructions.now p.pc ≡ Some i →
       p.position ≤ length input.text.now →
-      costs input.index (at p g) ≡ 1 + op_cost input outs costs (op_in input.code.now.tests.items i) (at p g)
+      costs input.index (at p g) ≡ 1 + op_cost input outs costs (op_in input.code.now.program.leaves.items i) (at p g)
   costed p i lt read le =
       let u = subject input.rules input.text.now in
       let program = code_routines input.code.now in

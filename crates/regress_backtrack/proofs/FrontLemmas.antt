@@ -25,5 +25,5 @@ entry_bounds code tables text input for front is outs solution k =
     let fronts : AreFrontsIn setting input.fronts.now r.direction r.ops = subst (λ x. AreFrontsIn x input.fronts.now r.direction r.ops) for.setting for.is.fronts in
     let bounds : Bounds front r.direction text k (outs i first) =
     fronts text (matcher_of setting text program outs) (outs i) (solution i r here) input.first front is first (sym for.is.first) in
-    subst (λ d. Bounds front d text k (outcomes_from code tables text outs k)) (code.forwards r here)
+    subst (λ d. Bounds front d text k (outcomes_from code tables text outs k)) (code.program.forwards r here)
     (subst (Bounds front r.direction text k) (sym (ap (λ o. outs i (start setting text o s)) here)) bounds)

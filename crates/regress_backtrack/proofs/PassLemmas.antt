@@ -13,8 +13,8 @@ use Rattle.regress_backtrack.specs.Costs.{HasCost}
 use Rattle.regress_code.specs.declared.front.Front.{Front}
 use Rattle.regress_code.specs.declared.front.Front.TheVariants as kinds
 use Rattle.regress_backtrack.specs.declared.input.Input.{Input}
-use Rattle.regress_code.specs.declared.instruction.Instruction.{Instruction}
-use Rattle.regress_code.specs.declared.instruction.Instruction.TheVariants as insts
+use Rattle.regress_program.specs.declared.instruction.Instruction.{Instruction}
+use Rattle.regress_program.specs.declared.instruction.Instruction.TheVariants as insts
 use Rattle.regress_backtrack.specs.declared.machine.Place.{Place}
 use Rattle.regress_code.specs.Fronts.{IsOutside, next_to}
 use Rattle.regress_backtrack.specs.Machine.{Groups, at}

@@ -8,14 +8,14 @@ use Rattle.regress_leaves.specs.Subject.{subject}
 use Rattle.regress_tree.specs.Reading.{Direction}
 use Rattle.regress_tree.specs.Setting.{Setting}
 use Rattle.regress_tree.specs.Steps.{MatchState, Matcher, CaptureSpan}
-use Rattle.regress_code.specs.declared.instruction.Instruction.{Instruction}
 use Rattle.regress_found.specs.Found.{state}
+use Rattle.regress_program.specs.declared.instruction.Instruction.{Instruction}
 use Rattle.regress_program.specs.Cost.{Cost, IsCost, cost_after, cost_of}
 use Rattle.regress_program.specs.Program.{Out, Routine, reach, start, matcher_of, outcomes_by, outcomes_at, IsSolution}
 use Rattle.regress_program.specs.Shape.{Fits, IsProgram}
 use Rattle.regress_code.specs.Code.{code_routines}
 use Rattle.regress_backtrack.specs.Costs.{cost_ahead, points_cost}
-use Rattle.regress_code.specs.Views.{op_in}
+use Rattle.regress_program.specs.Views.{op_in}
 use Rattle.regress_backtrack.specs.declared.input.Input.{Input}
 use Rattle.regress_backtrack.specs.declared.machine.Machine.{Machine}
 use Rattle.regress_backtrack.specs.declared.machine.Place.{Place}
@@ -26,7 +26,7 @@ use Rattle.regress_backtrack.specs.declared.step.Next.TheVariants as nexts
 use Rattle.regress_backtrack.specs.Machine.{Groups, at, groups_of, points}
 use Rattle.regress_backtrack.specs.Next.{CanStep, Fails, IsInput, Inside, Solve, ahead, Leads}
 use Rattle.regress_backtrack.specs.Run.{Answers, IsAfter}
-use Rattle.regress_code.specs.declared.instruction.Instruction.TheVariants as insts
+use Rattle.regress_program.specs.declared.instruction.Instruction.TheVariants as insts
 use Rattle.regress_backtrack.proofs.MachineLemmas.{points-none}
 use Rattle.regress_backtrack.proofs.StepLemmas.{Goes, goes_on, goes_back, Remains, on_inside, back_inside}
 
@@ -34,24 +34,24 @@ use Rattle.regress_backtrack.proofs.StepLemmas.{Goes, goes_on, goes_back, Remain
 
 module _ (input : Input) (is : IsInput input) (p : Place) (i : Instruction) (lt : p.pc < length input.instructions.now)
     (read : slice_get input.instructions.now p.pc ≡ Some i) where
-  pub op-is : slice_get is.routine.ops p.pc ≡ Some (op_in input.code.now.tests.items i)
-  op-is = ap (λ xs. slice_get xs p.pc) (sym is.ops) ∙ slice_get-map (op_in input.code.now.tests.items) input.instructions.now p.pc ∙ ap (option_map (op_in input.code.now.tests.items)) read
+  pub op-is : slice_get is.routine.ops p.pc ≡ Some (op_in input.code.now.program.leaves.items i)
+  op-is = ap (λ xs. slice_get xs p.pc) (sym is.ops) ∙ slice_get-map (op_in input.code.now.program.leaves.items) input.instructions.now p.pc ∙ ap (option_map (op_in input.code.now.program.leaves.items)) read
 
   pub width-is : length is.routine.ops ≡ length input.instructions.now
-  width-is = ap length (sym is.ops) ∙ length-map input.instructions.now (op_in input.code.now.tests.items)
+  width-is = ap length (sym is.ops) ∙ length-map input.instructions.now (op_in input.code.now.program.leaves.items)
 
-  pub can_step : IsProgram (code_routines input.code.now) → p.position ≤ length input.text.now → CanStep input (op_in input.code.now.tests.items i) p
+  pub can_step : IsProgram (code_routines input.code.now) → p.position ≤ length input.text.now → CanStep input (op_in input.code.now.program.leaves.items i) p
   can_step program le = record {
     pc = lt;
     position = le;
-    fits = subst (λ w. Fits (take input.index (code_routines input.code.now)) w p.pc (op_in input.code.now.tests.items i)) width-is
-        ((program input.index is.routine is.is).fit p.pc (op_in input.code.now.tests.items i) (omega arith) (omega (arith, width-is, lt)) op-is);
+    fits = subst (λ w. Fits (take input.index (code_routines input.code.now)) w p.pc (op_in input.code.now.program.leaves.items i)) width-is
+        ((program input.index is.routine is.is).fit p.pc (op_in input.code.now.program.leaves.items i) (omega arith) (omega (arith, width-is, lt)) op-is);
   }
 
   -- the outcomes at the instruction
   pub solved : (setting : Setting) (bytes : List ℕ) (outs : ℕ → Out) (d : Direction) (g : Groups) →
       IsSolution setting bytes (code_routines input.code.now) outs → d ≡ is.routine.direction → p.position ≤ length bytes →
-      outs input.index (at p g) ≡ outcomes_by setting bytes d (matcher_of setting bytes (code_routines input.code.now) outs) (outs input.index) (op_in input.code.now.tests.items i)
+      outs input.index (at p g) ≡ outcomes_by setting bytes d (matcher_of setting bytes (code_routines input.code.now) outs) (outs input.index) (op_in input.code.now.program.leaves.items i)
       (at p g)
   solved setting bytes outs d g solution direction le =
       solution input.index is.routine is.is (at p g) (omega arith) (omega (arith, width-is, lt)) le
@@ -61,7 +61,7 @@ module _ (input : Input) (is : IsInput input) (p : Place) (i : Instruction) (lt 
   -- the outcomes at the instruction lead on
   pub advanced : (m m' : Machine) (n : Next) (setting : Setting) (bytes : List ℕ) (outs : ℕ → Out) (d : Direction) →
       IsSolution setting bytes (code_routines input.code.now) outs → d ≡ is.routine.direction → p.position ≤ length bytes →
-      Goes (outs input.index) m m' (outcomes_by setting bytes d (matcher_of setting bytes (code_routines input.code.now) outs) (outs input.index) (op_in input.code.now.tests.items i)
+      Goes (outs input.index) m m' (outcomes_by setting bytes d (matcher_of setting bytes (code_routines input.code.now) outs) (outs input.index) (op_in input.code.now.program.leaves.items i)
       (at p (groups_of m))) n → Leads (flat_map (outs input.index) (at p (groups_of m) ∷ points m)) (outs input.index) m' n
   advanced m m' n setting bytes outs d solution direction le goes =
       subst (λ ss. Goes (outs input.index) m m' ss n) (sym (solved setting bytes outs d (groups_of m) solution direction le)) goes
@@ -75,10 +75,10 @@ only_second first second rest none = ap (λ xs. (xs ++ second) ++ rest) none
 
 -- what a lookaround names
 pub look_fits : (input : Input) (i : Instruction) (p : Place) (negate : Bool) (routine next : ℕ) → i ≡ insts.Look negate routine next →
-    CanStep input (op_in input.code.now.tests.items i) p →
+    CanStep input (op_in input.code.now.program.leaves.items i) p →
     (routine < length (take input.index (code_routines input.code.now))) × (next < length input.instructions.now)
 look_fits input i p negate routine next is can =
-    let fits = subst (Fits (take input.index (code_routines input.code.now)) (length input.instructions.now) p.pc) (ap (op_in input.code.now.tests.items) is) can.fits in
+    let fits = subst (Fits (take input.index (code_routines input.code.now)) (length input.instructions.now) p.pc) (ap (op_in input.code.now.program.leaves.items) is) can.fits in
     (fits.0, omega (arith, fits.1, can.pc))
 
 -- ---- the outcomes that remain
@@ -107,7 +107,7 @@ pub begins-inside : (input : Input) (is : IsInput input) (m : Machine) (start' :
     m.stack.entries.items ≡ [] → start' ≤ length input.text.now →
     All (Inside input) (at (record { pc = input.first; moved = true; position = start' }) (groups_of m) ∷ points m)
 begins-inside input is m start' program clear le =
-    let width : length is.routine.ops ≡ length input.instructions.now = ap length (sym is.ops) ∙ length-map input.instructions.now (op_in input.code.now.tests.items) in
+    let width : length is.routine.ops ≡ length input.instructions.now = ap length (sym is.ops) ∙ length-map input.instructions.now (op_in input.code.now.program.leaves.items) in
     let entry = (program input.index is.routine is.is).entry in
     let p : Place = record { pc = input.first; moved = true; position = start' } in
     All-cons (Inside input) (at p (groups_of m)) (points m) (record { pc = omega (arith, is.first, entry, width); position = le })

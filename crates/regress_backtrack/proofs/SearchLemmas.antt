@@ -33,7 +33,7 @@ pub of_tree : (code : Code) (tables : Tables) (text : List ℕ) (k : ℕ) → k 
     ((outs : ℕ → Out) → IsSolution (setting_with code tables) text (code_routines code) outs → P (outcomes_from code tables text outs k)) →
     (t : Tree) → IsPattern (code_routines code) t → P (tree_outcomes_from code tables text t k)
 of_tree code tables text k le P all t pattern =
-    let some = solution (setting_with code tables) text (code_routines code) code.is_program in
+    let some = solution (setting_with code tables) text (code_routines code) code.program.is_program in
     subst P (pattern.means (setting_with code tables) text some.0 some.1 (initial_state (code_groups code) k) le) (all some.0 some.1)
 
 -- outcomes that are the same inside the text
@@ -54,7 +54,7 @@ pub tree_finds : (b : Backtracker) (origin : ℕ) (outcome : Outcome) →
     (t : Tree) → IsPattern (code_routines (run_code b)) t → IsSearchResult (run_text b) (tree_outcomes_at b t) origin outcome
 tree_finds b origin outcome all t pattern =
     let setting = setting_with (run_code b) (run_tables b) in
-    let some = solution setting (run_text b) (code_routines (run_code b)) b.code.now.is_program in
+    let some = solution setting (run_text b) (code_routines (run_code b)) b.code.now.program.is_program in
     same_finds (run_text b) (outcomes_at b some.0) (tree_outcomes_at b t) origin outcome
     (λ k le. pattern.means setting (run_text b) some.0 some.1 (initial_state (code_groups (run_code b)) k) le) (all some.0 some.1)
 

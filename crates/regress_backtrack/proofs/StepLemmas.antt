@@ -7,14 +7,15 @@ use Rattle.regress_tree.specs.Setting.{Setting}
 use Rattle.regress_tree.specs.Steps.{MatchState}
 use Rattle.regress_tree.specs.Tree.{Tree, tree}
 use Rattle.regress_leaves.specs.Leaves.{exactly, put}
-use Rattle.regress_code.specs.declared.instruction.Instruction.{Instruction}
-use Rattle.regress_code.specs.declared.instruction.Instruction.TheVariants as insts
+use Rattle.regress_program.specs.declared.instruction.Instruction.{Instruction}
+use Rattle.regress_program.specs.declared.instruction.Instruction.TheVariants as insts
 use Rattle.regress_leaves.specs.declared.test.Test.{Test}
 use Rattle.regress_found.specs.Found.{state}
 use Rattle.regress_program.specs.Program.{Out, At}
 use Rattle.regress_program.specs.Shape.{Fits}
 use Rattle.regress_program.specs.Stays.{IsReached}
-use Rattle.regress_code.specs.Views.{characters_of, op_in, part_of}
+use Rattle.regress_program.specs.Views.{characters_of, op_in, part_of}
+use Rattle.regress_program.proofs.lemmas.Instructions.{characters-named, leaf-named}
 use Rattle.regress_program.proofs.lemmas.Onward.{Stays-tree}
 use Rattle.regress_backtrack.specs.declared.input.Input.{Input}
 use Rattle.regress_backtrack.specs.declared.machine.Machine.{Machine}
@@ -86,21 +87,22 @@ module _ (input : Input) (m : Machine) (o : Option Test) (next : ℕ) (p : Place
       let lt : next < length input.instructions.now = omega (arith, fits.1, can.pc) in
       part_inside input m m setting d (exactly count (tree t.node)) next p to n ends is refl lt can.position
 
--- an instruction with a leaf is no lookaround
-part_no_look : (t : Option Test) (next : ℕ) → is_look (part_of t next) ≡ false
-part_no_look None next = refl
-part_no_look (Some t) next = refl
+-- ---- instructions name leaves of the program
 
-characters_no_look : (t : Option Test) (count next : ℕ) → is_look (characters_of t count next) ≡ false
-characters_no_look None count next = refl
-characters_no_look (Some t) count next = refl
+module _ (input : Input) (o : Option Test) (next : ℕ) (p : Place) (none : o ≡ None) where
+  pub leaf_named : CanStep input (part_of o next) p → ⊥
+  leaf_named can = leaf-named (take input.index (code_routines input.code.now)) (length input.instructions.now) p.pc o next none can.fits
+
+  pub characters_named : (count : ℕ) → CanStep input (characters_of o count next) p → ⊥
+  characters_named count can =
+      characters-named (take input.index (code_routines input.code.now)) (length input.instructions.now) p.pc o next none count can.fits
 
 pub not_look : (tests : List Test) (i : Instruction) → ((negate : Bool) (routine next : ℕ) → i ≡ insts.Look negate routine next → ⊥) →
     is_look (op_in tests i) ≡ false
 not_look tests insts.Accept not = refl
 not_look tests insts.Fail not = refl
-not_look tests (insts.Leaf leaf next) not = part_no_look (slice_get tests leaf) next
-not_look tests (insts.Characters leaf count next) not = characters_no_look (slice_get tests leaf) count next
+not_look tests (insts.Leaf leaf next) not = refl
+not_look tests (insts.Characters leaf count next) not = refl
 not_look tests (insts.Split first second) not = refl
 not_look tests (insts.BeginLoop greedy body next) not = refl
 not_look tests (insts.Repeat greedy body next) not = refl

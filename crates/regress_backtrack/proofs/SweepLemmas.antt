@@ -14,7 +14,7 @@ use Rattle.regress_found.specs.Found.{state}
 use Rattle.regress_program.specs.Program.{Out, matcher_of, outcomes_by, reach}
 use Rattle.regress_backtrack.specs.declared.alternatives.Looping.{Looping}
 use Rattle.regress_backtrack.specs.declared.input.Input.{Input}
-use Rattle.regress_code.specs.declared.instruction.Instruction.TheVariants as insts
+use Rattle.regress_program.specs.declared.instruction.Instruction.TheVariants as insts
 use Rattle.regress_backtrack.specs.declared.machine.Machine.{Machine}
 use Rattle.regress_backtrack.specs.declared.machine.Place.{Place}
 use Rattle.regress_leaves.specs.declared.start.Start.TheVariants as starts
@@ -23,7 +23,7 @@ use Rattle.regress_backtrack.specs.Machine.{Groups, Ranged, at, groups_of, point
 use Rattle.regress_backtrack.specs.Next.{Inside, IsInput, Solve}
 use Rattle.regress_leaves.specs.Starts.{AreIn, IsStart}
 use Rattle.regress_backtrack.specs.Sweep.{IsSwept}
-use Rattle.regress_code.specs.Views.{part_of}
+use Rattle.regress_program.specs.Views.{part_of}
 use Rattle.regress_backtrack.proofs.RunLemmas.{solved}
 use Rattle.regress_leaves.proofs.lemmas.Starts.{ascii_matches}
 

@@ -9,7 +9,7 @@ use Rattle.regress_leaves.specs.Subject.{subject}
 use Rattle.regress_code.specs.Code.{code_routines}
 use Rattle.regress_code.specs.Fronts.{AreFrontsIn}
 use Rattle.regress_code.specs.Passes.{ArePasses}
-use Rattle.regress_code.specs.Views.{ops_in}
+use Rattle.regress_program.specs.Views.{ops_in}
 use Rattle.regress_backtrack.specs.declared.input.Input.{Input}
 use Rattle.regress_backtrack.specs.declared.machine.Machine.{Machine}
 use Rattle.regress_backtrack.specs.declared.machine.Place.{Place}
@@ -43,7 +43,7 @@ Inside input = Within (length input.instructions.now) (length input.text.now)
 pub record IsInput (input : Input) : Type 0 where
   pub routine : Routine
   pub is : slice_get (code_routines input.code.now) input.index ≡ Some routine
-  pub ops : ops_in input.code.now.tests.items input.instructions.now ≡ routine.ops
+  pub ops : ops_in input.code.now.program.leaves.items input.instructions.now ≡ routine.ops
   pub direction : direction_if input.rules.backwards ≡ routine.direction
   pub first : input.first ≡ routine.entry
   pub fronts : AreFrontsIn (subject input.rules input.text.now).setting input.fronts.now routine.direction routine.ops

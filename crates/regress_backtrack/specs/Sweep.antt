@@ -3,7 +3,7 @@ use Rattle.std.specs.Prelude.{◌≡◌, ℕ, ◌<◌, true, false, length, slic
 use Rattle.regress_base.specs.declared.bytesearch.bitmap.ByteBitmap.{ByteBitmap}
 use Rattle.regress_backtrack.specs.declared.alternatives.Looping.{Looping}
 use Rattle.regress_backtrack.specs.declared.input.Input.{Input}
-use Rattle.regress_code.specs.declared.instruction.Instruction.TheVariants as insts
+use Rattle.regress_program.specs.declared.instruction.Instruction.TheVariants as insts
 use Rattle.regress_leaves.specs.declared.start.Start.TheVariants as starts
 use Rattle.regress_leaves.specs.declared.test.Test.{Test}
 
@@ -14,6 +14,6 @@ pub record IsSwept (input : Input) (looping : Looping) (set : ByteBitmap) (turn 
   pub body : slice_get input.instructions.now looping.body ≡ Some (insts.Leaf leaf turn)
   pub turn_in : turn < length input.instructions.now
   pub turns : slice_get input.instructions.now turn ≡ Some (insts.Repeat true looping.body looping.next)
-  pub is_test : slice_get input.code.now.tests.items leaf ≡ Some test
+  pub is_test : slice_get input.code.now.program.leaves.items leaf ≡ Some test
   pub starts : test.start ≡ starts.Ascii set
   pub forwards : input.rules.backwards ≡ false

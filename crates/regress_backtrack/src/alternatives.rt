@@ -13,8 +13,8 @@ use crate::input::{Input, counts_at, front_at, instruction_at};
 use crate::machine::{Machine, Place};
 use crate::step::Next;
 use crate::sweep::sweep;
-use regress_code::instruction::Instruction;
 use regress_code::passes::count_at;
+use regress_program::instruction::Instruction;
 use std::alloc::AllocError;
 
 /// A loop.

@@ -14,10 +14,9 @@ ghost use Rattle.regress_backtrack.specs.Searched.{IsFor};
 
 use crate::input::{Input, input_for};
 use crate::machine::Machine;
-use regress_found::Outcome;
 use crate::run::{Response, run};
 use regress_code::Code;
-use regress_found::Match;
+use regress_found::{Match, Outcome};
 use regress_leaves::known::Known;
 use regress_leaves::rules::MatchContext;
 use regress_program::groups::unset_groups;
@@ -59,7 +58,7 @@ impl<'c, 'x> Backtracker<'c, 'x> {
         ensures text { IfOk result (λ b. run_text b ≡ text.now) }
         ensures has_cost { IfOk result (λ b. (outs : ℕ → Out) → AreOutcomes b outs → (costs : ℕ → Cost) × AreCosts b outs costs) }
     {
-        let machine = Machine::new(alloc, code.groups)?;
+        let machine = Machine::new(alloc, code.program.groups)?;
         Ok(Backtracker {
             code,
             known,
@@ -190,7 +189,7 @@ impl<'c, 'x> Backtracker<'c, 'x> {
         ensures same { SameRuns self.old self.new }
     {
         if !self.unset {
-            self.machine.captures = unset_groups(alloc, self.code.groups)?;
+            self.machine.captures = unset_groups(alloc, self.code.program.groups)?;
         }
         Ok(())
     }
@@ -202,9 +201,9 @@ pub(crate) fn input_of<'c, 'x>(code: &'c Code, known: Known<'x>, text: &'x str) 
     ensures { IsFor code.now known.entry.tables.now text.now result }
 {
     let rules = MatchContext {
-        flags: code.flags,
+        flags: code.program.flags,
         known,
         backwards: false,
     };
-    input_for(text, rules, code, code.routines.len() - 1)
+    input_for(text, rules, code, code.program.routines.len() - 1)
 }

@@ -8,11 +8,12 @@ ghost use Rattle.regress_backtrack.specs.Next.{IsInput};
 ghost use Rattle.regress_code.specs.Passes.{AreCounts};
 
 use regress_code::Code;
+use regress_code::analysis::Analysis;
 use regress_code::front::Front;
-use regress_code::instruction::Instruction;
 use regress_code::passes::Pass;
 use regress_leaves::rules::MatchContext;
 use regress_leaves::test::Test;
+use regress_program::instruction::Instruction;
 
 /// The text, the program, and the routine that is run.
 #[derive(Clone, Copy)]
@@ -52,7 +53,7 @@ pub fn input_for<'c, 'x>(
     ensures code { result.code.now ≡ code.now }
     ensures index { result.index ≡ index }
 {
-    let routine = &code.routines[index];
+    let routine = &code.program.routines[index];
     let input = Input {
         text,
         rules: MatchContext {
@@ -66,14 +67,26 @@ pub fn input_for<'c, 'x>(
         passes: &[],
         first: routine.entry,
     };
-    if has_fronts(code, rules) {
-        Input {
-            fronts: &routine.fronts,
-            passes: &routine.passes,
+    match analysis_of(code, rules, index) {
+        Some(analysis) => Input {
+            fronts: &analysis.fronts,
+            passes: &analysis.passes,
             ..input
-        }
+        },
+        None => input,
+    }
+}
+
+/// Returns the analysis of a routine, or `None` if it does not hold under these flags and case mappings.
+#[inline(always)]
+fn analysis_of<'c>(code: &'c Code, rules: MatchContext<'_>, index: usize) -> Option<&'c Analysis>
+    ensures analysis { IfSome result (λ a. slice_get code.now.analyses.items index ≡ Some a.now) }
+    ensures folds { IfSome result (λ a. FoldsIf code.now.folds (record { flags = rules.entry.flags; table = table_of rules.entry.known.tables.now })) }
+{
+    if has_fronts(code, rules) && index < code.analyses.len() {
+        Some(&code.analyses[index])
     } else {
-        input
+        None
     }
 }
 
@@ -100,12 +113,12 @@ pub fn instruction_at(input: &Input<'_, '_>, pc: usize) -> Instruction
 /// Returns a leaf of the program, or `None` if it has none with this index.
 #[inline(always)]
 pub fn test_at<'c>(input: &Input<'c, '_>, leaf: usize) -> Option<&'c Test>
-    ensures { MatchOption result (slice_get input.now.code.now.tests.items leaf ≡ None)
-        (λ test. slice_get input.now.code.now.tests.items leaf ≡ Some test.now) }
+    ensures { MatchOption result (slice_get input.now.code.now.program.leaves.items leaf ≡ None)
+        (λ test. slice_get input.now.code.now.program.leaves.items leaf ≡ Some test.now) }
 {
-    let tests = &input.code.tests;
-    if leaf < tests.len() {
-        Some(&tests[leaf])
+    let leaves = &input.code.program.leaves;
+    if leaf < leaves.len() {
+        Some(&leaves[leaf])
     } else {
         None
     }

@@ -17,7 +17,7 @@ use crate::alternatives::fails;
 use crate::input::{Input, input_for, instruction_at};
 use crate::machine::{Machine, Place};
 use crate::step::{Next, step};
-use regress_code::instruction::Instruction;
+use regress_program::instruction::Instruction;
 use std::alloc::{AllocError, Global};
 
 /// The result of a run.

@@ -14,8 +14,8 @@ ghost use Rattle.regress_found.specs.declared.outcome.Outcome.TheVariants.{OutOf
 
 use crate::backtracker::{Backtracker, input_of};
 use crate::input::{Input, front_at};
-use regress_found::{Found, Outcome};
 use regress_code::Code;
+use regress_found::{Found, Outcome};
 use regress_leaves::known::Known;
 use regress_prefilter::candidates::next_candidate_from;
 use std::alloc::{AllocError, Global};

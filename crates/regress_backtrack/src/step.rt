@@ -14,16 +14,16 @@ ghost use Rattle.regress_program.specs.Shape.{IsPart};
 ghost use Rattle.regress_code.specs.Code.{code_routines};
 ghost use Rattle.regress_backtrack.specs.Costs.{HasCost, cost_ahead, op_cost, points_cost};
 ghost use Rattle.regress_backtrack.specs.Machine.{at, groups_of, points, rewound};
-ghost use Rattle.regress_code.specs.Views.{characters_of, op_in, part_of};
+ghost use Rattle.regress_program.specs.Views.{characters_of, op_in, part_of};
 ghost use Rattle.regress_backtrack.specs.Next.{CanStep, Inside, IsInput, Leads, Solve, ahead, is_look};
 ghost use Rattle.regress_backtrack.specs.declared.step.Next.TheVariants.{Back, On, OutOfSteps};
 
 use crate::alternatives::{Looping, fork, iterate};
 use crate::input::{Input, test_at};
 use crate::machine::{Machine, Place};
-use regress_code::instruction::Instruction;
 use regress_leaves::leaves::simple_leaf;
 use regress_leaves::test::Test;
+use regress_program::instruction::Instruction;
 use regress_program::leaf::leaf_end;
 use std::alloc::AllocError;
 
@@ -59,20 +59,20 @@ pub fn step(
     machine: &mut Machine,
     left: &mut u64,
 ) -> Result<Next, AllocError>
-    requires can { CanStep input.now (op_in input.now.code.now.tests.items instruction) here }
+    requires can { CanStep input.now (op_in input.now.code.now.program.leaves.items instruction) here }
     requires input { IsInput input.now }
-    requires no_look { is_look (op_in input.now.code.now.tests.items instruction) ≡ false }
+    requires no_look { is_look (op_in input.now.code.now.program.leaves.items instruction) ≡ false }
     ensures leads { IfOk result (λ next. (outs : ℕ → Out) → Solve input.now outs → (let u = subject input.now.rules input.now.text.now in
         let out = outs input.now.index in
         Leads (outcomes_by u.setting u.bytes u.direction (matcher_of u.setting u.bytes (code_routines input.now.code.now) outs) out
-        (op_in input.now.code.now.tests.items instruction) (at here (groups_of machine.old)) ++ flat_map out (points machine.old))
+        (op_in input.now.code.now.program.leaves.items instruction) (at here (groups_of machine.old)) ++ flat_map out (points machine.old))
         out machine.new next)) }
     ensures inside { IfOk result (λ next. All (Inside input.now) (points machine.old) → All (Inside input.now) (ahead machine.new next)) }
     ensures rewound { IfOk result (λ _. rewound machine.new ≡ rewound machine.old) }
     ensures left { IfOk result (λ _. left.new ≤ left.old) }
     ensures costs { IfOk result (λ next. (outs : ℕ → Out) (costs : ℕ → Cost) → HasCost input.now outs costs → (let cost = costs input.now.index in
         left.old + cost_ahead cost machine.new next ≤ left.new + (op_cost input.now outs costs
-        (op_in input.now.code.now.tests.items instruction) (at here (groups_of machine.old)) + points_cost cost machine.old))) }
+        (op_in input.now.code.now.program.leaves.items instruction) (at here (groups_of machine.old)) + points_cost cost machine.old))) }
     ensures goes { IfOk result (λ next. next ≡ OutOfSteps → ⊥) }
 {
     match instruction {
@@ -134,15 +134,15 @@ fn match_leaf(
     machine: &Machine,
     left: &mut u64,
 ) -> Next
-    requires { CanStep input.now (part_of (slice_get input.now.code.now.tests.items leaf) next) here }
+    requires { CanStep input.now (part_of (slice_get input.now.code.now.program.leaves.items leaf) next) here }
     ensures leads { (body_of : ℕ → Matcher) (out : Out) → (let u = subject input.now.rules input.now.text.now in
-        Leads (outcomes_by u.setting u.bytes u.direction body_of out (part_of (slice_get input.now.code.now.tests.items leaf) next)
+        Leads (outcomes_by u.setting u.bytes u.direction body_of out (part_of (slice_get input.now.code.now.program.leaves.items leaf) next)
         (at here (groups_of machine.now)) ++ flat_map out (points machine.now)) out machine.now result) }
     ensures inside { All (Inside input.now) (points machine.now) → All (Inside input.now) (ahead machine.now result) }
     ensures left { left.new ≤ left.old }
     ensures costs { (outs : ℕ → Out) (costs : ℕ → Cost) → (let cost = costs input.now.index in
         left.old + cost_ahead cost machine.now result ≤ left.new + (op_cost input.now outs costs
-        (part_of (slice_get input.now.code.now.tests.items leaf) next) (at here (groups_of machine.now)) + points_cost cost machine.now)) }
+        (part_of (slice_get input.now.code.now.program.leaves.items leaf) next) (at here (groups_of machine.now)) + points_cost cost machine.now)) }
     ensures goes { result ≡ OutOfSteps → ⊥ }
 {
     let Some(test) = test_at(input, leaf) else {
@@ -200,15 +200,15 @@ fn match_characters(
     here: Place,
     left: &mut u64,
 ) -> Next
-    requires { CanStep input.now (characters_of (slice_get input.now.code.now.tests.items leaf) count next) here }
+    requires { CanStep input.now (characters_of (slice_get input.now.code.now.program.leaves.items leaf) count next) here }
     ensures leads { (machine : Machine) (body_of : ℕ → Matcher) (out : Out) → (let u = subject input.now.rules input.now.text.now in
-        Leads (outcomes_by u.setting u.bytes u.direction body_of out (characters_of (slice_get input.now.code.now.tests.items leaf) count next)
+        Leads (outcomes_by u.setting u.bytes u.direction body_of out (characters_of (slice_get input.now.code.now.program.leaves.items leaf) count next)
         (at here (groups_of machine)) ++ flat_map out (points machine)) out machine result) }
     ensures inside { (machine : Machine) → All (Inside input.now) (points machine) → All (Inside input.now) (ahead machine result) }
     ensures left { left.new ≤ left.old }
     ensures costs { (machine : Machine) (outs : ℕ → Out) (costs : ℕ → Cost) → (let cost = costs input.now.index in
         left.old + cost_ahead cost machine result ≤ left.new + (op_cost input.now outs costs
-        (characters_of (slice_get input.now.code.now.tests.items leaf) count next) (at here (groups_of machine)) + points_cost cost machine)) }
+        (characters_of (slice_get input.now.code.now.program.leaves.items leaf) count next) (at here (groups_of machine)) + points_cost cost machine)) }
     ensures goes { result ≡ OutOfSteps → ⊥ }
 {
     let Some(test) = test_at(input, leaf) else {

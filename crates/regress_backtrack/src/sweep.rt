@@ -11,9 +11,9 @@ use crate::alternatives::Looping;
 use crate::input::{Input, instruction_at, test_at};
 use crate::machine::{Machine, Place};
 use regress_base::bytesearch::ByteBitmap;
-use regress_code::instruction::Instruction;
 use regress_leaves::ascii::count_of;
 use regress_leaves::start::Start;
+use regress_program::instruction::Instruction;
 use std::alloc::AllocError;
 
 /// A loop over a leaf that matches one character.

@@ -20,9 +20,9 @@ use Rattle.regress_leaves.specs.Leaves.{exactly}
 use Rattle.regress_leaves.proofs.ReadingLemmas.{ascii_after, ascii_before}
 use Rattle.regress_leaves.proofs.lemmas.Leaves.{exactly-steps}
 use Rattle.regress_program.specs.Program.{At, Out, Solves, ended, outcomes_at, outcomes_by, reach}
-use Rattle.regress_code.specs.declared.instruction.Instruction.{Instruction}
+use Rattle.regress_program.specs.declared.instruction.Instruction.{Instruction}
 use Rattle.regress_leaves.specs.declared.test.Test.{Test}
-use Rattle.regress_code.specs.Views.{op_in, ops_in}
+use Rattle.regress_program.specs.Views.{op_in, ops_in}
 use Rattle.regress_code.specs.declared.front.Front.{Front}
 use Rattle.regress_code.specs.declared.front.Front.TheVariants as kinds
 use Rattle.regress_code.specs.Fronts.{Bounds, IsFront, IsOutside}

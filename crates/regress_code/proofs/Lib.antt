@@ -1,5 +1,5 @@
 pub mod lemmas
 mod CandidateLemmas
 mod FrontLemmas
-mod OwnedLemmas
+mod ListLemmas
 mod PassLemmas

@@ -3,7 +3,7 @@ use Rattle.std.proofs.Common.{◌≡◌, ℕ, zero, suc, ◌+◌, ◌-◌, ◌�
 use Rattle.regress_base.specs.ByteBitmap.{contains}
 use Rattle.regress_base.specs.declared.bytesearch.bitmap.ByteBitmap.{ByteBitmap}
 use Rattle.regress_code.specs.declared.front.Front.{Front}
-use Rattle.regress_code.specs.declared.instruction.Instruction.{Instruction}
+use Rattle.regress_program.specs.declared.instruction.Instruction.{Instruction}
 use Rattle.regress_code.specs.Passes.{AreCounts, IsPreferred, is_passed}
 use Rattle.regress_code.proofs.lemmas.Counts.{got}
 

@@ -1,4 +1,4 @@
--- Programs that own what they run.
+-- Programs that are analyzed.
 use Rattle.std.specs.Prelude.{ℕ, ◌+◌, ◌-◌, List, length, sum_by}
 use Rattle.std.specs.List.{range_with_len}
 use Rattle.regress_base.specs.declared.types.Flags.{Flags}
@@ -12,20 +12,20 @@ use Rattle.regress_unicode.specs.TableOf.{table_of}
 use Rattle.regress_program.specs.Cost.{Cost, cost_of}
 use Rattle.regress_found.specs.Found.{initial_state}
 use Rattle.regress_program.specs.Program.{Out, Routine, matcher_of}
+use Rattle.regress_program.specs.Search.{flags_of, groups_of, routines_of}
 use Rattle.regress_code.specs.declared.code.Code.{Code}
-use Rattle.regress_code.specs.Views.{program_in}
 
 -- the routines of a program
 abbrev pub code_routines : Code → List Routine
-code_routines code = program_in code.tests.items code.routines.items
+code_routines code = routines_of code.program
 
 -- the flags of its pattern
 abbrev pub code_flags : Code → Flags
-code_flags code = code.flags
+code_flags code = flags_of code.program
 
 -- the number of groups of its pattern
 abbrev pub code_groups : Code → ℕ
-code_groups code = code.groups
+code_groups code = groups_of code.program
 
 -- its flags with these case mappings
 abbrev pub setting_with : Code → Tables → Setting

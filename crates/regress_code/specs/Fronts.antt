@@ -9,11 +9,12 @@ use Rattle.regress_tree.specs.Setting.{Setting}
 use Rattle.regress_tree.specs.Steps.{MatchState, Matcher}
 use Rattle.regress_leaves.specs.Known.{HasAsciiCase}
 use Rattle.regress_program.specs.Program.{At, Op, Out, Solves}
+use Rattle.regress_code.specs.declared.analysis.Analysis.{Analysis}
 use Rattle.regress_code.specs.declared.front.Front.{Front}
 use Rattle.regress_code.specs.declared.front.Front.TheVariants as kinds
-use Rattle.regress_code.specs.declared.instruction.Routine as declared
+use Rattle.regress_program.specs.declared.instruction.Routine as declared
 use Rattle.regress_leaves.specs.declared.test.Test.{Test}
-use Rattle.regress_code.specs.Views.{ops_in}
+use Rattle.regress_program.specs.Views.{ops_in}
 
 -- the offset of the byte next to a position
 abbrev pub next_to : Direction → (position : ℕ) → ℕ
@@ -54,14 +55,14 @@ abbrev pub AreFrontsOf : (folds : Bool) → List Front → Direction → List Op
 AreFrontsOf folds fronts d ops = (setting : Setting) → FoldsIf folds setting → AreFrontsIn setting fronts d ops
 
 -- Each routine has its fronts.
-abbrev pub HaveFronts : (folds : Bool) → List Test → List declared.Routine → Type 0
-HaveFronts folds tests routines = (i : ℕ) (r : declared.Routine) → slice_get routines i ≡ Some r →
-    AreFrontsOf folds r.fronts.items (direction_if r.backwards) (ops_in tests r.instructions.items)
+abbrev pub HaveFronts : (folds : Bool) → List Test → List declared.Routine → List Analysis → Type 0
+HaveFronts folds leaves routines analyses = (i : ℕ) (a : Analysis) → slice_get analyses i ≡ Some a → (r : declared.Routine) → slice_get routines i ≡ Some r →
+    AreFrontsOf folds a.fronts.items (direction_if r.backwards) (ops_in leaves r.instructions.items)
 
 Bounds-prop : (front : Front) (d : Direction) (text : List ℕ) (position : ℕ) (states : List MatchState) → IsProp (Bounds front d text position states)
 Bounds-prop kinds.Any d text position states = Unit-prop
 Bounds-prop (kinds.Bytes set) d text position states = hlevel props
 
 -- The property has at most one proof.
-pub HaveFronts-prop : (folds : Bool) (tests : List Test) (routines : List declared.Routine) → IsProp (HaveFronts folds tests routines)
-HaveFronts-prop folds tests routines = hlevel (props, Bounds-prop)
+pub HaveFronts-prop : (folds : Bool) (leaves : List Test) (routines : List declared.Routine) (analyses : List Analysis) → IsProp (HaveFronts folds leaves routines analyses)
+HaveFronts-prop folds leaves routines analyses = hlevel (props, Bounds-prop)

@@ -4,11 +4,12 @@ use Rattle.std.proofs.Props.{props}
 use Rattle.regress_base.specs.ByteBitmap.{contains}
 use Rattle.regress_base.specs.declared.bytesearch.bitmap.ByteBitmap.{ByteBitmap}
 use Rattle.regress_tree.specs.Reading.{Direction}
+use Rattle.regress_code.specs.declared.analysis.Analysis.{Analysis}
 use Rattle.regress_code.specs.declared.front.Front.{Front}
 use Rattle.regress_code.specs.declared.front.Front.TheVariants as kinds
-use Rattle.regress_code.specs.declared.instruction.Instruction.{Instruction}
-use Rattle.regress_code.specs.declared.instruction.Instruction.TheVariants as insts
-use Rattle.regress_code.specs.declared.instruction.Routine as declared
+use Rattle.regress_program.specs.declared.instruction.Instruction.{Instruction}
+use Rattle.regress_program.specs.declared.instruction.Instruction.TheVariants as insts
+use Rattle.regress_program.specs.declared.instruction.Routine as declared
 use Rattle.regress_code.specs.declared.passes.Pass.{Pass}
 use Rattle.regress_code.specs.Fronts.{next_to}
 
@@ -41,8 +42,9 @@ abbrev pub ArePasses : List Pass → List Front → List Instruction → Type 0
 ArePasses passes fronts instructions = (pc : ℕ) (p : Pass) → slice_get passes pc ≡ Some p → AreCounts fronts instructions pc p.counts.items
 
 -- Each routine has its passes.
-abbrev pub HavePasses : List declared.Routine → Type 0
-HavePasses routines = (i : ℕ) (r : declared.Routine) → slice_get routines i ≡ Some r → ArePasses r.passes.items r.fronts.items r.instructions.items
+abbrev pub HavePasses : List declared.Routine → List Analysis → Type 0
+HavePasses routines analyses = (i : ℕ) (a : Analysis) → slice_get analyses i ≡ Some a → (r : declared.Routine) → slice_get routines i ≡ Some r →
+    ArePasses a.passes.items a.fronts.items r.instructions.items
 
 -- The byte is next to the position, which is neither the start nor the end of the text.
 pub record IsBeside (d : Direction) (text : List ℕ) (position b : ℕ) : Type 0 where
@@ -52,5 +54,5 @@ pub record IsBeside (d : Direction) (text : List ℕ) (position b : ℕ) : Type 
   pub small : b < 256
 
 -- The property has at most one proof.
-pub HavePasses-prop : (routines : List declared.Routine) → IsProp (HavePasses routines)
-HavePasses-prop routines = hlevel props
+pub HavePasses-prop : (routines : List declared.Routine) (analyses : List Analysis) → IsProp (HavePasses routines analyses)
+HavePasses-prop routines analyses = hlevel props

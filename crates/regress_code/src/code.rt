@@ -1,91 +1,113 @@
-//! Programs that own what they run.
-ghost use Rattle.std.specs.Prelude.{◌≡◌, ◌<◌, length, min};
-ghost use Rattle.regress_program.specs.Compiled.{total};
+//! Programs that are analyzed.
+ghost use Rattle.std.specs.Prelude.{◌≡◌, ◌≤◌, ◌<◌, Err, IfOk, length, min};
+ghost use Rattle.regress_tree.specs.Tree.{tree};
+ghost use Rattle.regress_tree.specs.WellFormed.{captures};
+ghost use Rattle.regress_program.specs.Compiled.{IsPattern, total};
 ghost use Rattle.regress_program.specs.Linear.{reason};
-ghost use Rattle.regress_program.specs.Ranges.{GroupRanges-set, ranges_of};
-ghost use Rattle.regress_program.specs.Shape.{IsForwards, IsProgram};
+ghost use Rattle.regress_program.specs.Search.{flags_of, groups_of, routines_of};
+ghost use Rattle.regress_program.specs.Size.{program_size};
 ghost use Rattle.regress_program.specs.Tidy.{table_groups as groups_by_tables};
-ghost use Rattle.regress_program.specs.Unique.{forwards-prop, program-prop};
+ghost use Rattle.regress_program.specs.declared.fault.CompileFault.TheVariants.{TooLong};
 ghost use Rattle.regress_code.specs.Candidates.{BeginsAt, BeginsAt-prop};
 ghost use Rattle.regress_code.specs.Fronts.{HaveFronts, HaveFronts-prop};
 ghost use Rattle.regress_code.specs.Passes.{HavePasses, HavePasses-prop};
-ghost use Rattle.regress_code.specs.Views.{program_in};
 
-use crate::instruction::Routine;
-use regress_base::types::Flags;
-use regress_leaves::test::Test;
-use regress_prefilter::candidates::Candidates;
-use regress_program::Nonlinear;
-use regress_program::ranges::GroupRange;
+use crate::analysis::{Analysis, analyze};
+use regress_prefilter::candidates::{Candidates, candidates_of};
+use regress_program::{CompileFault, Nonlinear, Program};
+use regress_tree::ir::Regex;
+use std::alloc::{AllocError, Global};
 
-/// A program that owns what it runs. It is a copy of a [`Program`](regress_program::Program), and refers neither to the
-/// tree nor to the case mappings.
+/// A program, with what is known of it before it is run.
 #[derive(Drop)]
 pub struct Code {
-    /// The leaves, which the instructions name by their indices.
-    pub tests: Vec<Test>,
-    /// The routines: those of lookarounds, and as the last one that of the pattern.
-    pub routines: Vec<Routine>,
-    /// The flags of the pattern.
-    pub flags: Flags,
-    /// The number of groups.
-    pub groups: usize,
-    /// The number of instructions, at most `usize::MAX`.
-    pub instructions: usize,
-    /// Why searches for all matches may take more than linear time.
-    pub nonlinear: Option<Nonlinear>,
-    /// The number of groups that lookarounds may set, if it is searched by tables.
-    pub table_groups: Option<usize>,
-    /// The groups that each routine changes.
-    pub ranges: Vec<GroupRange>,
+    /// The program.
+    pub program: Program,
+    /// The analysis of each routine.
+    pub analyses: Vec<Analysis>,
     /// Where matches can begin.
     pub candidates: Candidates,
     /// Whether the fronts hold only where canonical forms of ASCII characters are those of ASCII.
     pub folds: bool,
-    ghost some: { 0 < length routines.items },
-    ghost is_program: { IsProgram (program_in tests.items routines.items) } by { program-prop (program_in tests.items routines.items) },
-    ghost forwards: { IsForwards (program_in tests.items routines.items) } by { forwards-prop (program_in tests.items routines.items) },
-    ghost counted: { instructions ≡ min (total (program_in tests.items routines.items)) 18446744073709551615 },
-    ghost begins: { BeginsAt candidates (program_in tests.items routines.items) } by { BeginsAt-prop candidates (program_in tests.items routines.items) },
-    ghost fronted: { HaveFronts folds tests.items routines.items } by { HaveFronts-prop folds tests.items routines.items },
-    ghost passing: { HavePasses routines.items } by { HavePasses-prop routines.items },
-    ghost linear_unless: { nonlinear ≡ reason (program_in tests.items routines.items) },
-    ghost tabled: { table_groups ≡ groups_by_tables (program_in tests.items routines.items) },
-    ghost ranged: { ranges.items ≡ ranges_of (program_in tests.items routines.items) } by { GroupRanges-set ranges.items (ranges_of (program_in tests.items routines.items)) },
+    ghost begins: { BeginsAt candidates (routines_of program) } by { BeginsAt-prop candidates (routines_of program) },
+    ghost fronted: { HaveFronts folds program.leaves.items program.routines.items analyses.items } by { HaveFronts-prop folds program.leaves.items program.routines.items analyses.items },
+    ghost passing: { HavePasses program.routines.items analyses.items } by { HavePasses-prop program.routines.items analyses.items },
 }
 
 impl Code {
-    ghost use Rattle.regress_code.specs.Code.{code_groups, code_routines};
+    ghost use Rattle.regress_code.specs.Code.{code_flags, code_groups, code_routines};
+
+    /// Compiles a pattern into a program of at most `limit` instructions, and analyzes it.
+    ///
+    /// # Complexity
+    /// That of [`Program::compile`], and linear in the size of the tree and the number of instructions.
+    ///
+    /// # Errors
+    /// Returns [`CompileFault::TooLong`] only if the program would have more than `limit` instructions, and
+    /// [`CompileFault::Memory`] if an allocation fails.
+    pub fn compile(alloc: Global, regex: &Regex, limit: usize) -> Result<Code, CompileFault>
+        ensures pattern { IfOk result (λ code. IsPattern (code_routines code) (tree regex.now.node)) }
+        ensures flags { IfOk result (λ code. code_flags code ≡ regex.now.flags) }
+        ensures groups { IfOk result (λ code. code_groups code ≡ min (length (captures (tree regex.now.node))) usize.MAX) }
+        ensures size { IfOk result (λ code. total (code_routines code) ≡ program_size (tree regex.now.node)) }
+        ensures within { IfOk result (λ code. total (code_routines code) ≤ limit) }
+        ensures too_long { result ≡ Err TooLong → limit < program_size (tree regex.now.node) }
+    {
+        let program = Program::compile(alloc, regex, limit)?;
+        let candidates = candidates_of(&regex.node);
+        let code = Code::new(alloc, program, candidates)?;
+        Ok(code)
+    }
+
+    /// Returns the program, analyzed.
+    ///
+    /// # Preconditions
+    /// Every match of the program begins at a candidate.
+    ///
+    /// # Errors
+    /// Returns [`AllocError`] if an allocation fails.
+    fn new(alloc: Global, program: Program, candidates: Candidates) -> Result<Code, AllocError>
+        requires { BeginsAt candidates (routines_of program) }
+        ensures routines { IfOk result (λ code. code_routines code ≡ routines_of program) }
+        ensures flags { IfOk result (λ code. code_flags code ≡ flags_of program) }
+        ensures groups { IfOk result (λ code. code_groups code ≡ groups_of program) }
+    {
+        let folds = program.flags.icase;
+        let analyses = analyze(alloc, &program, folds)?;
+        Ok(Code {
+            program,
+            analyses,
+            candidates,
+            folds,
+        })
+    }
 
     /// Returns the number of instructions, at most `usize::MAX`.
     pub fn instructions(&self) -> usize
         ensures { result ≡ min (total (code_routines self.now)) usize.MAX }
     {
-        self.instructions
+        self.program.instructions()
     }
 
     /// Returns the number of capture groups of the pattern, at most `usize::MAX`.
     pub fn groups(&self) -> usize
         ensures { result ≡ code_groups self.now }
     {
-        self.groups
+        self.program.groups()
     }
 
-    /// Returns why searches for all matches may take more than linear time: a back reference, or if it has none, a
-    /// lookaround that sets captures. The result is `None` if they take linear time, by tables.
+    /// Returns why searches for all matches may take more than linear time, as [`Program::nonlinear`].
     pub fn nonlinear(&self) -> Option<Nonlinear>
         ensures { result ≡ reason (code_routines self.now) }
     {
-        self.nonlinear
+        self.program.nonlinear()
     }
 
-    /// Returns the number of groups that lookarounds may set, if the program is searched by tables; otherwise `None`.
-    ///
-    /// Tables lead to the matches also of a program whose lookarounds capture, if each begins with its groups unset. A
-    /// back reference rules them out.
+    /// Returns the number of groups that lookarounds may set, if the program is searched by tables, as
+    /// [`Program::table_groups`].
     pub fn table_groups(&self) -> Option<usize>
         ensures { result ≡ groups_by_tables (code_routines self.now) }
     {
-        self.table_groups
+        self.program.table_groups()
     }
 }

@@ -8,12 +8,12 @@ ghost use Rattle.regress_tree.specs.Steps.{MatchState, Matcher};
 ghost use Rattle.regress_tree.specs.Tree.{tree};
 ghost use Rattle.regress_program.specs.Program.{At, Out, outcomes_by};
 ghost use Rattle.regress_code.specs.Fronts.{AreFronts, AreFrontsOf, Bounds, FoldsIf, IsFront};
-ghost use Rattle.regress_code.specs.Views.{op_in, ops_in};
+ghost use Rattle.regress_program.specs.Views.{op_in, ops_in};
 
-use crate::instruction::Instruction;
 use regress_base::bytesearch::ByteBitmap;
 use regress_leaves::start::{Start, with_others};
 use regress_leaves::test::Test;
+use regress_program::instruction::Instruction;
 use regress_tree::ir::Node;
 use std::alloc::{AllocError, Global};
 

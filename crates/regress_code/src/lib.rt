@@ -1,10 +1,9 @@
-//! Programs that own what they run, with what is known of the next byte at each instruction.
+//! What is known of a program before it is run: the next byte at each instruction, and where matches can begin.
 #![tactic(auto)]
 
+pub mod analysis;
 mod code;
 pub mod front;
-pub mod instruction;
-mod owned;
 pub mod passes;
 
 pub use code::Code;

@@ -4,8 +4,8 @@ ghost use Rattle.regress_base.specs.ByteBitmap.{contains};
 ghost use Rattle.regress_code.specs.Passes.{AreCounts, ArePasses, IsPreferred};
 
 use crate::front::Front;
-use crate::instruction::Instruction;
 use regress_base::bytesearch::ByteBitmap;
+use regress_program::instruction::Instruction;
 use std::alloc::{AllocError, Global};
 
 /// The number of choices at the end of a row that are tested one by one.

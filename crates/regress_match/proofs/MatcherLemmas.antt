@@ -62,12 +62,12 @@ pub same_setting : (c : Code) (tables : Tables) (flags : Flags) → code_flags c
     setting_with c tables ≡ record { flags = flags; table = table_of tables }
 same_setting c tables flags is = ap (λ (f : Flags). let s : Setting = record { flags = f; table = table_of tables } in s) is
 
-pub result_means : (t : Tree) (tables : Tables) (flags : Flags) (groups : ℕ) (r : Result Code CompileFault) →
+pub result_means : (t : Tree) (flags : Flags) (groups : ℕ) (r : Result Code CompileFault) →
     IfOk r (λ c. IsPattern (code_routines c) t) → IfOk r (λ c. code_flags c ≡ flags) → IfOk r (λ c. code_groups c ≡ groups) →
-    groups ≡ length (captures t) → IfOk r (IsCodeOf (record { flags = flags; table = table_of tables }) t tables)
-result_means t tables flags groups (Ok c) pattern same counted all =
+    groups ≡ length (captures t) → IfOk r (λ c. (tables : Tables) → IsCodeOf (record { flags = flags; table = table_of tables }) t tables c)
+result_means t flags groups (Ok c) pattern same counted all = λ tables.
     code_means (record { flags = flags; table = table_of tables }) t tables c pattern (same_setting c tables flags same) (counted ∙ all)
-result_means t tables flags groups (Err e) pattern same counted all = tt
+result_means t flags groups (Err e) pattern same counted all = tt
 
 -- Removing repetitions keeps the first outcome.
 distinct_first : (states rest : List MatchState) (s : MatchState) → states ≡ s ∷ rest →
@@ -83,7 +83,7 @@ pub run_first : (setting : Setting) (t : Tree) (tables : Tables) (c : Code) (tex
     ((outs : ℕ → Out) → IsSolution (setting_with c tables) text (code_routines c) outs → IsMatchResult position (outcomes_from c tables text outs position) outcome) →
     IsMatchResult position (outcomes_at setting text t position) outcome
 run_first setting t tables c text position outcome is within solved =
-    let some = solution (setting_with c tables) text (code_routines c) c.is_program in
+    let some = solution (setting_with c tables) text (code_routines c) c.program.is_program in
     distinct outcome (subst (λ states. IsMatchResult position states outcome) (is.means text some.0 some.1 position within) (solved some.0 some.1))
   where
     distinct : (o : Outcome) → IsMatchResult position (all_outcomes setting t text position) o → IsMatchResult position (outcomes_at setting text t position) o
@@ -124,9 +124,9 @@ run_finds setting t tables c text origin outcome is solved =
     by : (o : Outcome) → ((outs : ℕ → Out) → IsSolution (setting_with c tables) text (code_routines c) outs → IsSearchResult text (outcomes_from c tables text outs) origin o) →
         IsSearchResult text (all_outcomes setting t text) origin o
     by (outcomes.Matched m) f =
-        finds_by (setting_with c tables) text (code_routines c) c.is_program (outcomes_from c tables text) (all_outcomes setting t text) origin (Some m) (is.means text) f
+        finds_by (setting_with c tables) text (code_routines c) c.program.is_program (outcomes_from c tables text) (all_outcomes setting t text) origin (Some m) (is.means text) f
     by outcomes.NoMatch f =
-        finds_by (setting_with c tables) text (code_routines c) c.is_program (outcomes_from c tables text) (all_outcomes setting t text) origin None (is.means text) f
+        finds_by (setting_with c tables) text (code_routines c) c.program.is_program (outcomes_from c tables text) (all_outcomes setting t text) origin None (is.means text) f
     by outcomes.OutOfSteps f = tt
 
 -- an equal program, under equal case mappings

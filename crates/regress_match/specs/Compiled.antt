@@ -1,5 +1,5 @@
 -- What is known of the program of a pattern.
-use Rattle.std.specs.Prelude.{◌≡◌, ℕ, ◌≤◌, List, length}
+use Rattle.std.specs.Prelude.{◌≡◌, ℕ, ◌≤◌, List, Option, IfSome, length}
 use Rattle.std.proofs.Props.{props}
 use Rattle.regress_tree.specs.Matching.{steps}
 use Rattle.regress_tree.specs.Reading.{forwards}
@@ -10,6 +10,7 @@ use Rattle.regress_tree.specs.WellFormed.{captures}
 use Rattle.regress_unicode.specs.declared.Tables.{Tables}
 use Rattle.regress_found.specs.Found.{initial_state}
 use Rattle.regress_program.specs.Program.{Out, IsSolution}
+use Rattle.regress_required.specs.Required.{IsRequired}
 use Rattle.regress_code.specs.Code.{code_routines, outcomes_from, setting_with}
 use Rattle.regress_code.specs.declared.code.Code.{Code}
 
@@ -26,6 +27,12 @@ module _ (setting : Setting) (t : Tree) where
 -- Each property has at most one proof.
 pub MatchState-set : IsSet MatchState
 MatchState-set = hlevel props
+
+IsRequired-prop : (b : ℕ) (t : Tree) → IsProp (IsRequired b t)
+IsRequired-prop b t = hlevel (props, MatchState-set)
+
+pub IfRequired-prop : (b : Option ℕ) (t : Tree) → IsProp (IfSome b (λ byte. IsRequired byte t))
+IfRequired-prop b t = hlevel (props, IsRequired-prop)
 
 pub IsCodeOf-prop : (setting : Setting) (t : Tree) (tables : Tables) (code : Code) → IsProp (IsCodeOf setting t tables code)
 IsCodeOf-prop setting t tables code = hlevel (props, MatchState-set)

@@ -4,6 +4,7 @@ ghost use Rattle.std.specs.Arc.{arc_value};
 ghost use Rattle.regress_tree.specs.Tree.{tree};
 ghost use Rattle.regress_tree.specs.WellFormed.{captures};
 ghost use Rattle.regress_unicode.specs.TableOf.{table_of};
+ghost use Rattle.regress_unicode.specs.declared.Tables.{Tables};
 ghost use Rattle.regress_program.specs.Compiled.{IsPattern, total};
 ghost use Rattle.regress_program.specs.Size.{program_size};
 ghost use Rattle.regress_program.specs.declared.fault.CompileFault.TheVariants.{TooLong};
@@ -19,6 +20,7 @@ use regress_code::Code;
 use regress_leaves::case_facts::CaseFacts;
 use regress_program::CompileFault;
 use regress_program::groups::group_count;
+use regress_required::required_byte;
 use regress_tree::ir::Regex;
 use regress_unicode::Tables;
 use std::alloc::Global;
@@ -52,8 +54,9 @@ impl Matcher {
         ensures too_long { result ≡ Err TooLong → length (captures (tree regex.node)) < usize.MAX → limits.instructions < program_size (tree regex.node) }
     {
         let groups = group_count(&regex.node);
-        let code = compiled(alloc, &regex, tables, groups, limits.instructions)?;
+        let code = compiled(alloc, &regex, groups, limits.instructions)?;
         let within = code.instructions() <= limits.tables;
+        let required_byte = required_byte(&regex.node);
         let facts = CaseFacts::find(tables, regex.flags);
         let tables = Arc::try_clone(tables)?;
         Ok(Matcher {
@@ -62,6 +65,7 @@ impl Matcher {
             facts,
             code,
             within,
+            required_byte,
         })
     }
 
@@ -118,15 +122,9 @@ impl Matcher {
 ///
 /// # Preconditions
 /// `groups` is the number of groups of the pattern, at most `usize::MAX`.
-fn compiled(
-    alloc: Global,
-    regex: &Regex,
-    tables: &Tables,
-    groups: usize,
-    limit: usize,
-) -> Result<Code, CompileFault>
+fn compiled(alloc: Global, regex: &Regex, groups: usize, limit: usize) -> Result<Code, CompileFault>
     requires { groups ≡ min (length (captures (tree regex.now.node))) usize.MAX }
-    ensures means { IfOk result (IsCodeOf (record { flags = regex.now.flags; table = table_of tables.now }) (tree regex.now.node) tables.now) }
+    ensures means { IfOk result (λ code. (tables : Tables) → IsCodeOf (record { flags = regex.now.flags; table = table_of tables }) (tree regex.now.node) tables code) }
     ensures pattern { IfOk result (λ code. IsPattern (code_routines code) (tree regex.now.node)) }
     ensures size { IfOk result (λ code. total (code_routines code) ≡ program_size (tree regex.now.node)) }
     ensures within { IfOk result (λ code. total (code_routines code) ≤ limit) }
@@ -136,7 +134,7 @@ fn compiled(
     if groups == usize::MAX {
         return Err(CompileFault::TooLong);
     }
-    Code::compile(alloc, regex, tables, limit)
+    Code::compile(alloc, regex, limit)
 }
 
 /// Returns an upper bound for the steps for each character, at most `u64::MAX`: those of backtracking, of making the

@@ -1,9 +1,11 @@
 //! Patterns that are prepared for searches.
 ghost use Rattle.std.specs.Arc.{arc_value};
+ghost use Rattle.std.specs.Prelude.{IfSome};
 ghost use Rattle.regress_tree.specs.Tree.{tree};
 ghost use Rattle.regress_unicode.specs.TableOf.{table_of};
 ghost use Rattle.regress_leaves.specs.Known.{AreFactsOf, AreFactsOf-prop};
-ghost use Rattle.regress_match.specs.Compiled.{IsCodeOf, IsCodeOf-prop};
+ghost use Rattle.regress_match.specs.Compiled.{IfRequired-prop, IsCodeOf, IsCodeOf-prop};
+ghost use Rattle.regress_required.specs.Required.{IsRequired};
 
 use regress_code::Code;
 use regress_leaves::case_facts::CaseFacts;
@@ -23,7 +25,10 @@ pub struct Matcher {
     pub(crate) code: Code,
     /// Whether the program is within the limit on tables.
     pub(crate) within: bool,
+    /// A byte that each match contains, if one is known.
+    pub(crate) required_byte: Option<u8>,
     ghost compiled: { IsCodeOf (record { flags = regex.flags; table = table_of (arc_value tables) }) (tree regex.node) (arc_value tables) code } by { IsCodeOf-prop (record { flags = regex.flags; table = table_of (arc_value tables) }) (tree regex.node) (arc_value tables) code },
+    ghost required: { IfSome required_byte (λ b. IsRequired b (tree regex.node)) } by { IfRequired-prop required_byte (tree regex.node) },
     ghost holds: { AreFactsOf (table_of (arc_value tables)) facts } by { AreFactsOf-prop (table_of (arc_value tables)) facts },
 }
 

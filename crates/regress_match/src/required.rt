@@ -4,7 +4,7 @@ ghost use Rattle.regress_match.specs.Pattern.{matcher_tree};
 ghost use Rattle.regress_required.specs.Required.{IsRequired, IsRequiredLiteral};
 
 use crate::matcher::Matcher;
-use regress_required::{required_byte, required_literal};
+use regress_required::required_literal;
 
 impl Matcher {
     /// Returns a byte that each match contains, if one is known, and if the program has at most `limit` instructions.
@@ -14,7 +14,7 @@ impl Matcher {
         if self.code.instructions() > limit {
             None
         } else {
-            required_byte(&self.regex.node)
+            self.required_byte
         }
     }
 

@@ -1,6 +1,10 @@
 -- Alternations as instructions: the alternatives are compiled first, and then joined from the last to the first.
-use Rattle.std.proofs.Common.{◌≡◌, ℕ, List, [], ◌∷◌, ◌++◌, refl, sym, subst}
+use Rattle.std.proofs.Common.{◌≡◌, ℕ, ◌+◌, List, [], ◌∷◌, ◌++◌, length, refl, sym, subst}
+use Rattle.regress_leaves.specs.declared.test.Test.{Test}
 use Rattle.regress_tree.specs.Tree.{Tree}
+use Rattle.regress_program.specs.CodeOf.{code_in}
+use Rattle.regress_program.specs.LeavesOf.{HasLeaves, leaves_of}
+use Rattle.regress_program.specs.declared.compiler.Compiler.{Compiler}
 use Rattle.regress_program.specs.Compiled.{matching, Code, Grown, Compiled}
 use Rattle.regress_program.specs.Pushed.{Pushed}
 use Rattle.regress_program.specs.Program.{split}
@@ -48,3 +52,17 @@ pub compiled_alternative : (a b c : Code) (next first second at : ℕ) (whole re
 compiled_alternative a b c next first second at whole rest is right pushed =
     subst (λ t. Compiled a c (matching t) next at) (sym is.is)
     (compiled_or a b c (matching is.left) (matching rest) next first second at is.compiled right pushed)
+
+-- The left sides of `whole` down to the right side `rest` have been compiled, whose leaves are next.
+pub record Splitting (leaves : List Test) (old new : Compiler) (next : ℕ) (entries : List ℕ) (whole rest : Tree) : Type 0 where
+  pub grown : Grown (code_in leaves old) (code_in leaves new)
+  pub waiting : Waiting (code_in leaves old) (code_in leaves new) next entries whole rest
+  pub has : HasLeaves leaves new.next_leaf (leaves_of rest)
+  pub after : new.next_leaf + length (leaves_of rest) ≡ old.next_leaf + length (leaves_of whole)
+
+-- The alternatives have been compiled, and joined from the last one on to `joined`.
+pub record Joining (leaves : List Test) (old new : Compiler) (next entry : ℕ) (entries : List ℕ) (whole : Tree) : Type 0 where
+  pub joined : Tree
+  pub waiting : Waiting (code_in leaves old) (code_in leaves new) next entries whole joined
+  pub compiled : Compiled (code_in leaves old) (code_in leaves new) (matching joined) next entry
+  pub after : new.next_leaf ≡ old.next_leaf + length (leaves_of whole)

@@ -9,6 +9,7 @@ mod CountLemmas
 mod FlowLemmas
 mod KeepLemmas
 mod LeafLemmas
+mod LeavesLemmas
 mod LocalLemmas
 mod PartLemmas
 mod PutLemmas

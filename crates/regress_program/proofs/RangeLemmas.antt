@@ -1,7 +1,7 @@
 -- The groups that instructions and routines change, from an index on.
-use Rattle.std.proofs.Common.{◌≡◌, ℕ, ◌+◌, ◌<◌, List, [], ◌∷◌, ◌++◌, map, length, drop, get_or, slice_get, Some, option_map, max, refl, sym, ap, ap₂, ◌∙◌, arith}
-use Rattle.std.proofs.lemmas.List.{drop_more}
-use Rattle.std.proofs.lemmas.Option.{get_or_from_slice_get, slice_get-map, slice_get_read, slice_get_within}
+use Rattle.std.proofs.Common.{◌≡◌, ℕ, ◌+◌, ◌<◌, ◌≤◌, List, [], ◌∷◌, ◌++◌, map, length, drop, take, get_or, slice_get, Some, option_map, max, refl, sym, ap, ap₂, ◌∙◌, arith}
+use Rattle.std.proofs.lemmas.List.{drop_all, drop_more, length-map, take_all}
+use Rattle.std.proofs.lemmas.Option.{get_or_from_slice_get, slice_get-get_or, slice_get-map, slice_get_read, slice_get_within}
 use Rattle.regress_program.specs.declared.ranges.GroupRange.{GroupRange}
 use Rattle.regress_program.specs.Program.{Op, Routine}
 use Rattle.regress_program.specs.Ranges.{captured_by, captured_by_all, captured_in, changed_by, changed_by_all, hull, ranges_after}
@@ -18,6 +18,22 @@ get-map f xs i x within is = slice_get-map f xs i ∙ ap (option_map f) (slice_g
 pub drop_map-at : {X : Type 0} {Y : Type 0} (f : X → Y) (xs : List X) (i next : ℕ) (x : X) → i < length xs → x ≡ get_or xs i x →
     next ≡ i + 1 → drop i (map f xs) ≡ f x ∷ drop next (map f xs)
 drop_map-at f xs i next x within is after = drop-at (map f xs) i next (f x) (get-map f xs i x within is) after
+
+-- the same for the element that is read there
+pub get_map-got : {X : Type 0} {Y : Type 0} (f : X → Y) (xs : List X) (i : ℕ) (d : X) → i < length xs → slice_get (map f xs) i ≡ Some (f (get_or xs i d))
+get_map-got f xs i d within = slice_get-map f xs i ∙ ap (option_map f) (slice_get-get_or xs i d within)
+
+pub drop_map-got : {X : Type 0} {Y : Type 0} (f : X → Y) (xs : List X) (i next : ℕ) (d : X) → i < length xs → next ≡ i + 1 →
+    drop i (map f xs) ≡ f (get_or xs i d) ∷ drop next (map f xs)
+drop_map-got f xs i next d within after =
+    drop-at (map f xs) i next (f (get_or xs i d)) (get_map-got f xs i d within) after
+
+-- all elements
+pub take_map-all : {X : Type 0} {Y : Type 0} (f : X → Y) (xs : List X) (i : ℕ) → length xs ≤ i → take i (map f xs) ≡ map f xs
+take_map-all f xs i end = take_all i (map f xs) (omega (arith, end, length-map xs f))
+
+pub drop_map-all : {X : Type 0} {Y : Type 0} (f : X → Y) (xs : List X) (i : ℕ) → length xs ≤ i → drop i (map f xs) ≡ []
+drop_map-all f xs i end = drop_all i (map f xs) (omega (arith, end, length-map xs f))
 
 -- one more instruction
 pub changed-more : (earlier : List GroupRange) (ops : List Op) (i next : ℕ) (op : Op) (first rest whole : GroupRange) →

@@ -16,7 +16,7 @@ use Rattle.regress_program.specs.Program.{Op, accept, begin_loop, repeat, end_lo
 use Rattle.regress_program.specs.Shape.{Fits, AllFit, IsProgram}
 use Rattle.regress_program.specs.Stays.{Stays}
 use Rattle.regress_program.proofs.CodeLemmas.{get-append-below, get-set-same, get-set-other, length-push, Extends-same, earlier, Solved-fewer, solved_at, Fits-later, Grown-same, Grown-then, Grown-push, Solved-first, Solved-second, pushed_at}
-use Rattle.regress_program.proofs.CompileLemmas.{compiled_same, compiled_then}
+use Rattle.regress_program.proofs.CompileLemmas.{compiled_nothing, compiled_same, compiled_then}
 use Rattle.regress_program.proofs.TurnLemmas.{Turns-less, Turns-more, Turns-last, Turns-all, Goes-begin, up_to-min}
 use Rattle.regress_program.proofs.lemmas.Onward.{Stays-up_to}
 
@@ -245,3 +245,15 @@ pub compiled_repeated : (a b : Code) (q : Quantifier) (start end : ℕ) (f : Mat
     Compiled a b (repeated q start end f) next entry
 unfolding repeat_matcher
 compiled_repeated a b q start end f next entry is = is
+
+-- a loop without iterations
+pub compiled_never : (a : Code) (q : Quantifier) (start end : ℕ) (f : Matching) (next : ℕ) → q.min ≡ 0 → q.max ≡ Some 0 →
+    ((d : Direction) (setting : Setting) (bytes : List ℕ) → Stays bytes d (once start end f d setting bytes)) → next < length a.ops →
+    Compiled a a (repeated q start end f) next next
+compiled_never a q start end f next least most stays below =
+    let g = once start end f in
+    let none : 0 ≡ 0 - q.min = omega arith in
+    let optional_part = compiled_bounded a a q g next next 0 most stays
+    (subst (λ (k : ℕ). Compiled a a (optional q.greedy k g) next next) none (compiled_nothing a next below)) in
+    compiled_repeated a a q start end f next next
+    (subst (λ (k : ℕ). Compiled a a (after_iterations k g (extra q g)) next next) (sym least) (compiled_no_mandatory a a g (extra q g) next next optional_part))

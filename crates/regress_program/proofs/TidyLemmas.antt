@@ -115,6 +115,10 @@ pub length-claims_from : (ranges : List GroupRange) (d : Direction) (at : ℕ) (
 length-claims_from ranges d at [] = refl
 length-claims_from ranges d at (op ∷ ops) = omega (arith, length-claims_from ranges d (at + 1) ops)
 
+pub claimed-all : (ranges : List GroupRange) (d : Direction) (ops : List Op) (at : ℕ) (claims : List ℕ) → at ≡ 0 → Claimed ranges d ops at claims →
+    claims ≡ claims_from ranges d 0 ops
+claimed-all ranges d ops at claims start is = (subst (λ k. Claimed ranges d ops k claims) start is).done
+
 pub take_whole : (n : ℕ) (xs ys : List ℕ) → n ≡ length xs → take n (xs ++ ys) ≡ xs
 take_whole n xs ys is = ap (λ k. take k (xs ++ ys)) is ∙ take-append_seam xs ys
 

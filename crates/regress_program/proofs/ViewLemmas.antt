@@ -7,19 +7,21 @@ use Rattle.regress_tree.specs.Reading.{forwards}
 use Rattle.regress_tree.specs.Tree.{empty, goal, char, byte_sequence, byte_set, char_set, match_any, match_any_except_line_terminator, anchor, word_boundary, bracket, back_ref, string_set, Tree, leaf, cat, alt, wrapped, tree, trees}
 use Rattle.regress_tree.specs.declared.ir.node.Node.{Node}
 use Rattle.regress_leaves.specs.Leaves.{has_one_outcome}
+use Rattle.regress_leaves.specs.declared.test.Test.{Test}
 use Rattle.regress_program.specs.Compiled.{World, matching, strings, Code, Compiled, HasRoutine, IsPattern}
 use Rattle.regress_program.specs.Program.{Op, part, split, Routine, matcher_of}
 use Rattle.regress_program.specs.Program as programs
 use Rattle.regress_program.specs.Pushed.{Pushed}
-use Rattle.regress_program.specs.Shape.{IsPart}
-use Rattle.regress_program.specs.Views.{op_of, ops_of}
+use Rattle.regress_program.specs.Shape.{IsPart, IsProgram}
+use Rattle.regress_program.specs.Views.{op_in, ops_in, program_in}
 use Rattle.regress_program.specs.declared.instruction.Instruction.{Instruction}
+use Rattle.regress_program.specs.declared.instruction.Routine as declared
 use Rattle.regress_program.proofs.CodeLemmas.{Extends-same}
 use Rattle.regress_program.proofs.CompileLemmas.{compiled_nothing, compiled_part, compiled_then, compiled_later, compiled_earlier}
 use Rattle.regress_program.proofs.RoutineLemmas.{compiled_no_strings, compiled_strings}
 
-pub below : (items : List Instruction) (next : ℕ) → next < length items → next < length (ops_of items)
-below items next lt = omega (arith, length-map items op_of, lt)
+pub below : (leaves : List Test) (items : List Instruction) (next : ℕ) → next < length items → next < length (ops_in leaves items)
+below leaves items next lt = omega (arith, length-map items (op_in leaves), lt)
 
 -- ---- leaves
 
@@ -103,6 +105,9 @@ more_strings a b c e ss i j x s icase next first entry at is-j some within is is
     (compiled_earlier a b c f next first rest.grown left) (compiled_later a b c g next entry left.grown rest) joined)
 
 -- ---- the last routine
+
+pub no_routines : (leaves : List Test) (routines : List declared.Routine) → routines ≡ [] → IsProgram (program_in leaves routines)
+no_routines leaves routines none = subst (λ rs. IsProgram (program_in leaves rs)) (sym none) (λ i r is. let bad : ⊥ = cc in absurd bad)
 
 pub is_pattern : (a b : Code) (t : Tree) (i : ℕ) → HasRoutine a b (matching t) forwards i → IsPattern b.routines t
 is_pattern a b t i has =

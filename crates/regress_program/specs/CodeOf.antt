@@ -1,36 +1,73 @@
 -- A program that is being compiled, as plain data.
-use Rattle.std.specs.Prelude.{◌≡◌, ℕ, ◌+◌}
+use Rattle.std.specs.Prelude.{◌≡◌, ◌<◌, ◌≤◌, true, ℕ, ◌+◌, List, length}
 use Rattle.regress_tree.specs.Reading.{Direction}
 use Rattle.regress_base.specs.declared.types.Quantifier.{Quantifier}
+use Rattle.regress_leaves.specs.declared.test.Test.{Test}
+use Rattle.regress_prefilter.specs.OneCharacter.{takes_one}
 use Rattle.regress_tree.specs.Repetition.{iteration}
 use Rattle.regress_tree.specs.Tree.{Tree}
-use Rattle.regress_program.specs.Compiled.{Matching, repeated, Code, Compiled, HasRoutine}
+use Rattle.regress_program.specs.Compiled.{Matching, matching, repeated, Code, Compiled, HasRoutine}
+use Rattle.regress_program.specs.LeavesOf.{HasLeaves}
 use Rattle.regress_program.specs.Program.{Op}
 use Rattle.regress_program.specs.Pushed.{Pushed}
 use Rattle.regress_program.specs.Size.{size, size_of_iteration}
-use Rattle.regress_program.specs.Views.{ops_of, program_of}
+use Rattle.regress_program.specs.Views.{leaf_in, ops_in, program_in}
 use Rattle.regress_program.specs.declared.loops.Iterations.{Iterations}
 use Rattle.regress_program.specs.declared.compiler.Compiler.{Compiler}
 
--- the finished routines, the instructions of the next one, and what the limit allows
-abbrev pub code_of : Compiler → Code
-code_of c = record { routines = program_of c.routines.items; ops = ops_of c.instructions.items; left = c.left }
+-- the finished routines, the instructions of the next one, and what the limit allows, with these leaves
+abbrev pub code_in : List Test → Compiler → Code
+code_in leaves c = record { routines = program_in leaves c.routines.items; ops = ops_in leaves c.instructions.items; left = c.left }
 
--- The instructions that have been added match f from `entry` on, and then go on at `next`.
-abbrev pub Emits : (old new : Compiler) → Matching → (next entry : ℕ) → Type 0
-Emits old new = Compiled (code_of old) (code_of new)
+-- Instructions have been added, which start at `entry`, and whose meaning is known with each list of leaves.
+pub record Coded (old new : Compiler) (entry : ℕ) (Means : List Test → Type 0) : Type 0 where
+  pub begins : entry < length new.instructions.items
+  pub grown : length old.instructions.items ≤ length new.instructions.items
+  pub means : (leaves : List Test) → Means leaves
+
+-- With these leaves, the instructions that have been added match f from `entry` on, and then go on at `next`. They name
+-- n leaves from `from` on.
+pub record EmitsWith (leaves : List Test) (old new : Compiler) (from n : ℕ) (f : Matching) (next entry : ℕ) : Type 0 where
+  pub after : new.next_leaf ≡ from + n
+  pub compiled : Compiled (code_in leaves old) (code_in leaves new) f next entry
+
+-- This holds with leaves that are these trees from `from` on.
+abbrev pub Emits : (old new : Compiler) → (from : ℕ) → List Tree → Matching → (next entry : ℕ) → Type 0
+Emits old new from ts f next entry = Coded old new entry (λ leaves. HasLeaves leaves from ts → EmitsWith leaves old new from (length ts) f next entry)
+
+-- The same for a number of copies. Without any, no leaf is named.
+pub record CopiesWith (leaves : List Test) (old new : Compiler) (from n copies : ℕ) (f : Matching) (next entry : ℕ) : Type 0 where
+  pub after : 0 < copies → new.next_leaf ≡ from + n
+  pub compiled : Compiled (code_in leaves old) (code_in leaves new) f next entry
+
+abbrev pub EmitsCopies : (old new : Compiler) → (from : ℕ) → List Tree → (copies : ℕ) → Matching → (next entry : ℕ) → Type 0
+EmitsCopies old new from ts copies f next entry =
+    Coded old new entry (λ leaves. HasLeaves leaves from ts → CopiesWith leaves old new from (length ts) copies f next entry)
+
+-- The instructions that have been added match characters with one leaf.
+abbrev pub EmitsCharacters : (old new : Compiler) → (leaf : ℕ) → (Matching → Matching) → (next entry : ℕ) → Type 0
+EmitsCharacters old new leaf f next entry = Coded old new entry (λ leaves. takes_one (leaf_in leaves leaf) ≡ true →
+    Compiled (code_in leaves old) (code_in leaves new) (f (matching (leaf_in leaves leaf))) next entry)
 
 -- n instructions have been added, those of finished routines included.
 abbrev pub Spends : (old new : Compiler) → (n : ℕ) → Type 0
 Spends old new n = new.left + n ≡ old.left
 
 -- The instruction at the end has been added.
-abbrev pub EmitsOne : (old new : Compiler) → Op → (at : ℕ) → Type 0
-EmitsOne old new = Pushed (code_of old) (code_of new)
+pub record EmitsOne (old new : Compiler) (op : List Test → Op) (at : ℕ) : Type 0 where
+  pub at_end : at ≡ length old.instructions.items
+  pub grown : length new.instructions.items ≡ length old.instructions.items + 1
+  pub means : (leaves : List Test) → Pushed (code_in leaves old) (code_in leaves new) (op leaves) at
 
--- The last routine has been added, which matches f in the direction d.
-abbrev pub EmitsRoutine : (old new : Compiler) → Matching → (d : Direction) → (i : ℕ) → Type 0
-EmitsRoutine old new = HasRoutine (code_of old) (code_of new)
+-- With these leaves, the last routine has been added, which matches f in the direction d. It names n leaves.
+pub record RoutineWith (leaves : List Test) (old new : Compiler) (n : ℕ) (f : Matching) (d : Direction) (i : ℕ) : Type 0 where
+  pub after : new.next_leaf ≡ old.next_leaf + n
+  pub has : HasRoutine (code_in leaves old) (code_in leaves new) f d i
+
+-- This holds with leaves that are these trees from the next one on.
+pub record EmitsRoutine (old new : Compiler) (ts : List Tree) (f : Matching) (d : Direction) (i : ℕ) : Type 0 where
+  pub same : length new.instructions.items ≡ length old.instructions.items
+  pub means : (leaves : List Test) → HasLeaves leaves old.next_leaf ts → RoutineWith leaves old new (length ts) f d i
 
 -- one iteration of a loop over f
 abbrev pub iterating : Iterations → Matching → Matching

@@ -6,6 +6,7 @@ pub mod Compiled
 pub mod Cost
 pub mod Isolated
 pub mod Iterates
+pub mod LeavesOf
 pub mod Linear
 pub mod Program
 pub mod Pushed

@@ -1,9 +1,7 @@
 //! Compiles loops over one character.
-ghost use Rattle.std.specs.Prelude.{◌≡◌, ◌<◌, true, IfOk, IfErr, length};
-ghost use Rattle.regress_prefilter.specs.OneCharacter.{takes_one};
-ghost use Rattle.regress_tree.specs.Tree.{tree};
-ghost use Rattle.regress_program.specs.CodeOf.{Emits, EmitsOne, Spends};
-ghost use Rattle.regress_program.specs.Compiled.{exactly, matching, optional};
+ghost use Rattle.std.specs.Prelude.{◌≡◌, ◌<◌, IfOk, IfErr, length};
+ghost use Rattle.regress_program.specs.CodeOf.{EmitsCharacters, EmitsOne, Spends};
+ghost use Rattle.regress_program.specs.Compiled.{exactly, optional};
 ghost use Rattle.regress_program.specs.Pushed.{preferred};
 ghost use Rattle.regress_program.specs.Size.{size_of_exactly, size_of_up_to};
 ghost use Rattle.regress_program.specs.declared.fault.CompileFault.TheVariants.{TooLong};
@@ -11,26 +9,22 @@ ghost use Rattle.regress_program.specs.declared.fault.CompileFault.TheVariants.{
 use crate::compiler::Compiler;
 use crate::fault::CompileFault;
 use crate::instruction::Instruction;
-use regress_tree::ir::Node;
 
 /// The largest number of characters that one instruction matches, so that a step takes constant time.
 const MOST: usize = 64;
 
-impl<'a> Compiler<'a> {
+impl Compiler {
     /// Compiles exactly `count` characters that match a leaf, the last ones first.
-    ///
-    /// # Preconditions
-    /// The leaf matches one character.
     pub(crate) fn exactly(
         &mut self,
-        leaf: &'a Node,
+        leaf: usize,
         count: usize,
         next: usize,
     ) -> Result<usize, CompileFault>
-        requires below { next < length self.old.instructions.items }
-        requires one { takes_one (tree leaf.now) ≡ true }
-        ensures emits { IfOk result (Emits self.old self.new (exactly count (matching (tree leaf.now))) next) }
+        requires { next < length self.old.instructions.items }
+        ensures emits { IfOk result (EmitsCharacters self.old self.new leaf (exactly count) next) }
         ensures spends { IfOk result (λ _. Spends self.old self.new (size_of_exactly count)) }
+        ensures leaf { self.new.next_leaf ≡ self.old.next_leaf }
         ensures too_long { IfErr result (λ fault. fault ≡ TooLong → self.old.left < size_of_exactly count) }
     {
         let mut entry = next;
@@ -48,20 +42,17 @@ impl<'a> Compiler<'a> {
     /// An odd number is split in half: of 2 h + 1 characters the first h + 1 or none, and after them at most h. Of an even
     /// number it is the first one and after it at most one less, or none. So there are at most four instructions for each
     /// bit of the number, and one for 64 characters.
-    ///
-    /// # Preconditions
-    /// The leaf matches one character.
     pub(crate) fn up_to(
         &mut self,
-        leaf: &'a Node,
+        leaf: usize,
         greedy: bool,
         count: usize,
         next: usize,
     ) -> Result<usize, CompileFault>
-        requires below { next < length self.old.instructions.items }
-        requires one { takes_one (tree leaf.now) ≡ true }
-        ensures emits { IfOk result (Emits self.old self.new (optional greedy count (matching (tree leaf.now))) next) }
+        requires { next < length self.old.instructions.items }
+        ensures emits { IfOk result (EmitsCharacters self.old self.new leaf (optional greedy count) next) }
         ensures spends { IfOk result (λ _. Spends self.old self.new (size_of_up_to count count)) }
+        ensures leaf { self.new.next_leaf ≡ self.old.next_leaf }
         ensures too_long { IfErr result (λ fault. fault ≡ TooLong → self.old.left < size_of_up_to count count) }
     {
         if count == 0 {
@@ -79,32 +70,25 @@ impl<'a> Compiler<'a> {
     }
 
     /// Compiles a number of characters that match a leaf, as one instruction.
-    fn characters(
-        &mut self,
-        leaf: &'a Node,
-        count: usize,
-        next: usize,
-    ) -> Result<usize, CompileFault>
-        requires below { next < length self.old.instructions.items }
-        requires one { takes_one (tree leaf.now) ≡ true }
-        ensures emits { IfOk result (Emits self.old self.new (exactly count (matching (tree leaf.now))) next) }
+    fn characters(&mut self, leaf: usize, count: usize, next: usize) -> Result<usize, CompileFault>
+        requires { next < length self.old.instructions.items }
+        ensures emits { IfOk result (EmitsCharacters self.old self.new leaf (exactly count) next) }
         ensures spends { IfOk result (λ _. Spends self.old self.new 1) }
+        ensures leaf { self.new.next_leaf ≡ self.old.next_leaf }
         ensures too_long { IfErr result (λ fault. fault ≡ TooLong → self.old.left ≡ 0) }
     {
         if count == 1 {
-            self.push(Instruction::Leaf { node: leaf, next })
+            self.push(Instruction::Leaf { leaf, next })
         } else {
-            self.push(Instruction::Characters {
-                node: leaf,
-                count,
-                next,
-            })
+            self.push(Instruction::Characters { leaf, count, next })
         }
     }
 
     /// Emits a choice of two alternatives. If `greedy`, the first is preferred, otherwise the second.
     fn prefer(&mut self, greedy: bool, first: usize, second: usize) -> Result<usize, CompileFault>
-        ensures emits { IfOk result (EmitsOne self.old self.new (preferred greedy first second)) }
+        ensures emits { IfOk result (EmitsOne self.old self.new (λ leaves. preferred greedy first second)) }
+        ensures spends { IfOk result (λ _. Spends self.old self.new 1) }
+        ensures leaf { self.new.next_leaf ≡ self.old.next_leaf }
         ensures too_long { IfErr result (λ fault. fault ≡ TooLong → self.old.left ≡ 0) }
     {
         if greedy {

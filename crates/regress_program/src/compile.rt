@@ -2,51 +2,53 @@
 ghost use Rattle.std.specs.Prelude.{◌≡◌, ◌≤◌, ◌<◌, Err, IfOk, IfErr, length, min};
 ghost use Rattle.regress_tree.specs.Tree.{tree, trees, cat};
 ghost use Rattle.regress_tree.specs.WellFormed.{captures};
-ghost use Rattle.regress_unicode.specs.TableOf.{table_of};
 ghost use Rattle.regress_program.specs.CodeOf.{Emits, Spends};
 ghost use Rattle.regress_program.specs.Compiled.{matching, IsPattern, total};
-ghost use Rattle.regress_program.specs.Search.{groups_of, instructions_of, routines_of, setting_of};
+ghost use Rattle.regress_program.specs.LeavesOf.{leaves_of, leaves_of_parts};
+ghost use Rattle.regress_program.specs.Search.{flags_of, groups_of, instructions_of, routines_of};
 ghost use Rattle.regress_program.specs.Shape.{IsForwards, IsProgram};
 ghost use Rattle.regress_program.specs.Size.{program_size, size, size_of_parts};
-ghost use Rattle.regress_program.specs.Views.{program_of};
+ghost use Rattle.regress_program.specs.Views.{program_in};
 ghost use Rattle.regress_program.specs.declared.fault.CompileFault.TheVariants.{TooLong};
 
+use crate::collect::leaves_of;
 use crate::compiler::Compiler;
 use crate::fault::CompileFault;
 use crate::groups::group_count;
 use crate::instruction::{Instruction, Routine};
 use crate::loops::Iterations;
 use crate::program::Program;
-use regress_leaves::known::Known;
+use regress_leaves::test::Test;
 use regress_tree::ir::{Node, Regex};
-use regress_unicode::Tables;
 use std::alloc::Global;
 
-/// Returns the routines of a program of at most `limit` instructions. The last one matches the pattern forwards, and the
-/// others are the bodies of its lookarounds.
-fn compile<'a>(
+/// Returns the leaves and the routines of a program of at most `limit` instructions. The last routine matches the pattern
+/// forwards, and the others are the bodies of its lookarounds.
+fn compile(
     alloc: Global,
-    node: &'a Node,
+    node: &Node,
     limit: usize,
-) -> Result<Vec<Routine<'a>>, CompileFault>
-    ensures program { IfOk result (λ routines. IsProgram (program_of routines.items)) }
-    ensures means { IfOk result (λ routines. IsPattern (program_of routines.items) (tree node.now)) }
-    ensures forwards { IfOk result (λ routines. IsForwards (program_of routines.items)) }
-    ensures size { IfOk result (λ routines. total (program_of routines.items) ≡ program_size (tree node.now)) }
-    ensures within { IfOk result (λ routines. total (program_of routines.items) ≤ limit) }
+) -> Result<(Vec<Test>, Vec<Routine>), CompileFault>
+    ensures program { IfOk result (λ parts. IsProgram (program_in parts.0.items parts.1.items)) }
+    ensures means { IfOk result (λ parts. IsPattern (program_in parts.0.items parts.1.items) (tree node.now)) }
+    ensures forwards { IfOk result (λ parts. IsForwards (program_in parts.0.items parts.1.items)) }
+    ensures size { IfOk result (λ parts. total (program_in parts.0.items parts.1.items) ≡ program_size (tree node.now)) }
+    ensures within { IfOk result (λ parts. total (program_in parts.0.items parts.1.items) ≤ limit) }
     ensures too_long { IfErr result (λ fault. fault ≡ TooLong → limit < program_size (tree node.now)) }
 {
+    let leaves = leaves_of(alloc, node)?;
     let mut compiler = Compiler {
         alloc,
         routines: Vec::new(alloc),
         instructions: Vec::new(alloc),
+        next_leaf: 0,
         left: limit,
     };
     compiler.routine(node, false)?;
-    Ok(compiler.routines)
+    Ok((leaves, compiler.routines))
 }
 
-impl<'n, 't> Program<'n, 't> {
+impl Program {
     /// Compiles a pattern into a program of at most `limit` instructions.
     ///
     /// # Errors
@@ -55,37 +57,32 @@ impl<'n, 't> Program<'n, 't> {
     ///
     /// # Complexity
     /// Linear in the size of the tree, where a body counts as many times as it is copied: for each iteration up to the
-    /// minimum, and up to a maximum. Each copy emits an instruction, so there are at most `limit` copies. A body of one
-    /// character is not copied: up to 64 of its iterations are one instruction. The recursion is as deep as nodes are
-    /// nested, where right sides of alternatives do not count.
-    pub fn compile(
-        alloc: Global,
-        regex: &'n Regex,
-        tables: &'t Tables,
-        limit: usize,
-    ) -> Result<Program<'n, 't>, CompileFault>
+    /// minimum, and up to a maximum. Each copy emits an instruction, so there are at most `limit` copies, which share
+    /// their leaves. A body of one character is not copied: up to 64 of its iterations are one instruction. The recursion
+    /// is as deep as nodes are nested, where right sides of alternatives do not count.
+    pub fn compile(alloc: Global, regex: &Regex, limit: usize) -> Result<Program, CompileFault>
         ensures pattern { IfOk result (λ p. IsPattern (routines_of p) (tree regex.now.node)) }
-        ensures setting { IfOk result (λ p. setting_of p ≡ record { flags = regex.now.flags; table = table_of tables.now }) }
+        ensures flags { IfOk result (λ p. flags_of p ≡ regex.now.flags) }
         ensures groups { IfOk result (λ p. groups_of p ≡ min (length (captures (tree regex.now.node))) usize.MAX) }
         ensures size { IfOk result (λ p. instructions_of p ≡ program_size (tree regex.now.node)) }
         ensures within { IfOk result (λ p. instructions_of p ≤ limit) }
         ensures too_long { result ≡ Err TooLong → limit < program_size (tree regex.now.node) }
     {
-        let routines = compile(alloc, &regex.node, limit)?;
-        let known = Known::new(tables, regex.flags);
+        let (leaves, routines) = compile(alloc, &regex.node, limit)?;
         let groups = group_count(&regex.node);
-        Ok(Program::new(routines, regex.flags, known, groups))
+        let program = Program::new(alloc, leaves, routines, regex.flags, groups)?;
+        Ok(program)
     }
 }
 
-impl<'a> Compiler<'a> {
+impl Compiler {
     /// Compiles a node that is matched before the instruction `next`. Returns the instruction at which it starts.
     ///
     /// A loop follows the right sides of alternatives, since an alternation nests as deep as it has alternatives.
     #[cycle(compile)]
-    pub(crate) fn node(&mut self, node: &'a Node, next: usize) -> Result<usize, CompileFault>
+    pub(crate) fn node(&mut self, node: &Node, next: usize) -> Result<usize, CompileFault>
         requires { next < length self.old.instructions.items }
-        ensures emits { IfOk result (Emits self.old self.new (matching (tree node.now)) next) }
+        ensures emits { IfOk result (Emits self.old self.new self.old.next_leaf (leaves_of (tree node.now)) (matching (tree node.now)) next) }
         ensures spends { IfOk result (λ _. Spends self.old self.new (size (tree node.now))) }
         ensures too_long { IfErr result (λ fault. fault ≡ TooLong → self.old.left < size (tree node.now)) }
     {
@@ -107,9 +104,9 @@ impl<'a> Compiler<'a> {
 
     /// Compiles a node by its kind. No `Alt` reaches it from `node`, which compiles alternatives in a loop.
     #[cycle(compile)]
-    fn other(&mut self, node: &'a Node, next: usize) -> Result<usize, CompileFault>
+    fn other(&mut self, node: &Node, next: usize) -> Result<usize, CompileFault>
         requires { next < length self.old.instructions.items }
-        ensures emits { IfOk result (Emits self.old self.new (matching (tree node.now)) next) }
+        ensures emits { IfOk result (Emits self.old self.new self.old.next_leaf (leaves_of (tree node.now)) (matching (tree node.now)) next) }
         ensures spends { IfOk result (λ _. Spends self.old self.new (size (tree node.now))) }
         ensures too_long { IfErr result (λ fault. fault ≡ TooLong → self.old.left < size (tree node.now)) }
     {
@@ -131,6 +128,7 @@ impl<'a> Compiler<'a> {
                     start: usize::from(enclosed_groups.start),
                     end: usize::from(enclosed_groups.end),
                     greedy: quant.greedy,
+                    first_leaf: self.next_leaf,
                 };
                 self.repeat(loopee, iterations, *quant, next)
             }
@@ -141,24 +139,21 @@ impl<'a> Compiler<'a> {
                 contents,
                 ..
             } => self.look(contents, *negate, *backwards, next),
-            Node::StringSet {
-                alternatives,
-                icase,
-            } => self.strings(alternatives, *icase, next),
+            Node::StringSet { alternatives, .. } => self.strings(alternatives, next),
             Node::Alt(left, right) => {
-                let second = self.node(right, next)?;
                 let first = self.node(left, next)?;
+                let second = self.node(right, next)?;
                 self.push(Instruction::Split { first, second })
             }
-            _ => self.push(Instruction::Leaf { node, next }),
+            _ => self.push_leaf(next),
         }
     }
 
     /// Compiles the parts of a sequence, the last one first.
     #[cycle(compile)]
-    fn sequence(&mut self, parts: &'a [Node], next: usize) -> Result<usize, CompileFault>
+    fn sequence(&mut self, parts: &[Node], next: usize) -> Result<usize, CompileFault>
         requires { next < length self.old.instructions.items }
-        ensures emits { IfOk result (Emits self.old self.new (matching (cat (trees parts.now))) next) }
+        ensures emits { IfOk result (Emits self.old self.new self.old.next_leaf (leaves_of_parts (trees parts.now)) (matching (cat (trees parts.now))) next) }
         ensures spends { IfOk result (λ _. Spends self.old self.new (size_of_parts (trees parts.now))) }
         ensures too_long { IfErr result (λ fault. fault ≡ TooLong → self.old.left < size_of_parts (trees parts.now)) }
     {

@@ -1,39 +1,22 @@
 //! What a program contains.
-ghost use Rattle.std.specs.Prelude.{◌≡◌, ◌<◌, ℕ, List, length, min};
-ghost use Rattle.regress_leaves.specs.Subject.{subject};
-ghost use Rattle.regress_tree.specs.Reading.{direction_if};
-ghost use Rattle.regress_program.specs.Search.{groups_of, instructions_of, routines_of, setting_of};
-ghost use Rattle.regress_program.specs.Shape.{IsForwards, IsProgram};
-ghost use Rattle.regress_program.specs.Views.{program_of};
+ghost use Rattle.std.specs.Prelude.{◌≡◌, ◌<◌, List, length, min};
+ghost use Rattle.regress_leaves.specs.declared.test.Test.{Test};
+ghost use Rattle.regress_program.specs.Compiled.{total};
+ghost use Rattle.regress_program.specs.Linear.{reason};
+ghost use Rattle.regress_program.specs.Search.{groups_of, instructions_of, routines_of};
+ghost use Rattle.regress_program.specs.Tidy.{table_groups as groups_by_tables};
+ghost use Rattle.regress_program.specs.Views.{program_in};
 
 use crate::instruction::Routine;
+use crate::nonlinear::Nonlinear;
 use crate::program::Program;
-use regress_leaves::rules::MatchContext;
 
-impl<'n, 't> Program<'n, 't> {
-    /// Returns the routines: those of the lookarounds, each after the ones that it refers to, and as the last one that
-    /// of the pattern.
-    pub fn routines(&self) -> &[Routine<'n>]
-        ensures routines { program_of result.now ≡ routines_of self.now }
-        ensures program { IsProgram (routines_of self.now) }
-        ensures some { 0 < length (routines_of self.now) }
-        ensures forwards { IsForwards (routines_of self.now) }
-    {
-        &self.routines
-    }
-
+impl Program {
     /// Returns the number of instructions, at most `usize::MAX`.
-    ///
-    /// # Complexity
-    /// Linear in the number of routines: that of the pattern, and one for each copy of a lookaround.
     pub fn instructions(&self) -> usize
         ensures { result ≡ min (instructions_of self.now) usize.MAX }
     {
-        let mut count: usize = 0;
-        for routine in &self.routines {
-            count = count.saturating_add(routine.instructions.len());
-        }
-        count
+        self.instructions
     }
 
     /// Returns the number of capture groups of the pattern, at most `usize::MAX`.
@@ -43,15 +26,34 @@ impl<'n, 't> Program<'n, 't> {
         self.groups
     }
 
-    /// Returns the flags and the case mappings of the pattern, for a part that is matched in this direction.
-    pub fn rules(&self, backwards: bool) -> MatchContext<'t>
-        ensures { (text : List ℕ) → subject result text ≡
-            record { setting = setting_of self.now; bytes = text; direction = direction_if backwards } }
+    /// Returns why searches for all matches may take more than linear time: a back reference, or if it has none, a
+    /// lookaround that is not negated and sets or resets captures. The result is `None` if they take linear time, by
+    /// tables.
+    pub fn nonlinear(&self) -> Option<Nonlinear>
+        ensures { result ≡ reason (routines_of self.now) }
     {
-        MatchContext {
-            flags: self.flags,
-            known: self.known,
-            backwards,
-        }
+        self.nonlinear
     }
+
+    /// Returns an upper bound for the number of groups that lookarounds set, if the program is searched by tables;
+    /// otherwise `None`.
+    ///
+    /// Tables lead to the matches also of a program whose lookarounds capture, if each begins with its groups unset. A
+    /// back reference rules them out.
+    pub fn table_groups(&self) -> Option<usize>
+        ensures { result ≡ groups_by_tables (routines_of self.now) }
+    {
+        self.table_groups
+    }
+}
+
+/// Returns the number of instructions of these routines, at most `usize::MAX`.
+pub(crate) fn instruction_count(routines: &[Routine]) -> usize
+    ensures { (leaves : List Test) → result ≡ min (total (program_in leaves routines.now)) usize.MAX }
+{
+    let mut count: usize = 0;
+    for routine in routines {
+        count = count.saturating_add(routine.instructions.len());
+    }
+    count
 }

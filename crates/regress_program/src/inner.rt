@@ -1,15 +1,16 @@
 //! The groups that lookarounds set.
-ghost use Rattle.std.specs.Prelude.{◌≡◌};
+ghost use Rattle.std.specs.Prelude.{◌≡◌, List};
+ghost use Rattle.regress_leaves.specs.declared.test.Test.{Test};
 ghost use Rattle.regress_program.specs.Ranges.{captured_by, captured_by_all, captured_in};
-ghost use Rattle.regress_program.specs.Views.{op_of, ops_of, program_of};
+ghost use Rattle.regress_program.specs.Views.{op_in, ops_in, program_in};
 
 use crate::instruction::{Instruction, Routine};
 use crate::ranges::{GroupRange, changed_by};
 
 /// Returns an upper bound for the number of groups that lookarounds set: the groups up to the last one in a lookaround
 /// that is not negated.
-pub(crate) fn inner_groups(ranges: &[GroupRange], routines: &[Routine<'_>]) -> usize
-    ensures { result ≡ captured_in ranges.now (program_of routines.now) }
+pub(crate) fn inner_groups(ranges: &[GroupRange], routines: &[Routine]) -> usize
+    ensures { (leaves : List Test) → result ≡ captured_in ranges.now (program_in leaves routines.now) }
 {
     let mut groups = 0;
     for routine in routines {
@@ -19,8 +20,8 @@ pub(crate) fn inner_groups(ranges: &[GroupRange], routines: &[Routine<'_>]) -> u
 }
 
 /// Returns the same for the instructions of a routine.
-fn captured_by_all(ranges: &[GroupRange], instructions: &[Instruction<'_>]) -> usize
-    ensures { result ≡ captured_by_all ranges.now (ops_of instructions.now) }
+fn captured_by_all(ranges: &[GroupRange], instructions: &[Instruction]) -> usize
+    ensures { (leaves : List Test) → result ≡ captured_by_all ranges.now (ops_in leaves instructions.now) }
 {
     let mut groups = 0;
     for instruction in instructions {
@@ -30,8 +31,8 @@ fn captured_by_all(ranges: &[GroupRange], instructions: &[Instruction<'_>]) -> u
 }
 
 /// Returns the same for an instruction.
-fn captured_by(ranges: &[GroupRange], instruction: &Instruction<'_>) -> usize
-    ensures { result ≡ captured_by ranges.now (op_of instruction.now) }
+fn captured_by(ranges: &[GroupRange], instruction: &Instruction) -> usize
+    ensures { (leaves : List Test) → result ≡ captured_by ranges.now (op_in leaves instruction.now) }
 {
     match instruction {
         Instruction::Look { negate: false, .. } => changed_by(ranges, instruction).end,

@@ -1,36 +1,26 @@
 //! Instructions and routines.
 
-use regress_tree::ir::Node;
-
-/// An instruction of a routine. It names the instructions after it by their indices in the routine.
+/// An instruction of a routine. It names its leaf by the index in the list of the program, and the instructions after it
+/// by their indices in the routine.
 #[derive(Clone, Copy)]
-pub enum Instruction<'a> {
+pub enum Instruction {
     /// A match of the routine ends here.
     Accept,
     /// Matches nothing.
     Fail,
-    /// Matches a leaf other than a set of strings.
+    /// Matches a leaf with at most one outcome.
     Leaf {
-        /// The leaf.
-        node: &'a Node,
+        /// The index of the leaf.
+        leaf: usize,
         /// The instruction after it.
         next: usize,
     },
     /// Matches characters that each match a leaf, exactly this number of them.
     Characters {
-        /// The leaf, which matches one character.
-        node: &'a Node,
+        /// The index of the leaf, which matches one character.
+        leaf: usize,
         /// The number of characters.
         count: usize,
-        /// The instruction after it.
-        next: usize,
-    },
-    /// Matches one string of a set of strings.
-    Text {
-        /// The code points of the string.
-        characters: &'a [u32],
-        /// Whether case is ignored: the flag i.
-        icase: bool,
         /// The instruction after it.
         next: usize,
     },
@@ -98,9 +88,9 @@ pub enum Instruction<'a> {
 
 /// Instructions that match in one direction: those of the pattern, or of the body of a lookaround.
 #[derive(Drop)]
-pub struct Routine<'a> {
+pub struct Routine {
     /// The instructions. Each but [`Instruction::Repeat`] names only instructions before it.
-    pub instructions: Vec<Instruction<'a>>,
+    pub instructions: Vec<Instruction>,
     /// The index of the instruction at which a match starts.
     pub entry: usize,
     /// Whether it matches backwards, as in a lookbehind.

@@ -4,6 +4,7 @@
 mod capturing;
 mod characters;
 mod claims;
+mod collect;
 mod compile;
 mod compiler;
 mod contents;
@@ -17,7 +18,6 @@ mod loops;
 mod nonlinear;
 mod program;
 pub mod ranges;
-mod routines;
 mod strings;
 mod tabled;
 mod tidy;

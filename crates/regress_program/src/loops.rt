@@ -2,8 +2,9 @@
 ghost use Rattle.std.specs.Prelude.{◌≡◌, ◌<◌, IfOk, IfErr, None, length, true};
 ghost use Rattle.regress_prefilter.specs.OneCharacter.{takes_one};
 ghost use Rattle.regress_tree.specs.Tree.{loop_one, tree, wrapped};
-ghost use Rattle.regress_program.specs.CodeOf.{iterating, looping, iteration_size, Emits, Spends};
+ghost use Rattle.regress_program.specs.CodeOf.{iterating, looping, iteration_size, Emits, EmitsCopies, Spends};
 ghost use Rattle.regress_program.specs.Compiled.{matching, optional, any_number};
+ghost use Rattle.regress_program.specs.LeavesOf.{is_never, leaves_of, leaves_of_loop};
 ghost use Rattle.regress_program.specs.Size.{size, size_of_characters, size_of_optional, size_of_extra, size_of_loop};
 ghost use Rattle.regress_program.specs.declared.fault.CompileFault.TheVariants.{TooLong};
 
@@ -13,30 +14,44 @@ use crate::instruction::Instruction;
 use regress_leaves::leaves::takes_one;
 use regress_tree::ir::{Node, Quantifier};
 
-/// The iterations of a loop: the half-open range of the ids of the groups inside, and whether the loop is greedy.
+/// Returns whether a loop has no iterations.
+pub(crate) fn is_never(quantifier: Quantifier) -> bool
+    ensures { result ≡ is_never quantifier }
+{
+    quantifier.min == 0 && quantifier.max == Some(0)
+}
+
+/// The iterations of a loop: the half-open range of the ids of the groups inside, whether the loop is greedy, and the
+/// index of the first leaf inside.
 #[derive(Clone, Copy)]
 pub(crate) struct Iterations {
     pub(crate) start: usize,
     pub(crate) end: usize,
     pub(crate) greedy: bool,
+    pub(crate) first_leaf: usize,
 }
 
-impl<'a> Compiler<'a> {
+impl Compiler {
     /// Compiles a loop: the optional iterations, and before them the mandatory ones.
     #[cycle(compile)]
     pub(crate) fn repeat(
         &mut self,
-        body: &'a Node,
+        body: &Node,
         iterations: Iterations,
         quantifier: Quantifier,
         next: usize,
     ) -> Result<usize, CompileFault>
         requires below { next < length self.old.instructions.items }
         requires greedy { iterations.greedy ≡ quantifier.greedy }
-        ensures emits { IfOk result (Emits self.old self.new (looping iterations quantifier (matching (tree body.now))) next) }
+        requires first { iterations.first_leaf ≡ self.old.next_leaf }
+        ensures emits { IfOk result (Emits self.old self.new iterations.first_leaf (leaves_of_loop quantifier (leaves_of (tree body.now)))
+            (looping iterations quantifier (matching (tree body.now))) next) }
         ensures spends { IfOk result (λ _. Spends self.old self.new (size_of_loop quantifier (iteration_size iterations (tree body.now)))) }
         ensures too_long { IfErr result (λ fault. fault ≡ TooLong → self.old.left < size_of_loop quantifier (iteration_size iterations (tree body.now))) }
     {
+        if is_never(quantifier) {
+            return Ok(next);
+        }
         let mut entry = match quantifier.max {
             None => self.any_number(body, iterations, next)?,
             Some(max) => self.at_most(body, iterations, max.saturating_sub(quantifier.min), next)?,
@@ -51,12 +66,13 @@ impl<'a> Compiler<'a> {
     #[cycle(compile)]
     pub(crate) fn repeat_one(
         &mut self,
-        body: &'a Node,
+        body: &Node,
         quantifier: Quantifier,
         next: usize,
     ) -> Result<usize, CompileFault>
         requires { next < length self.old.instructions.items }
-        ensures emits { IfOk result (Emits self.old self.new (matching (wrapped (loop_one quantifier) (tree body.now))) next) }
+        ensures emits { IfOk result (Emits self.old self.new self.old.next_leaf (leaves_of (wrapped (loop_one quantifier) (tree body.now)))
+            (matching (wrapped (loop_one quantifier) (tree body.now))) next) }
         ensures spends { IfOk result (λ _. Spends self.old self.new (size (wrapped (loop_one quantifier) (tree body.now)))) }
         ensures too_long { IfErr result (λ fault. fault ≡ TooLong → self.old.left < size (wrapped (loop_one quantifier) (tree body.now))) }
     {
@@ -64,9 +80,12 @@ impl<'a> Compiler<'a> {
             start: 0,
             end: 0,
             greedy: quantifier.greedy,
+            first_leaf: self.next_leaf,
         };
         if takes_one(body) {
-            self.repeat_character(body, iterations, quantifier, next)
+            let entry = self.repeat_character(body, iterations, quantifier, next)?;
+            self.next_leaf = iterations.first_leaf.saturating_add(1);
+            Ok(entry)
         } else {
             self.repeat(body, iterations, quantifier, next)
         }
@@ -76,48 +95,50 @@ impl<'a> Compiler<'a> {
     #[cycle(compile)]
     fn repeat_character(
         &mut self,
-        leaf: &'a Node,
+        body: &Node,
         iterations: Iterations,
         quantifier: Quantifier,
         next: usize,
     ) -> Result<usize, CompileFault>
         requires below { next < length self.old.instructions.items }
-        requires one { takes_one (tree leaf.now) ≡ true }
-        requires without_groups { iterations ≡ record { start = 0; end = 0; greedy = quantifier.greedy } }
-        ensures emits { IfOk result (Emits self.old self.new (matching (wrapped (loop_one quantifier) (tree leaf.now))) next) }
+        requires one { takes_one (tree body.now) ≡ true }
+        requires without_groups { iterations ≡ record { start = 0; end = 0; greedy = quantifier.greedy; first_leaf = self.old.next_leaf } }
+        ensures emits { IfOk result (EmitsCopies self.old self.new iterations.first_leaf (leaves_of (tree body.now)) 0
+            (matching (wrapped (loop_one quantifier) (tree body.now))) next) }
         ensures spends { IfOk result (λ _. Spends self.old self.new (size_of_characters quantifier)) }
         ensures too_long { IfErr result (λ fault. fault ≡ TooLong → self.old.left < size_of_characters quantifier) }
     {
         let entry = match quantifier.max {
-            None => self.any_number(leaf, iterations, next)?,
+            None => self.any_number(body, iterations, next)?,
             Some(max) => self.up_to(
-                leaf,
+                iterations.first_leaf,
                 quantifier.greedy,
                 max.saturating_sub(quantifier.min),
                 next,
             )?,
         };
-        self.exactly(leaf, quantifier.min, entry)
+        self.exactly(iterations.first_leaf, quantifier.min, entry)
     }
 
     /// Compiles any number of optional iterations. The body is compiled once, and goes on at an instruction before it.
     #[cycle(compile)]
     fn any_number(
         &mut self,
-        body: &'a Node,
+        body: &Node,
         iterations: Iterations,
         next: usize,
     ) -> Result<usize, CompileFault>
         requires { next < length self.old.instructions.items }
-        ensures emits { IfOk result (Emits self.old self.new (any_number iterations.greedy (iterating iterations (matching (tree body.now)))) next) }
+        ensures emits { IfOk result (Emits self.old self.new iterations.first_leaf (leaves_of (tree body.now))
+            (any_number iterations.greedy (iterating iterations (matching (tree body.now)))) next) }
         ensures spends { IfOk result (λ _. Spends self.old self.new (size_of_extra (iteration_size iterations (tree body.now)) None)) }
         ensures too_long { IfErr result (λ fault. fault ≡ TooLong → self.old.left < size_of_extra (iteration_size iterations (tree body.now)) None) }
     {
         let greedy = iterations.greedy;
         // it is replaced when the start of the body is known
-        let turn = self.push(Instruction::Accept)?;
-        let start = self.iteration(body, iterations, turn)?;
-        self.instructions[turn] = Instruction::Repeat {
+        let again = self.push(Instruction::Accept)?;
+        let start = self.iteration(body, iterations, again)?;
+        self.instructions[again] = Instruction::Repeat {
             greedy,
             body: start,
             next,
@@ -133,13 +154,14 @@ impl<'a> Compiler<'a> {
     #[cycle(compile)]
     fn at_most(
         &mut self,
-        body: &'a Node,
+        body: &Node,
         iterations: Iterations,
         count: usize,
         next: usize,
     ) -> Result<usize, CompileFault>
         requires { next < length self.old.instructions.items }
-        ensures emits { IfOk result (Emits self.old self.new (optional iterations.greedy count (iterating iterations (matching (tree body.now)))) next) }
+        ensures emits { IfOk result (EmitsCopies self.old self.new iterations.first_leaf (leaves_of (tree body.now)) count
+            (optional iterations.greedy count (iterating iterations (matching (tree body.now)))) next) }
         ensures spends { IfOk result (λ _. Spends self.old self.new (size_of_optional (iteration_size iterations (tree body.now)) count)) }
         ensures too_long { IfErr result (λ fault. fault ≡ TooLong → self.old.left < size_of_optional (iteration_size iterations (tree body.now)) count) }
     {
@@ -150,12 +172,12 @@ impl<'a> Compiler<'a> {
         let end = self.push(Instruction::EndLoop { next })?;
         let mut start = self.iteration(body, iterations, end)?;
         for _i in 1..count {
-            let turn = self.push(Instruction::Repeat {
+            let again = self.push(Instruction::Repeat {
                 greedy,
                 body: start,
                 next,
             })?;
-            start = self.iteration(body, iterations, turn)?;
+            start = self.iteration(body, iterations, again)?;
         }
         self.push(Instruction::BeginLoop {
             greedy,
@@ -168,16 +190,18 @@ impl<'a> Compiler<'a> {
     #[cycle(compile)]
     fn iteration(
         &mut self,
-        body: &'a Node,
+        body: &Node,
         iterations: Iterations,
         next: usize,
     ) -> Result<usize, CompileFault>
         requires { next < length self.old.instructions.items }
-        ensures emits { IfOk result (Emits self.old self.new (iterating iterations (matching (tree body.now))) next) }
+        ensures emits { IfOk result (Emits self.old self.new iterations.first_leaf (leaves_of (tree body.now))
+            (iterating iterations (matching (tree body.now))) next) }
         ensures spends { IfOk result (λ _. Spends self.old self.new (iteration_size iterations (tree body.now))) }
         ensures too_long { IfErr result (λ fault. fault ≡ TooLong → self.old.left < iteration_size iterations (tree body.now)) }
     {
         let before = self.left;
+        self.next_leaf = iterations.first_leaf;
         let contents = self.node(body, next)?;
         if iterations.start >= iterations.end && self.left < before {
             return Ok(contents);

@@ -1,14 +1,14 @@
 //! Which programs are linear.
-ghost use Rattle.std.specs.Prelude.{◌≡◌, IfErr, IfOk, Some, true, false};
+ghost use Rattle.std.specs.Prelude.{◌≡◌, List};
 ghost use Rattle.std.specs.List.{list_any};
+ghost use Rattle.regress_leaves.specs.declared.test.Test.{Test};
 ghost use Rattle.regress_tree.specs.Tree.{tree};
 ghost use Rattle.regress_program.specs.Linear.{has_reason, is_back_ref, is_back_reference, is_capturing_lookaround, is_linear, is_reason, reason};
-ghost use Rattle.regress_program.specs.Search.{routines_of};
-ghost use Rattle.regress_program.specs.Views.{op_of, ops_of, program_of};
+ghost use Rattle.regress_program.specs.Views.{op_in, ops_in, program_in};
 
 use crate::capturing::is_capturing;
 use crate::instruction::{Instruction, Routine};
-use crate::program::Program;
+use regress_leaves::test::Test;
 use regress_tree::ir::Node;
 
 /// Why a search for all matches may take more than linear time.
@@ -27,31 +27,26 @@ pub enum Nonlinear {
     CapturingLookaround,
 }
 
-impl<'n, 't> Program<'n, 't> {
-    /// Returns why a search for all matches may take more than linear time: a back reference, or if the pattern has none,
-    /// a lookaround that is not negated and sets or resets captures. The result is `None` if the program is linear.
-    ///
-    /// # Complexity
-    /// Linear in the number of instructions, since a routine belongs to one lookaround.
-    pub fn nonlinear(&self) -> Option<Nonlinear>
-        ensures { result ≡ reason (routines_of self.now) }
-    {
-        if has_reason(&self.routines, Nonlinear::BackReference) {
-            Some(Nonlinear::BackReference)
-        } else if has_reason(&self.routines, Nonlinear::CapturingLookaround) {
-            Some(Nonlinear::CapturingLookaround)
-        } else {
-            None
-        }
+/// Returns why a search for all matches with these routines may take more than linear time: a back reference, or if they
+/// have none, a lookaround that is not negated and sets or resets captures. The result is `None` if they are linear.
+pub(crate) fn reason(leaves: &[Test], routines: &[Routine]) -> Option<Nonlinear>
+    ensures { result ≡ reason (program_in leaves.now routines.now) }
+{
+    if has_reason(leaves, routines, Nonlinear::BackReference) {
+        Some(Nonlinear::BackReference)
+    } else if has_reason(leaves, routines, Nonlinear::CapturingLookaround) {
+        Some(Nonlinear::CapturingLookaround)
+    } else {
+        None
     }
 }
 
 /// Returns whether an instruction of these routines is of a kind that is not linear.
-fn has_reason(routines: &[Routine<'_>], why: Nonlinear) -> bool
-    ensures { result ≡ has_reason (program_of routines.now) why }
+fn has_reason(leaves: &[Test], routines: &[Routine], why: Nonlinear) -> bool
+    ensures { result ≡ has_reason (program_in leaves.now routines.now) why }
 {
     for routine in routines {
-        if any_is_reason(routines, why, &routine.instructions) {
+        if any_is_reason(leaves, routines, why, &routine.instructions) {
             return true;
         }
     }
@@ -59,11 +54,16 @@ fn has_reason(routines: &[Routine<'_>], why: Nonlinear) -> bool
 }
 
 /// Returns whether one of the instructions of a routine is of that kind.
-fn any_is_reason(routines: &[Routine<'_>], why: Nonlinear, instructions: &[Instruction<'_>]) -> bool
-    ensures { result ≡ list_any (is_reason (program_of routines.now) why) (ops_of instructions.now) }
+fn any_is_reason(
+    leaves: &[Test],
+    routines: &[Routine],
+    why: Nonlinear,
+    instructions: &[Instruction],
+) -> bool
+    ensures { result ≡ list_any (is_reason (program_in leaves.now routines.now) why) (ops_in leaves.now instructions.now) }
 {
     for instruction in instructions {
-        if is_reason(routines, why, instruction) {
+        if is_reason(leaves, routines, why, instruction) {
             return true;
         }
     }
@@ -71,28 +71,33 @@ fn any_is_reason(routines: &[Routine<'_>], why: Nonlinear, instructions: &[Instr
 }
 
 /// Returns whether the instruction is of that kind.
-fn is_reason(routines: &[Routine<'_>], why: Nonlinear, instruction: &Instruction<'_>) -> bool
-    ensures { result ≡ is_reason (program_of routines.now) why (op_of instruction.now) }
+fn is_reason(
+    leaves: &[Test],
+    routines: &[Routine],
+    why: Nonlinear,
+    instruction: &Instruction,
+) -> bool
+    ensures { result ≡ is_reason (program_in leaves.now routines.now) why (op_in leaves.now instruction.now) }
 {
     match why {
-        Nonlinear::BackReference => is_back_reference(instruction),
+        Nonlinear::BackReference => is_back_reference(leaves, instruction),
         Nonlinear::CapturingLookaround => is_capturing_lookaround(routines, instruction),
     }
 }
 
 /// Returns whether the instruction is a back reference.
-fn is_back_reference(instruction: &Instruction<'_>) -> bool
-    ensures { result ≡ is_back_reference (op_of instruction.now) }
+fn is_back_reference(leaves: &[Test], instruction: &Instruction) -> bool
+    ensures { result ≡ is_back_reference (op_in leaves.now instruction.now) }
 {
     match instruction {
-        Instruction::Leaf { node, .. } => is_back_ref(node),
+        Instruction::Leaf { leaf, .. } => *leaf < leaves.len() && is_back_ref(&leaves[*leaf].node),
         _ => false,
     }
 }
 
 /// Returns whether the instruction is a lookaround that is not negated, and whose routine sets or resets a capture.
-fn is_capturing_lookaround(routines: &[Routine<'_>], instruction: &Instruction<'_>) -> bool
-    ensures { result ≡ is_capturing_lookaround (program_of routines.now) (op_of instruction.now) }
+fn is_capturing_lookaround(routines: &[Routine], instruction: &Instruction) -> bool
+    ensures { (leaves : List Test) → result ≡ is_capturing_lookaround (program_in leaves routines.now) (op_in leaves instruction.now) }
 {
     match instruction {
         Instruction::Look {

@@ -1,25 +1,90 @@
 //! Programs.
-ghost use Rattle.std.specs.Prelude.{◌<◌, length};
+ghost use Rattle.std.specs.Prelude.{◌≡◌, ◌<◌, IfOk, length, min};
+ghost use Rattle.regress_program.specs.Compiled.{total};
+ghost use Rattle.regress_program.specs.Linear.{reason};
+ghost use Rattle.regress_program.specs.Ranges.{GroupRanges-set, ranges_of};
 ghost use Rattle.regress_program.specs.Shape.{IsForwards, IsProgram};
+ghost use Rattle.regress_program.specs.Tidy.{table_groups as groups_by_tables};
 ghost use Rattle.regress_program.specs.Unique.{forwards-prop, program-prop};
-ghost use Rattle.regress_program.specs.Views.{program_of};
+ghost use Rattle.regress_program.specs.Views.{program_in};
 
+use crate::contents::instruction_count;
 use crate::instruction::Routine;
+use crate::nonlinear::{Nonlinear, reason};
+use crate::ranges::{GroupRange, ranges_of};
+use crate::tabled::table_groups;
 use regress_base::types::Flags;
-use regress_leaves::known::Known;
+use regress_leaves::test::Test;
+use std::alloc::{AllocError, Global};
 
-/// A pattern that is compiled into instructions.
+/// A pattern that is compiled into instructions. It refers neither to the tree nor to case mappings.
 #[derive(Drop)]
-pub struct Program<'n, 't> {
-    /// The routines: those of lookarounds, and as the last one that of the pattern.
-    pub(crate) routines: Vec<Routine<'n>>,
+pub struct Program {
+    /// The leaves, which the instructions name by their indices.
+    pub leaves: Vec<Test>,
+    /// The routines: those of lookarounds, each after the ones that it refers to, and as the last one that of the pattern.
+    pub routines: Vec<Routine>,
     /// The flags of the pattern.
-    pub(crate) flags: Flags,
-    /// The case mappings.
-    pub(crate) known: Known<'t>,
+    pub flags: Flags,
     /// The number of groups.
-    pub(crate) groups: usize,
+    pub groups: usize,
+    /// The number of instructions, at most `usize::MAX`.
+    pub(crate) instructions: usize,
+    /// Why searches for all matches may take more than linear time.
+    pub(crate) nonlinear: Option<Nonlinear>,
+    /// For each routine the least range of the groups that it changes.
+    pub ranges: Vec<GroupRange>,
+    /// The number of groups that lookarounds may set, if the program is searched by tables.
+    pub(crate) table_groups: Option<usize>,
     ghost some: { 0 < length routines.items },
-    ghost is_program: { IsProgram (program_of routines.items) } by { program-prop (program_of routines.items) },
-    ghost forwards: { IsForwards (program_of routines.items) } by { forwards-prop (program_of routines.items) },
+    ghost is_program: { IsProgram (program_in leaves.items routines.items) } by { program-prop (program_in leaves.items routines.items) },
+    ghost forwards: { IsForwards (program_in leaves.items routines.items) } by { forwards-prop (program_in leaves.items routines.items) },
+    ghost counted: { instructions ≡ min (total (program_in leaves.items routines.items)) 18446744073709551615 },
+    ghost linear_unless: { nonlinear ≡ reason (program_in leaves.items routines.items) },
+    ghost ranged: { ranges.items ≡ ranges_of (program_in leaves.items routines.items) } by { GroupRanges-set ranges.items (ranges_of (program_in leaves.items routines.items)) },
+    ghost tabled: { table_groups ≡ groups_by_tables (program_in leaves.items routines.items) },
+}
+
+impl Program {
+    ghost use Rattle.regress_program.specs.Search.{flags_of, groups_of, routines_of};
+
+    /// Returns a program of these leaves and routines, for a pattern with these flags and this number of groups.
+    ///
+    /// # Preconditions
+    /// The leaves and the routines are what compiling a pattern yields.
+    ///
+    /// # Complexity
+    /// Linear in the number of instructions.
+    ///
+    /// # Errors
+    /// Returns [`AllocError`] if an allocation fails.
+    pub(crate) fn new(
+        alloc: Global,
+        leaves: Vec<Test>,
+        routines: Vec<Routine>,
+        flags: Flags,
+        groups: usize,
+    ) -> Result<Program, AllocError>
+        requires program { IsProgram (program_in leaves.items routines.items) }
+        requires some { 0 < length routines.items }
+        requires forwards { IsForwards (program_in leaves.items routines.items) }
+        ensures routines { IfOk result (λ p. routines_of p ≡ program_in leaves.items routines.items) }
+        ensures flags { IfOk result (λ p. flags_of p ≡ flags) }
+        ensures groups { IfOk result (λ p. groups_of p ≡ groups) }
+    {
+        let instructions = instruction_count(&routines);
+        let nonlinear = reason(&leaves, &routines);
+        let ranges = ranges_of(alloc, &routines)?;
+        let table_groups = table_groups(alloc, &ranges, &routines, nonlinear)?;
+        Ok(Program {
+            leaves,
+            routines,
+            flags,
+            groups,
+            instructions,
+            nonlinear,
+            ranges,
+            table_groups,
+        })
+    }
 }

@@ -1,8 +1,9 @@
 //! Which groups the routines of a program change.
-ghost use Rattle.std.specs.Prelude.{◌≡◌, ℕ, IfOk};
+ghost use Rattle.std.specs.Prelude.{◌≡◌, ℕ, IfOk, List};
+ghost use Rattle.regress_leaves.specs.declared.test.Test.{Test};
 ghost use Rattle.regress_program.specs.Program.{look};
 ghost use Rattle.regress_program.specs.Ranges.{changed_by, changed_by_all, hull, ranges_of};
-ghost use Rattle.regress_program.specs.Views.{op_of, ops_of, program_of};
+ghost use Rattle.regress_program.specs.Views.{op_in, ops_in, program_in};
 
 use crate::instruction::{Instruction, Routine};
 use std::alloc::{AllocError, Global};
@@ -44,8 +45,8 @@ impl GroupRange {
 ///
 /// # Errors
 /// Returns [`AllocError`] if an allocation fails.
-pub fn ranges_of(alloc: Global, routines: &[Routine<'_>]) -> Result<Vec<GroupRange>, AllocError>
-    ensures { IfOk result (λ ranges. ranges.items ≡ ranges_of (program_of routines.now)) }
+pub(crate) fn ranges_of(alloc: Global, routines: &[Routine]) -> Result<Vec<GroupRange>, AllocError>
+    ensures { IfOk result (λ ranges. (leaves : List Test) → ranges.items ≡ ranges_of (program_in leaves routines.now)) }
 {
     let mut ranges = Vec::with_capacity(alloc, routines.len())?;
     for routine in routines {
@@ -56,8 +57,8 @@ pub fn ranges_of(alloc: Global, routines: &[Routine<'_>]) -> Result<Vec<GroupRan
 }
 
 /// Returns the least range of the groups that the instructions change.
-fn changed_by_all(earlier: &[GroupRange], instructions: &[Instruction<'_>]) -> GroupRange
-    ensures { result ≡ changed_by_all earlier.now (ops_of instructions.now) }
+fn changed_by_all(earlier: &[GroupRange], instructions: &[Instruction]) -> GroupRange
+    ensures { (leaves : List Test) → result ≡ changed_by_all earlier.now (ops_in leaves instructions.now) }
 {
     let mut range = NO_GROUPS;
     for i in (0..instructions.len()).rev() {
@@ -67,8 +68,8 @@ fn changed_by_all(earlier: &[GroupRange], instructions: &[Instruction<'_>]) -> G
 }
 
 /// Returns the range of the groups that an instruction changes, by those of the routines before its own.
-pub(crate) fn changed_by(earlier: &[GroupRange], instruction: &Instruction<'_>) -> GroupRange
-    ensures { result ≡ changed_by earlier.now (op_of instruction.now) }
+pub(crate) fn changed_by(earlier: &[GroupRange], instruction: &Instruction) -> GroupRange
+    ensures { (leaves : List Test) → result ≡ changed_by earlier.now (op_in leaves instruction.now) }
 {
     match *instruction {
         Instruction::Unset { start, end, .. } => {

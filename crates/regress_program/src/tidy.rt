@@ -1,11 +1,12 @@
 //! Which programs are tidy: each lookaround that captures begins with its groups unset.
-ghost use Rattle.std.specs.Prelude.{◌≡◌, ◌<◌, ◌≤◌, [], IfOk, length, slice_index_or};
+ghost use Rattle.std.specs.Prelude.{◌≡◌, ◌<◌, ◌≤◌, [], IfOk, length, slice_index_or, List};
 ghost use Rattle.std.specs.List.{cons_option, list_all, list_any};
 ghost use Rattle.regress_tree.specs.Reading.{direction_if, forwards};
+ghost use Rattle.regress_leaves.specs.declared.test.Test.{Test};
 ghost use Rattle.regress_program.specs.Claims.{with_followers, with_instruction};
 ghost use Rattle.regress_program.specs.Ranges.{ranges_of};
 ghost use Rattle.regress_program.specs.Tidy.{all_kept, begins_unset, claim_after, claim_at, claims_from, followers, includes, is_capturing_look, is_kept, is_tidy, is_tidy_code};
-ghost use Rattle.regress_program.specs.Views.{op_of, ops_of, program_of};
+ghost use Rattle.regress_program.specs.Views.{op_in, ops_in, program_in};
 
 use crate::claims::{
     before_groups, common, continues, first_claim, includes, is_claimed, with_groups, without,
@@ -24,10 +25,10 @@ use std::alloc::{AllocError, Global};
 pub(crate) fn is_tidy(
     alloc: Global,
     ranges: &[GroupRange],
-    routines: &[Routine<'_>],
+    routines: &[Routine],
 ) -> Result<bool, AllocError>
-    requires { ranges.now ≡ ranges_of (program_of routines.now) }
-    ensures { IfOk result (λ tidy. tidy ≡ is_tidy (program_of routines.now)) }
+    requires { (leaves : List Test) → ranges.now ≡ ranges_of (program_in leaves routines.now) }
+    ensures { IfOk result (λ tidy. (leaves : List Test) → tidy ≡ is_tidy (program_in leaves routines.now)) }
 {
     for routine in routines {
         if !is_tidy_code(alloc, ranges, routine.backwards, &routine.instructions)? {
@@ -45,9 +46,9 @@ fn is_tidy_code(
     alloc: Global,
     ranges: &[GroupRange],
     backwards: bool,
-    instructions: &[Instruction<'_>],
+    instructions: &[Instruction],
 ) -> Result<bool, AllocError>
-    ensures { IfOk result (λ tidy. tidy ≡ is_tidy_code ranges.now (direction_if backwards) (ops_of instructions.now)) }
+    ensures { IfOk result (λ tidy. (leaves : List Test) → tidy ≡ is_tidy_code ranges.now (direction_if backwards) (ops_in leaves instructions.now)) }
 {
     if !any_captures(ranges, instructions) {
         return Ok(true);
@@ -57,8 +58,8 @@ fn is_tidy_code(
 }
 
 /// Returns whether an instruction is a lookaround that captures and is not negated.
-fn any_captures(ranges: &[GroupRange], instructions: &[Instruction<'_>]) -> bool
-    ensures { result ≡ list_any (is_capturing_look ranges.now forwards) (ops_of instructions.now) }
+fn any_captures(ranges: &[GroupRange], instructions: &[Instruction]) -> bool
+    ensures { (leaves : List Test) → result ≡ list_any (is_capturing_look ranges.now forwards) (ops_in leaves instructions.now) }
 {
     for instruction in instructions {
         if is_capturing_look(ranges, instruction) {
@@ -69,8 +70,8 @@ fn any_captures(ranges: &[GroupRange], instructions: &[Instruction<'_>]) -> bool
 }
 
 /// Returns whether the instruction is a lookaround that captures and is not negated.
-fn is_capturing_look(ranges: &[GroupRange], instruction: &Instruction<'_>) -> bool
-    ensures { result ≡ is_capturing_look ranges.now forwards (op_of instruction.now) }
+fn is_capturing_look(ranges: &[GroupRange], instruction: &Instruction) -> bool
+    ensures { (leaves : List Test) → result ≡ is_capturing_look ranges.now forwards (op_in leaves instruction.now) }
 {
     match instruction {
         Instruction::Look { negate: false, .. } => !changed_by(ranges, instruction).is_empty(),
@@ -86,9 +87,9 @@ fn claims_of(
     alloc: Global,
     ranges: &[GroupRange],
     backwards: bool,
-    instructions: &[Instruction<'_>],
+    instructions: &[Instruction],
 ) -> Result<Vec<usize>, AllocError>
-    ensures { IfOk result (λ claims. claims.items ≡ claims_from ranges.now (direction_if backwards) 0 (ops_of instructions.now)) }
+    ensures { IfOk result (λ claims. (leaves : List Test) → claims.items ≡ claims_from ranges.now (direction_if backwards) 0 (ops_in leaves instructions.now)) }
 {
     let mut claims = vec![in alloc; first_claim(backwards); instructions.len()]?;
     for at in (0..instructions.len()).rev() {
@@ -101,12 +102,12 @@ fn claims_of(
 fn claim_instruction(
     ranges: &[GroupRange],
     backwards: bool,
-    instruction: &Instruction<'_>,
+    instruction: &Instruction,
     at: usize,
     claims: &mut [usize],
 )
     requires { at < length claims.old }
-    ensures value { claims.new ≡ with_instruction ranges.now (direction_if backwards) at (op_of instruction.now) claims.old }
+    ensures value { (leaves : List Test) → claims.new ≡ with_instruction ranges.now (direction_if backwards) at (op_in leaves instruction.now) claims.old }
     ensures length { length claims.new ≡ length claims.old }
 {
     let claim = claim_at(backwards, instruction, claims[at]);
@@ -131,8 +132,8 @@ fn claim_next(backwards: bool, at: usize, after: usize, next: Option<usize>, cla
 }
 
 /// Returns the claim at an instruction, by what the instructions before it claim.
-fn claim_at(backwards: bool, instruction: &Instruction<'_>, claim: usize) -> usize
-    ensures { result ≡ claim_at [] (direction_if backwards) (op_of instruction.now) claim }
+fn claim_at(backwards: bool, instruction: &Instruction, claim: usize) -> usize
+    ensures { (leaves : List Test) → result ≡ claim_at [] (direction_if backwards) (op_in leaves instruction.now) claim }
 {
     match *instruction {
         Instruction::Unset { start, end, .. } => {
@@ -150,10 +151,10 @@ fn claim_at(backwards: bool, instruction: &Instruction<'_>, claim: usize) -> usi
 fn claim_after(
     ranges: &[GroupRange],
     backwards: bool,
-    instruction: &Instruction<'_>,
+    instruction: &Instruction,
     claim: usize,
 ) -> usize
-    ensures { result ≡ claim_after ranges.now (direction_if backwards) (op_of instruction.now) claim }
+    ensures { (leaves : List Test) → result ≡ claim_after ranges.now (direction_if backwards) (op_in leaves instruction.now) claim }
 {
     match *instruction {
         Instruction::Unset { start, end, .. } => {
@@ -168,8 +169,8 @@ fn claim_after(
 }
 
 /// Returns the instructions that may follow an instruction: at most two.
-fn followers(instruction: &Instruction<'_>) -> (Option<usize>, Option<usize>)
-    ensures { followers (op_of instruction.now) ≡ cons_option result.0 (cons_option result.1 []) }
+fn followers(instruction: &Instruction) -> (Option<usize>, Option<usize>)
+    ensures { (leaves : List Test) → followers (op_in leaves instruction.now) ≡ cons_option result.0 (cons_option result.1 []) }
 {
     match *instruction {
         Instruction::Accept | Instruction::Fail => (None, None),
@@ -179,7 +180,6 @@ fn followers(instruction: &Instruction<'_>) -> (Option<usize>, Option<usize>)
         }
         Instruction::Leaf { next, .. }
         | Instruction::Characters { next, .. }
-        | Instruction::Text { next, .. }
         | Instruction::EndLoop { next }
         | Instruction::Unset { next, .. }
         | Instruction::BeginGroup { next }
@@ -195,11 +195,11 @@ fn followers(instruction: &Instruction<'_>) -> (Option<usize>, Option<usize>)
 fn all_kept(
     ranges: &[GroupRange],
     backwards: bool,
-    instructions: &[Instruction<'_>],
+    instructions: &[Instruction],
     claims: &[usize],
 ) -> bool
     requires { length claims.now ≡ length instructions.now }
-    ensures { result ≡ all_kept ranges.now (direction_if backwards) claims.now (ops_of instructions.now) claims.now }
+    ensures { (leaves : List Test) → result ≡ all_kept ranges.now (direction_if backwards) claims.now (ops_in leaves instructions.now) claims.now }
 {
     for at in 0..instructions.len() {
         if !is_kept(ranges, backwards, claims, &instructions[at], claims[at]) {
@@ -215,10 +215,10 @@ fn is_kept(
     ranges: &[GroupRange],
     backwards: bool,
     claims: &[usize],
-    instruction: &Instruction<'_>,
+    instruction: &Instruction,
     claim: usize,
 ) -> bool
-    ensures { result ≡ is_kept ranges.now (direction_if backwards) claims.now (op_of instruction.now) claim }
+    ensures { (leaves : List Test) → result ≡ is_kept ranges.now (direction_if backwards) claims.now (op_in leaves instruction.now) claim }
 {
     let after = claim_after(ranges, backwards, instruction, claim);
     let (first, second) = followers(instruction);
@@ -231,10 +231,10 @@ fn is_kept(
 fn begins_unset(
     ranges: &[GroupRange],
     backwards: bool,
-    instruction: &Instruction<'_>,
+    instruction: &Instruction,
     claim: usize,
 ) -> bool
-    ensures { result ≡ begins_unset ranges.now (direction_if backwards) (op_of instruction.now) claim }
+    ensures { (leaves : List Test) → result ≡ begins_unset ranges.now (direction_if backwards) (op_in leaves instruction.now) claim }
 {
     !is_capturing_look(ranges, instruction)
         || is_claimed(backwards, claim, changed_by(ranges, instruction))

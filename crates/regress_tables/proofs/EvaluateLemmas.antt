@@ -15,9 +15,9 @@ use Rattle.regress_tree.specs.Steps.{MatchState, Matcher}
 use Rattle.regress_tree.specs.Tree.{Tree, leaf, string_set, tree}
 use Rattle.regress_leaves.specs.Leaves.{exactly, put}
 use Rattle.regress_leaves.specs.declared.test.Test.{Test}
-use Rattle.regress_code.specs.declared.instruction.Instruction.{Instruction}
-use Rattle.regress_code.specs.declared.instruction.Instruction.TheVariants as insts
-use Rattle.regress_code.specs.Views.{characters_of, op_in, part_of}
+use Rattle.regress_program.specs.declared.instruction.Instruction.{Instruction}
+use Rattle.regress_program.specs.declared.instruction.Instruction.TheVariants as insts
+use Rattle.regress_program.specs.Views.{characters_of, op_in, part_of}
 use Rattle.regress_leaves.specs.Subject.{Subject}
 use Rattle.regress_leaves.proofs.lemmas.Leaves.{any-nil, any-cons}
 use Rattle.regress_program.specs.Below.{row_of, column, place}

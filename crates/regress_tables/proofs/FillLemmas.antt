@@ -106,7 +106,7 @@ module _ (input : Input) (r : Routine) (t t' : Table) (pc : ℕ) (moved : Bool) 
     pc = pc;
     next = is_next;
     fits = subst (λ w. Fits (take (length input.tables.now) (code_routines input.code.now)) w pc op) (sym (same.width ∙ can.of.width))
-        ((input.code.now.is_program _ r can.is).fit pc op (omega arith) lt is);
+        ((input.code.now.program.is_program _ r can.is).fit pc op (omega arith) lt is);
     no_reference = no_reference-at (code_routines input.code.now) _ r pc op none can.is is;
     length = same.length ∙ can.of.text;
     backwards = same.backwards ∙ can.backwards;

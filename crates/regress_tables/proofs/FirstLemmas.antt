@@ -5,11 +5,11 @@ use Rattle.std.proofs.lemmas.Option.{same_Some, slice_get-map, slice_get_read}
 use Rattle.regress_leaves.specs.Subject.{subject}
 use Rattle.regress_tree.specs.Reading.{forwards, direction_if}
 use Rattle.regress_tree.specs.Steps.{MatchState}
-use Rattle.regress_code.specs.declared.instruction.Instruction.{Instruction}
-use Rattle.regress_code.specs.declared.instruction.Routine as declared
+use Rattle.regress_program.specs.declared.instruction.Instruction.{Instruction}
+use Rattle.regress_program.specs.declared.instruction.Routine as declared
 use Rattle.regress_program.specs.Program.{Op, At, Out, Routine, IsSolution, accept, matcher_of, outcomes_by}
 use Rattle.regress_code.specs.Code.{code_routines}
-use Rattle.regress_code.specs.Views.{op_in, ops_in, routine_in}
+use Rattle.regress_program.specs.Views.{op_in, ops_in, routine_in}
 use Rattle.regress_leaves.specs.declared.test.Test.{Test}
 use Rattle.regress_tables.specs.declared.evaluate.Input.{Input}
 use Rattle.regress_tables.specs.declared.filled.Filled.{Filled}
@@ -108,11 +108,11 @@ pub record TableAt (f : Filled) (index : ℕ) (r : Routine) (t : Table) : Type 0
   pub before : length (take index f.input.tables.now) ≡ index
 
 pub table-at : (f : Filled) (index : ℕ) (x : declared.Routine) (t : Table) → IsSearchable f → index < length (program_in f) →
-    x ≡ get_or f.input.code.now.routines.items index x → t ≡ get_or f.input.tables.now index t →
-    TableAt f index (routine_in f.input.code.now.tests.items x) (get_or f.input.tables.now index t)
+    x ≡ get_or f.input.code.now.program.routines.items index x → t ≡ get_or f.input.tables.now index t →
+    TableAt f index (routine_in f.input.code.now.program.leaves.items x) (get_or f.input.tables.now index t)
 table-at f index x t searchable lt is_x is_t =
-    let view = routine_in f.input.code.now.tests.items in
-    let routines = f.input.code.now.routines.items in
+    let view = routine_in f.input.code.now.program.leaves.items in
+    let routines = f.input.code.now.program.routines.items in
     let tables = f.input.tables.now in
     let r = view x in
     let u = get_or tables index t in
@@ -125,7 +125,7 @@ table-at f index x t searchable lt is_x is_t =
     let of = filled.are.of index r u is table in
     record {
       is = is;
-      entry = omega (arith, (f.input.code.now.is_program index r is).entry, of.width);
+      entry = omega (arith, (f.input.code.now.program.is_program index r is).entry, of.width);
       of = of;
       full = filled.are.full index u table;
       right = λ outs solves. filled.right outs solves index u table;
@@ -217,7 +217,7 @@ module _ (f : Filled) (index n position : ℕ) (r : Routine) (t : Table) (at : T
     -- Every program has outcomes, so the walk ends.
     pub first-ends : ended ≡ true
     first-ends =
-        let some = solution (subject_of f).setting f.input.text.now (program_in f) f.input.code.now.is_program in
+        let some = solution (subject_of f).setting f.input.text.now (program_in f) f.input.code.now.program.is_program in
         (first-some some.0 some.1).0
 
 -- ---- the steps of a walk

@@ -22,12 +22,12 @@ use Rattle.regress_program.specs.Ranges as ranges
 use Rattle.regress_program.specs.Ranges.{changed_by, ranges_of}
 use Rattle.regress_program.specs.Shape.{Fits, IsProgram}
 use Rattle.regress_program.specs.Stays.{IsOnward}
-use Rattle.regress_code.specs.declared.instruction.Instruction.{Instruction}
-use Rattle.regress_code.specs.declared.instruction.Instruction.TheVariants as insts
+use Rattle.regress_program.specs.declared.instruction.Instruction.{Instruction}
+use Rattle.regress_program.specs.declared.instruction.Instruction.TheVariants as insts
 use Rattle.regress_program.specs.Tidy.{has_no_back_reference}
 use Rattle.regress_code.specs.Code.{code_routines}
 use Rattle.regress_code.specs.declared.code.Code.{Code}
-use Rattle.regress_code.specs.Views.{characters_of, op_in, part_of}
+use Rattle.regress_program.specs.Views.{characters_of, op_in, part_of}
 use Rattle.regress_leaves.specs.declared.test.Test.{Test}
 use Rattle.regress_tables.specs.declared.slots.Slot.{Slot}
 use Rattle.regress_tables.specs.declared.slots.Slot.TheVariants as slots
@@ -105,9 +105,9 @@ pub record Passed (ranges : List GroupRange) (negate : Bool) (j next : ℕ) (w v
   pub slots : SetInside (changed_by ranges (look negate j next)) j w.position w.slots.items v.slots.items
 
 -- the groups that a lookaround changes, by those of the program's routines
-pub look_range : (code : Code) (range : GroupRange) (negate : Bool) (j next : ℕ) (known : List GroupRange) → known ≡ code.ranges.items →
+pub look_range : (code : Code) (range : GroupRange) (negate : Bool) (j next : ℕ) (known : List GroupRange) → known ≡ code.program.ranges.items →
     ((n : ℕ) → range ≡ changed_by known (look negate j n)) → range ≡ changed_by (ranges_of (code_routines code)) (look negate j next)
-look_range code range negate j next known same is = is next ∙ ap (λ rs. changed_by rs (look negate j next)) (same ∙ code.ranged)
+look_range code range negate j next known same is = is next ∙ ap (λ rs. changed_by rs (look negate j next)) (same ∙ code.program.ranged)
 
 -- A state that stays where it is has not advanced.
 still : (moved : Bool) (k : ℕ) → (moved || not (k == k)) ≡ moved
@@ -281,7 +281,7 @@ can_walk input r t op a none can pc_in within is = record {
   pc = pc_in;
   position = within;
   fits = subst (λ w. Fits (take (length input.tables.now) (code_routines input.code.now)) w a.pc op) (sym can.of.width)
-      ((input.code.now.is_program _ r can.is).fit a.pc op (omega arith) (omega (arith, pc_in, can.of.width)) is);
+      ((input.code.now.program.is_program _ r can.is).fit a.pc op (omega arith) (omega (arith, pc_in, can.of.width)) is);
   no_reference = no_reference-at (code_routines input.code.now) _ r a.pc op none can.is is;
   length = can.of.text;
   backwards = can.backwards;

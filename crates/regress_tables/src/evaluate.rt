@@ -8,16 +8,16 @@ ghost use Rattle.regress_program.specs.Linear.{is_back_ref};
 ghost use Rattle.regress_program.specs.Program.{Out, matcher_of, outcomes_by};
 ghost use Rattle.regress_program.specs.Shape.{IsPart};
 ghost use Rattle.regress_code.specs.Code.{code_routines};
-ghost use Rattle.regress_code.specs.Views.{op_in};
+ghost use Rattle.regress_program.specs.Views.{op_in};
 ghost use Rattle.regress_tables.specs.Evaluated.{CanEvaluate, reached_cell};
 ghost use Rattle.regress_tables.specs.Table.{AreRight, AreTables, IsRight, TellsOf, has_outcome};
 
 use crate::table::Table;
 use regress_code::Code;
-use regress_code::instruction::Instruction;
 use regress_leaves::leaves::{all_of, exactly, simple_leaf};
 use regress_leaves::rules::MatchContext;
 use regress_leaves::test::Test;
+use regress_program::instruction::Instruction;
 use regress_tree::ir::Node;
 
 /// What the bits of a routine are evaluated from.
@@ -36,10 +36,10 @@ pub(crate) struct Input<'k, 't> {
 impl<'t> Input<'_, 't> {
     /// Returns a leaf of the program, or `None` if it has none with this index.
     pub(crate) fn test(&self, leaf: usize) -> Option<&'t Test>
-        ensures { MatchOption result (slice_get self.now.code.now.tests.items leaf ≡ None)
-            (λ test. slice_get self.now.code.now.tests.items leaf ≡ Some test.now) }
+        ensures { MatchOption result (slice_get self.now.code.now.program.leaves.items leaf ≡ None)
+            (λ test. slice_get self.now.code.now.program.leaves.items leaf ≡ Some test.now) }
     {
-        let tests = &self.code.tests;
+        let tests = &self.code.program.leaves;
         if leaf < tests.len() {
             Some(&tests[leaf])
         } else {
@@ -57,11 +57,11 @@ pub(crate) fn evaluate(
     position: usize,
 ) -> bool
     requires tables { AreTables input.text.now (code_routines input.code.now) input.tables.now }
-    requires can { CanEvaluate input table.now (op_in input.code.now.tests.items instruction) moved position }
+    requires can { CanEvaluate input table.now (op_in input.code.now.program.leaves.items instruction) moved position }
     ensures { (outs : ℕ → Out) → AreRight outs input.entry.tables.now → IsRight (outs (length input.entry.tables.now)) table.now →
         (let u = subject input.entry.rules input.entry.text.now in
         TellsOf (outcomes_by u.setting u.bytes u.direction (matcher_of u.setting u.bytes (code_routines input.entry.code.now) outs)
-        (outs (length input.entry.tables.now)) (op_in input.entry.code.now.tests.items instruction)) moved position result) }
+        (outs (length input.entry.tables.now)) (op_in input.entry.code.now.program.leaves.items instruction)) moved position result) }
 {
     match instruction {
         Instruction::Accept => true,
@@ -146,5 +146,5 @@ fn looks(input: Input<'_, '_>, routine: usize, position: usize) -> bool
         (let u = subject input.entry.rules input.entry.text.now in
         has_outcome (matcher_of u.setting u.bytes (code_routines input.entry.code.now) outs routine s) ≡ result) }
 {
-    input.tables[routine].cell(input.code.routines[routine].entry, true, position)
+    input.tables[routine].cell(input.code.program.routines[routine].entry, true, position)
 }

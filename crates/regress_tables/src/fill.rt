@@ -2,7 +2,7 @@
 ghost use Rattle.std.specs.Prelude.{◌≡◌, ◌≤◌, ◌+◌, ◌^◌, ◌<◌, IfOk, Some, length, slice_get, true};
 ghost use Rattle.regress_program.specs.Tidy.{has_no_back_reference};
 ghost use Rattle.regress_code.specs.Code.{code_routines};
-ghost use Rattle.regress_code.specs.Views.{routine_in};
+ghost use Rattle.regress_program.specs.Views.{routine_in};
 ghost use Rattle.regress_tables.specs.Bits.{bits_of};
 ghost use Rattle.regress_tables.specs.Evaluated.{CanFill, IsFilled};
 ghost use Rattle.regress_tables.specs.Table.{AreTables, IsFull, IsTableOf, SameShape, index};
@@ -10,8 +10,8 @@ ghost use Rattle.regress_tables.specs.Table.{AreTables, IsFull, IsTableOf, SameS
 use crate::cells::row_of;
 use crate::evaluate::{Input, evaluate};
 use crate::table::Table;
-use regress_code::instruction::Routine;
 use regress_leaves::rules::MatchContext;
+use regress_program::instruction::Routine;
 use std::alloc::{AllocError, Global};
 
 /// Returns the full table of a routine: the one after those whose tables are full.
@@ -25,8 +25,8 @@ pub(crate) fn fill(
 ) -> Result<Table, AllocError>
     requires no_reference { has_no_back_reference (code_routines input.code.now) ≡ true }
     requires tables { AreTables input.text.now (code_routines input.code.now) input.tables.now }
-    requires routine { slice_get (code_routines input.code.now) (length input.tables.now) ≡ Some (routine_in input.code.now.tests.items routine.now) }
-    ensures of { IfOk result (IsTableOf input.entry.text.now (routine_in input.entry.code.now.tests.items routine.now)) }
+    requires routine { slice_get (code_routines input.code.now) (length input.tables.now) ≡ Some (routine_in input.code.now.program.leaves.items routine.now) }
+    ensures of { IfOk result (IsTableOf input.entry.text.now (routine_in input.entry.code.now.program.leaves.items routine.now)) }
     ensures full { IfOk result IsFull }
     ensures filled { IfOk result (IsFilled input.entry) }
 {
@@ -57,7 +57,7 @@ fn fill_half(
 )
     requires no_reference { has_no_back_reference (code_routines input.code.now) ≡ true }
     requires tables { AreTables input.text.now (code_routines input.code.now) input.tables.now }
-    requires can { CanFill input (routine_in input.code.now.tests.items routine.now) table.old }
+    requires can { CanFill input (routine_in input.code.now.program.leaves.items routine.now) table.old }
     requires position { position ≤ table.old.length }
     requires at { index table.old 0 moved position ≡ length (bits_of table.old.bits) }
     ensures more { length (bits_of table.new.bits) ≡ length (bits_of table.old.bits) + table.old.width }

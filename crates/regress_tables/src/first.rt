@@ -43,7 +43,7 @@ pub(crate) fn first_outcome(
     ensures forwards { IfOk result (λ first. IfSome first (λ o. (r : Code) → slice_get (program_in filled.entry) index ≡ Some r → r.direction ≡ forwards →
         (position ≤ o.end) × (steps.new ≤ steps.old + 2 * length r.ops * (o.end + 1 - position)))) }
 {
-    let routine = &filled.input.code.routines[index];
+    let routine = &filled.input.code.program.routines[index];
     let table = &filled.input.tables[index];
     if !table.cell(routine.entry, true, position) {
         return Ok(None);

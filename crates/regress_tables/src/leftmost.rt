@@ -32,7 +32,7 @@ pub(crate) fn find_leftmost(
         + 2 * total (program_in filled.entry) * filled.entry.inner * (length filled.entry.input.text.now + 1)) }
     ensures tried { IfOk result (λ search. positions_tried filled.entry.input.text.now from search.found ≤ search.steps) }
 {
-    let last = filled.input.code.routines.len() - 1;
+    let last = filled.input.code.program.routines.len() - 1;
     let mut tried: u64 = 0;
     let mut walked = 0;
     for start in from..filled.input.text.len() + 1 {

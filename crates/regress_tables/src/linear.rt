@@ -29,7 +29,7 @@ impl<'c, 'k> Linear<'c, 'k> {
     /// let tables = Tables::small(alloc)?;
     /// let points = code_points(alloc, "(a)\\1")?;
     /// let regex = try_parse(alloc, &points, Flags::default(), &tables)?;
-    /// let code = Code::compile(alloc, &regex, &tables, 1000)?;
+    /// let code = Code::compile(alloc, &regex, 1000)?;
     /// let known = Known::new(&tables, regex.flags);
     /// assert!(rt; Linear::new(&code, known).is_none());
     /// ```

@@ -43,7 +43,7 @@ impl Linear<'_, '_> {
     /// let tables = Tables::small(alloc)?;
     /// let points = code_points(alloc, "(a*)*b")?;
     /// let regex = try_parse(alloc, &points, Flags::default(), &tables)?;
-    /// let code = Code::compile(alloc, &regex, &tables, 1000)?;
+    /// let code = Code::compile(alloc, &regex, 1000)?;
     /// let mut end = 0;
     /// if let Some(linear) = Linear::new(&code, Known::new(&tables, regex.flags)) {
     ///     let search = linear.find(alloc, "xaaab", 0)?;

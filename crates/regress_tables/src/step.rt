@@ -7,7 +7,7 @@ ghost use Rattle.regress_program.specs.Program.{IsSolution, Out, Routine, accept
 ghost use Rattle.regress_program.specs.Ranges.{inner_groups};
 ghost use Rattle.regress_program.specs.Tidy.{is_tabled};
 ghost use Rattle.regress_code.specs.Code.{code_routines};
-ghost use Rattle.regress_code.specs.Views.{op_in};
+ghost use Rattle.regress_program.specs.Views.{op_in};
 ghost use Rattle.regress_tables.specs.Slots.{AreInside, IsClean, capture_in};
 ghost use Rattle.regress_tables.specs.Table.{IsFull, IsRight, has_outcome};
 ghost use Rattle.regress_tables.specs.Walked.{CanWalk, Leads, StepsAt, at_of, place_of};
@@ -15,8 +15,8 @@ ghost use Rattle.regress_tables.specs.Walked.{CanWalk, Leads, StepsAt, at_of, pl
 use crate::evaluate::{Input, leaf_end};
 use crate::table::Table;
 use crate::walker::Walker;
-use regress_code::instruction::Instruction;
 use regress_leaves::leaves::exactly;
+use regress_program::instruction::Instruction;
 use regress_program::ranges::changed_by_look;
 use std::alloc::AllocError;
 
@@ -31,8 +31,8 @@ pub(crate) fn step(
     walker: &mut Walker,
 ) -> Result<bool, AllocError>
     requires tabled { is_tabled (code_routines input.code.now) ≡ true }
-    requires can { CanWalk input table.now (op_in input.code.now.tests.items instruction) (place_of walker.old) }
-    requires at { StepsAt input (op_in input.code.now.tests.items instruction) walker.old }
+    requires can { CanWalk input table.now (op_in input.code.now.program.leaves.items instruction) (place_of walker.old) }
+    requires at { StepsAt input (op_in input.code.now.program.leaves.items instruction) walker.old }
     ensures count { IfOk result (λ _. length walker.new.slots.items ≡ length walker.old.slots.items) }
     ensures below { IfOk result (λ goes. goes ≡ true →
         Below table.now.width table.now.length (direction_if table.now.backwards) (place_of walker.old) (place_of walker.new)) }
@@ -45,8 +45,8 @@ pub(crate) fn step(
         let out = outs (length input.entry.tables.now) in
         let program = code_routines input.entry.code.now in
         let capture_of = capture_in u.setting u.bytes program outs (length walker.old.slots.items) in
-        let states = outcomes_by u.setting u.bytes u.direction (matcher_of u.setting u.bytes program outs) out (op_in input.entry.code.now.tests.items instruction) (at_of capture_of walker.old) in
-        IsSolution u.setting u.bytes program outs → IsFull table.now → IsRight out table.now → op_in input.entry.code.now.tests.items instruction ≢ accept →
+        let states = outcomes_by u.setting u.bytes u.direction (matcher_of u.setting u.bytes program outs) out (op_in input.entry.code.now.program.leaves.items instruction) (at_of capture_of walker.old) in
+        IsSolution u.setting u.bytes program outs → IsFull table.now → IsRight out table.now → op_in input.entry.code.now.program.leaves.items instruction ≢ accept →
         has_outcome states ≡ true → (goes ≡ true) × Leads states out (at_of capture_of walker.new))) }
 {
     let position = walker.position;
@@ -90,7 +90,7 @@ pub(crate) fn step(
             routine,
             next,
         } => {
-            let range = changed_by_look(&input.code.ranges, negate, routine);
+            let range = changed_by_look(&input.code.program.ranges, negate, routine);
             walker.pass(routine, range, next);
         }
     }

@@ -26,13 +26,13 @@ impl Linear<'_, '_> {
         ensures counted { IfOk result (λ _. steps.new ≡ min (steps.old + 2 * total (code_routines self.now.code.now) * (length text.now + 1)) u64.MAX) }
     {
         let rules = MatchContext {
-            flags: self.code.flags,
+            flags: self.code.program.flags,
             known: self.known,
             backwards: false,
         };
         let mut tables = Vec::new(alloc);
         let mut bits: u64 = 0;
-        for routine in &self.code.routines {
+        for routine in &self.code.program.routines {
             let input = Input {
                 text: &*text,
                 rules,

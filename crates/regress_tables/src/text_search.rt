@@ -85,7 +85,7 @@ pub(crate) fn find_filled(
     let input = Input {
         text,
         rules: MatchContext {
-            flags: linear.code.flags,
+            flags: linear.code.program.flags,
             known: linear.known,
             backwards: false,
         },
@@ -96,5 +96,5 @@ pub(crate) fn find_filled(
         input,
         inner: linear.inner,
     };
-    find_leftmost(alloc, filled, linear.code.groups, from)
+    find_leftmost(alloc, filled, linear.code.program.groups, from)
 }

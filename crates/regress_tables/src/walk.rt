@@ -6,7 +6,7 @@ ghost use Rattle.regress_program.specs.Program.{IsSolution, Out};
 ghost use Rattle.regress_program.specs.Ranges.{inner_groups};
 ghost use Rattle.regress_program.specs.Tidy.{is_tabled};
 ghost use Rattle.regress_code.specs.Code.{code_routines};
-ghost use Rattle.regress_code.specs.Views.{routine_in};
+ghost use Rattle.regress_program.specs.Views.{routine_in};
 ghost use Rattle.regress_tables.specs.Evaluated.{CanFill};
 ghost use Rattle.regress_tables.specs.Slots.{AreInside, IsClean, capture_in};
 ghost use Rattle.regress_tables.specs.Table.{IsFull, IsRight, has_outcome, index};
@@ -16,7 +16,7 @@ use crate::evaluate::Input;
 use crate::step::step;
 use crate::table::Table;
 use crate::walker::Walker;
-use regress_code::instruction::{Instruction, Routine};
+use regress_program::instruction::{Instruction, Routine};
 use std::alloc::AllocError;
 
 /// Walks to the end of the first outcome, and adds the number of steps to `steps`. Returns false if there is no outcome.
@@ -31,10 +31,10 @@ pub(crate) fn walk(
     steps: &mut u64,
 ) -> Result<bool, AllocError>
     requires tabled { is_tabled (code_routines input.code.now) ≡ true }
-    requires can { CanFill input (routine_in input.code.now.tests.items routine.now) table.now }
+    requires can { CanFill input (routine_in input.code.now.program.leaves.items routine.now) table.now }
     requires pc { walker.old.pc < table.now.width }
     requires position { walker.old.position ≤ table.now.length }
-    requires clean { IsClean (code_routines input.code.now) (routine_in input.code.now.tests.items routine.now) walker.old.pc walker.old.slots.items }
+    requires clean { IsClean (code_routines input.code.now) (routine_in input.code.now.program.leaves.items routine.now) walker.old.pc walker.old.slots.items }
     ensures count { IfOk result (λ _. length walker.new.slots.items ≡ length walker.old.slots.items) }
     ensures ends { IfOk result (λ ended. (outs : ℕ → Out) → (let u = subject input.entry.rules input.entry.text.now in
         let out = outs (length input.entry.tables.now) in

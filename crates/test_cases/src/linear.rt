@@ -31,7 +31,7 @@ pub(crate) fn response_linear(
     };
     let alloc = call.alloc();
     let limit = instruction_limit(text);
-    let code = match Code::compile(alloc, regex, tables, limit) {
+    let code = match Code::compile(alloc, regex, limit) {
         Ok(code) => code,
         Err(CompileFault::Memory(_)) => {
             call.fail(Fault::Memory);

@@ -1,7 +1,7 @@
 -- The count for a byte.
 use Rattle.std.proofs.Common.{◌≡◌, ℕ, zero, suc, ◌<◌, List, [], ◌∷◌, get_or, slice_get, Some, refl, arith}
 use Rattle.regress_code.specs.declared.front.Front.{Front}
-use Rattle.regress_code.specs.declared.instruction.Instruction.{Instruction}
+use Rattle.regress_program.specs.declared.instruction.Instruction.{Instruction}
 use Rattle.regress_code.specs.Passes.{AreCounts, ArePassed}
 
 pub got : (xs : List ℕ) (b i : ℕ) → i < get_or xs b 0 → slice_get xs b ≡ Some (get_or xs b 0)

@@ -1,9 +1,12 @@
 -- What is known of one instruction, by what is known of all.
-use Rattle.std.proofs.Common.{◌≡◌, ℕ, zero, suc, Bool, true, false, not, ◌&&◌, ◌||◌, List, [], ◌∷◌, ◌+◌, take, slice_get, Some, refl, sym, ap, subst, ◌∙◌, arith}
+use Rattle.std.proofs.Common.{◌≡◌, ℕ, zero, suc, Bool, true, false, not, ◌&&◌, ◌||◌, List, [], ◌∷◌, ◌+◌, take, slice_get, Option, Some, None, refl, sym, ap, subst, ◌∙◌, arith}
 use Rattle.std.specs.List.{list_all, list_any}
 use Rattle.regress_program.specs.Linear.{is_back_reference}
 use Rattle.regress_program.specs.Program.{Op, Routine}
+use Rattle.regress_leaves.specs.declared.test.Test.{Test}
+use Rattle.regress_program.specs.Shape.{Fits}
 use Rattle.regress_program.specs.Tidy.{has_no_back_reference}
+use Rattle.regress_program.specs.Views.{characters_of, part_of}
 
 and_true : (a b : Bool) → (a && b) ≡ true → (a ≡ true) × (b ≡ true)
 and_true true b is = (refl, is)
@@ -28,6 +31,17 @@ pub no_reference-at : (program : List Routine) (i : ℕ) (r : Routine) (pc : ℕ
 no_reference-at program i r pc op none is_r is_op =
     not_false (is_back_reference op)
     (list_all-get (λ o. not (is_back_reference o)) r.ops pc op (list_all-get (λ (q : Routine). list_all (λ o. not (is_back_reference o)) q.ops) program i r none is_r) is_op)
+
+-- An instruction of a program names a leaf of it.
+module _ (earlier : List Routine) (high i : ℕ) (o : Option Test) (next : ℕ) (none : o ≡ None) where
+  pub leaf-named : Fits earlier high i (part_of o next) → ⊥
+  leaf-named fits = (subst (λ x. Fits earlier high i (part_of x next)) none fits).0
+
+  pub characters-named : (count : ℕ) → Fits earlier high i (characters_of o count next) → ⊥
+  characters-named count fits =
+      let both = subst (λ x. Fits earlier high i (characters_of x count next)) none fits in
+      let wrong : false ≡ true = both.0.1 in
+      cc
 
 -- ---- one more instruction or routine
 

@@ -17,7 +17,7 @@ fn a_match_is_found(rt: HostRuntime) -> Result<(), Fail> {
     let tables = Tables::small(alloc)?;
     let points = code_points(alloc, "(a*)*b")?;
     let regex = try_parse(alloc, &points, Flags::default(), &tables)?;
-    let code = Code::compile(alloc, &regex, &tables, 1000)?;
+    let code = Code::compile(alloc, &regex, 1000)?;
     let mut end = 0;
     if let Some(linear) = Linear::new(&code, Known::new(&tables, regex.flags)) {
         let search = linear.find(alloc, "xaaab", 0)?;
@@ -37,7 +37,7 @@ fn a_program_has_a_back_reference(rt: HostRuntime) -> Result<(), Fail> {
     let tables = Tables::small(alloc)?;
     let points = code_points(alloc, "(a)\\1")?;
     let regex = try_parse(alloc, &points, Flags::default(), &tables)?;
-    let code = Code::compile(alloc, &regex, &tables, 1000)?;
+    let code = Code::compile(alloc, &regex, 1000)?;
     let known = Known::new(&tables, regex.flags);
     assert!(rt; Linear::new(&code, known).is_none());
     Ok(())

@@ -1,7 +1,7 @@
 use Rattle.std.proofs.Common.{◌++◌, Some, sym, ap, ◌∙◌}
 use Rattle.regress_leaves.specs.Subject.{subject}
 use Rattle.regress_program.specs.Program.{goto}
-use Rattle.regress_code.specs.declared.instruction.Instruction.TheVariants as insts
+use Rattle.regress_program.specs.declared.instruction.Instruction.TheVariants as insts
 use Rattle.regress_backtrack.specs.Machine.{at}
 use Rattle.regress_backtrack.proofs.CostLemmas.{second_cost}
 use Rattle.regress_backtrack.proofs.RunLemmas.{can_step, solved}
@@ -13,7 +13,7 @@ returns-then-fails-clause-earlier c =
     let p = c.args.place in
     let i = insts.Split c.in-Split.first c.in-Split.second in
     let read = c.instruction_at.ensures ∙ ap Some c.in-Split.is in
-    (can_step input c.requires.input p i c.requires.pc read input.code.now.is_program c.requires.position).fits.1
+    (can_step input c.requires.input p i c.requires.pc read input.code.now.program.is_program c.requires.position).fits.1
 
 pub returns-then-fails-clause-same : goal.returns-then-fails-clause-same
 returns-then-fails-clause-same c = λ outs g solve.

@@ -1,10 +1,10 @@
 use Rattle.std.proofs.Common.{arith}
 use Rattle.std.proofs.lemmas.List.{length-map}
-use Rattle.regress_code.specs.Views.{routine_in}
+use Rattle.regress_program.specs.Views.{routine_in}
 use Rattle.regress_backtrack.proofs.backtracker.input_of.Goals as goal
 
 pub input_for-requires : goal.input_for-requires
-input_for-requires c = omega (arith, length-map c.args.code.now.routines.items (routine_in c.args.code.now.tests.items), c.args.code.now.some)
+input_for-requires c = omega (arith, length-map c.args.code.now.program.routines.items (routine_in c.args.code.now.program.leaves.items), c.args.code.now.program.some)
 
 pub returns : goal.returns
 returns c =
@@ -15,5 +15,5 @@ returns c =
       same_text = made.text;
       setting = made.setting;
       code = made.code;
-      index = omega (arith, made.index, length-map code.routines.items (routine_in code.tests.items));
+      index = omega (arith, made.index, length-map code.program.routines.items (routine_in code.program.leaves.items));
     }

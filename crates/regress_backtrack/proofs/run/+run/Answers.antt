@@ -8,7 +8,7 @@ use Rattle.regress_program.specs.Program.{matcher_of, outcomes_by}
 use Rattle.regress_program.specs.Shape.{IsProgram}
 use Rattle.regress_code.specs.Code.{code_routines}
 use Rattle.regress_backtrack.specs.Costs.{cost_ahead, op_cost, points_cost}
-use Rattle.regress_code.specs.Views.{op_in}
+use Rattle.regress_program.specs.Views.{op_in}
 use Rattle.regress_backtrack.specs.Machine.{Groups, at, changes_of, groups_of, points, rewound}
 use Rattle.regress_backtrack.specs.declared.run.Response.TheVariants as responses
 use Rattle.regress_backtrack.specs.Next.{Fails, Inside}
@@ -40,7 +40,7 @@ advance-step-requires t c =
     record {
       can = can_step input c.requires.input c.args.here i c.requires.inside.pc read c.requires.program c.requires.inside.position;
       input = c.requires.input;
-      no_look = not_look input.code.now.tests.items i c.in_default.not-Look;
+      no_look = not_look input.code.now.program.leaves.items i c.in_default.not-Look;
     }
 
 pub advance-returns-in-Look-clause-leads : goal.advance-returns-in-Look-clause-leads
@@ -56,7 +56,7 @@ advance-returns-in-Look-clause-leads t c =
     c.requires.input.direction c.requires.inside.position
     (subst (λ o. Goes (outs input.index) m c.look.new.machine
     (outcomes_by u.setting u.bytes u.direction (matcher_of u.setting u.bytes (code_routines input.code.now) outs)
-    (outs input.index) o (at c.args.here (groups_of m))) next) (sym (ap (op_in input.code.now.tests.items) c.in-Look.is)) (leads outs (outs input.index) solution)))
+    (outs input.index) o (at c.args.here (groups_of m))) next) (sym (ap (op_in input.code.now.program.leaves.items) c.in-Look.is)) (leads outs (outs input.index) solution)))
     c.look.ensures.leads
 
 pub advance-returns-in-Look-clause-inside : goal.advance-returns-in-Look-clause-inside
@@ -331,7 +331,7 @@ advance-returns-in-Look-clause-costs t c =
     ok_map c.look.result _ _
     (λ next taken. λ outs costs has.
     let here = costed input c.requires.input outs costs has (groups_of m) p i c.requires.inside.pc read c.requires.inside.position in
-    let is = ap (λ x. op_cost input outs costs (op_in input.code.now.tests.items x) (at p (groups_of m))) c.in-Look.is in
+    let is = ap (λ x. op_cost input outs costs (op_in input.code.now.program.leaves.items x) (at p (groups_of m))) c.in-Look.is in
     let all = taken outs costs has in
     omega (arith, here, is, all))
     c.look.ensures.costs

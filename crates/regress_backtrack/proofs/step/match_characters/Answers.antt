@@ -2,15 +2,25 @@ use Rattle.regress_found.specs.Found.{state}
 use Rattle.std.proofs.Common.{slice_get, refl}
 use Rattle.regress_leaves.specs.Subject.{subject}
 use Rattle.regress_backtrack.proofs.CostLemmas.{characters_cost}
-use Rattle.regress_backtrack.proofs.StepLemmas.{characters_inside}
+use Rattle.regress_backtrack.proofs.StepLemmas.{characters_inside, characters_named}
 use Rattle.regress_backtrack.proofs.step.match_characters.Goals as goal
+
+pub returns-in_default-clause-leads : goal.returns-in_default-clause-leads
+returns-in_default-clause-leads c =
+    absurd (characters_named c.args.input.now (slice_get c.args.input.now.code.now.program.leaves.items c.args.leaf) c.args.next c.args.here c.in_default.ensures
+    c.args.count c.requires)
+
+pub returns-in_default-clause-costs : goal.returns-in_default-clause-costs
+returns-in_default-clause-costs c =
+    absurd (characters_named c.args.input.now (slice_get c.args.input.now.code.now.program.leaves.items c.args.leaf) c.args.next c.args.here c.in_default.ensures
+    c.args.count c.requires)
 
 pub returns-clause-inside : goal.returns-clause-inside
 returns-clause-inside c = λ m.
     let input = c.args.input.now in
     let u = subject input.rules input.text.now in
     let here = c.args.here in
-    characters_inside input m (slice_get input.code.now.tests.items c.args.leaf) c.args.next here c.reach.result c.in-Some.test.now c.args.count
+    characters_inside input m (slice_get input.code.now.program.leaves.items c.args.leaf) c.args.next here c.reach.result c.in-Some.test.now c.args.count
     c.characters_end-to.result u.setting u.direction c.in-Some.ensures c.requires
     (c.characters_end-to.ensures (state m.captures.items here.position) refl) c.reach.ensures.next
 
@@ -19,5 +29,5 @@ returns-clause-costs c = λ m outs costs.
     let input = c.args.input.now in
     let here = c.args.here in
     characters_cost input outs costs m here c.args.next c.reach.result c.args.left.now c.args.left.now c.reach.new.left
-    (slice_get input.code.now.tests.items c.args.leaf) c.in-Some.test.now c.args.count c.characters_end-to.result c.in-Some.ensures
+    (slice_get input.code.now.program.leaves.items c.args.leaf) c.in-Some.test.now c.args.count c.characters_end-to.result c.in-Some.ensures
     (c.characters_end-to.ensures (state m.captures.items here.position) refl) c.reach.ensures.next c.reach.ensures.costs

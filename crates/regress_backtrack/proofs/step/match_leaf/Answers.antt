@@ -6,15 +6,23 @@ use Rattle.regress_program.specs.Cost.{compared}
 use Rattle.regress_tree.specs.Matching.{steps}
 use Rattle.regress_tree.specs.Tree.{tree}
 use Rattle.regress_backtrack.proofs.CostLemmas.{leaf_cost}
-use Rattle.regress_backtrack.proofs.StepLemmas.{leaf_inside}
+use Rattle.regress_backtrack.proofs.StepLemmas.{leaf_inside, leaf_named}
 use Rattle.regress_backtrack.proofs.step.match_leaf.Goals as goal
+
+pub returns-in_default-clause-leads : goal.returns-in_default-clause-leads
+returns-in_default-clause-leads c =
+    absurd (leaf_named c.args.input.now (slice_get c.args.input.now.code.now.program.leaves.items c.args.leaf) c.args.next c.args.here c.in_default.ensures c.requires)
+
+pub returns-in_default-clause-costs : goal.returns-in_default-clause-costs
+returns-in_default-clause-costs c =
+    absurd (leaf_named c.args.input.now (slice_get c.args.input.now.code.now.program.leaves.items c.args.leaf) c.args.next c.args.here c.in_default.ensures c.requires)
 
 pub returns-clause-inside : goal.returns-clause-inside
 returns-clause-inside c =
     let input = c.args.input.now in
     let u = subject input.rules input.text.now in
     let t = c.in-Some.test.now in
-    leaf_inside input c.args.machine.now (slice_get input.code.now.tests.items c.args.leaf) c.args.next c.args.here c.reach.result t c.test_end-to.result u.setting
+    leaf_inside input c.args.machine.now (slice_get input.code.now.program.leaves.items c.args.leaf) c.args.next c.args.here c.reach.result t c.test_end-to.result u.setting
     u.direction c.in-Some.ensures c.requires
     (subst (λ cs. steps u.setting u.bytes u.direction (tree t.node) (state cs c.args.here.position) ≡ put (state cs c.args.here.position) c.test_end-to.result)
     c.deref.ensures.value c.test_end-to.ensures.to) c.reach.ensures.next
@@ -27,7 +35,7 @@ returns-clause-costs c = λ outs costs.
     let t = c.in-Some.test.now in
     let p = c.args.here in
     leaf_cost input outs costs m p c.args.next c.reach.result c.args.left.now c.test_end-to.new.left c.reach.new.left
-    (slice_get input.code.now.tests.items c.args.leaf) t c.test_end-to.result c.in-Some.ensures
+    (slice_get input.code.now.program.leaves.items c.args.leaf) t c.test_end-to.result c.in-Some.ensures
     (subst (λ cs. steps u.setting u.bytes u.direction (tree t.node) (state cs p.position) ≡ put (state cs p.position) c.test_end-to.result)
     c.deref.ensures.value c.test_end-to.ensures.to) c.reach.ensures.next
     (subst (λ cs. c.args.left.now ≤ c.test_end-to.new.left + compared (tree t.node) (state cs p.position)) c.deref.ensures.value c.test_end-to.ensures.costs)

@@ -5,7 +5,7 @@ use Rattle.regress_code.specs.Code.{code_routines}
 use Rattle.regress_backtrack.specs.Costs.{op_cost}
 use Rattle.regress_backtrack.specs.Machine.{at, groups_of, points}
 use Rattle.regress_backtrack.specs.Next.{Leads}
-use Rattle.regress_code.specs.Views.{op_in}
+use Rattle.regress_program.specs.Views.{op_in}
 use Rattle.regress_backtrack.proofs.StepLemmas.{Goes, ok_map}
 use Rattle.regress_backtrack.proofs.step.step.Goals as goal
 
@@ -17,7 +17,7 @@ returns-in-Accept-clause-leads c = λ outs solves.
     let m = c.args.machine.now in (
       flat_map out (points m),
       ap (λ i. outcomes_by u.setting u.bytes u.direction (matcher_of u.setting u.bytes (code_routines input.code.now) outs) out
-          (op_in input.code.now.tests.items i) (at c.args.here (groups_of m))
+          (op_in input.code.now.program.leaves.items i) (at c.args.here (groups_of m))
           ++ flat_map out (points m)) c.in-Accept.is,
     )
 
@@ -29,7 +29,7 @@ returns-in-Leaf-clause-leads c =
     λ outs solves.
     subst (λ i. Goes (outs input.index) m m
     (outcomes_by u.setting u.bytes u.direction (matcher_of u.setting u.bytes (code_routines input.code.now) outs) (outs input.index)
-    (op_in input.code.now.tests.items i) (at c.args.here (groups_of m))) c.match_leaf.result)
+    (op_in input.code.now.program.leaves.items i) (at c.args.here (groups_of m))) c.match_leaf.result)
     (sym c.in-Leaf.is) (c.match_leaf.ensures.leads (matcher_of u.setting u.bytes (code_routines input.code.now) outs) (outs input.index))
 
 pub returns-in-Characters-clause-leads : goal.returns-in-Characters-clause-leads
@@ -40,7 +40,7 @@ returns-in-Characters-clause-leads c =
     λ outs solves.
     subst (λ i. Goes (outs input.index) m m
     (outcomes_by u.setting u.bytes u.direction (matcher_of u.setting u.bytes (code_routines input.code.now) outs) (outs input.index)
-    (op_in input.code.now.tests.items i) (at c.args.here (groups_of m))) c.match_characters.result)
+    (op_in input.code.now.program.leaves.items i) (at c.args.here (groups_of m))) c.match_characters.result)
     (sym c.in-Characters.is) (c.match_characters.ensures.leads m (matcher_of u.setting u.bytes (code_routines input.code.now) outs) (outs input.index))
 
 pub returns-in-Split-clause-leads : goal.returns-in-Split-clause-leads
@@ -49,7 +49,7 @@ returns-in-Split-clause-leads c =
     let u = subject input.rules input.text.now in
     let m = c.args.machine.now in
     let g = groups_of m in
-    let tests = input.code.now.tests.items in
+    let tests = input.code.now.program.leaves.items in
     let body_of = λ (outs : ℕ → Out). matcher_of u.setting u.bytes (code_routines input.code.now) outs in
     let rest = λ (outs : ℕ → Out). flat_map (outs input.index) (points m) in
     ok_map c.fork.result _ _
@@ -68,7 +68,7 @@ returns-in-BeginLoop-clause-leads c =
     let u = subject input.rules input.text.now in
     let m = c.args.machine.now in
     let g = groups_of m in
-    let tests = input.code.now.tests.items in
+    let tests = input.code.now.program.leaves.items in
     let body_of = λ (outs : ℕ → Out). matcher_of u.setting u.bytes (code_routines input.code.now) outs in
     ok_map c.iterate.result _ _
     (λ next leads. λ outs solve.
@@ -82,7 +82,7 @@ returns-then-here-clause-leads c =
     let u = subject input.rules input.text.now in
     let m = c.args.machine.now in
     let g = groups_of m in
-    let tests = input.code.now.tests.items in
+    let tests = input.code.now.program.leaves.items in
     let body_of = λ (outs : ℕ → Out). matcher_of u.setting u.bytes (code_routines input.code.now) outs in
     let a = at c.args.here g in
     ok_map c.iterate-then-here.result _ _
@@ -99,7 +99,7 @@ pub returns-in-Leaf-clause-costs : goal.returns-in-Leaf-clause-costs
 returns-in-Leaf-clause-costs c = λ outs costs has.
     let input = c.args.input.now in
     let a = at c.args.here (groups_of c.args.machine.now) in
-    let is = ap (λ i. op_cost input outs costs (op_in input.code.now.tests.items i) a) c.in-Leaf.is in
+    let is = ap (λ i. op_cost input outs costs (op_in input.code.now.program.leaves.items i) a) c.in-Leaf.is in
     let taken = c.match_leaf.ensures.costs outs costs in
     omega (arith, is, taken)
 
@@ -107,7 +107,7 @@ pub returns-in-Characters-clause-costs : goal.returns-in-Characters-clause-costs
 returns-in-Characters-clause-costs c = λ outs costs has.
     let input = c.args.input.now in
     let a = at c.args.here (groups_of c.args.machine.now) in
-    let is = ap (λ i. op_cost input outs costs (op_in input.code.now.tests.items i) a) c.in-Characters.is in
+    let is = ap (λ i. op_cost input outs costs (op_in input.code.now.program.leaves.items i) a) c.in-Characters.is in
     let taken = c.match_characters.ensures.costs c.args.machine.now outs costs in
     omega (arith, is, taken)
 
@@ -117,7 +117,7 @@ returns-in-Split-clause-costs c =
     let g = groups_of c.args.machine.now in
     ok_map c.fork.result _ _
     (λ next less. λ outs costs has.
-    let is = ap (λ i. op_cost input outs costs (op_in input.code.now.tests.items i) (at c.args.here g)) c.in-Split.is in
+    let is = ap (λ i. op_cost input outs costs (op_in input.code.now.program.leaves.items i) (at c.args.here g)) c.in-Split.is in
     let first = ap (λ p. costs input.index (at p g)) c.goto.ensures in
     let second = ap (λ p. costs input.index (at p g)) c.goto-in-Split.ensures in
     let taken = less outs costs has in
@@ -130,7 +130,7 @@ returns-in-BeginLoop-clause-costs c =
     let a = at c.args.here (groups_of c.args.machine.now) in
     ok_map c.iterate.result _ _
     (λ next less. λ outs costs has.
-    let is = ap (λ i. op_cost input outs costs (op_in input.code.now.tests.items i) a) c.in-BeginLoop.is in
+    let is = ap (λ i. op_cost input outs costs (op_in input.code.now.program.leaves.items i) a) c.in-BeginLoop.is in
     let taken = less outs costs has in
     omega (arith, is, taken))
     c.iterate.ensures.costs
@@ -142,7 +142,7 @@ returns-then-here-clause-costs c =
     ok_map c.iterate-then-here.result _ _
     (λ next less. λ outs costs has.
     let cost = costs input.index in
-    let is = ap (λ i. op_cost input outs costs (op_in input.code.now.tests.items i) a) c.in-Repeat.is in
+    let is = ap (λ i. op_cost input outs costs (op_in input.code.now.program.leaves.items i) a) c.in-Repeat.is in
     let moved = ap (λ b. if b then cost (enter c.in-Repeat.body a) + cost (goto c.in-Repeat.next a) else 0) c.if-here.true in
     let taken = less outs costs has in
     omega (arith, is, moved, taken))

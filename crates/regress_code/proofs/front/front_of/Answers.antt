@@ -4,7 +4,7 @@ use Rattle.regress_tree.specs.Reading.{direction_if}
 use Rattle.regress_tree.specs.Tree.{tree}
 use Rattle.regress_program.specs.Program.{goto, outcomes_by, reach}
 use Rattle.regress_code.specs.Fronts.{Bounds}
-use Rattle.regress_code.specs.Views.{characters_of, op_in, part_of}
+use Rattle.regress_program.specs.Views.{characters_of, op_in, part_of}
 use Rattle.regress_code.proofs.FrontLemmas.{cond_bounds, ended_bounds, exactly_bounds, look_bounds, reach_bounds}
 use Rattle.regress_code.proofs.front.front_of.Goals as goal
 

@@ -4,7 +4,7 @@ use Rattle.std.proofs.lemmas.Option.{slice_get-get_or}
 use Rattle.regress_tree.specs.Reading.{direction_if}
 use Rattle.regress_code.specs.Fronts.{AreFronts, IsFront}
 use Rattle.regress_code.proofs.FrontLemmas.{front_next}
-use Rattle.regress_code.proofs.OwnedLemmas.{pushed}
+use Rattle.regress_code.proofs.ListLemmas.{pushed}
 use Rattle.regress_code.proofs.front.fronts_of.Goals as goal
 
 pub loop-instruction-preserved : goal.loop-instruction-preserved

@@ -1,7 +1,7 @@
 use Rattle.std.proofs.Common.{◌≡◌, ◌≤◌, ◌<◌, ◌+◌, ℕ, List, Some, false, get_or, length, slice_get, sym, ap, subst, arith}
 use Rattle.std.proofs.lemmas.List.{length_push}
 use Rattle.regress_base.specs.ByteBitmap.{contains}
-use Rattle.regress_code.proofs.OwnedLemmas.{pushed}
+use Rattle.regress_code.proofs.ListLemmas.{pushed}
 use Rattle.regress_code.proofs.passes.counts_of.Goals as goal
 
 pub loop-b-preserved : goal.loop-b-preserved

@@ -2,7 +2,7 @@ use Rattle.std.proofs.Common.{IfSome, length, sym, ap, subst, arith}
 use Rattle.std.proofs.lemmas.List.{length_push}
 use Rattle.std.proofs.lemmas.Option.{slice_get-get_or}
 use Rattle.regress_code.specs.Passes.{AreCounts, ArePasses, IsPreferred}
-use Rattle.regress_code.proofs.OwnedLemmas.{pushed}
+use Rattle.regress_code.proofs.ListLemmas.{pushed}
 use Rattle.regress_code.proofs.passes.passes_of.Goals as goal
 
 pub loop-pc-preserved : goal.loop-pc-preserved

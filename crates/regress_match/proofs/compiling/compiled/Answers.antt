@@ -6,5 +6,5 @@ use Rattle.regress_match.proofs.compiling.compiled.Goals as goal
 pub returns-clause-means : goal.returns-clause-means
 returns-clause-means c =
     let made = c.compile.ensures in
-    result_means (tree c.args.regex.now.node) c.args.tables.now c.args.regex.now.flags _ c.compile.result made.pattern made.flags made.groups
+    result_means (tree c.args.regex.now.node) c.args.regex.now.flags _ c.compile.result made.pattern made.flags made.groups
     (omega (arith, c.requires, c.if-groups-eq18446744073709551615.false))

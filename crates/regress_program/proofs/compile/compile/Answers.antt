@@ -1,17 +1,47 @@
-use Rattle.std.proofs.Common.{◌≡◌, Some, sym, ap, ◌∙◌}
+use Rattle.std.proofs.Common.{◌≡◌, Some, length, sym, ap, ◌∙◌, arith}
 use Rattle.regress_tree.specs.Tree.{tree}
-use Rattle.regress_program.specs.CodeOf.{code_of}
+use Rattle.regress_program.specs.CodeOf.{code_in}
+use Rattle.regress_program.specs.Compiled.{total}
+use Rattle.regress_program.specs.LeavesOf.{leaves_of}
 use Rattle.regress_program.specs.Program.{Routine}
-use Rattle.regress_program.proofs.ViewLemmas.{is_pattern}
+use Rattle.regress_program.specs.Views.{program_in}
+use Rattle.regress_program.proofs.LeavesLemmas.{has-all}
+use Rattle.regress_program.proofs.ViewLemmas.{is_pattern, no_routines}
 use Rattle.regress_program.proofs.compile.compile.Goals as goal
 
 pub returns-clause-forwards : goal.returns-clause-forwards
 returns-clause-forwards c = λ r is.
-    let pattern = is_pattern _ (code_of c.routine.new.self) (tree c.args.node.now) c.in_ok-routine.field-0 c.in_ok-routine.ensures.emits in
+    let leaves = c.in_ok-leaves.leaves.items in
+    let has = has-all leaves (leaves_of (tree c.args.node.now)) (omega (arith, c.in_ok-leaves.leaves.ok)) c.in_ok-leaves.ensures in
+    let pattern = is_pattern _ (code_in leaves c.routine.new.self) (tree c.args.node.now) c.in_ok-routine.field-0 (c.in_ok-routine.ensures.emits.means leaves has).has in
     let some : Some pattern.routine ≡ Some r = sym pattern.last ∙ is in
     let same : pattern.routine ≡ r = cc in
     sym (ap (λ (x : Routine). x.direction) same) ∙ pattern.direction
 
 pub returns-clause-means : goal.returns-clause-means
 returns-clause-means c =
-    is_pattern _ (code_of c.routine.new.self) (tree c.args.node.now) c.in_ok-routine.field-0 c.in_ok-routine.ensures.emits
+    let leaves = c.in_ok-leaves.leaves.items in
+    let has = has-all leaves (leaves_of (tree c.args.node.now)) (omega (arith, c.in_ok-leaves.leaves.ok)) c.in_ok-leaves.ensures in
+    is_pattern _ (code_in leaves c.routine.new.self) (tree c.args.node.now) c.in_ok-routine.field-0 (c.in_ok-routine.ensures.emits.means leaves has).has
+
+pub returns-clause-program : goal.returns-clause-program
+returns-clause-program c =
+    let leaves = c.in_ok-leaves.leaves.items in
+    let has = has-all leaves (leaves_of (tree c.args.node.now)) (omega (arith, c.in_ok-leaves.leaves.ok)) c.in_ok-leaves.ensures in
+    (c.in_ok-routine.ensures.emits.means leaves has).has.grown.program (no_routines leaves c.new.result.items c.new.ensures.items)
+
+pub returns-clause-size : goal.returns-clause-size
+returns-clause-size c =
+    let leaves = c.in_ok-leaves.leaves.items in
+    let has = has-all leaves (leaves_of (tree c.args.node.now)) (omega (arith, c.in_ok-leaves.leaves.ok)) c.in_ok-leaves.ensures in
+    let body = (c.in_ok-routine.ensures.emits.means leaves has).has in
+    let none : total (program_in leaves c.new.result.items) ≡ 0 = ap (λ rs. total (program_in leaves rs)) c.new.ensures.items in
+    omega (arith, body.grown.spent, none, ap length body.same, c.in_ok-routine.ensures.spends)
+
+pub returns-clause-within : goal.returns-clause-within
+returns-clause-within c =
+    let leaves = c.in_ok-leaves.leaves.items in
+    let has = has-all leaves (leaves_of (tree c.args.node.now)) (omega (arith, c.in_ok-leaves.leaves.ok)) c.in_ok-leaves.ensures in
+    let body = (c.in_ok-routine.ensures.emits.means leaves has).has in
+    let none : total (program_in leaves c.new.result.items) ≡ 0 = ap (λ rs. total (program_in leaves rs)) c.new.ensures.items in
+    omega (arith, body.grown.spent, none, ap length body.same)

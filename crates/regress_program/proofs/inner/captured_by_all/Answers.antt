@@ -1,16 +1,21 @@
-use Rattle.std.proofs.Common.{◌≡◌, ◌+◌, arith, max, refl}
+use Rattle.std.proofs.Common.{◌≡◌, ◌+◌, arith, max, refl, sym, ap, ◌∙◌}
 use Rattle.regress_program.specs.Ranges.{captured_by_all}
-use Rattle.regress_program.specs.Views.{op_of, ops_of}
-use Rattle.regress_program.proofs.RangeLemmas.{captured-more, drop_map-at}
+use Rattle.regress_program.specs.Views.{op_in, ops_in}
+use Rattle.regress_program.proofs.RangeLemmas.{captured-more, drop_map-all, drop_map-got}
 use Rattle.regress_program.proofs.inner.captured_by_all.Goals as goal
 
 pub loop-instruction-preserved : goal.loop-instruction-preserved
-loop-instruction-preserved c =
+loop-instruction-preserved c = λ leaves.
     let items = c.args.instructions.now in
     let i = c.loop-instruction.instruction-index in
-    let instruction = c.instruction-item.result in
     let ranges = c.args.ranges.now in
-    let more = drop_map-at op_of items i (i + 1) instruction c.loop-instruction-test.true c.instruction-item.is refl in
     let adds : c.max-groups.result ≡ max c.loop-instruction.groups c.captured_by.result = grind (arith, c.max-groups.ensures) in
-    captured-more ranges (ops_of items) i (i + 1) (op_of instruction) c.loop-instruction.groups c.captured_by.result c.max-groups.result
-    (captured_by_all ranges (ops_of items)) more c.captured_by.ensures adds c.loop-instruction.invariant
+    captured-more ranges (ops_in leaves items) i (i + 1) _ c.loop-instruction.groups c.captured_by.result c.max-groups.result
+    (captured_by_all ranges (ops_in leaves items)) (drop_map-got (op_in leaves) items i (i + 1) _ c.loop-instruction-test.true refl) (c.captured_by.ensures leaves) adds (c.loop-instruction.invariant leaves)
+
+pub returns : goal.returns
+returns c = λ leaves.
+    let l = c.loop-instruction in
+    let ranges = c.args.ranges.now in
+    let none = drop_map-all (op_in leaves) c.args.instructions.now l.instruction-index c.loop-instruction-test.false in
+    omega (arith, l.invariant leaves, ap (captured_by_all ranges) none)

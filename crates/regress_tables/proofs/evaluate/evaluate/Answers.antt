@@ -8,7 +8,7 @@ use Rattle.regress_program.specs.Linear.{is_back_reference}
 use Rattle.regress_program.specs.Program.{matcher_of}
 use Rattle.regress_program.specs.Shape.{Fits}
 use Rattle.regress_code.specs.Code.{code_routines}
-use Rattle.regress_code.specs.Views.{op_in}
+use Rattle.regress_program.specs.Views.{op_in}
 use Rattle.regress_program.proofs.lemmas.Onward.{Stays-tree}
 use Rattle.regress_tables.proofs.EvaluateLemmas.{characters_is, leaf_is, part_yields, split_yields, begin_yields, repeat_yields, end_yields, unsets_yields, begin_group_yields, end_group_yields, look_yields, reached-within, look-earlier}
 use Rattle.regress_tables.proofs.evaluate.evaluate.Goals as goal
@@ -40,7 +40,7 @@ leaf_end-to-requires c =
 pub looks-requires-clause-earlier : goal.looks-requires-clause-earlier
 looks-requires-clause-earlier c =
     let can = c.requires.can in
-    let fits = subst (Fits _ _ can.pc) (ap (op_in c.args.input.code.now.tests.items) c.in-Look.is) can.fits in
+    let fits = subst (Fits _ _ can.pc) (ap (op_in c.args.input.code.now.program.leaves.items) c.in-Look.is) can.fits in
     look-earlier _ _ c.in-Look.routine fits.0
 
 pub returns-in-Split : goal.returns-in-Split
@@ -49,7 +49,7 @@ returns-in-Split c = λ outs tables right.
     let body_of = matcher_of u.setting u.bytes (code_routines c.args.input.code.now) outs in
     let can = c.requires.can in
     split_yields u.setting u.bytes u.direction body_of (outs _) c.args.table.now right can.pc c.args.moved c.args.position can.next _ _ can.fits
-    c.in-Split.first c.in-Split.second _ _ (ap (op_in c.args.input.code.now.tests.items) c.in-Split.is)
+    c.in-Split.first c.in-Split.second _ _ (ap (op_in c.args.input.code.now.program.leaves.items) c.in-Split.is)
     c.cell.ensures c.cell-in-Split.ensures
 
 pub returns-in-BeginLoop : goal.returns-in-BeginLoop
@@ -58,7 +58,7 @@ returns-in-BeginLoop c = λ outs tables right.
     let body_of = matcher_of u.setting u.bytes (code_routines c.args.input.code.now) outs in
     let can = c.requires.can in
     begin_yields u.setting u.bytes u.direction body_of (outs _) c.args.table.now right can.pc c.args.moved c.args.position can.next _ _ can.fits
-    c.in-BeginLoop.greedy c.in-BeginLoop.body c.in-BeginLoop.next _ _ (ap (op_in c.args.input.code.now.tests.items) c.in-BeginLoop.is)
+    c.in-BeginLoop.greedy c.in-BeginLoop.body c.in-BeginLoop.next _ _ (ap (op_in c.args.input.code.now.program.leaves.items) c.in-BeginLoop.is)
     c.cell-in-BeginLoop.ensures c.cell-in-BeginLoop-2.ensures
 
 pub returns-in-Repeat : goal.returns-in-Repeat
@@ -67,7 +67,7 @@ returns-in-Repeat c = λ outs tables right.
     let body_of = matcher_of u.setting u.bytes (code_routines c.args.input.code.now) outs in
     let can = c.requires.can in
     repeat_yields u.setting u.bytes u.direction body_of (outs _) c.args.table.now right can.pc c.args.moved c.args.position can.next _ _ can.fits
-    c.in-Repeat.greedy c.in-Repeat.body c.in-Repeat.next _ _ (ap (op_in c.args.input.code.now.tests.items) c.in-Repeat.is)
+    c.in-Repeat.greedy c.in-Repeat.body c.in-Repeat.next _ _ (ap (op_in c.args.input.code.now.program.leaves.items) c.in-Repeat.is)
     c.cell-in-Repeat.ensures c.cell-in-Repeat-2.ensures
 
 pub returns-in-EndLoop : goal.returns-in-EndLoop
@@ -76,7 +76,7 @@ returns-in-EndLoop c = λ outs tables right.
     let body_of = matcher_of u.setting u.bytes (code_routines c.args.input.code.now) outs in
     let can = c.requires.can in
     end_yields u.setting u.bytes u.direction body_of (outs _) c.args.table.now right can.pc c.args.moved c.args.position can.next _ _ can.fits
-    c.in-EndLoop.next _ (ap (op_in c.args.input.code.now.tests.items) c.in-EndLoop.is)
+    c.in-EndLoop.next _ (ap (op_in c.args.input.code.now.program.leaves.items) c.in-EndLoop.is)
     c.cell-in-EndLoop.ensures
 
 pub returns-in-Unset : goal.returns-in-Unset
@@ -85,7 +85,7 @@ returns-in-Unset c = λ outs tables right.
     let body_of = matcher_of u.setting u.bytes (code_routines c.args.input.code.now) outs in
     let can = c.requires.can in
     unsets_yields u.setting u.bytes u.direction body_of (outs _) c.args.table.now right can.pc c.args.moved c.args.position can.next _ _ can.fits
-    c.in-Unset.start c.in-Unset.end c.in-Unset.next _ (ap (op_in c.args.input.code.now.tests.items) c.in-Unset.is)
+    c.in-Unset.start c.in-Unset.end c.in-Unset.next _ (ap (op_in c.args.input.code.now.program.leaves.items) c.in-Unset.is)
     c.cell-in-Unset.ensures
 
 pub returns-in-BeginGroup : goal.returns-in-BeginGroup
@@ -94,7 +94,7 @@ returns-in-BeginGroup c = λ outs tables right.
     let body_of = matcher_of u.setting u.bytes (code_routines c.args.input.code.now) outs in
     let can = c.requires.can in
     begin_group_yields u.setting u.bytes u.direction body_of (outs _) c.args.table.now right can.pc c.args.moved c.args.position can.next _ _ can.fits
-    c.in-BeginGroup.next _ (ap (op_in c.args.input.code.now.tests.items) c.in-BeginGroup.is)
+    c.in-BeginGroup.next _ (ap (op_in c.args.input.code.now.program.leaves.items) c.in-BeginGroup.is)
     c.cell-in-BeginGroup.ensures
 
 pub returns-in-EndGroup : goal.returns-in-EndGroup
@@ -103,7 +103,7 @@ returns-in-EndGroup c = λ outs tables right.
     let body_of = matcher_of u.setting u.bytes (code_routines c.args.input.code.now) outs in
     let can = c.requires.can in
     end_group_yields u.setting u.bytes u.direction body_of (outs _) c.args.table.now right can.pc c.args.moved c.args.position can.next _ _ can.fits
-    c.in-EndGroup.id c.in-EndGroup.next _ (ap (op_in c.args.input.code.now.tests.items) c.in-EndGroup.is)
+    c.in-EndGroup.id c.in-EndGroup.next _ (ap (op_in c.args.input.code.now.program.leaves.items) c.in-EndGroup.is)
     c.cell-in-EndGroup.ensures
 
 pub returns-in-Look : goal.returns-in-Look
@@ -112,7 +112,7 @@ returns-in-Look c = λ outs tables right.
     let body_of = matcher_of u.setting u.bytes (code_routines c.args.input.code.now) outs in
     let can = c.requires.can in
     look_yields u.setting u.bytes u.direction body_of (outs _) c.args.table.now right can.pc c.args.moved c.args.position can.next _ _ can.fits
-    c.in-Look.negate c.in-Look.routine c.in-Look.next _ _ (ap (op_in c.args.input.code.now.tests.items) c.in-Look.is)
+    c.in-Look.negate c.in-Look.routine c.in-Look.next _ _ (ap (op_in c.args.input.code.now.program.leaves.items) c.in-Look.is)
     (c.looks.ensures outs tables) c.cell-in-Look.ensures
 
 pub returns-in-Some : goal.returns-in-Some

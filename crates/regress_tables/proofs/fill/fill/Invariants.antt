@@ -1,5 +1,5 @@
 use Rattle.std.proofs.Common.{◌≡◌, ◌*◌, length}
-use Rattle.regress_code.specs.Views.{routine_in}
+use Rattle.regress_program.specs.Views.{routine_in}
 use Rattle.regress_tables.specs.Bits.{bits_of}
 use Rattle.regress_tables.specs.Evaluated.{IsFilled}
 use Rattle.regress_tables.specs.Table.{IsTableOf}
@@ -7,7 +7,7 @@ use Rattle.regress_tables.proofs.fill.fill.Given as goal
 
 abbrev pub invariant-loop-row : goal.invariant-loop-row
 invariant-loop-row l = record {
-  of : IsTableOf l.input.text.now (routine_in l.input.code.now.tests.items l.routine) l.table;
+  of : IsTableOf l.input.text.now (routine_in l.input.code.now.program.leaves.items l.routine) l.table;
   backwards : l.table.backwards ≡ l.routine.backwards;
   bits : length (bits_of l.table.bits) ≡ l.row * (2 * l.table.width);
   filled : IsFilled l.input l.table;

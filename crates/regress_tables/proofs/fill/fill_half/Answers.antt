@@ -4,7 +4,7 @@ use Rattle.std.proofs.lemmas.Option.{slice_get-map, slice_get_read}
 use Rattle.regress_leaves.specs.Subject.{subject}
 use Rattle.regress_tree.specs.Reading.{direction_if}
 use Rattle.regress_code.specs.Code.{code_routines}
-use Rattle.regress_code.specs.Views.{op_in, ops_in, routine_in}
+use Rattle.regress_program.specs.Views.{op_in, ops_in, routine_in}
 use Rattle.regress_tables.specs.Bits.{bits_of}
 use Rattle.regress_tables.specs.Table.{size}
 use Rattle.regress_tables.proofs.EvaluateLemmas.{index-within}
@@ -16,18 +16,18 @@ evaluate-bit-requires-clause-can c =
     let items = c.args.routine.now.instructions.items in
     let pc = c.loop-pc.pc in
     let so_far = c.loop-pc.invariant in
-    let is_op : slice_get (ops_in c.args.input.code.now.tests.items items) pc ≡ Some (op_in c.args.input.code.now.tests.items c.index.result.now) =
-    slice_get-map (op_in c.args.input.code.now.tests.items) items pc ∙ ap (option_map (op_in c.args.input.code.now.tests.items)) (slice_get_read items _ pc _ refl (omega arith) c.index.ensures) in
-    can_evaluate c.args.input (routine_in c.args.input.code.now.tests.items c.args.routine.now) c.args.table.now c.loop-pc.table pc c.args.moved c.args.position c.requires.can
-    c.requires.position c.requires.at so_far.shape so_far.more (omega (arith, length-map items (op_in c.args.input.code.now.tests.items))) (op_in c.args.input.code.now.tests.items c.index.result.now) c.requires.no_reference is_op
+    let is_op : slice_get (ops_in c.args.input.code.now.program.leaves.items items) pc ≡ Some (op_in c.args.input.code.now.program.leaves.items c.index.result.now) =
+    slice_get-map (op_in c.args.input.code.now.program.leaves.items) items pc ∙ ap (option_map (op_in c.args.input.code.now.program.leaves.items)) (slice_get_read items _ pc _ refl (omega arith) c.index.ensures) in
+    can_evaluate c.args.input (routine_in c.args.input.code.now.program.leaves.items c.args.routine.now) c.args.table.now c.loop-pc.table pc c.args.moved c.args.position c.requires.can
+    c.requires.position c.requires.at so_far.shape so_far.more (omega (arith, length-map items (op_in c.args.input.code.now.program.leaves.items))) (op_in c.args.input.code.now.program.leaves.items c.index.result.now) c.requires.no_reference is_op
 
 pub push-requires : goal.push-requires
 push-requires c =
     let t = c.loop-pc.table in
     let items = c.args.routine.now.instructions.items in
     let so_far = c.loop-pc.invariant in
-    let next = is_next c.args.input (routine_in c.args.input.code.now.tests.items c.args.routine.now) c.args.table.now t c.loop-pc.pc c.args.moved c.args.position c.requires.can c.requires.position
-    c.requires.at so_far.shape so_far.more (omega (arith, length-map items (op_in c.args.input.code.now.tests.items))) in
+    let next = is_next c.args.input (routine_in c.args.input.code.now.program.leaves.items c.args.routine.now) c.args.table.now t c.loop-pc.pc c.args.moved c.args.position c.requires.can c.requires.position
+    c.requires.at so_far.shape so_far.more (omega (arith, length-map items (op_in c.args.input.code.now.program.leaves.items))) in
     subst (λ n. n < size t) next.at (index-within t c.loop-pc.pc c.args.moved c.args.position next.pc_in next.position_in)
 
 pub loop-pc-preserved : goal.loop-pc-preserved
@@ -35,14 +35,14 @@ loop-pc-preserved c =
     let u = subject c.args.input.rules c.args.input.text.now in
     let program = code_routines c.args.input.code.now in
     let i = length c.args.input.tables.now in
-    let r = routine_in c.args.input.code.now.tests.items c.args.routine.now in
+    let r = routine_in c.args.input.code.now.program.leaves.items c.args.routine.now in
     let items = c.args.routine.now.instructions.items in
     let pc = c.loop-pc.pc in
     let so_far = c.loop-pc.invariant in
-    let is_op : slice_get (ops_in c.args.input.code.now.tests.items items) pc ≡ Some (op_in c.args.input.code.now.tests.items c.index.result.now) =
-    slice_get-map (op_in c.args.input.code.now.tests.items) items pc ∙ ap (option_map (op_in c.args.input.code.now.tests.items)) (slice_get_read items _ pc _ refl (omega arith) c.index.ensures) in
+    let is_op : slice_get (ops_in c.args.input.code.now.program.leaves.items items) pc ≡ Some (op_in c.args.input.code.now.program.leaves.items c.index.result.now) =
+    slice_get-map (op_in c.args.input.code.now.program.leaves.items) items pc ∙ ap (option_map (op_in c.args.input.code.now.program.leaves.items)) (slice_get_read items _ pc _ refl (omega arith) c.index.ensures) in
     let can = c.requires.can in
-    let lt : pc < length r.ops = omega (arith, length-map items (op_in c.args.input.code.now.tests.items)) in
+    let lt : pc < length r.ops = omega (arith, length-map items (op_in c.args.input.code.now.program.leaves.items)) in
     let next = is_next c.args.input r c.args.table.now c.loop-pc.table pc c.args.moved c.args.position can c.requires.position c.requires.at so_far.shape so_far.more lt in
     record {
       more = ap length c.push.ensures.bits ∙ omega (arith, so_far.more, length-append (bits_of c.loop-pc.table.bits) (c.evaluate-bit.result ∷ []));
@@ -50,7 +50,7 @@ loop-pc-preserved c =
       filled = λ old outs solution tables.
           let right = so_far.filled old outs solution tables in
           push_right (outs i) c.loop-pc.table c.push.new.self pc c.args.moved c.args.position c.evaluate-bit.result right next
-          (evaluated_tells u.setting u.bytes program outs i r (op_in c.args.input.code.now.tests.items c.index.result.now) u.direction pc c.args.moved c.args.position c.evaluate-bit.result
+          (evaluated_tells u.setting u.bytes program outs i r (op_in c.args.input.code.now.program.leaves.items c.index.result.now) u.direction pc c.args.moved c.args.position c.evaluate-bit.result
           solution can.is is_op lt (sym can.of.direction ∙ ap direction_if can.backwards) (omega (arith, c.requires.position, can.of.text))
           (c.evaluate-bit.ensures outs tables right))
           c.push.ensures.bits c.push.ensures.shape;

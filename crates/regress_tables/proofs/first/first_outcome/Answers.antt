@@ -1,6 +1,6 @@
 use Rattle.std.proofs.Common.{true, length, slice_get, slice_index_or, refl, ap, ◌∙◌, subst, arith}
 use Rattle.std.proofs.lemmas.List.{length-replicate}
-use Rattle.regress_code.specs.Views.{routine_in}
+use Rattle.regress_program.specs.Views.{routine_in}
 use Rattle.regress_tables.specs.declared.slots.Slot.TheVariants as slots
 use Rattle.regress_tables.specs.declared.walker.Walker.{Walker}
 use Rattle.regress_tables.specs.Searchable.{program_in}
@@ -44,7 +44,7 @@ walk-requires-clause-position c =
 
 pub walk-requires-clause-clean : goal.walk-requires-clause-clean
 walk-requires-clause-clean c =
-    let r = routine_in c.args.filled.input.code.now.tests.items c.index-routine.result.now in
+    let r = routine_in c.args.filled.input.code.now.program.leaves.items c.index-routine.result.now in
     clean-first (program_in c.args.filled) r r.entry c.args.groups c.in_ok-unset_slots.field-0.items c.in_ok-unset_slots.ensures.items
 
 pub returns-clause-first : goal.returns-clause-first
@@ -52,7 +52,7 @@ returns-clause-first c = λ outs solves.
     let f = c.args.filled in
     let at = table-at f c.args.index c.index-routine.result.now c.index-filled-index.result c.requires.searchable c.requires.index c.index-routine.ensures
     c.index-filled-index.is in
-    let r = routine_in f.input.code.now.tests.items c.index-routine.result.now in
+    let r = routine_in f.input.code.now.program.leaves.items c.index-routine.result.now in
     let w : Walker = record { pc = r.entry; moved = true; position = c.args.position; slots = c.in_ok-unset_slots.field-0; begins = c.new.result } in
     (first-some f c.args.index c.args.groups c.args.position r _ at c.requires.position _ at.before w c.walk.new.walker
     (record { pc = refl; moved = refl; position = refl; unset = c.in_ok-unset_slots.ensures.items; begins = c.new.ensures.items })
@@ -63,7 +63,7 @@ returns-clause-end c =
     let f = c.args.filled in
     let at = table-at f c.args.index c.index-routine.result.now c.index-filled-index.result c.requires.searchable c.requires.index c.index-routine.ensures
     c.index-filled-index.is in
-    let r = routine_in f.input.code.now.tests.items c.index-routine.result.now in
+    let r = routine_in f.input.code.now.program.leaves.items c.index-routine.result.now in
     let t = slice_index_or f.input.tables.now c.args.index c.index-filled-index.result in
     let v = c.walk.new.walker in
     let unset = c.in_ok-unset_slots.ensures.items in
@@ -83,7 +83,7 @@ returns-clause-steps c =
     let f = c.args.filled in
     let at = table-at f c.args.index c.index-routine.result.now c.index-filled-index.result c.requires.searchable c.requires.index c.index-routine.ensures
     c.index-filled-index.is in
-    let r = routine_in f.input.code.now.tests.items c.index-routine.result.now in
+    let r = routine_in f.input.code.now.program.leaves.items c.index-routine.result.now in
     let w : Walker = record { pc = r.entry; moved = true; position = c.args.position; slots = c.in_ok-unset_slots.field-0; begins = c.new.result } in
     let ends = first-ends f c.args.index c.args.groups c.args.position r _ at c.requires.position _ at.before w c.walk.new.walker
     (record { pc = refl; moved = refl; position = refl; unset = c.in_ok-unset_slots.ensures.items; begins = c.new.ensures.items }) c.cell.result c.cell.ensures
@@ -95,7 +95,7 @@ returns-clause-forwards c = λ r' is forward.
     let f = c.args.filled in
     let at = table-at f c.args.index c.index-routine.result.now c.index-filled-index.result c.requires.searchable c.requires.index c.index-routine.ensures
     c.index-filled-index.is in
-    let r = routine_in f.input.code.now.tests.items c.index-routine.result.now in
+    let r = routine_in f.input.code.now.program.leaves.items c.index-routine.result.now in
     let v = c.walk.new.walker in
     let w : Walker = record { pc = r.entry; moved = true; position = c.args.position; slots = c.in_ok-unset_slots.field-0; begins = c.new.result } in
     let ends = first-ends f c.args.index c.args.groups c.args.position r _ at c.requires.position _ at.before w v

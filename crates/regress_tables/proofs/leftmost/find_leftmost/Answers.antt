@@ -5,7 +5,7 @@ use Rattle.regress_tree.specs.Steps.{MatchState}
 use Rattle.regress_tree.specs.Reading.{forwards}
 use Rattle.regress_program.specs.Compiled.{total}
 use Rattle.regress_found.specs.Found.{state_of}
-use Rattle.regress_code.specs.Views.{routine_in}
+use Rattle.regress_program.specs.Views.{routine_in}
 use Rattle.regress_program.specs.Isolated.{Captures}
 use Rattle.regress_program.specs.Program.{Out, Routine}
 use Rattle.regress_tables.specs.Searchable.{IsEnd, IsFirst, captures_in, outcomes_in, program_in}
@@ -34,7 +34,7 @@ returns-in-Some-clause-solved c = λ outs solves.
     let last = c.len-last.result - 1 in
     let o = c.in-Some.first in
     let m = c.new.result in
-    let index : length (program_in f) - 1 ≡ last = omega (arith, c.len-last.ensures, length-map f.input.code.now.routines.items (routine_in f.input.code.now.tests.items)) in
+    let index : length (program_in f) - 1 ≡ last = omega (arith, c.len-last.ensures, length-map f.input.code.now.program.routines.items (routine_in f.input.code.now.program.leaves.items)) in
     let first = (subst (IsFirst f last n start) c.in-Some.is c.in_ok-first.ensures.first) outs solves in
     let ends = subst (λ x. IfSome x (IsEnd f last n)) c.in-Some.is c.in_ok-first.ensures.end in
     let captures = c.in_ok-captures.ensures (captures_in f outs n)
@@ -54,10 +54,10 @@ returns-in-Some-clause-steps c =
     let start = c.loop-start.start in
     let last = c.len-last.result - 1 in
     let o = c.in-Some.first in
-    let index : length P - 1 ≡ last = omega (arith, c.len-last.ensures, length-map f.input.code.now.routines.items (routine_in f.input.code.now.tests.items)) in
-    let r = get-some P (length P - 1) (omega (arith, length-map f.input.code.now.routines.items (routine_in f.input.code.now.tests.items), f.input.code.now.some)) in
+    let index : length P - 1 ≡ last = omega (arith, c.len-last.ensures, length-map f.input.code.now.program.routines.items (routine_in f.input.code.now.program.leaves.items)) in
+    let r = get-some P (length P - 1) (omega (arith, length-map f.input.code.now.program.routines.items (routine_in f.input.code.now.program.leaves.items), f.input.code.now.program.some)) in
     let forward = (subst (λ x. IfSome x (λ (y : FirstOutcome). (q : Routine) → slice_get P last ≡ Some q → q.direction ≡ forwards → (start ≤ y.end) × (c.first_outcome.new.steps ≤ c.loop-start.walked + 2 * length q.ops * (y.end + 1 - start)))) c.in-Some.is c.in_ok-first.ensures.forwards)
-    r.0 (ap (slice_get P) (sym index) ∙ r.1) (f.input.code.now.forwards r.0 r.1) in
+    r.0 (ap (slice_get P) (sym index) ∙ r.1) (f.input.code.now.program.forwards r.0 r.1) in
     let end_is : c.new.result.end ≡ o.end = ap (λ s. s.position) c.new.ensures.state in
     let bound = leftmost_steps (length r.0.ops) (total P) (total (take last P)) f.inner (length f.input.text.now + 1) start o.end c.args.from c.loop-start.tried
     (c.loop-start.tried + 1 + c.first_outcome.new.steps) (c.loop-start.tried + 1 + c.resolve.new.steps) c.new.result.end
@@ -72,7 +72,7 @@ loop-start-preserved c =
     let start = c.loop-start.start in
     let last = c.len-last.result - 1 in
     let at = λ (outs : ℕ → Out). outcomes_in f outs (length (program_in f) - 1) n in
-    let index : length (program_in f) - 1 ≡ last = omega (arith, c.len-last.ensures, length-map f.input.code.now.routines.items (routine_in f.input.code.now.tests.items)) in
+    let index : length (program_in f) - 1 ≡ last = omega (arith, c.len-last.ensures, length-map f.input.code.now.program.routines.items (routine_in f.input.code.now.program.leaves.items)) in
     elim c.if-is_char_boundary.branch [
       | then-is_char_boundary+in_ok-first+in_default w ↦
           record {

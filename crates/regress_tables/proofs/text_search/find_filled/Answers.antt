@@ -20,7 +20,7 @@ returns-clause-finds c =
     let text = c.args.text.now in
     ok_map c.find_leftmost.result _ _
     (λ search found t pattern.
-    finds_by (setting_with code mappings) text (code_routines code) code.is_program (outcomes_from code mappings text) (tree_outcomes_from code mappings text t)
+    finds_by (setting_with code mappings) text (code_routines code) code.program.is_program (outcomes_from code mappings text) (tree_outcomes_from code mappings text t)
     c.args.from search.found
     (λ outs solution k le. pattern.means (setting_with code mappings) text outs solution (initial_state (code_groups code) k) le) found)
     c.find_leftmost.ensures.solved

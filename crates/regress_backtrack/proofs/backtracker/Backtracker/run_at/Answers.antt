@@ -11,7 +11,7 @@ run-requires c =
     let b = c.unset_all.new.self in
     let is = same_input c.args.self.now b c.unset_all.ensures.same c.args.input.now c.requires.input in
     record {
-      program = subst (λ code. IsProgram (code_routines code)) (sym is.code) b.code.now.is_program;
+      program = subst (λ code. IsProgram (code_routines code)) (sym is.code) b.code.now.program.is_program;
       input = is.is;
       start = subst (λ x. c.args.position ≤ length x) (sym (is.same_text ∙ c.unset_all.ensures.same.text)) c.requires.position;
     }

@@ -3,7 +3,7 @@ use Rattle.regress_program.specs.Search.{routines_of}
 use Rattle.regress_code.proofs.CandidateLemmas.{pattern_begins}
 use Rattle.regress_code.proofs.code.Code.compile.Goals as goal
 
-pub own-requires : goal.own-requires
-own-requires c =
+pub new-requires : goal.new-requires
+new-requires c =
     pattern_begins c.candidates_of-candidates.result (routines_of c.in_ok-program.program) (tree c.args.regex.now.node)
     c.in_ok-program.ensures.pattern c.candidates_of-candidates.ensures

@@ -1,8 +1,8 @@
-use Rattle.std.proofs.Common.{◌≡◌, ℕ, ◌+◌, ◌-◌, ◌/◌, subst, arith}
+use Rattle.std.proofs.Common.{◌≡◌, ℕ, ◌+◌, ◌-◌, ◌/◌, sym, subst, arith}
 use Rattle.std.proofs.lemmas.Result.{IfOk-weaker, IfErr-weaker}
-use Rattle.regress_tree.specs.Tree.{tree}
-use Rattle.regress_program.specs.CodeOf.{code_of}
+use Rattle.regress_program.specs.CodeOf.{code_in}
 use Rattle.regress_program.specs.Compiled.{matching, optional, Compiled}
+use Rattle.regress_program.specs.Views.{leaf_in}
 use Rattle.regress_program.proofs.CompileLemmas.{compiled_nothing, compiled_later}
 use Rattle.regress_program.proofs.CountLemmas.{compiled_split}
 use Rattle.regress_program.proofs.SizeLemmas.{too_long, up_to-none, up_to-even, up_to-odd}
@@ -11,6 +11,16 @@ use Rattle.regress_program.proofs.compiler.Compiler.+up_to.Goals as goal
 
 pub returns-then-count-eq0-clause-spends : goal.returns-then-count-eq0-clause-spends
 returns-then-count-eq0-clause-spends t c = omega (arith, up_to-none c.args.count c.if-count-eq0.true)
+
+pub returns-then-count-eq0-clause-emits : goal.returns-then-count-eq0-clause-emits
+returns-then-count-eq0-clause-emits t c = record {
+  begins = c.requires;
+  grown = omega arith;
+  means = λ leaves one.
+      let a = code_in leaves c.args.self.now in
+      subst (λ (n : ℕ). Compiled a a (optional c.args.greedy n (matching (leaf_in leaves c.args.leaf))) c.args.next c.args.next) (sym c.if-count-eq0.true)
+      (compiled_nothing a c.args.next (below leaves c.args.self.now.instructions.items c.args.next c.requires));
+}
 
 pub returns-in_err-rest-clause-too_long : goal.returns-in_err-rest-clause-too_long
 returns-in_err-rest-clause-too_long t c =
@@ -37,27 +47,31 @@ returns-in_err-first-2-clause-too_long t c =
 
 pub returns-in_ok-first-clause-emits : goal.returns-in_ok-first-clause-emits
 returns-in_ok-first-clause-emits t c =
-    let a = code_of c.args.self.now in
-    let b = code_of c.up_to.new.self in
-    let f = matching (tree c.args.leaf.now) in
     let next = c.args.next in
-    let rest : Compiled a b (optional c.args.greedy (c.args.count - 1) f) next c.in_ok-rest.rest = c.in_ok-rest.ensures.emits in
-    let none : Compiled a b (optional c.args.greedy 0 f) next next =
-    compiled_later a a b (optional c.args.greedy 0 f) next next rest.grown
-    (compiled_nothing a next (below c.args.self.now.instructions.items next c.requires.below)) in
     let number : 0 + 1 + (c.args.count - 1) ≡ c.args.count = omega (arith, c.if-count-eq0.false) in
     IfOk-weaker c.prefer.result _ _
-    (λ at pushed.
-    subst (λ (n : ℕ). Compiled a (code_of c.prefer.new.self) (optional c.args.greedy n f) next at) number
-    (compiled_split (tree c.args.leaf.now) c.requires.one a b (code_of c.exactly.new.self) (code_of c.prefer.new.self) c.args.greedy
-    (c.args.count - 1) 0 next c.in_ok-rest.rest next c.in_ok-first.first at rest none c.in_ok-first.ensures.emits pushed))
+    (λ at pushed. record {
+      begins = omega (arith, pushed.at_end, pushed.grown);
+      grown = omega (arith, pushed.grown, c.in_ok-rest.ensures.emits.grown, c.in_ok-first.ensures.emits.grown);
+      means = λ leaves one.
+          let t = leaf_in leaves c.args.leaf in
+          let a = code_in leaves c.args.self.now in
+          let b = code_in leaves c.up_to.new.self in
+          let rest : Compiled a b (optional c.args.greedy (c.args.count - 1) (matching t)) next c.in_ok-rest.rest = c.in_ok-rest.ensures.emits.means leaves one in
+          let none : Compiled a b (optional c.args.greedy 0 (matching t)) next next =
+          compiled_later a a b (optional c.args.greedy 0 (matching t)) next next rest.grown
+          (compiled_nothing a next (below leaves c.args.self.now.instructions.items next c.requires)) in
+          subst (λ (n : ℕ). Compiled a (code_in leaves c.prefer.new.self) (optional c.args.greedy n (matching t)) next at) number
+          (compiled_split t one a b (code_in leaves c.exactly.new.self) (code_in leaves c.prefer.new.self) c.args.greedy
+          (c.args.count - 1) 0 next c.in_ok-rest.rest next c.in_ok-first.first at rest none (c.in_ok-first.ensures.emits.means leaves one) (pushed.means leaves));
+    })
     c.prefer.ensures.emits
 
 pub returns-in_ok-first-clause-spends : goal.returns-in_ok-first-clause-spends
 returns-in_ok-first-clause-spends t c =
     let all = up_to-even c.args.count c.if-count-eq0.false c.if-count-eq0-2.true in
-    IfOk-weaker c.prefer.result _ _ (λ at pushed. omega (arith, all, pushed.left, c.in_ok-rest.ensures.spends, c.in_ok-first.ensures.spends))
-    c.prefer.ensures.emits
+    IfOk-weaker c.prefer.result _ _ (λ at pushed. omega (arith, all, pushed, c.in_ok-rest.ensures.spends, c.in_ok-first.ensures.spends))
+    c.prefer.ensures.spends
 
 pub returns-in_ok-first-clause-too_long : goal.returns-in_ok-first-clause-too_long
 returns-in_ok-first-clause-too_long t c =
@@ -67,25 +81,30 @@ returns-in_ok-first-clause-too_long t c =
 
 pub returns-in_ok-first-2-clause-emits : goal.returns-in_ok-first-2-clause-emits
 returns-in_ok-first-2-clause-emits t c =
-    let a = code_of c.args.self.now in
-    let b = code_of c.up_to-else-count-eq0-2.new.self in
-    let f = matching (tree c.args.leaf.now) in
     let next = c.args.next in
     let half = c.args.count / 2 in
-    let rest : Compiled a b (optional c.args.greedy half f) next c.in_ok-rest-2.rest = c.in_ok-rest-2.ensures.emits in
     let number : half + 1 + half ≡ c.args.count = omega (arith, c.if-count-eq0-2.false) in
     IfOk-weaker c.prefer-else-count-eq0-2.result _ _
-    (λ at pushed.
-    subst (λ (n : ℕ). Compiled a (code_of c.prefer-else-count-eq0-2.new.self) (optional c.args.greedy n f) next at) number
-    (compiled_split (tree c.args.leaf.now) c.requires.one a b (code_of c.exactly-else-count-eq0-2.new.self) (code_of c.prefer-else-count-eq0-2.new.self)
-    c.args.greedy half half next c.in_ok-rest-2.rest c.in_ok-rest-2.rest c.in_ok-first-2.first at rest rest c.in_ok-first-2.ensures.emits pushed))
+    (λ at pushed. record {
+      begins = omega (arith, pushed.at_end, pushed.grown);
+      grown = omega (arith, pushed.grown, c.in_ok-rest-2.ensures.emits.grown, c.in_ok-first-2.ensures.emits.grown);
+      means = λ leaves one.
+          let t = leaf_in leaves c.args.leaf in
+          let a = code_in leaves c.args.self.now in
+          let b = code_in leaves c.up_to-else-count-eq0-2.new.self in
+          let rest : Compiled a b (optional c.args.greedy half (matching t)) next c.in_ok-rest-2.rest = c.in_ok-rest-2.ensures.emits.means leaves one in
+          subst (λ (n : ℕ). Compiled a (code_in leaves c.prefer-else-count-eq0-2.new.self) (optional c.args.greedy n (matching t)) next at) number
+          (compiled_split t one a b (code_in leaves c.exactly-else-count-eq0-2.new.self) (code_in leaves c.prefer-else-count-eq0-2.new.self)
+          c.args.greedy half half next c.in_ok-rest-2.rest c.in_ok-rest-2.rest c.in_ok-first-2.first at rest rest (c.in_ok-first-2.ensures.emits.means leaves one)
+          (pushed.means leaves));
+    })
     c.prefer-else-count-eq0-2.ensures.emits
 
 pub returns-in_ok-first-2-clause-spends : goal.returns-in_ok-first-2-clause-spends
 returns-in_ok-first-2-clause-spends t c =
     let all = up_to-odd c.args.count c.if-count-eq0.false c.if-count-eq0-2.false in
     IfOk-weaker c.prefer-else-count-eq0-2.result _ _
-    (λ at pushed. omega (arith, all, pushed.left, c.in_ok-rest-2.ensures.spends, c.in_ok-first-2.ensures.spends)) c.prefer-else-count-eq0-2.ensures.emits
+    (λ at pushed. omega (arith, all, pushed, c.in_ok-rest-2.ensures.spends, c.in_ok-first-2.ensures.spends)) c.prefer-else-count-eq0-2.ensures.spends
 
 pub returns-in_ok-first-2-clause-too_long : goal.returns-in_ok-first-2-clause-too_long
 returns-in_ok-first-2-clause-too_long t c =

@@ -1,6 +1,7 @@
+use Rattle.std.proofs.Common.{arith}
 use Rattle.std.proofs.lemmas.Result.{IfOk-weaker}
-use Rattle.regress_tree.specs.Tree.{tree}
-use Rattle.regress_program.specs.CodeOf.{code_of}
+use Rattle.regress_program.specs.CodeOf.{code_in}
+use Rattle.regress_program.specs.Views.{leaf_in}
 use Rattle.regress_program.proofs.CountLemmas.{compiled_character, compiled_characters}
 use Rattle.regress_program.proofs.ViewLemmas.{below}
 use Rattle.regress_program.proofs.compiler.Compiler.characters.Goals as goal
@@ -8,15 +9,21 @@ use Rattle.regress_program.proofs.compiler.Compiler.characters.Goals as goal
 pub returns-then-count-eq1-clause-emits : goal.returns-then-count-eq1-clause-emits
 returns-then-count-eq1-clause-emits c =
     IfOk-weaker c.push.result _ _
-    (λ at pushed.
-    compiled_character (tree c.args.leaf.now) c.requires.one (code_of c.args.self.now) (code_of c.push.new.self) c.args.count c.args.next at
-    c.if-count-eq1.true (below c.args.self.now.instructions.items c.args.next c.requires.below) pushed)
+    (λ at pushed. record {
+      begins = omega (arith, pushed.at_end, pushed.grown);
+      grown = omega (arith, pushed.grown);
+      means = λ leaves one. compiled_character (leaf_in leaves c.args.leaf) one (code_in leaves c.args.self.now) (code_in leaves c.push.new.self) c.args.count c.args.next at
+          c.if-count-eq1.true (below leaves c.args.self.now.instructions.items c.args.next c.requires) (pushed.means leaves);
+    })
     c.push.ensures.emits
 
 pub returns-else-count-eq1-clause-emits : goal.returns-else-count-eq1-clause-emits
 returns-else-count-eq1-clause-emits c =
     IfOk-weaker c.push-else-count-eq1.result _ _
-    (λ at pushed.
-    compiled_characters (tree c.args.leaf.now) c.requires.one (code_of c.args.self.now) (code_of c.push-else-count-eq1.new.self) c.args.count c.args.next at
-    (below c.args.self.now.instructions.items c.args.next c.requires.below) pushed)
+    (λ at pushed. record {
+      begins = omega (arith, pushed.at_end, pushed.grown);
+      grown = omega (arith, pushed.grown);
+      means = λ leaves one. compiled_characters (leaf_in leaves c.args.leaf) one (code_in leaves c.args.self.now) (code_in leaves c.push-else-count-eq1.new.self) c.args.count c.args.next at
+          (below leaves c.args.self.now.instructions.items c.args.next c.requires) (pushed.means leaves);
+    })
     c.push-else-count-eq1.ensures.emits

@@ -1,13 +1,15 @@
-use Rattle.std.proofs.Common.{◌≡◌, ◌+◌, ◌*◌, ◌≤◌, drop, length, map}
+use Rattle.std.proofs.Common.{◌≡◌, ◌+◌, ◌*◌, ◌≤◌, Bool, drop, length, map}
 use Rattle.std.specs.Box.{boxed_slice_items}
-use Rattle.regress_program.specs.CodeOf.{code_of}
-use Rattle.regress_program.specs.Compiled.{matching, Compiled, strings}
+use Rattle.regress_program.specs.CodeOf.{Emits}
+use Rattle.regress_program.specs.Compiled.{matching, strings}
+use Rattle.regress_program.specs.LeavesOf.{leaves_of_strings}
 use Rattle.regress_program.proofs.compiler.Compiler.strings.Given as goal
 
 abbrev pub invariant-loop-i : goal.invariant-loop-i
 invariant-loop-i l = record {
   within : l.i ≤ length l.alternatives;
-  compiled : Compiled (code_of l.fn.self) (code_of l.self) (matching (strings (map boxed_slice_items (drop l.i l.alternatives)) l.icase)) l.next l.entry;
+  emits : (icase : Bool) → (let ss = map boxed_slice_items (drop l.i l.alternatives) in
+      Emits l.fn.self l.self l.fn.self.next_leaf (leaves_of_strings ss icase) (matching (strings ss icase)) l.next l.entry);
   spent : l.self.left + 2 * length l.alternatives ≡ l.fn.self.left + 2 * l.i + 1;
 }
 

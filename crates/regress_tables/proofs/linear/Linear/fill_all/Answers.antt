@@ -4,7 +4,7 @@ use Rattle.std.proofs.lemmas.List.{length-map}
 use Rattle.std.proofs.lemmas.Option.{slice_get-map, slice_get_read}
 use Rattle.regress_program.specs.Compiled.{total}
 use Rattle.regress_code.specs.Code.{code_routines}
-use Rattle.regress_code.specs.Views.{routine_in}
+use Rattle.regress_program.specs.Views.{routine_in}
 use Rattle.regress_tables.specs.Bits.{bits_of}
 use Rattle.regress_tables.specs.declared.table.Table.{Table}
 use Rattle.regress_tables.specs.Table.{IsTableOf, AreTables, AreRight, IsRight}
@@ -16,8 +16,8 @@ pub loop-routine-preserved : goal.loop-routine-preserved
 loop-routine-preserved c =
     let so_far = c.loop-routine.invariant in
     let code = c.args.self.now.code.now in
-    let view = routine_in code.tests.items in
-    let routines = code.routines.items in
+    let view = routine_in code.program.leaves.items in
+    let routines = code.program.routines.items in
     let same = c.deref-routine-items.ensures.value in
     let program = code_routines code in
     let i = c.loop-routine.routine-index in
@@ -51,8 +51,8 @@ pub returns : goal.returns
 returns c =
     let so_far = c.loop-routine.invariant in
     let code = c.args.self.now.code.now in
-    let view = routine_in code.tests.items in
-    let routines = code.routines.items in
+    let view = routine_in code.program.leaves.items in
+    let routines = code.program.routines.items in
     let same = c.deref-routine-items.ensures.value in
     let program = code_routines code in
     let all : c.loop-routine.routine-index ≡ length program = omega (arith, length-map routines view, ap length same, c.loop-routine-test.false) in
