@@ -14,7 +14,7 @@ use Rattle.regress_syntax.specs.Grammar.{IsPattern, AreTerms, IsItem}
 use Rattle.regress_syntax.proofs.lemmas.Productions.{head_at-ends, head_at-shortens, optional_quantifier_at-ends}
 use Rattle.regress_syntax.proofs.lemmas.Lengths.{optional_quantifier_at-takes}
 use Rattle.regress_parse.specs.TreeOf.{concatenation, tree_of_group, tree_of_quantified, tree_of_atom, tree_of_pattern, trees_of_terms, tree_of_item}
-use Rattle.regress_parse.proofs.NodesOfLists.{nodes-turned}
+use Rattle.regress_parse.proofs.NodesOfLists.{nodes-reversed}
 use Rattle.regress_parse.specs.Bound.{total, nodes_at}
 use Rattle.regress_parse.proofs.BoundOfSource.{total-after, after_first, nodes-shorter}
 use Rattle.regress_parse.proofs.BoundOfHead.{head_by-fits, AtMost, atom_by-nodes}
@@ -24,7 +24,7 @@ use Rattle.regress_parse.proofs.BoundOfHead.{head_by-fits, AtMost, atom_by-nodes
 nodes-joined : (d : Direction) (ts : Trees) → nodes (concatenation d ts) ≤ 1 + nodes_in_list ts
 nodes-joined d no_trees = omega arith
 nodes-joined d (more_trees t no_trees) = omega arith
-nodes-joined d (more_trees t (more_trees u us)) = omega (arith, nodes-turned d (more_trees t (more_trees u us)))
+nodes-joined d (more_trees t (more_trees u us)) = omega (arith, nodes-reversed d (more_trees t (more_trees u us)))
 
 nodes-group : (start end : ℕ) (kind : Group) (body : Tree) → nodes (tree_of_group start end kind body) ≤ 1 + nodes body
 nodes-group start end grouping body = omega arith

@@ -106,15 +106,15 @@ captures-tree_of_atom table all (back_reference flags to) =
 
 -- ---- the tree has the groups of its pattern, in either direction
 
-captures-turned : (d : Direction) (ts : Trees) → IsPermutation (captures_of_trees ts) (captures_of_trees (in_direction d ts))
-captures-turned forwards ts = IsPermutation-refl (captures_of_trees ts)
-captures-turned backwards ts = captures-reverse_trees ts
+captures-reversed : (d : Direction) (ts : Trees) → IsPermutation (captures_of_trees ts) (captures_of_trees (in_direction d ts))
+captures-reversed forwards ts = IsPermutation-refl (captures_of_trees ts)
+captures-reversed backwards ts = captures-reverse_trees ts
 
 captures-joined : (d : Direction) (list : Trees) → IsPermutation (captures_of_trees list) (captures (concatenation d list))
 captures-joined d no_trees = IsPermutation-refl []
 captures-joined d (more_trees t no_trees) =
     subst (IsPermutation (captures t ++ [])) (append-nil (captures t)) (IsPermutation-refl (captures t ++ []))
-captures-joined d (more_trees t (more_trees u us)) = captures-turned d (more_trees t (more_trees u us))
+captures-joined d (more_trees t (more_trees u us)) = captures-reversed d (more_trees t (more_trees u us))
 
 -- Two parts, of which the second is after the k groups of the first.
 both_permuted : (n k : ℕ) (xs ys : List (Option Name)) (cs ds : List Capture) → length xs ≡ k → IsPermutation (numbered n xs) cs →

@@ -53,11 +53,11 @@ module _ (setting : Setting) (bytes : List ℕ) (d : Direction) where
   steps-joined e (more_trees t (more_trees u us)) s = refl
 
   -- The parts of a list match in the order of the direction.
-  steps-turned : (e : Direction) (t : Tree) (ts : Trees) (s : MatchState) →
+  steps-reversed : (e : Direction) (t : Tree) (ts : Trees) (s : MatchState) →
       steps_of_parts setting bytes d (in_direction e (more_trees t ts)) s
       ≡ along e (steps setting bytes d t) (steps_of_parts setting bytes d (in_direction e ts)) s
-  steps-turned forwards t ts s = refl
-  steps-turned backwards t ts s = steps-reverse_trees setting bytes d t ts s
+  steps-reversed forwards t ts s = refl
+  steps-reversed backwards t ts s = steps-reverse_trees setting bytes d t ts s
 
 Simulates-along : (text : List ℕ) (d e : Direction) (f g h k : Matcher) → Simulates text e f g → Simulates text e h k →
     Simulates text e (along d f h) (along d g k)
@@ -82,7 +82,7 @@ module _ (setting : Setting) (text : List ℕ) where
   more_simulate : (d : Direction) (f g : Matcher) (t : Tree) (ts : Trees) → TreeSimulates d f t → ListSimulates d g ts →
       ListSimulates d (along d f g) (more_trees t ts)
   more_simulate d f g t ts first others =
-      Simulates-same_right text d _ _ _ (steps-turned setting (encode_utf8_all text) d d t ts)
+      Simulates-same_right text d _ _ _ (steps-reversed setting (encode_utf8_all text) d d t ts)
       (Simulates-along text d d _ _ _ _ first others)
 
   group_simulates : (d : Direction) (start end : ℕ) (kind : Group) (f : Matcher) (body : Tree) →

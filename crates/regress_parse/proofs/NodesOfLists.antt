@@ -14,6 +14,6 @@ nodes-reverse no_trees = refl
 nodes-reverse (more_trees t ts) = omega (arith, nodes-append (reverse_trees ts) (more_trees t no_trees), nodes-reverse ts)
 
 -- Reversing the list does not change the number.
-pub nodes-turned : (d : Direction) (ts : Trees) → nodes_in_list (in_direction d ts) ≡ nodes_in_list ts
-nodes-turned forwards ts = refl
-nodes-turned backwards ts = nodes-reverse ts
+pub nodes-reversed : (d : Direction) (ts : Trees) → nodes_in_list (in_direction d ts) ≡ nodes_in_list ts
+nodes-reversed forwards ts = refl
+nodes-reversed backwards ts = nodes-reverse ts

@@ -5,7 +5,7 @@ use Rattle.std.proofs.lemmas.List.{append_assoc, append-nil, take_at, drop_at}
 use Rattle.regress_lexer.specs.Source.{Source}
 use Rattle.regress_parse.specs.declared.span.Span.{Span}
 use Rattle.regress_parse.specs.Spans.{span_of_alternative}
-use Rattle.regress_parse.specs.Recorded.{turned, span_to, alternations}
+use Rattle.regress_parse.specs.Recorded.{joined_in_reverse, span_to, alternations}
 
 pub alternations-push : (whole : ℕ) (lefts : List ℕ) (left : ℕ) (rest : Source) →
     alternations whole (lefts ++ left ∷ []) rest
@@ -14,10 +14,10 @@ alternations-push whole [] left rest = refl
 alternations-push whole (l ∷ lefts) left rest =
     ap (λ (ss : List Span). ss ++ span_to whole l rest ∷ []) (alternations-push whole lefts left rest)
 
-pub turned-push : (parts : List (Vec Span Global)) (part : Vec Span Global) → turned (parts ++ part ∷ []) ≡ part.items ++ turned parts
-turned-push [] part = sym (append-nil part.items)
-turned-push (p ∷ parts) part =
-    ap (λ (ss : List Span). ss ++ p.items) (turned-push parts part) ∙ append_assoc part.items (turned parts) p.items
+pub reversed-push : (parts : List (Vec Span Global)) (part : Vec Span Global) → joined_in_reverse (parts ++ part ∷ []) ≡ part.items ++ joined_in_reverse parts
+reversed-push [] part = sym (append-nil part.items)
+reversed-push (p ∷ parts) part =
+    ap (λ (ss : List Span). ss ++ p.items) (reversed-push parts part) ∙ append_assoc part.items (joined_in_reverse parts) p.items
 
 -- An alternative, the alternatives after it and the span of all of them, regrouped.
 pub alternative_joined : (now first others : List Span) (all : Span) (around : List Span) →

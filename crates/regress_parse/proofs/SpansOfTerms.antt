@@ -12,7 +12,7 @@ use Rattle.regress_syntax.specs.Grammar.{AreTerms, IsItem}
 use Rattle.regress_syntax.proofs.lemmas.Productions.{no_head_at_end}
 use Rattle.regress_parse.specs.declared.span.Span.{Span}
 use Rattle.regress_parse.specs.Spans.{in_order, how_many, span_of_times, span_of_alternative, between, spans_of_terms, spans_of_item}
-use Rattle.regress_parse.specs.Recorded.{turned, RecordsAlternative, RecordsTerm}
+use Rattle.regress_parse.specs.Recorded.{joined_in_reverse, RecordsAlternative, RecordsTerm}
 
 -- No item begins where the alternative ends.
 none_at_end : (ctx : Context) (t : Source) (x : Head × Source) → head_at ctx t ≡ Some x → ends_alternative t ≡ true → ⊥
@@ -24,29 +24,29 @@ no_item ctx (group kind p) t rest h = none_at_end ctx t (opens kind, h.0) h.1
 
 -- The spans of the next term are appended to the list, or set apart as a part of their own, by the direction.
 pub record SetApart (d : Direction) (now part now' : List Span) (parts parts' : List (Vec Span Global)) : Type 0 where
-  pub joined : (others : List Span) → now' ++ (others ++ turned parts') ≡ now ++ (in_order d part others ++ turned parts)
+  pub joined : (others : List Span) → now' ++ (others ++ joined_in_reverse parts') ≡ now ++ (in_order d part others ++ joined_in_reverse parts)
 
 pub apart-forwards : (now part now' : List Span) (parts parts' : List (Vec Span Global)) → now' ≡ now ++ part → parts' ≡ parts →
     SetApart forwards now part now' parts parts'
 apart-forwards now part now' parts parts' added same = record {
   joined = λ others.
-      ap (λ (ps : List (Vec Span Global)). now' ++ (others ++ turned ps)) same
-      ∙ ap (λ (ss : List Span). ss ++ (others ++ turned parts)) added
-      ∙ append_assoc now part (others ++ turned parts)
-      ∙ ap (λ (ss : List Span). now ++ ss) (sym (append_assoc part others (turned parts)));
+      ap (λ (ps : List (Vec Span Global)). now' ++ (others ++ joined_in_reverse ps)) same
+      ∙ ap (λ (ss : List Span). ss ++ (others ++ joined_in_reverse parts)) added
+      ∙ append_assoc now part (others ++ joined_in_reverse parts)
+      ∙ ap (λ (ss : List Span). now ++ ss) (sym (append_assoc part others (joined_in_reverse parts)));
 }
 
-pub apart-backwards : (now part now' : List Span) (parts parts' : List (Vec Span Global)) → now' ≡ now → turned parts' ≡ part ++ turned parts →
+pub apart-backwards : (now part now' : List Span) (parts parts' : List (Vec Span Global)) → now' ≡ now → joined_in_reverse parts' ≡ part ++ joined_in_reverse parts →
     SetApart backwards now part now' parts parts'
 apart-backwards now part now' parts parts' same moved = record {
   joined = λ others.
-      ap (λ (ss : List Span). ss ++ (others ++ turned parts')) same
+      ap (λ (ss : List Span). ss ++ (others ++ joined_in_reverse parts')) same
       ∙ ap (λ (ss : List Span). now ++ (others ++ ss)) moved
-      ∙ ap (λ (ss : List Span). now ++ ss) (sym (append_assoc others part (turned parts)));
+      ∙ ap (λ (ss : List Span). now ++ ss) (sym (append_assoc others part (joined_in_reverse parts)));
 }
 
 pub apart_in : (back : Bool) (now part added now' : List Span) (parts parts' : List (Vec Span Global)) → added ≡ now ++ part →
-    (back ≡ false → (now' ≡ added) × (parts' ≡ parts)) → (back ≡ true → (now' ≡ now) × (turned parts' ≡ part ++ turned parts)) →
+    (back ≡ false → (now' ≡ added) × (parts' ≡ parts)) → (back ≡ true → (now' ≡ now) × (joined_in_reverse parts' ≡ part ++ joined_in_reverse parts)) →
     SetApart (direction_if back) now part now' parts parts'
 apart_in false now part added now' parts parts' is stays moves = let h = stays refl in apart-forwards now part now' parts parts' (h.0 ∙ is) h.1
 apart_in true now part added now' parts parts' is stays moves = let h = moves refl in apart-backwards now part now' parts parts' h.0 h.1
@@ -107,7 +107,7 @@ module _ (whole : ℕ) (ctx : Context) (d : Direction) where
     TermSpansSoFar t now parts count =
         (ts : Terms) (rest : Source) (h : AreTerms ctx ts t0 rest) →
         (left : List Span) × RemainingTerms rest (how_many ts) t left count
-        × (before ++ spans_of_terms whole ctx d ts t0 rest h ≡ now ++ (left ++ turned parts))
+        × (before ++ spans_of_terms whole ctx d ts t0 rest h ≡ now ++ (left ++ joined_in_reverse parts))
 
     pub term_spans-start : TermSpansSoFar t0 before [] 0
     unfolding TermSpansSoFar
@@ -130,13 +130,13 @@ module _ (whole : ℕ) (ctx : Context) (d : Direction) where
           r.others,
           subst (λ n. RemainingTerms rest (how_many ts) new r.others n) (sym is) r.left_over,
           here.2
-              ∙ ap (λ (ss : List Span). now ++ (ss ++ turned parts)) r.spans
+              ∙ ap (λ (ss : List Span). now ++ (ss ++ joined_in_reverse parts)) r.spans
               ∙ sym ((apart r.part r.added).joined r.others),
         )
 
     -- Once the alternative ends, its spans are appended, and then that of its own node.
     pub term_spans-end : (t : Source) (now : List Span) (parts : List (Vec Span Global)) (count : ℕ) (now' now'' : List Span) →
-        TermSpansSoFar t now parts count → ends_alternative t ≡ true → now' ≡ now ++ turned parts →
+        TermSpansSoFar t now parts count → ends_alternative t ≡ true → now' ≡ now ++ joined_in_reverse parts →
         now'' ≡ now' ++ span_of_alternative count (between whole t0 t) → RecordsAlternative whole ctx d t0 before t now''
     unfolding TermSpansSoFar
     term_spans-end t now parts count now' now'' so_far ends moved added ts rest h =
@@ -148,7 +148,7 @@ module _ (whole : ℕ) (ctx : Context) (d : Direction) where
           spans =
               added
               ∙ ap (λ (ss : List Span). ss ++ span_of_alternative count (between whole t0 t))
-              (moved ∙ sym (here.2 ∙ ap (λ (ss : List Span). now ++ (ss ++ turned parts)) end.1))
+              (moved ∙ sym (here.2 ∙ ap (λ (ss : List Span). now ++ (ss ++ joined_in_reverse parts)) end.1))
               ∙ append_assoc before all (span_of_alternative count (between whole t0 t))
               ∙ ap (λ n. before ++ (all ++ span_of_alternative n (between whole t0 t))) end.2
               ∙ ap (λ (u : Source). before ++ (all ++ span_of_alternative (how_many ts) (between whole t0 u))) end.0;

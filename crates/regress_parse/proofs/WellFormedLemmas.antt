@@ -125,14 +125,14 @@ module _ (m : ℕ) (table : Table) (lawful : IsValidTable table) where
 -- ---- parts of a tree of m groups
 
 module _ (m : ℕ) where
-  occurs-turned : (d : Direction) (ts : Trees) → PartsAllowed m ts inside → PartsAllowed m (in_direction d ts) inside
-  occurs-turned forwards ts h = h
-  occurs-turned backwards ts h = PartsAllowed-reverse_trees m ts h
+  occurs-reversed : (d : Direction) (ts : Trees) → PartsAllowed m ts inside → PartsAllowed m (in_direction d ts) inside
+  occurs-reversed forwards ts h = h
+  occurs-reversed backwards ts h = PartsAllowed-reverse_trees m ts h
 
   occurs-joined : (d : Direction) (list : Trees) → PartsAllowed m list inside → IsAllowed m (concatenation d list) inside
   occurs-joined d no_trees h = tt
   occurs-joined d (more_trees t no_trees) h = h
-  occurs-joined d (more_trees t (more_trees u us)) h = (tt, occurs-turned d (more_trees t (more_trees u us)) h)
+  occurs-joined d (more_trees t (more_trees u us)) h = (tt, occurs-reversed d (more_trees t (more_trees u us)) h)
 
   occurs-more : (t : Tree) (ts : Trees) → IsAllowed m t inside → PartsAllowed m ts inside → PartsAllowed m (more_trees t ts) inside
   occurs-more t no_trees ht hts = ht

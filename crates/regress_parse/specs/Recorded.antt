@@ -18,9 +18,9 @@ IsFlat (alt (leaf l) right) = IsFlat right
 IsFlat other = ⊥
 
 -- the spans of parts in reverse order
-abbrev pub turned : List (Vec Span Global) → List Span
-turned [] = []
-turned (part ∷ parts) = turned parts ++ part.items
+abbrev pub joined_in_reverse : List (Vec Span Global) → List Span
+joined_in_reverse [] = []
+joined_in_reverse (part ∷ parts) = joined_in_reverse parts ++ part.items
 
 -- the span from the position where `left` code points remained to the one where `rest` remains
 abbrev pub span_to : (whole left : ℕ) → (rest : Source) → Span

@@ -3,7 +3,7 @@ ghost use Rattle.std.specs.Prelude.{◌≡◌, true, false, [], ◌∷◌, ◌++
 ghost use Rattle.regress_lexer.specs.Views.{source};
 ghost use Rattle.regress_tree.specs.Tree.{tree};
 ghost use Rattle.regress_tree.specs.Visits.{nodes};
-ghost use Rattle.regress_parse.specs.Recorded.{IsFlat, turned, span_to, alternations};
+ghost use Rattle.regress_parse.specs.Recorded.{IsFlat, joined_in_reverse, span_to, alternations};
 ghost use Rattle.regress_parse.specs.Spans.{has_node};
 ghost use Rattle.regress_parse.specs.declared.span.Span.{Span};
 ghost use Rattle.regress_syntax.specs.Views.{group_of};
@@ -106,7 +106,7 @@ pub(crate) fn set_apart(
 ) -> Result<(), AllocError>
     ensures forwards { backwards ≡ false → OnOk result ((spans.new.items ≡ spans.old.items) × (parts.new.items ≡ parts.old.items)) }
     ensures backwards { (before part : List Span) → backwards ≡ true → spans.old.items ≡ before ++ part → length before ≡ begin →
-        OnOk result ((spans.new.items ≡ before) × (turned parts.new.items ≡ part ++ turned parts.old.items)) }
+        OnOk result ((spans.new.items ≡ before) × (joined_in_reverse parts.new.items ≡ part ++ joined_in_reverse parts.old.items)) }
 {
     if !backwards {
         return Ok(());
@@ -121,7 +121,7 @@ pub(crate) fn push_reversed(
     spans: &mut Vec<Span>,
     mut parts: Vec<Vec<Span>>,
 ) -> Result<(), AllocError>
-    ensures { OnOk result (spans.new.items ≡ spans.old.items ++ turned parts.items) }
+    ensures { OnOk result (spans.new.items ≡ spans.old.items ++ joined_in_reverse parts.items) }
 {
     while let Some(part) = parts.pop() {
         spans.extend_from_slice(&part)?;

@@ -78,10 +78,10 @@ copies : (n : ℕ) (s : Span) → IsWithin s s → Nest (replicate n s)
 copies zero s w = tt
 copies (suc n) s w = (All-replicate (IsInsideOrApart s) n s (is_inside w), copies n s w)
 
-turned : (d : Direction) (xs ys : List Span) → Across IsBefore xs ys → Across IsSuffix ys xs → Nest xs → Nest ys → Nest (in_order d xs ys)
-turned forwards xs ys to back h k =
+joined_in_reverse : (d : Direction) (xs ys : List Span) → Across IsBefore xs ys → Across IsSuffix ys xs → Nest xs → Nest ys → Nest (in_order d xs ys)
+joined_in_reverse forwards xs ys to back h k =
     joined xs ys (All-weaker _ _ (λ x all. All-weaker (IsBefore x) (IsInsideOrApart x) (λ y lt. ends_before lt) ys all) xs to) h k
-turned backwards xs ys to back h k =
+joined_in_reverse backwards xs ys to back h k =
     joined ys xs (All-weaker _ _ (λ y all. All-weaker (IsSuffix y) (IsInsideOrApart y) (λ x lt. begins_after lt) xs all) ys back) k h
 
 -- ---- the grammar
@@ -136,7 +136,7 @@ module _ (whole : ℕ) where
         let item = item-within whole ctx d x t h.0 h.2 in
         let to_mid = item-shortens ctx x t h.0 h.2 in
         let to_after = optional_quantifier_at-shortens ctx (allows ctx.setting.flags.unicode (head_of_item x)) h.0 (q, h.1) h.3 in
-        turned d _ _ (term-before_others ctx d x q xs t rest h)
+        joined_in_reverse d _ _ (term-before_others ctx d x q xs t rest h)
         (apart_turned t h.1 h.1 rest _ _ (omega arith) (term-within whole ctx d x q xs t rest h) (terms-within whole ctx d xs h.1 rest h.4))
         (repeated q _ (between whole t h.1) (wider whole t t h.0 h.1 _ (omega arith) to_after item) (nest_of_item ctx d x t h.0 h.2))
         (nest_of_terms ctx d xs h.1 rest h.4)
