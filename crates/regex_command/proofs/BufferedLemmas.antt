@@ -1,10 +1,15 @@
 -- What is printed through a buffer is printed to the buffered writer.
 use Rattle.std.proofs.Common.{◌≡◌, ℕ, Bool, List, [], Option}
+use Rattle.std.specs.Prelude.{IfOk, Result, Ok, Err}
 use Rattle.std.specs.Io.KnownBytes.{Keeps, append_known}
 use Rattle.regress_arguments.proofs.lemmas.Output.{appends_through, took_through}
 use Rattle.regress_base.specs.declared.types.Flags.{Flags}
-use Rattle.regex_command.specs.Asked.{Action, Ask, apply, escape, explain, help, lint, search, show}
+use Rattle.regex_options.specs.Request.{Action, Ask, apply, escape, explain, help, lint, search, show}
 use Rattle.regex_command.specs.Printed.{Does, Prints}
+
+pub IfOk_then : {X E : Type 0} (r : Result X E) {P Q : X → Type 0} → IfOk r P → ((x : X) → P x → Q x) → IfOk r Q
+IfOk_then (Ok x) h f = f x h
+IfOk_then (Err e) h f = tt
 
 module _ (input old start between new : Option (List ℕ)) (empty : start ≡ append_known old []) (kept : Keeps between new) where
   does_through : (flags : Flags) (text : List ℕ) (action : Action) (found : Bool) →
@@ -15,7 +20,7 @@ module _ (input old start between new : Option (List ℕ)) (empty : start ≡ ap
   does_through flags text lint found h = took_through old start between new empty kept _ h
   does_through flags text (explain form) found h = took_through old start between new empty kept _ h
 
-  pub through : (text : List ℕ) (found : Bool) (ask : Ask) → Prints text input start between found ask → Prints text input old new found ask
-  through text found help h = (h.0, appends_through old start between new empty kept text h.1)
-  through text found (escape string) h = (h.0, took_through old start between new empty kept _ h.1)
-  through text found (apply request) h = (h.0, h.1, does_through request.flags h.0 request.action found h.2)
+  pub through : (found : Bool) (ask : Ask) → Prints input start between found ask → Prints input old new found ask
+  through found (help options) h = (h.0, appends_through old start between new empty kept _ h.1)
+  through found (escape string) h = (h.0, took_through old start between new empty kept _ h.1)
+  through found (apply request) h = (h.0, h.1, does_through request.flags h.0 request.action found h.2)

@@ -10,7 +10,8 @@ use Rattle.regress_arguments.proofs.lemmas.Output.{appends_both}
 use Rattle.regex_command.proofs.FoldLemmas.{stays}
 use Rattle.regress.specs.declared.pattern.Regex.{Regex}
 use Rattle.regex_command.specs.Inputs.{Input, IsInputStep, Result, WritesInput, WritesInputs, WritesSomeOf, has_ended, inputs_of, named_files}
-use Rattle.regex_command.specs.Job.{Job, Named}
+use Rattle.regex_options.specs.Job.{Job}
+use Rattle.regex_command.specs.Place.{Named}
 use Rattle.regex_command.specs.Searched.{SearchesFirst}
 
 appends_nothing : (known : Option (List ℕ)) → Appends known known []

@@ -10,12 +10,12 @@ use Rattle.regress.specs.declared.found.Match.{Match}
 use Rattle.regress.specs.declared.pattern.Regex.{Regex}
 use Rattle.std.specs.Fmt.{decimal}
 use Rattle.regress_display.specs.Fault.{json_text}
-use Rattle.regex_command.specs.Json.{group_json, groups_json, json_front, located_json, match_json, name_json, part_json}
+use Rattle.regex_command.specs.Json.{group_json, groups_json, json_prefix, located_json, match_json, name_json, part_json}
 use Rattle.regex_command.specs.Runs.{Run}
 
 -- the objects of the first i matches
-abbrev pub json_so_far : Regex → (front : List ℕ) → Run → List Match → ℕ → List ℕ
-json_so_far r front run ms i = flat_map (λ m. front ++ match_json run (groups_of r) m) (map match_of (take i ms))
+abbrev pub json_so_far : Regex → (prefix : List ℕ) → Run → List Match → ℕ → List ℕ
+json_so_far r prefix run ms i = flat_map (λ m. prefix ++ match_json run (groups_of r) m) (map match_of (take i ms))
 
 -- lists, joined from the right and from the left
 four : (a b c d : List ℕ) → a ++ (b ++ (c ++ d)) ≡ a ++ b ++ c ++ d
@@ -34,7 +34,7 @@ located start end text =
     seven (codes "\"span\":[") (decimal start) (codes ",") (decimal end) (codes "],\"text\":\"") (json_text text) (codes "\"")
 
 pub in_front : (name : List ℕ) (number : ℕ) →
-    codes "{\"file\":\"" ++ (json_text name ++ (codes "\",\"line\":" ++ (decimal number ++ codes ","))) ≡ json_front name number
+    codes "{\"file\":\"" ++ (json_text name ++ (codes "\",\"line\":" ++ (decimal number ++ codes ","))) ≡ json_prefix name number
 in_front name number = five (codes "{\"file\":\"") (json_text name) (codes "\",\"line\":") (decimal number) (codes ",")
 
 pub group_of_parts : (run : Run) (name : Option (List ℕ)) (span : Option CaptureSpan) (n p : List ℕ) → n ≡ name_json name → p ≡ part_json run span →

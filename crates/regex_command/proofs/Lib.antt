@@ -1,5 +1,4 @@
 pub mod BufferedLemmas
-pub mod CountLemmas
 pub mod ExplainLemmas
 pub mod FoldLemmas
 pub mod InputLemmas

@@ -30,11 +30,11 @@ at_end (Some xs) new bytes is rest none = subst IsAtEnd (sym rest) (all_taken_of
 -- a list whose bytes before the last are no line feeds, and its last one is none
 pub no_line_feed : (xs : List ℕ) (last : ℕ) → All (λ b. b ≢ 10) (take (length xs - 1) xs) → ((d : ℕ) → last ≡ get_or xs (length xs - 1) d) → last ≢ 10 →
     All (λ b. b ≢ 10) xs
-no_line_feed xs last front is none = λ k d within feed. by k d within feed (cases_lt k (length xs - 1))
+no_line_feed xs last prefix is none = λ k d within feed. by k d within feed (cases_lt k (length xs - 1))
   where
     by : (k d : ℕ) → k < length xs → get_or xs k d ≡ 10 → (k < length xs - 1) ⊎ (length xs - 1 ≤ k) → ⊥
     by k d within feed (inl before) =
-        front k d (omega (arith, length-take (length xs - 1) xs)) (get_or-take (length xs - 1) xs k d before ∙ feed)
+        prefix k d (omega (arith, length-take (length xs - 1) xs)) (get_or-take (length xs - 1) xs k d before ∙ feed)
     by k d within feed (inr at) =
         let last_one : k ≡ length xs - 1 = omega arith in
         none (is d ∙ ap (λ j. get_or xs j d) (sym last_one) ∙ feed)

@@ -84,14 +84,14 @@ module _ (r : Regex) (line before : List ℕ) where
   chunks_step bound (b ∷ bs) text invalid rest some parts text_len invalid_len =
       let left = b ∷ bs in
       let chunk : chunk_len left ≡ length text + length invalid = λ i. sym text_len i + sym invalid_len i in
-      let front : take (utf8_valid_len left) left ≡ text = ap (take (utf8_valid_len left)) parts ∙ take_at text (invalid ++ rest) _ text_len in
+      let prefix : take (utf8_valid_len left) left ≡ text = ap (take (utf8_valid_len left)) parts ∙ take_at text (invalid ++ rest) _ text_len in
       let after : drop (utf8_valid_len left) left ≡ invalid ++ rest = ap (drop (utf8_valid_len left)) parts ∙ drop_at text (invalid ++ rest) _ text_len in
       let middle : take (utf8_invalid_len (drop (utf8_valid_len left) left)) (drop (utf8_valid_len left) left) ≡ invalid =
       ap (take (utf8_invalid_len (drop (utf8_valid_len left) left))) after ∙ take_at invalid rest _ invalid_len in
       let back : drop (chunk_len left) left ≡ rest =
       ap (drop (chunk_len left)) (parts ∙ sym (append_assoc text invalid rest))
       ∙ drop_at (text ++ invalid) rest _ (length-append text invalid ∙ sym chunk) in
-      λ i. record { text = front i; invalid = middle i } ∷ chunks_within bound (back i)
+      λ i. record { text = prefix i; invalid = middle i } ∷ chunks_within bound (back i)
 
   pub next : (left done text invalid rest after : List ℕ) → SoFar left done → left ≡ text ++ (invalid ++ rest) → length rest < length left →
       length text ≡ utf8_valid_len left → length invalid ≡ utf8_invalid_len (drop (utf8_valid_len left) left) →

@@ -24,11 +24,11 @@ runs_step bound start [] text invalid rest enough some parts text_len invalid_le
 runs_step bound start (b ∷ bs) text invalid rest enough some parts text_len invalid_len =
     let left = b ∷ bs in
     let chunk : chunk_len left ≡ length text + length invalid = λ i. sym text_len i + sym invalid_len i in
-    let front : take (utf8_valid_len left) left ≡ text = ap (take (utf8_valid_len left)) parts ∙ take_at text (invalid ++ rest) _ text_len in
+    let prefix : take (utf8_valid_len left) left ≡ text = ap (take (utf8_valid_len left)) parts ∙ take_at text (invalid ++ rest) _ text_len in
     let back : drop (chunk_len left) left ≡ rest =
     ap (drop (chunk_len left)) (parts ∙ sym (append_assoc text invalid rest))
     ∙ drop_at (text ++ invalid) rest _ (length-append text invalid ∙ sym chunk) in
-    λ i. unless_empty start (front i) ++ runs_within bound (start + chunk i) (back i)
+    λ i. unless_empty start (prefix i) ++ runs_within bound (start + chunk i) (back i)
 
 pub next : (line : List ℕ) (found more : List Run) (start : ℕ) (left text invalid rest : List ℕ) → SoFar line found start left →
     left ≡ text ++ (invalid ++ rest) → length rest < length left → length text ≡ utf8_valid_len left →

@@ -11,11 +11,12 @@ use Rattle.regress_arguments.specs.Output.{Took}
 use Rattle.regress.specs.declared.pattern.Regex.{Regex}
 use Rattle.regex_command.specs.Ending.{OrOutput}
 use Rattle.regex_command.specs.Inputs.{WritesInput}
-use Rattle.regex_command.specs.Job.{Job, Named}
+use Rattle.regex_options.specs.Job.{Job}
+use Rattle.regex_command.specs.Place.{Named}
 use Rattle.regex_command.specs.Lines.{AreLinesOf}
 use Rattle.regex_command.specs.Reading.{IsRead}
 use Rattle.regex_command.specs.Reply.{IsReply}
-use Rattle.regex_command.specs.Searched.{IsSearchedLine, IsStep, Progress, SearchesAll, SearchesFirst, at_start, front_of, is_enough, one_if, written_at_end}
+use Rattle.regex_command.specs.Searched.{IsSearchedLine, IsStep, Progress, SearchesAll, SearchesFirst, at_start, prefix_of, is_enough, one_if, written_at_end}
 use Rattle.regex_command.specs.declared.failure.Failure.{Failure}
 use Rattle.regex_command.specs.declared.reading.Next.{Next}
 use Rattle.regex_command.specs.declared.reading.Next.TheVariants.{Line, LastLine, End}
@@ -73,7 +74,7 @@ module _ (r : Regex) (job : Job) (place : Named) (old before : Option (List ℕ)
       )
 
   module _ (now between after : Option (List ℕ)) (number selected : ℕ) (sofar : SoFar now between number selected) (line : List ℕ) (is_selected : Bool)
-      (few : is_enough job selected ≡ false) (reply : Took between after (IsReply r line job (front_of job place (number + 1)) is_selected)) where
+      (few : is_enough job selected ≡ false) (reply : Took between after (IsReply r line job (prefix_of job place (number + 1)) is_selected)) where
     abbrev next : Progress
     next = record {
       lines = number + 1;
@@ -85,7 +86,7 @@ module _ (r : Regex) (job : Job) (place : Named) (old before : Option (List ℕ)
     searched = record {
       selected = is_selected;
       bytes = reply.0;
-      reply = subst (λ n. IsReply r line job (front_of job place (n + 1)) is_selected reply.0) (sym sofar.number_is) reply.1;
+      reply = subst (λ n. IsReply r line job (prefix_of job place (n + 1)) is_selected reply.0) (sym sofar.number_is) reply.1;
       next = λ i. record {
         lines = sym sofar.number_is i + 1;
         selected = sym sofar.selected_is i + one_if is_selected;

@@ -1,5 +1,5 @@
 -- What `explain` writes.
-use Rattle.std.specs.Prelude.{◌≡◌, ◌⊎◌, ⊤, ℕ, Bool, true, false, List, [], ◌++◌, map, Option, Some, None, codes, option_map}
+use Rattle.std.specs.Prelude.{◌≡◌, ◌⊎◌, ⊤, ℕ, Bool, true, false, List, [], ◌++◌, map, Option, Some, None, codes}
 use Rattle.std.specs.declared.ops.Range.{Range}
 use Rattle.regress_explain.specs.Page.{IsPage}
 use Rattle.regress_found.specs.declared.found.Match.{Match}
@@ -10,21 +10,10 @@ use Rattle.regress_syntax.specs.Syntax.{Pattern}
 use Rattle.regress_tree.specs.Setting.{Setting}
 use Rattle.regress.specs.Compiled.{IsCompiled, outcomes_of}
 use Rattle.regress.specs.declared.pattern.Regex.{Regex}
+use Rattle.regex_options.specs.Request.{Form, lines, page}
 use Rattle.regex_command.specs.Ending.{IsLate}
-use Rattle.regex_command.specs.declared.asked.Form as code
-use Rattle.regex_command.specs.declared.asked.Form.TheVariants.{Lines, Page}
 use Rattle.regex_command.specs.declared.failure.Failure.{Failure}
 use Rattle.regex_command.specs.declared.failure.Failure.TheVariants.{TooLarge}
-
--- lines of text, or a page, with the matches in a text if one is given
-pub data Form : Type 0 where
-  lines : Form
-  page : (text : Option (List ℕ)) → Form
-
--- the form as the code represents it
-abbrev pub asked_form : code.Form → Form
-asked_form Lines = lines
-asked_form (Page text) = page (option_map (λ text. text.now) text)
 
 -- Some pattern is accepted.
 abbrev pub IsAcceptedPattern : Setting → (source : List ℕ) → Type 0

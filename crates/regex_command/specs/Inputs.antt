@@ -4,10 +4,11 @@ use Rattle.std.specs.Io.KnownBytes.{Appends}
 use Rattle.std.specs.List.{FoldsTo}
 use Rattle.regress_arguments.specs.Output.{Took}
 use Rattle.regress.specs.declared.pattern.Regex.{Regex}
-use Rattle.regex_command.specs.Job.{Job, Named, matching, replacing, splitting}
+use Rattle.regex_options.specs.Job.{Job, matching, replacing, splitting}
+use Rattle.regex_command.specs.Place.{Named}
 use Rattle.regex_command.specs.Searched.{IsSearched, Progress, written_at_end}
-use Rattle.regex_command.specs.declared.task.Shown.{Shown}
-use Rattle.regex_command.specs.declared.task.Shown.TheVariants.{Lines, Matches, Json, Count, Names, Nothing}
+use Rattle.regex_options.specs.declared.task.Shown.{Shown}
+use Rattle.regex_options.specs.declared.task.Shown.TheVariants.{Lines, Matches, Json, Count, Names, Nothing}
 
 -- an input: its name, and its bytes if they are known
 abbrev pub Input : Type 0

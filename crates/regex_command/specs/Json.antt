@@ -13,8 +13,8 @@ use Rattle.regress.specs.declared.pattern.Regex.{Regex}
 use Rattle.regex_command.specs.Runs.{Run}
 
 -- what is in front of the matches of a line: the name of the input, and the number of the line
-abbrev pub json_front : (name : List ℕ) → (number : ℕ) → List ℕ
-json_front name number = codes "{\"file\":\"" ++ json_text name ++ codes "\",\"line\":" ++ decimal number ++ codes ","
+abbrev pub json_prefix : (name : List ℕ) → (number : ℕ) → List ℕ
+json_prefix name number = codes "{\"file\":\"" ++ json_text name ++ codes "\",\"line\":" ++ decimal number ++ codes ","
 
 -- the members for a text with this span
 abbrev pub located_json : (start end : ℕ) → (text : List ℕ) → List ℕ
@@ -49,7 +49,7 @@ match_json run groups m =
     part_json run (Some (start_of m, (state_of m).position)) ++ codes ",\"groups\":[" ++ groups_json run m 0 (map (λ c. c.name) groups) ++ codes "]}\n"
 
 -- an object for each match in a text, each on a line with what is in front, after what was written before
-abbrev pub AddsJson : Regex → (front before : List ℕ) → Run → (after : List ℕ) → Type 0
-AddsJson r front before run after =
+abbrev pub AddsJson : Regex → (prefix before : List ℕ) → Run → (after : List ℕ) → Type 0
+AddsJson r prefix before run after =
     (ms : List Match) × AreAllMatches run.text (outcomes_of r run.text) ms
-    × (after ≡ before ++ flat_map (λ m. front ++ match_json run (groups_of r) m) ms)
+    × (after ≡ before ++ flat_map (λ m. prefix ++ match_json run (groups_of r) m) ms)

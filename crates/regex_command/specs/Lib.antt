@@ -1,14 +1,11 @@
-pub mod Asked
-pub mod Commands
 pub mod Ending
 pub mod Explained
 pub mod Inputs
-pub mod Job
 pub mod Json
 pub mod Lines
 pub mod Linted
-pub mod Options
 pub mod Painted
+pub mod Place
 pub mod Printed
 pub mod Reading
 pub mod Reply

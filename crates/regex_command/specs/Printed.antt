@@ -12,21 +12,21 @@ use Rattle.regress.specs.declared.pattern.Regex.{Regex}
 use Rattle.regress_display.specs.Request.{table_asked}
 use Rattle.regress_display.specs.Request as trees
 use Rattle.regress_display.specs.Shown.{IsFirstOutput}
-use Rattle.regex_command.specs.Asked.{Action, Ask, apply, escape, explain, help, lint, search, show}
+use Rattle.regex_options.specs.Help.{program_help}
+use Rattle.regex_options.specs.Request.{Action, Ask, apply, escape, explain, help, lint, search, show}
 use Rattle.regex_command.specs.Ending.{IsLate}
 use Rattle.regex_command.specs.Explained.{IsExplanationIn, MayFailToExplain}
 use Rattle.regex_command.specs.Inputs.{WritesInputs, WritesSomeOf, inputs_of}
-use Rattle.regex_command.specs.Job.{Job, matching, replacing, splitting}
+use Rattle.regex_options.specs.Job.{Job, matching, replacing, splitting}
 use Rattle.regex_command.specs.Linted.{IsReport}
-use Rattle.regex_command.specs.Source.{IsUnread, OfText}
+use Rattle.regex_command.specs.Source.{LacksText, OfText}
 use Rattle.regex_command.specs.Trees.{IsAnswer, IsQuietFor, IsShowFailure}
-use Rattle.regex_command.specs.declared.asked.View.{View}
+use Rattle.regex_options.specs.declared.request.View.{View}
 use Rattle.regex_command.specs.declared.failure.Failure.{Failure}
-use Rattle.regex_command.specs.declared.failure.Failure.TheVariants.{Usage, Argument, Memory, Output, Syntax, TooLarge, OutOfSteps, Unreadable, NotUtf8, PatternNotUtf8, TooLong}
+use Rattle.regex_command.specs.declared.failure.Failure.TheVariants.{Argument, Memory, Output, Syntax, TooLarge, OutOfSteps, Unreadable, NotUtf8, PatternNotUtf8, TooLong}
 
 -- No pattern is accepted, or it is too large, or memory is short.
 abbrev pub IsRejected : Setting → (text : List ℕ) → Failure → Type 0
-IsRejected setting text Usage = ⊥
 IsRejected setting text Argument = ⊥
 IsRejected setting text Memory = ⊤
 IsRejected setting text Output = ⊥
@@ -96,10 +96,10 @@ module _ (flags : Flags) (text : List ℕ) where
   MayFailAt (explain form) failure = MayFailToExplain form failure
 
 -- What is written: the help, an escaped text, or the output for a pattern.
-abbrev pub Prints : (help : List ℕ) → (input old new : Option (List ℕ)) → (found : Bool) → Ask → Type 0
-Prints text input old new found help = (found ≡ true) × Appends old new text
-Prints text input old new found (escape string) = (found ≡ true) × PrintsEscaped old new string
-Prints text input old new found (apply request) =
+abbrev pub Prints : (input old new : Option (List ℕ)) → (found : Bool) → Ask → Type 0
+Prints input old new found (help options) = (found ≡ true) × Appends old new (program_help options)
+Prints input old new found (escape string) = (found ≡ true) × PrintsEscaped old new string
+Prints input old new found (apply request) =
     OfText request.pattern (λ pattern. Does request.flags pattern request.action input old new found)
 
 -- Nothing is written to standard error, unless a pattern is rejected that is not searched for: then its syntax error is.
@@ -110,20 +110,20 @@ IsQuietAt quiet lint = ⊤
 IsQuietAt quiet (explain form) = ⊤
 
 abbrev pub IsQuiet : (quiet : Type 0) → Ask → Type 0
-IsQuiet quiet help = quiet
+IsQuiet quiet (help options) = quiet
 IsQuiet quiet (escape string) = quiet
 IsQuiet quiet (apply request) = IsQuietAt quiet request.action
 
 -- What is written before a failure: nothing, or what an action begins with.
 abbrev pub PrintsSome : (input old new : Option (List ℕ)) → (nothing : Type 0) → Ask → Type 0
-PrintsSome input old new nothing help = nothing
+PrintsSome input old new nothing (help options) = nothing
 PrintsSome input old new nothing (escape string) = nothing
 PrintsSome input old new nothing (apply request) =
     nothing ⊎ OfText request.pattern (λ pattern. Begins request.flags pattern request.action input old new)
 
 -- A failure is due. Wrong usage never is.
 abbrev pub MayFail : Ask → Failure → Type 0
-MayFail help failure = IsLate failure
+MayFail (help options) failure = IsLate failure
 MayFail (escape string) failure = IsLate failure
 MayFail (apply request) failure =
-    IsUnread request.pattern failure ⊎ OfText request.pattern (λ pattern. MayFailAt request.flags pattern request.action failure)
+    LacksText request.pattern failure ⊎ OfText request.pattern (λ pattern. MayFailAt request.flags pattern request.action failure)

@@ -6,10 +6,11 @@ use Rattle.std.specs.List.{FoldsTo}
 use Rattle.regress.specs.declared.pattern.Regex.{Regex}
 use Rattle.regex_command.specs.Lines.{AreLinesOf}
 use Rattle.regex_command.specs.Reply.{IsReply, ended}
-use Rattle.regex_command.specs.Job.{Job, Named, matching, replacing, splitting}
-use Rattle.regex_command.specs.Json.{json_front}
-use Rattle.regex_command.specs.declared.task.Shown.{Shown}
-use Rattle.regex_command.specs.declared.task.Shown.TheVariants.{Lines, Matches, Json, Count, Names, Nothing}
+use Rattle.regex_options.specs.Job.{Job, matching, replacing, splitting}
+use Rattle.regex_command.specs.Place.{Named}
+use Rattle.regex_command.specs.Json.{json_prefix}
+use Rattle.regex_options.specs.declared.task.Shown.{Shown}
+use Rattle.regex_options.specs.declared.task.Shown.TheVariants.{Lines, Matches, Json, Count, Names, Nothing}
 
 -- how far an input is searched: the number of lines, the number of selected lines, and what was written for them
 pub record Progress : Type 0 where
@@ -69,12 +70,12 @@ shows_json (replacing template) = false
 shows_json splitting = false
 
 -- what is in front of a line as text: the name of the input and the number of the line, if they are shown
-abbrev pub text_front : Job → Named → (number : ℕ) → List ℕ
-text_front job place number = name_of place ++ (if has_numbers job then decimal number ++ codes ":" else [])
+abbrev pub text_prefix : Job → Named → (number : ℕ) → List ℕ
+text_prefix job place number = name_of place ++ (if has_numbers job then decimal number ++ codes ":" else [])
 
 -- what is in front of what is shown of the line with this number
-abbrev pub front_of : Job → Named → (number : ℕ) → List ℕ
-front_of job place number = if shows_json job then json_front place.name number else text_front job place number
+abbrev pub prefix_of : Job → Named → (number : ℕ) → List ℕ
+prefix_of job place number = if shows_json job then json_prefix place.name number else text_prefix job place number
 
 -- what is written at the end of an input for the number of selected lines
 abbrev pub shown_at_end : Shown → Named → (selected : ℕ) → List ℕ
@@ -96,7 +97,7 @@ module _ (r : Regex) (job : Job) where
   pub record IsSearchedLine (place : Named) (p : Progress) (line : List ℕ) (q : Progress) : Type 0 where
     pub selected : Bool
     pub bytes : List ℕ
-    pub reply : IsReply r line job (front_of job place (p.lines + 1)) selected bytes
+    pub reply : IsReply r line job (prefix_of job place (p.lines + 1)) selected bytes
     pub next : q ≡ record { lines = p.lines + 1; selected = p.selected + one_if selected; written = p.written ++ bytes }
 
   -- One line further: the line is passed over if enough lines are selected before it.

@@ -1,19 +1,8 @@
 -- Where the pattern is.
 use Rattle.std.specs.Prelude.{◌≡◌, ⊤, ℕ, ◌-◌, List, if◌then◌else◌, ◌==◌, length, slice_index, take}
+use Rattle.regex_options.specs.Source.{Source, in_argument, in_file}
 use Rattle.regex_command.specs.declared.failure.Failure.{Failure}
-use Rattle.regex_command.specs.declared.failure.Failure.TheVariants.{Usage, Argument, Memory, Output, Syntax, TooLarge, OutOfSteps, Unreadable, NotUtf8, PatternNotUtf8, TooLong}
-use Rattle.regex_command.specs.declared.pattern.PatternSource.{PatternSource}
-use Rattle.regex_command.specs.declared.pattern.PatternSource.TheVariants.{Text, File}
-
--- a pattern, or the name of the file that has it
-pub data Source : Type 0 where
-  in_argument : (text : List ℕ) → Source
-  in_file : (name : List ℕ) → Source
-
--- the source as the code represents it
-abbrev pub source : PatternSource → Source
-source (Text text) = in_argument text.now
-source (File name) = in_file name.now
+use Rattle.regex_command.specs.declared.failure.Failure.TheVariants.{Argument, Memory, Output, Syntax, TooLarge, OutOfSteps, Unreadable, NotUtf8, PatternNotUtf8, TooLong}
 
 -- The bytes are the text of the pattern. Nothing is known of the bytes of a file.
 abbrev pub IsTextOf : Source → List ℕ → Type 0
@@ -30,7 +19,6 @@ without_line_feed bytes = if slice_index bytes (length bytes - 1) == 10 then tak
 
 -- A failure that may occur while the file of a pattern is read.
 abbrev pub MayFailToRead : Failure → Type 0
-MayFailToRead Usage = ⊥
 MayFailToRead Argument = ⊥
 MayFailToRead Memory = ⊤
 MayFailToRead Output = ⊥
@@ -43,6 +31,6 @@ MayFailToRead (PatternNotUtf8 name offset) = ⊤
 MayFailToRead (TooLong name) = ⊥
 
 -- The text of the pattern is not known: memory is short, or its file cannot be read or is not UTF-8.
-abbrev pub IsUnread : Source → Failure → Type 0
-IsUnread (in_argument text) failure = failure ≡ Memory
-IsUnread (in_file name) failure = MayFailToRead failure
+abbrev pub LacksText : Source → Failure → Type 0
+LacksText (in_argument text) failure = failure ≡ Memory
+LacksText (in_file name) failure = MayFailToRead failure

@@ -7,7 +7,7 @@ use Rattle.regress_display.specs.Shown.{IsOutput}
 use Rattle.regress_display.specs.declared.request.Format.{Format}
 use Rattle.regress_display.specs.declared.request.Format.TheVariants.{Text, Json, Svg}
 use Rattle.regex_command.specs.declared.failure.Failure.{Failure}
-use Rattle.regex_command.specs.declared.failure.Failure.TheVariants.{Usage, Argument, Memory, Output, Syntax, TooLarge, OutOfSteps, Unreadable, NotUtf8, PatternNotUtf8, TooLong}
+use Rattle.regex_command.specs.declared.failure.Failure.TheVariants.{Argument, Memory, Output, Syntax, TooLarge, OutOfSteps, Unreadable, NotUtf8, PatternNotUtf8, TooLong}
 
 -- What is written to standard output for a rejected pattern: its syntax error as JSON, and nothing in the other formats.
 abbrev pub IsFaultWritten : Format → Request → List ℕ → Type 0
@@ -34,7 +34,6 @@ HasFaultOutput Svg request = ⊥
 
 -- Memory is short, or what there is to write cannot be written.
 abbrev pub IsShowFailure : Request → Failure → Type 0
-IsShowFailure request Usage = ⊥
 IsShowFailure request Argument = ⊥
 IsShowFailure request Memory = ⊤
 IsShowFailure request Output = IsAcceptedPattern request ⊎ HasFaultOutput request.format request

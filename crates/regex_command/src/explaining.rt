@@ -4,13 +4,14 @@ ghost use Rattle.regress_arguments.specs.Output.{Took};
 ghost use Rattle.regress.specs.Unicode.{unicode_setting};
 ghost use Rattle.regress.specs.Found.{match_of};
 ghost use Rattle.regex_command.specs.Ending.{OrOutput};
-ghost use Rattle.regex_command.specs.Explained.{AreMatchRanges, HasForm, IsAcceptedPattern, IsExplanationIn, IsPageLine, MayFailToExplain, MayFailToFind, asked_form, range_of};
+ghost use Rattle.regex_command.specs.Explained.{AreMatchRanges, HasForm, IsAcceptedPattern, IsExplanationIn, IsPageLine, MayFailToExplain, MayFailToFind, range_of};
+ghost use Rattle.regex_options.specs.Request.{asked_form};
 
-use crate::asked::Form;
 use crate::compiling::compiled;
 use crate::failure::{Failure, reject};
 use crate::pattern::Pattern;
 use crate::printing::print;
+use regex_options::Form;
 use regress::Match;
 use regress_base::util::code_points;
 use regress_explain::{Matched, explain, page};

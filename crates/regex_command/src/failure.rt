@@ -4,7 +4,6 @@ ghost use Rattle.regex_command.specs.Ending.{IsLate, unaccepted};
 ghost use Rattle.regex_command.specs.Source.{MayFailToRead};
 ghost use Rattle.regex_command.specs.declared.failure.Failure.TheVariants.{Output};
 
-use crate::usage::write_usage_error;
 use regress::{Error, SearchError};
 use regress_arguments::{write_visible, write_with_caret};
 use regress_parse::PlacedFault;
@@ -16,8 +15,6 @@ use std::io::{self, ErrorKind, Write};
 /// `io::Error` has no `From` conversion: the caller knows whether it is an error of an input or of the output.
 #[derive(Drop)]
 pub(crate) enum Failure<'a> {
-    /// The arguments are invalid.
-    Usage,
     /// An argument is not UTF-8.
     Argument,
     /// An allocation failed.
@@ -87,17 +84,16 @@ impl<'a> From<SearchError> for Failure<'a> {
 }
 
 /// Writes the message of a failure to `err`, and returns the exit status. An error of that write is ignored.
-pub(crate) fn report<E: Write>(failure: Failure<'_>, args: &[String], err: &mut E) -> u8
+pub(crate) fn report<E: Write>(failure: Failure<'_>, err: &mut E) -> u8
     ensures { result ≡ 2 }
 {
-    let _ = write_message(failure, args, err);
+    let _ = write_message(failure, err);
     2
 }
 
 /// Writes the message of a failure.
-fn write_message<E: Write>(failure: Failure<'_>, args: &[String], err: &mut E) -> io::Result<()> {
+fn write_message<E: Write>(failure: Failure<'_>, err: &mut E) -> io::Result<()> {
     match failure {
-        Failure::Usage => write_usage_error(args, err),
         Failure::Argument => writeln!(err, "regex: an argument is not UTF-8"),
         Failure::Memory => writeln!(err, "regex: out of memory"),
         Failure::Output => writeln!(err, "regex: can't write standard output"),
@@ -156,7 +152,7 @@ pub(crate) fn reject<'f, E: Write>(
 }
 
 /// Returns why a file cannot be read.
-pub(crate) fn unread(error: io::Error, name: &str) -> Failure<'_>
+pub(crate) fn read_failure(error: io::Error, name: &str) -> Failure<'_>
     ensures late { IsLate result }
     ensures reading { MayFailToRead result }
 {

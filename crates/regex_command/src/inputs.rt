@@ -2,15 +2,15 @@
 ghost use Rattle.std.specs.Prelude.{◌≡◌, IfOk, IfErr, None, map, string_bytes};
 ghost use Rattle.regex_command.specs.Ending.{IsLate, OrOutput};
 ghost use Rattle.regex_command.specs.Inputs.{WritesInput, WritesInputs, WritesSomeOf, has_ended, inputs_of, named_files};
-ghost use Rattle.regex_command.specs.Job.{job, named};
+ghost use Rattle.regex_options.specs.Job.{job};
+ghost use Rattle.regex_command.specs.Place.{named};
 ghost use Rattle.regex_command.specs.Searched.{SearchesFirst};
 
-use crate::asked::Search;
 use crate::failure::Failure;
 use crate::place::Place;
 use crate::searcher::Searcher;
 use crate::searching::{search_lines, write_end};
-use crate::task::{Selection, Shown, Task};
+use regex_options::{Search, Selection, Shown, Task};
 use std::alloc::Global;
 use std::fs::{File, Files};
 use std::io::{BufRead, BufReader, Read, Write};

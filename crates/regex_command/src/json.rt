@@ -14,20 +14,20 @@ use regress_display::JsonText;
 use std::alloc::{AllocError, Global};
 use std::ops::Range;
 
-/// Adds an object for each match in a text, each on a line, with `front` in front.
+/// Adds an object for each match in a text, each on a line, with `prefix` in front.
 pub(crate) fn add_json(
     alloc: Global,
     regex: &Regex,
-    front: &str,
+    prefix: &str,
     run: Run<'_>,
     to: &mut Vec<u8>,
 ) -> Result<(), SearchError>
     requires { HasOffsets (run_of run) }
-    ensures { OnOk result (AddsJson regex.now front.now to.old.items (run_of run.entry) to.new.items) }
+    ensures { OnOk result (AddsJson regex.now prefix.now to.old.items (run_of run.entry) to.new.items) }
 {
     let matches = regex.find_all(alloc, run.text)?;
     for found in &matches {
-        to.extend_from_slice(front.as_bytes())?;
+        to.extend_from_slice(prefix.as_bytes())?;
         to.extend_from_slice(match_json(alloc, regex, run, found)?.as_bytes())?;
     }
     Ok(())

@@ -4,26 +4,25 @@
 //! allocation for the arguments or the output buffer fails.
 #![tactic(auto)]
 
-ghost use Rattle.std.specs.Prelude.{◌≡◌, ◌≤◌, ◌⊎◌, true, false, None, IfSome, IfOk, IfErr, Ok, Err, map, string_bytes};
+ghost use Rattle.std.specs.Prelude.{◌≡◌, ◌≤◌, ◌⊎◌, true, false, IfSome, IfOk, IfErr, is_err, Ok, map, string_bytes};
 ghost use Rattle.std.specs.Io.KnownBytes.{Appends};
 ghost use Rattle.regress_display.specs.Request.{requested};
-ghost use Rattle.regex_command.specs.Asked.{action, asked_of};
+ghost use Rattle.regex_options.specs.Help.{program_help};
+ghost use Rattle.regex_options.specs.Request.{action, ask, asked_by};
 ghost use Rattle.regex_command.specs.Ending.{IsLate, OrOutput};
-ghost use Rattle.regex_command.specs.Job.{job};
+ghost use Rattle.regex_options.specs.Job.{job};
 ghost use Rattle.regex_command.specs.Printed.{Begins, Does, IsDue, IsQuiet, IsQuietAt, MayFail, MayFailAt, Prints, PrintsAll, PrintsEscaped, PrintsFirst, PrintsSome, changes, view_of};
 ghost use Rattle.regress.specs.Unicode.{unicode_setting};
-ghost use Rattle.regex_command.specs.Source.{IsUnread, OfText, source};
-ghost use Rattle.regex_command.specs.declared.failure.Failure.TheVariants.{Output, Usage};
+ghost use Rattle.regex_command.specs.Source.{LacksText, OfText};
+ghost use Rattle.regex_options.specs.Source.{source};
+ghost use Rattle.regex_command.specs.declared.failure.Failure.TheVariants.{Output};
 
-mod asked;
-mod command;
 mod compiling;
 mod explaining;
 mod failure;
 mod inputs;
 mod json;
 mod linting;
-mod options;
 mod painting;
 mod pattern;
 mod place;
@@ -34,10 +33,7 @@ mod runs;
 mod searcher;
 mod searching;
 mod showing;
-mod task;
-mod usage;
 
-use asked::{Action, Asked, Request, Search, View, read_asked};
 use compiling::compiled;
 use explaining::print_explanation;
 use failure::{Failure, report};
@@ -45,6 +41,10 @@ use inputs::search_all;
 use linting::print_lint;
 use pattern::{Pattern, pattern_text};
 use printing::print;
+use regex_options::{
+    Action, Arguments, Asked, OPTIONS, OptionEntry, Request, Search, Task, View, program_help,
+    read_arguments, write_usage_error,
+};
 use regress_arguments::{ArgumentsError, arguments};
 use regress_display::Request as TreeRequest;
 use regress_escape::escape;
@@ -55,7 +55,6 @@ use std::env::Env;
 use std::fs::Files;
 use std::io::{BufWriter, IsTerminal, Read, Write};
 use std::process::ExitCode;
-use task::Task;
 
 fn main(rt: HostRuntime) -> ExitCode {
     let out = rt.stdout();
@@ -75,11 +74,16 @@ fn run<R: Env + Files + AllocGlobal, I: Read + Drop, W: Write + Drop, E: Write>(
 {
     match arguments(rt) {
         Ok(args) => {
-            let (status, _) = run_buffered(rt, rt.alloc(), &args, input, out, terminal, err);
+            let arguments = Arguments {
+                options: &OPTIONS,
+                words: &args,
+                terminal,
+            };
+            let (status, _) = run_buffered(rt, rt.alloc(), arguments, input, out, err);
             status
         }
-        Err(ArgumentsError::NotUtf8) => report(Failure::Argument, &[], err),
-        Err(ArgumentsError::OutOfMemory) => report(Failure::Memory, &[], err),
+        Err(ArgumentsError::NotUtf8) => report(Failure::Argument, err),
+        Err(ArgumentsError::OutOfMemory) => report(Failure::Memory, err),
     }
 }
 
@@ -88,32 +92,30 @@ fn run<R: Env + Files + AllocGlobal, I: Read + Drop, W: Write + Drop, E: Write>(
 fn run_buffered<R: Files, I: Read + Drop, W: Write + Drop, E: Write>(
     rt: &R,
     alloc: Global,
-    args: &[String],
+    arguments: Arguments<'_>,
     input: I,
     out: W,
-    terminal: bool,
     err: &mut E,
 ) -> (u8, Option<W>)
     ensures known { result.0 ≤ 2 }
-    ensures found { result.0 ≡ 0 → IfSome (asked_of terminal args.now) (λ ask. IfSome result.1 (λ new.
-        Prints HELP.now (I.remaining input) (W.contents out) (W.contents new) true ask)) }
-    ensures none { result.0 ≡ 1 → IfSome (asked_of terminal args.now) (λ ask. IfSome result.1 (λ new.
-        Prints HELP.now (I.remaining input) (W.contents out) (W.contents new) false ask)) }
-    ensures usage { asked_of terminal args.now ≡ None → result.0 ≡ 2 }
+    ensures found { result.0 ≡ 0 → IfOk (asked_by arguments.entry) (λ ask. IfSome result.1 (λ new.
+        Prints (I.remaining input) (W.contents out) (W.contents new) true ask)) }
+    ensures none { result.0 ≡ 1 → IfOk (asked_by arguments.entry) (λ ask. IfSome result.1 (λ new.
+        Prints (I.remaining input) (W.contents out) (W.contents new) false ask)) }
+    ensures usage { is_err (asked_by arguments.entry) ≡ true → result.0 ≡ 2 }
     ensures quiet { result.0 ≡ 0 → err.new ≡ err.old }
-    ensures quiet_none { result.0 ≡ 1 → IfSome (asked_of terminal args.now) (IsQuiet (err.new ≡ err.old)) }
+    ensures quiet_none { result.0 ≡ 1 → IfOk (asked_by arguments.entry) (IsQuiet (err.new ≡ err.old)) }
 {
     match BufWriter::new(alloc, out) {
         Ok(mut buffered) => {
-            let status = run_regex(rt, alloc, args, input, &mut buffered, terminal, err);
+            let status = run_regex(rt, alloc, arguments, input, &mut buffered, err);
             (status, buffered.into_inner().ok())
         }
-        Err(_) => (report(Failure::Memory, args, err), None),
+        Err(_) => (report(Failure::Memory, err), None),
     }
 }
 
-/// Runs the program on its arguments, without its own name, and returns its exit status. `terminal` states whether the
-/// output is a terminal, where matches are in color by default.
+/// Runs the program on its arguments, and returns its exit status.
 ///
 /// - 0: a line is selected; the output of `replace`, `split`, `escape`, `parse`, `draw`, `explain` or the help is
 ///   written to `out`; or `lint` reports nothing;
@@ -126,54 +128,73 @@ fn run_buffered<R: Files, I: Read + Drop, W: Write + Drop, E: Write>(
 pub fn run_regex<R: Files, I: Read + Drop, W: Write, E: Write>(
     rt: &R,
     alloc: Global,
-    args: &[String],
+    arguments: Arguments<'_>,
     input: I,
     out: &mut W,
-    terminal: bool,
     err: &mut E,
 ) -> u8
     ensures known { result ≤ 2 }
-    ensures found { result ≡ 0 → IfSome (asked_of terminal args.now)
-        (Prints HELP.now (I.remaining input) (W.contents out.old) (W.contents out.new) true) }
-    ensures none { result ≡ 1 → IfSome (asked_of terminal args.now)
-        (Prints HELP.now (I.remaining input) (W.contents out.old) (W.contents out.new) false) }
-    ensures usage { asked_of terminal args.now ≡ None → result ≡ 2 }
-    ensures untouched { asked_of terminal args.now ≡ None → out.new ≡ out.old }
+    ensures found { result ≡ 0 → IfOk (asked_by arguments.entry)
+        (Prints (I.remaining input) (W.contents out.old) (W.contents out.new) true) }
+    ensures none { result ≡ 1 → IfOk (asked_by arguments.entry)
+        (Prints (I.remaining input) (W.contents out.old) (W.contents out.new) false) }
+    ensures usage { is_err (asked_by arguments.entry) ≡ true → result ≡ 2 }
+    ensures untouched { is_err (asked_by arguments.entry) ≡ true → out.new ≡ out.old }
     ensures quiet { result ≡ 0 → err.new ≡ err.old }
-    ensures quiet_none { result ≡ 1 → IfSome (asked_of terminal args.now) (IsQuiet (err.new ≡ err.old)) }
+    ensures quiet_none { result ≡ 1 → IfOk (asked_by arguments.entry) (IsQuiet (err.new ≡ err.old)) }
 {
-    match response(rt, alloc, args, input, out, terminal, err) {
-        Ok(found) => { if found { 0 } else { 1 } }
-        Err(failure) => report(failure, args, err),
+    match read_arguments(arguments) {
+        Ok(asked) => run_asked(rt, alloc, asked, input, out, err),
+        Err(error) => {
+            let _ = write_usage_error(error, err);
+            2
+        }
     }
 }
 
-/// Writes what the arguments ask for, and returns whether it is found. Why a pattern is rejected that is not searched for
-/// is written to `err`.
+/// Writes what is asked for, or the message of a failure, and returns the exit status.
+fn run_asked<R: Files, I: Read + Drop, W: Write, E: Write>(
+    rt: &R,
+    alloc: Global,
+    asked: Asked<'_>,
+    input: I,
+    out: &mut W,
+    err: &mut E,
+) -> u8
+    ensures known { result ≤ 2 }
+    ensures found { result ≡ 0 → Prints (I.remaining input) (W.contents out.old) (W.contents out.new) true (ask asked.entry) }
+    ensures none { result ≡ 1 → Prints (I.remaining input) (W.contents out.old) (W.contents out.new) false (ask asked.entry) }
+    ensures quiet { result ≡ 0 → err.new ≡ err.old }
+    ensures quiet_none { result ≡ 1 → IsQuiet (err.new ≡ err.old) (ask asked.entry) }
+{
+    match response(rt, alloc, asked, input, out, err) {
+        Ok(found) => { if found { 0 } else { 1 } }
+        Err(failure) => report(failure, err),
+    }
+}
+
+/// Writes what is asked for, and returns whether it is found. Why a pattern is rejected that is not searched for is
+/// written to `err`.
 fn response<'a, R: Files, I: Read + Drop, W: Write, E: Write>(
     rt: &R,
     alloc: Global,
-    args: &'a [String],
+    asked: Asked<'a>,
     input: I,
     out: &mut W,
-    terminal: bool,
     err: &mut E,
 ) -> Result<bool, Failure<'a>>
-    ensures usage { asked_of terminal args.now ≡ None → result ≡ Err Usage }
-    ensures untouched { asked_of terminal args.now ≡ None → out.new ≡ out.old }
-    ensures found { IfOk result (λ found. IfSome (asked_of terminal args.now)
-        (Prints HELP.now (I.remaining input) (W.contents out.old) (W.contents out.new) found)) }
-    ensures first { IfErr result (OrOutput (IfSome (asked_of terminal args.now)
-        (PrintsSome (I.remaining input) (W.contents out.old) (W.contents out.new) (out.new ≡ out.old)))) }
-    ensures due { IfErr result (λ failure. IfSome (asked_of terminal args.now) (λ ask. MayFail ask failure)) }
+    ensures found { IfOk result (λ found. Prints (I.remaining input) (W.contents out.old) (W.contents out.new)
+        found (ask asked.entry)) }
+    ensures first { IfErr result (OrOutput
+        (PrintsSome (I.remaining input) (W.contents out.old) (W.contents out.new) (out.new ≡ out.old) (ask asked.entry))) }
+    ensures due { IfErr result (MayFail (ask asked.entry)) }
     ensures quiet { result ≡ Ok true → err.new ≡ err.old }
-    ensures quiet_none { IfSome (asked_of terminal args.now) (IsQuiet (err.new ≡ err.old)) }
+    ensures quiet_none { IsQuiet (err.new ≡ err.old) (ask asked.entry) }
 {
-    match read_asked(args, terminal) {
-        None => Err(Failure::Usage),
-        Some(Asked::Help) => print_help(out),
-        Some(Asked::Escape(text)) => print_escaped(alloc, text, out),
-        Some(Asked::Apply(request)) => apply(rt, alloc, request, input, out, err),
+    match asked {
+        Asked::Help(options) => print_help(alloc, options, out),
+        Asked::Escape(text) => print_escaped(alloc, text, out),
+        Asked::Apply(request) => apply(rt, alloc, request, input, out, err),
     }
 }
 
@@ -190,7 +211,7 @@ fn apply<'a, R: Files, I: Read + Drop, W: Write, E: Write>(
         (action request.entry.action) (I.remaining input) (W.contents out.old) (W.contents out.new) found)) }
     ensures first { IfErr result (OrOutput ((out.new ≡ out.old) ⊎ OfText (source request.entry.pattern)
         (λ text. Begins request.entry.flags text (action request.entry.action) (I.remaining input) (W.contents out.old) (W.contents out.new)))) }
-    ensures due { IfErr result (λ failure. IsUnread (source request.entry.pattern) failure
+    ensures due { IfErr result (λ failure. LacksText (source request.entry.pattern) failure
         ⊎ OfText (source request.entry.pattern) (λ text. MayFailAt request.entry.flags text (action request.entry.action) failure)) }
     ensures quiet { result ≡ Ok true → err.new ≡ err.old }
     ensures quiet_none { IsQuietAt (err.new ≡ err.old) (action request.entry.action) }
@@ -293,83 +314,17 @@ fn print_escaped<'a, W: Write>(
 }
 
 /// Writes the help.
-fn print_help<'a, W: Write>(out: &mut W) -> Result<bool, Failure<'a>>
-    ensures help { IfOk result (λ _. Appends (W.contents out.old) (W.contents out.new) HELP.now) }
+fn print_help<'a, W: Write>(
+    alloc: Global,
+    options: &[OptionEntry],
+    out: &mut W,
+) -> Result<bool, Failure<'a>>
+    ensures help { IfOk result (λ _. Appends (W.contents out.old) (W.contents out.new) (program_help options.now)) }
     ensures found { IfOk result (λ found. found ≡ true) }
     ensures first { IfErr result (OrOutput (out.new ≡ out.old)) }
     ensures late { IfErr result IsLate }
 {
-    print(HELP.as_bytes(), out)?;
+    let text = program_help(alloc, options)?;
+    print(text.as_bytes(), out)?;
     Ok(true)
 }
-
-/// The help: usage, options and exit statuses.
-const HELP: &str = "\
-usage: regex match [OPTION..] [--] PATTERN [FILE..]
-       regex replace [OPTION..] [--] PATTERN TEMPLATE [FILE..]
-       regex split [OPTION..] [--] PATTERN [FILE..]
-       regex escape TEXT
-       regex parse [OPTION..] [--] PATTERN
-       regex draw [OPTION..] [--] PATTERN
-       regex explain [OPTION..] [--] PATTERN
-       regex lint [OPTION..] [--] PATTERN
-
-Searches in the lines of files, or of standard input, for PATTERN, a regular expression in ECMAScript
-syntax, over all of Unicode.
-  match    writes the lines with a match
-  replace  writes the lines with each match replaced by TEMPLATE, in which $& is the match, $1 a group,
-           $<name> a group with a name, and $$ a dollar sign
-  split    writes each piece of a line between matches on a line
-  escape   writes a pattern that matches TEXT
-  parse    writes the parsed tree of PATTERN, a line --, and the optimized tree
-  draw     writes a railroad diagram of PATTERN as an SVG picture
-  explain  writes for each part of PATTERN its span and, in words, what it matches
-  lint     writes where PATTERN may match otherwise than in ECMA-262, and why
-
-  -e PATTERN       the pattern, which may begin with a hyphen; no argument is the pattern then
-  -f FILE          the pattern is in FILE, without a line feed at the end
-  -i               ignore case
-  --flags=LETTERS  flags of JavaScript, of imsuv; none without this option
-  -h, --help       this help
-  --               end of the options: PATTERN may begin with a hyphen
-Of match, replace and split only:
-  -M  search a text as one line, without the line feed at its end; also --multiline
-Of match only, and -no is -n -o:
-  -a      search lines that are not UTF-8 too; their bytes that are not match nowhere
-  -v      select the lines without a match
-  -m NUM  select at most NUM lines of each file, the first ones; also --max-count=NUM
-  -n      write the number of each line before it
-  -o      write each match that is not empty on a line, instead of the lines
-  -c      write only how many lines are selected
-  -l      write only the names of the files in which a line is selected
-  -q      write nothing, and end at the first selected line; also --quiet
-  --json  write a JSON object for each match on a line, instead of the lines
-  --color=WHEN  matches in color: always, never, or auto, if the output is a terminal; auto by default
-Of parse and draw only:
-  --json       one JSON object, of the parsed tree unless --optimized is given; of parse only
-  --parsed     the parsed tree only
-  --optimized  the optimized tree only
-  --small      with the small table: ASCII and a few more characters
-Of explain only:
-  --html       an HTML page that needs no other file, with a railroad diagram
-  --text TEXT  with --html: TEXT with its matches marked is in the page; also --text=TEXT
-
-exit status:
-  0  a line is selected, or the output of replace, split, escape, parse, draw or explain is written, or
-     lint reports nothing
-  1  no line is selected, or parse, draw, explain or lint rejects PATTERN, or lint reports something
-  2  an error of any kind: its message is on standard error, and no more lines are searched
-
-examples:
-  regex match -n '\\d+' notes.txt
-  regex match -e '--+' -n notes.txt
-  regex match -f pattern.txt notes.txt
-  regex match --json '(?<year>\\d{4})-(\\d\\d)' notes.txt
-  regex replace '(\\w+) (\\w+)' '$2, $1' names.txt
-  regex replace -M '\\n+' ' ' notes.txt
-  regex parse --json '[a-f]+'
-  regex draw '\\d{4}-\\d\\d' >date.svg
-  regex explain '\\d{4}-\\d\\d'
-  regex explain --html --text 2024-05 '\\d{4}-\\d\\d' >date.html
-  regex lint -i '[k]'
-";

@@ -1,9 +1,11 @@
 //! Patterns, and where they are.
 ghost use Rattle.std.specs.Prelude.{◌≡◌, IfOk, IfErr, string_bytes};
-ghost use Rattle.regex_command.specs.Source.{IsTextOf, IsUnread, MayFailToRead, source, without_line_feed};
+ghost use Rattle.regex_command.specs.Source.{IsTextOf, LacksText, MayFailToRead, without_line_feed};
+ghost use Rattle.regex_options.specs.Source.{source};
 
-use crate::failure::{Failure, unread};
+use crate::failure::{Failure, read_failure};
 use crate::reading::remove_line_feed;
+use regex_options::PatternSource;
 use regress_base::types::Flags;
 use std::alloc::Global;
 use std::fs::{File, Files};
@@ -16,14 +18,6 @@ pub(crate) struct Pattern<'p> {
     pub(crate) flags: Flags,
 }
 
-/// A pattern, or the file that has it.
-#[derive(Clone, Copy)]
-pub(crate) enum PatternSource<'a> {
-    Text(&'a str),
-    /// The file with this name.
-    File(&'a str),
-}
-
 /// Returns the text of a pattern.
 pub(crate) fn pattern_text<'a, R: Files>(
     rt: &R,
@@ -31,7 +25,7 @@ pub(crate) fn pattern_text<'a, R: Files>(
     from: PatternSource<'a>,
 ) -> Result<String, Failure<'a>>
     ensures text { IfOk result (λ text. IsTextOf (source from.entry) (string_bytes text)) }
-    ensures unread { IfErr result (IsUnread (source from.entry)) }
+    ensures failed { IfErr result (LacksText (source from.entry)) }
 {
     match from {
         PatternSource::Text(text) => Ok(String::from_str(alloc, text)?),
@@ -49,7 +43,7 @@ fn read_file<'a, R: Files>(rt: &R, alloc: Global, name: &'a str) -> Result<Vec<u
     };
     match file.read_to_end(&mut bytes) {
         Ok(_) => Ok(bytes),
-        Err(error) => Err(unread(error, name)),
+        Err(error) => Err(read_failure(error, name)),
     }
 }
 

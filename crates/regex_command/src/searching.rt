@@ -5,17 +5,18 @@ ghost use Rattle.regex_command.specs.Reply.{IsReply};
 ghost use Rattle.regex_command.specs.Reading.{IsRead};
 ghost use Rattle.regress_arguments.specs.Output.{Took};
 ghost use Rattle.regex_command.specs.Ending.{IsLate, OrOutput};
-ghost use Rattle.regex_command.specs.Job.{job, named};
-ghost use Rattle.regex_command.specs.Json.{json_front};
-ghost use Rattle.regex_command.specs.Searched.{SearchesAll, SearchesFirst, front_of, has_numbers, is_enough, name_of, needs_one, reaches, shows_json, text_front, written_at_end};
+ghost use Rattle.regex_options.specs.Job.{job};
+ghost use Rattle.regex_command.specs.Place.{named};
+ghost use Rattle.regex_command.specs.Json.{json_prefix};
+ghost use Rattle.regex_command.specs.Searched.{SearchesAll, SearchesFirst, prefix_of, has_numbers, is_enough, name_of, needs_one, reaches, shows_json, text_prefix, written_at_end};
 ghost use Rattle.regex_command.specs.declared.failure.Failure.TheVariants.{Output};
 
-use crate::failure::{Failure, unread};
+use crate::failure::{Failure, read_failure};
 use crate::place::Place;
 use crate::reading::{Next, read_next};
 use crate::reply::{Reply, reply_to, reply_to_binary};
 use crate::searcher::Searcher;
-use crate::task::{Shown, Task};
+use regex_options::{Shown, Task};
 use regress_display::JsonText;
 use std::alloc::{AllocError, Global};
 use std::io::{BufRead, Write};
@@ -97,7 +98,7 @@ fn next_line<'a, B: BufRead>(
 {
     match read_next(reader, place.multiline, line) {
         Ok(next) => Ok(next),
-        Err(error) => Err(unread(error, place.name)),
+        Err(error) => Err(read_failure(error, place.name)),
     }
 }
 
@@ -112,7 +113,7 @@ fn write_reply<'a, W: Write>(
     out: &mut W,
 ) -> Result<bool, Failure<'a>>
     ensures reply { IfOk result (λ selected. Took (W.contents out.old) (W.contents out.new)
-        (IsReply regex.now.regex.now line.now (job task.entry) (front_of (job task.entry) (named place.entry) number) selected)) }
+        (IsReply regex.now.regex.now line.now (job task.entry) (prefix_of (job task.entry) (named place.entry) number) selected)) }
     ensures late { IfErr result IsLate }
     ensures untouched { IfErr result (OrOutput (out.new ≡ out.old)) }
 {
@@ -131,14 +132,14 @@ fn reply<'a>(
     line: &[u8],
 ) -> Result<Reply, Failure<'a>>
     ensures reply { IfOk result (λ reply. IsReply regex.now.regex.now line.now (job task.entry)
-        (front_of (job task.entry) (named place.entry) number) reply.selected reply.bytes.items) }
+        (prefix_of (job task.entry) (named place.entry) number) reply.selected reply.bytes.items) }
     ensures late { IfErr result IsLate }
 {
-    let front = front(alloc, task, place, number)?;
+    let prefix = prefix(alloc, task, place, number)?;
     match (str::from_utf8(line), task) {
-        (Ok(line), _) => Ok(reply_to(alloc, regex, task, &front, line)?),
+        (Ok(line), _) => Ok(reply_to(alloc, regex, task, &prefix, line)?),
         (Err(_), Task::Match(selection)) if selection.binary => {
-            Ok(reply_to_binary(alloc, regex, selection, &front, line)?)
+            Ok(reply_to_binary(alloc, regex, selection, &prefix, line)?)
         }
         (Err(error), _) => Err(Failure::NotUtf8 {
             name: place.name,
@@ -149,13 +150,18 @@ fn reply<'a>(
 }
 
 /// Returns what is in front of what is shown of a line.
-fn front(alloc: Global, task: Task<'_>, place: Place<'_>, number: u64) -> Result<String, AllocError>
-    ensures { IfOk result (λ front. string_bytes front ≡ front_of (job task.entry) (named place.entry) number) }
+fn prefix(
+    alloc: Global,
+    task: Task<'_>,
+    place: Place<'_>,
+    number: u64,
+) -> Result<String, AllocError>
+    ensures { IfOk result (λ prefix. string_bytes prefix ≡ prefix_of (job task.entry) (named place.entry) number) }
 {
     if shows_json(task) {
-        json_front(alloc, place.name, number)
+        json_prefix(alloc, place.name, number)
     } else {
-        text_front(alloc, task, place, number)
+        text_prefix(alloc, task, place, number)
     }
 }
 
@@ -169,32 +175,32 @@ fn shows_json(task: Task<'_>) -> bool
 }
 
 /// Returns the members of an object of JSON that are in front of a match.
-fn json_front(alloc: Global, name: &str, number: u64) -> Result<String, AllocError>
-    ensures { IfOk result (λ front. string_bytes front ≡ json_front name.now number) }
+fn json_prefix(alloc: Global, name: &str, number: u64) -> Result<String, AllocError>
+    ensures { IfOk result (λ prefix. string_bytes prefix ≡ json_prefix name.now number) }
 {
     let file = JsonText(name);
     Ok(format!(in alloc; "{{\"file\":\"{file}\",\"line\":{number},")?)
 }
 
 /// Returns the name of an input and the number of a line, if they are shown in front.
-fn text_front(
+fn text_prefix(
     alloc: Global,
     task: Task<'_>,
     place: Place<'_>,
     number: u64,
 ) -> Result<String, AllocError>
-    ensures { IfOk result (λ front. string_bytes front ≡ text_front (job task.entry) (named place.entry) number) }
+    ensures { IfOk result (λ prefix. string_bytes prefix ≡ text_prefix (job task.entry) (named place.entry) number) }
 {
-    let mut front = name_in_front(alloc, place)?;
+    let mut prefix = name_in_front(alloc, place)?;
     if has_numbers(task) {
-        front.push_str(&format!(in alloc; "{number}:")?)?;
+        prefix.push_str(&format!(in alloc; "{number}:")?)?;
     }
-    Ok(front)
+    Ok(prefix)
 }
 
 /// Returns the name of an input and a colon, if it is shown in front.
 fn name_in_front(alloc: Global, place: Place<'_>) -> Result<String, AllocError>
-    ensures { IfOk result (λ front. string_bytes front ≡ name_of (named place.entry)) }
+    ensures { IfOk result (λ prefix. string_bytes prefix ≡ name_of (named place.entry)) }
 {
     if place.in_front {
         Ok(format!(in alloc; "{}:", place.name)?)

@@ -1,7 +1,7 @@
 use Rattle.std.proofs.Common.{◌∙◌}
 use Rattle.regress_unicode.specs.TableOf.{table_of}
 use Rattle.regex_command.proofs.ExplainLemmas.{explained, unexplained}
-use Rattle.regex_command.specs.Explained.{asked_form}
+use Rattle.regex_options.specs.Request.{asked_form}
 use Rattle.regex_command.proofs.SettingLemmas.{rejected_by}
 use Rattle.regex_command.proofs.explaining.print_explanation.Goals as goal
 

@@ -2,7 +2,7 @@ use Rattle.std.proofs.Common.{◌≡◌, length, rules, sym, subst}
 use Rattle.std.specs.Prelude.{IfErr, codes, false}
 use Rattle.regex_command.specs.Ending.{OrOutput}
 use Rattle.regex_command.specs.Inputs.{WritesSomeOf}
-use Rattle.regex_command.specs.Job.{job}
+use Rattle.regex_options.specs.Job.{job}
 use Rattle.regex_command.specs.Searched.{SearchesFirst}
 use Rattle.regex_command.proofs.InputLemmas.{no_files, one_some}
 use Rattle.regex_command.proofs.SearchLemmas.{if_err_map}

@@ -2,7 +2,7 @@ use Rattle.std.proofs.Common.{◌∙◌, None, length, map, arith, sym, subst}
 use Rattle.std.specs.Prelude.{nat_lt, string_bytes}
 use Rattle.regex_command.specs.Ending.{OrOutput}
 use Rattle.regex_command.specs.Inputs.{Input, WritesInput, WritesSomeOf, named_files}
-use Rattle.regex_command.specs.Job.{job}
+use Rattle.regex_options.specs.Job.{job}
 use Rattle.regex_command.specs.Searched.{SearchesFirst}
 use Rattle.regex_command.proofs.InputLemmas.{ended, input_at, inputs_length, one_more, some_of}
 use Rattle.regex_command.proofs.SearchLemmas.{or_output, passed_on}

@@ -2,7 +2,7 @@
 use Rattle.std.proofs.Common.{map}
 use Rattle.std.specs.Prelude.{string_bytes}
 use Rattle.regex_command.specs.Inputs.{named_files}
-use Rattle.regex_command.specs.Job.{job}
+use Rattle.regex_options.specs.Job.{job}
 use Rattle.regex_command.proofs.InputLemmas.{FirstInputs}
 use Rattle.regex_command.proofs.inputs.search_files.Given as goal
 

@@ -1,5 +1,6 @@
 use Rattle.std.proofs.Common.{inr}
-use Rattle.regex_command.specs.Job.{job, named}
+use Rattle.regex_options.specs.Job.{job}
+use Rattle.regex_command.specs.Place.{named}
 use Rattle.regex_command.proofs.SearchLemmas.{nothing_first}
 use Rattle.regex_command.proofs.inputs.search_input.Goals as goal
 

@@ -1,4 +1,5 @@
-use Rattle.regex_command.specs.Job.{job, named}
+use Rattle.regex_options.specs.Job.{job}
+use Rattle.regex_command.specs.Place.{named}
 use Rattle.regex_command.proofs.SearchLemmas.{whole}
 use Rattle.regex_command.proofs.inputs.search_reader.Goals as goal
 

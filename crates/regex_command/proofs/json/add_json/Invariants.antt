@@ -5,4 +5,4 @@ use Rattle.regex_command.proofs.JsonLemmas.{json_so_far}
 use Rattle.regex_command.proofs.json.add_json.Given as goal
 
 abbrev pub invariant-loop-found : goal.invariant-loop-found
-invariant-loop-found l = l.to.items ≡ l.fn.to.items ++ json_so_far l.regex l.front (run_of l.run) l.found-items l.found-index
+invariant-loop-found l = l.to.items ≡ l.fn.to.items ++ json_so_far l.regex l.prefix (run_of l.run) l.found-items l.found-index

@@ -6,4 +6,4 @@ use Rattle.regex_command.specs.Json.{AddsJson}
 use Rattle.regex_command.proofs.reply.all_json.Given as goal
 
 abbrev pub invariant-loop-run : goal.invariant-loop-run
-invariant-loop-run l = FoldsTo (AddsJson l.regex l.front) [] (map run_of (take l.run-index l.texts)) l.bytes.items
+invariant-loop-run l = FoldsTo (AddsJson l.regex l.prefix) [] (map run_of (take l.run-index l.texts)) l.bytes.items

@@ -6,4 +6,4 @@ use Rattle.regex_command.specs.Reply.{AddsMatches}
 use Rattle.regex_command.proofs.reply.all_matches.Given as goal
 
 abbrev pub invariant-loop-run : goal.invariant-loop-run
-invariant-loop-run l = FoldsTo (AddsMatches l.regex l.paints l.front) [] (map run_of (take l.run-index l.texts)) l.bytes.items
+invariant-loop-run l = FoldsTo (AddsMatches l.regex l.paints l.prefix) [] (map run_of (take l.run-index l.texts)) l.bytes.items

@@ -1,6 +1,6 @@
 use Rattle.std.proofs.Common.{ap, rules}
 use Rattle.std.specs.Prelude.{IfOk}
-use Rattle.regex_command.specs.Job.{job}
+use Rattle.regex_options.specs.Job.{job}
 use Rattle.regex_command.specs.Reply.{IsSelected, ShowsIf}
 use Rattle.regex_command.specs.Runs.{whole}
 use Rattle.regex_command.proofs.ReplyLemmas.{of_text}
@@ -12,5 +12,5 @@ returns-in-Match c =
     let s = c.in-Match.selection in
     let line = c.args.line.now in
     let selected : IfOk c.selected.result (λ reply. IsSelected r (whole line) s.invert reply.selected) = search rules in
-    let shows : IfOk c.selected.result (λ reply. ShowsIf r line (whole line) reply.selected s c.args.front.now reply.bytes.items) = search rules in
-    of_text r s line c.args.front.now (job c.args.task) (ap job c.in-Match.is) c.selected.result c.utf8.line selected shows
+    let shows : IfOk c.selected.result (λ reply. ShowsIf r line (whole line) reply.selected s c.args.prefix.now reply.bytes.items) = search rules in
+    of_text r s line c.args.prefix.now (job c.args.task) (ap job c.in-Match.is) c.selected.result c.utf8.line selected shows

@@ -3,7 +3,8 @@ use Rattle.regex_command.specs.Ending.{OrOutput}
 use Rattle.regex_command.specs.Reading.{IsRead}
 use Rattle.regex_command.specs.Searched.{SearchesFirst}
 use Rattle.regex_command.specs.declared.reading.Next.TheVariants.{Line, LastLine}
-use Rattle.regex_command.specs.Job.{job, named}
+use Rattle.regex_options.specs.Job.{job}
+use Rattle.regex_command.specs.Place.{named}
 use Rattle.regex_command.proofs.SearchLemmas.{all, another, byte_of, enough, first, first_or_output, is_end, is_line, last, or_output, passed_on}
 use Rattle.regex_command.proofs.searching.search_lines.Goals as goal
 

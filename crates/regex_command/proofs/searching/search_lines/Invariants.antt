@@ -1,6 +1,7 @@
 -- The lines so far were searched.
 use Rattle.std.proofs.Common.{◌-◌}
-use Rattle.regex_command.specs.Job.{job, named}
+use Rattle.regex_options.specs.Job.{job}
+use Rattle.regex_command.specs.Place.{named}
 use Rattle.regex_command.proofs.SearchLemmas.{SoFar}
 use Rattle.regex_command.proofs.searching.search_lines.Given as goal
 

@@ -1,8 +1,0 @@
-use Rattle.std.proofs.Common.{◌≢◌, ◌∙◌, get_or, rules}
-use Rattle.regex_command.proofs.CountLemmas.{count_read}
-use Rattle.regex_command.proofs.options.read_count.Goals as goal
-
-pub returns : goal.returns
-returns c =
-    let plain : get_or c.args.text.now 0 0 ≢ 43 = search rules in
-    c.ok.ensures.value ∙ count_read c.args.text.now _ c.parse.ensures.value.0 plain

@@ -1,0 +1,8 @@
+use Rattle.std.proofs.Common.{◌≡◌, drop}
+use Rattle.std.specs.Prelude.{find}
+use Rattle.regex_options.specs.Table.{has_letter}
+use Rattle.regex_options.proofs.reading.find_letter.Given as goal
+
+-- none of the options before is it
+abbrev pub invariant-loop-option : goal.invariant-loop-option
+invariant-loop-option l = find (has_letter l.fn.letter) (drop l.option-index l.options) ≡ find (has_letter l.fn.letter) l.options

@@ -1,0 +1,99 @@
+-- What the options specify.
+use Rattle.std.specs.Prelude.{ℕ, Bool, true, false, not, ◌||◌, ◌&&◌, ◌^◌, nat_lt, List, Option, Some, None, option_and_then, option_map, if◌then◌else◌, ◌==◌, bytes_eq, codes, length}
+use Rattle.std.specs.Str.{all_ascii_digits}
+use Rattle.std.specs.Str.Parse.{digits_value}
+use Rattle.regress_arguments.specs.Letters.{no_flags, with_letters}
+use Rattle.regress_base.specs.declared.types.Flags.{Flags}
+use Rattle.regex_options.specs.Source.{Source, in_argument, in_file, source}
+use Rattle.regex_options.specs.declared.given.Color.{Color}
+use Rattle.regex_options.specs.declared.given.Color.TheVariants.{Always, Never, Auto}
+use Rattle.regex_options.specs.declared.given.Given as code
+use Rattle.regex_options.specs.declared.given.Options.{Options}
+use Rattle.regex_options.specs.declared.table.Switch.{Switch}
+use Rattle.regex_options.specs.declared.table.Switch.TheVariants.{Help, IgnoreCase, Multiline, Binary, Invert, Numbers, Shown, Json, Stage, Small, Html}
+use Rattle.regex_options.specs.declared.table.Value.{Value}
+use Rattle.regex_options.specs.declared.table.Value.TheVariants.{Pattern, File, Flags as FlagLetters, Count, Color as When, Text}
+use Rattle.regex_options.specs.declared.task.Shown.TheVariants.{Lines}
+
+-- the options, and the texts that they have: the pattern, and the text of a page
+pub record Given : Type 0 where
+  pub options : Options
+  pub pattern : Option Source
+  pub text : Option (List ℕ)
+
+abbrev pub no_options : Options
+no_options = record {
+  help = false;
+  flags = no_flags;
+  selection = record { invert = false; numbers = false; shown = Lines; max_count = None; binary = false; paints = false };
+  multiline = false;
+  json = false;
+  color = None;
+  stage = None;
+  small = false;
+  html = false;
+}
+
+abbrev pub nothing_given : Given
+nothing_given = record { options = no_options; pattern = None; text = None }
+
+-- what the options specify, as the code represents it
+abbrev pub given_by : code.Given → Given
+given_by given = record {
+  options = given.options;
+  pattern = option_map source given.pattern;
+  text = option_map (λ text. text.now) given.text;
+}
+
+-- the options with one more
+abbrev pub switched : Switch → Options → Options
+switched Help o = record o { help = true }
+switched IgnoreCase o = record o { flags = record o.flags { icase = true } }
+switched Multiline o = record o { multiline = true }
+switched Binary o = record o { selection = record o.selection { binary = true } }
+switched Invert o = record o { selection = record o.selection { invert = true } }
+switched Numbers o = record o { selection = record o.selection { numbers = true } }
+switched (Shown shown) o = record o { selection = record o.selection { shown = shown } }
+switched Json o = record o { json = true }
+switched (Stage stage) o = record o { stage = Some stage }
+switched Small o = record o { small = true }
+switched Html o = record o { html = true }
+
+-- v includes u, and both together are invalid
+abbrev pub js_flags : Options → Flags → Option Options
+js_flags o flags =
+    if flags.unicode && flags.unicode_sets then None
+    else Some (record o { flags = record flags { icase = flags.icase || o.flags.icase; unicode = flags.unicode || flags.unicode_sets } })
+
+-- the options with the flags of these letters, besides i if it was given before
+abbrev pub with_flags : (letters : List ℕ) → Options → Option Options
+with_flags letters o = option_and_then (js_flags o) (with_letters no_flags letters)
+
+-- the number that decimal digits denote, if it has 64 bits
+abbrev pub count_of : List ℕ → Option ℕ
+count_of text =
+    if not (length text == 0) && all_ascii_digits text && nat_lt (digits_value 10 text) (2 ^ 64) then Some (digits_value 10 text) else None
+
+-- the options with at most this many selected lines
+abbrev pub with_count : (text : List ℕ) → Options → Option Options
+with_count text o = option_map (λ count. record o { selection = record o.selection { max_count = Some count } }) (count_of text)
+
+-- when matches are in color, by its name
+abbrev pub color_of : List ℕ → Option Color
+color_of when =
+    if bytes_eq when (codes "always") then Some Always
+    else if bytes_eq when (codes "never") then Some Never
+    else if bytes_eq when (codes "auto") then Some Auto
+    else None
+
+abbrev pub with_color : (when : List ℕ) → Options → Option Options
+with_color when o = option_map (λ color. record o { color = Some color }) (color_of when)
+
+-- what is given with one more option, unless its argument is invalid
+abbrev pub valued : Value → (text : List ℕ) → Given → Option Given
+valued Pattern text given = Some (record given { pattern = Some (in_argument text) })
+valued File text given = Some (record given { pattern = Some (in_file text) })
+valued FlagLetters text given = option_map (λ options. record given { options = options }) (with_flags text given.options)
+valued Count text given = option_map (λ options. record given { options = options }) (with_count text given.options)
+valued When text given = option_map (λ options. record given { options = options }) (with_color text given.options)
+valued Text text given = Some (record given { text = Some text })

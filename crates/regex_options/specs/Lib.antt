@@ -1,0 +1,9 @@
+pub mod Commands
+pub mod Given
+pub mod Help
+pub mod Job
+pub mod Reading
+pub mod Request
+pub mod Source
+pub mod Table
+pub mod Usage

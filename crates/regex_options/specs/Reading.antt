@@ -1,0 +1,135 @@
+-- The options before the pattern, by the table.
+use Rattle.std.specs.Borrow.{Bor}
+use Rattle.std.specs.Prelude.{ℕ, Bool, true, false, not, ◌&&◌, List, [], ◌∷◌, Option, Some, None, option_and_then, option_map, if◌then◌else◌, ◌==◌, bytes_eq, codes, drop, find, is_none, length, nat_lt, slice_index, Result, Ok, Err, String, string_bytes}
+use Rattle.std.specs.List.{after_first, before_first, position_or_len, starts_with}
+use Rattle.std.specs.declared.alloc.Global.{Global}
+use Rattle.regex_options.specs.Given.{Given, given_by, nothing_given, switched, valued}
+use Rattle.regex_options.specs.Table.{has, has_letter, has_long, is_joined, is_next, is_of_match_only, is_valued}
+use Rattle.regex_options.specs.Usage.{UsageError, first_error, invalid, missing, on_ok, only_of_match, or_error, unknown_option, usage_error}
+use Rattle.regex_options.specs.declared.command.Command.{Command}
+use Rattle.regex_options.specs.declared.reading.Reading as code
+use Rattle.regex_options.specs.declared.table.Argument.{Argument}
+use Rattle.regex_options.specs.declared.table.OptionEntry.{OptionEntry}
+use Rattle.regex_options.specs.declared.table.Scope.{Scope}
+use Rattle.regex_options.specs.declared.table.Sets.{Sets}
+use Rattle.regex_options.specs.declared.table.Sets.TheVariants as sets
+use Rattle.regex_options.specs.declared.table.Switch.{Switch}
+
+-- What the arguments up to some point specify, the error of the first option that the command lacks, and what the next
+-- argument is if it belongs to the last option.
+pub record Reading : Type 0 where
+  pub given : Given
+  pub denied : Option UsageError
+  pub awaits : Option Argument
+
+abbrev pub start : Reading
+start = record { given = nothing_given; denied = None; awaits = None }
+
+-- the same, as the code represents it
+abbrev pub reading_of : code.Reading → Reading
+reading_of r = record { given = given_by r.given; denied = option_map usage_error r.denied; awaits = r.awaits }
+
+-- the error of an option of this argument that the command lacks
+abbrev pub lacked : Scope → (word : List ℕ) → UsageError
+lacked scope word = if is_of_match_only scope then only_of_match word else unknown_option word
+
+-- the error is noted if the command lacks the option
+abbrev pub noted : Command → Scope → (word : List ℕ) → Reading → Reading
+noted command scope word r =
+    if has scope command then r else record r { denied = Some (first_error r.denied (lacked scope word)) }
+
+abbrev pub with_switch : Switch → Reading → Reading
+with_switch switch r = record r { given = record r.given { options = switched switch r.given.options } }
+
+-- the argument of an option, which is in this word
+abbrev pub with_value : Argument → (text word : List ℕ) → Reading → Result Reading UsageError
+with_value argument text word r =
+    or_error (invalid argument.kind.now word)
+    (option_map (λ given. record { given = given; denied = r.denied; awaits = None }) (valued argument.value text r.given))
+
+-- an option of this word, with its argument if the word has that
+abbrev pub used : (word : List ℕ) → Sets → (value : Option (List ℕ)) → Reading → Result Reading UsageError
+used word (sets.Switch switch) None r = Ok (with_switch switch r)
+used word (sets.Switch switch) (Some text) r = Err (unknown_option word)
+used word (sets.Value argument) None r = if is_next argument.joining then Ok (record r { awaits = Some argument }) else Err (unknown_option word)
+used word (sets.Value argument) (Some text) r = if is_joined argument.joining then with_value argument text word r else Err (unknown_option word)
+
+-- the name in front of the first `=`, and the text after it
+abbrev pub long_parts : (long : List ℕ) → List ℕ × Option (List ℕ)
+long_parts long =
+    if nat_lt (position_or_len (λ b. b == 61) long) (length long) then (before_first (λ b. b == 61) long, Some (after_first (λ b. b == 61) long))
+    else (long, None)
+
+abbrev pub parts_of : Bor (List ℕ) × Option (Bor (List ℕ)) → List ℕ × Option (List ℕ)
+parts_of parts = (parts.0.now, option_map (λ text. text.now) parts.1)
+
+-- the text, unless it is empty
+abbrev pub unless_empty : List ℕ → Option (List ℕ)
+unless_empty text = if length text == 0 then None else Some text
+
+-- the text after a prefix, if it has that
+abbrev pub after_prefix : List ℕ → List ℕ → Option (List ℕ)
+after_prefix prefix word = if starts_with (λ b c. b == c) word prefix then Some (drop (length prefix) word) else None
+
+-- what a word has after the letter of an option
+abbrev pub after_short : Option (Bor (List ℕ)) → (word : List ℕ) → Option (List ℕ)
+after_short None word = None
+after_short (Some short) word = option_and_then unless_empty (after_prefix short.now word)
+
+abbrev pub short_value : OptionEntry → (word : List ℕ) → Option (List ℕ)
+short_value option word = after_short option.short word
+
+-- a hyphen, and more
+abbrev pub is_option : List ℕ → Bool
+is_option word = slice_index word 0 == 45 && not (bytes_eq word (codes "-"))
+
+module _ (options : List OptionEntry) (command : Command) (word : List ℕ) where
+  -- the option that was found for this word, with its argument if the word has that
+  abbrev pub with_found : (value : Option (List ℕ)) → Reading → Option OptionEntry → Result Reading UsageError
+  with_found value r None = Err (unknown_option word)
+  with_found value r (Some option) = used word option.sets value (noted command option.scope word r)
+
+  -- `--NAME` or `--NAME=VALUE`
+  abbrev pub with_long : (long : List ℕ) → Reading → Result Reading UsageError
+  with_long long r = with_found (long_parts long).1 r (find (has_long (long_parts long).0) options)
+
+  -- the options with these letters
+  abbrev pub with_letters : (letters : List ℕ) → Reading → Result Reading UsageError
+  with_letters [] r = Ok r
+  with_letters (c ∷ cs) r = on_ok (with_letters cs) (with_found None r (find (has_letter c) options))
+
+  -- an option with an argument, by its letter
+  abbrev pub with_valued : Reading → Option OptionEntry → Result Reading UsageError
+  with_valued r None = with_letters (drop 1 word) r
+  with_valued r (Some option) = used word option.sets (short_value option word) (noted command option.scope word r)
+
+  -- a letter and its argument, or letters of options without one
+  abbrev pub with_short : Reading → Result Reading UsageError
+  with_short r = with_valued r (find (is_valued word) options)
+
+  -- an option, or the argument that the last one awaits
+  abbrev pub with_awaited : Option Argument → Reading → Result Reading UsageError
+  with_awaited (Some argument) r = with_value argument word word r
+  with_awaited None r = if starts_with (λ b c. b == c) word (codes "--") then with_long (drop 2 word) r else with_short r
+
+  abbrev pub with_word : Reading → Result Reading UsageError
+  with_word r = with_awaited r.awaits r
+
+-- the error, or the one that was noted before it
+abbrev pub or_denied : Option UsageError → Result Reading UsageError → Result Reading UsageError
+or_denied denied (Ok r) = Ok r
+or_denied denied (Err error) = Err (first_error denied error)
+
+-- the end of the arguments
+abbrev pub ended : Reading → Option Argument → Result (Reading × List (String Global)) UsageError
+ended r None = Ok (r, [])
+ended r (Some argument) = Err (first_error r.denied (missing argument.name.now))
+
+module _ (options : List OptionEntry) (command : Command) where
+  -- What the options specify, and the arguments after them. Options end at `--`, or before an argument that is none.
+  abbrev pub options_of : Reading → List (String Global) → Result (Reading × List (String Global)) UsageError
+  options_of r [] = ended r r.awaits
+  options_of r (first ∷ rest) =
+      if is_none r.awaits && not (is_option (string_bytes first)) then Ok (r, first ∷ rest)
+      else if is_none r.awaits && bytes_eq (string_bytes first) (codes "--") then Ok (r, rest)
+      else on_ok (λ more. options_of more rest) (or_denied r.denied (with_word options command (string_bytes first) r))

@@ -1,0 +1,51 @@
+-- Why arguments are invalid.
+use Rattle.std.specs.Prelude.{ℕ, List, Option, Some, None, Result, Ok, Err}
+use Rattle.regex_options.specs.declared.error.UsageError as code
+use Rattle.regex_options.specs.declared.error.UsageError.TheVariants.{Missing, UnknownCommand, UnknownOption, Invalid, OnlyOfMatch, ExcludedByJson, TextWithoutPage, Unexpected}
+
+-- a missing argument, by its name; an argument that is wrong; or options that exclude or need others
+pub data UsageError : Type 0 where
+  missing : (name : List ℕ) → UsageError
+  unknown_command : (word : List ℕ) → UsageError
+  unknown_option : (word : List ℕ) → UsageError
+  invalid : (kind word : List ℕ) → UsageError
+  only_of_match : (word : List ℕ) → UsageError
+  excluded_by_json : UsageError
+  text_without_page : UsageError
+  unexpected : (word : List ℕ) → UsageError
+
+-- the error as the code represents it
+abbrev pub usage_error : code.UsageError → UsageError
+usage_error (Missing name) = missing name.now
+usage_error (UnknownCommand word) = unknown_command word.now
+usage_error (UnknownOption word) = unknown_option word.now
+usage_error (Invalid kind word) = invalid kind.now word.now
+usage_error (OnlyOfMatch word) = only_of_match word.now
+usage_error ExcludedByJson = excluded_by_json
+usage_error TextWithoutPage = text_without_page
+usage_error (Unexpected word) = unexpected word.now
+
+-- a result as the code represents it
+abbrev pub told : {X Y : Type 0} → (X → Y) → Result X code.UsageError → Result Y UsageError
+told f (Ok x) = Ok (f x)
+told f (Err error) = Err (usage_error error)
+
+-- the second result, if the first one is no error
+abbrev pub on_ok : {X Y : Type 0} → (X → Result Y UsageError) → Result X UsageError → Result Y UsageError
+on_ok f (Ok x) = f x
+on_ok f (Err error) = Err error
+
+-- the value, or this error
+abbrev pub or_error : {X : Type 0} → UsageError → Option X → Result X UsageError
+or_error error (Some x) = Ok x
+or_error error None = Err error
+
+-- the error, if there is one, else the result
+abbrev pub unless_error : {X : Type 0} → Option UsageError → Result X UsageError → Result X UsageError
+unless_error (Some error) result = Err error
+unless_error None result = result
+
+-- the error that comes first
+abbrev pub first_error : Option UsageError → UsageError → UsageError
+first_error (Some first) error = first
+first_error None error = error

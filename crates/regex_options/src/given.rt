@@ -1,0 +1,73 @@
+//! What the options specify.
+ghost use Rattle.std.specs.Prelude.{◌≡◌};
+ghost use Rattle.regex_options.specs.Given.{given_by, nothing_given};
+
+use crate::source::PatternSource;
+use crate::task::{Selection, Shown};
+use regress_base::types::Flags;
+use regress_display::Stage;
+
+/// When matches are in color.
+#[derive(Clone, Copy)]
+pub(crate) enum Color {
+    Always,
+    Never,
+    /// If the output is a terminal.
+    Auto,
+}
+
+/// The options. The last one of a kind takes effect.
+#[derive(Clone, Copy)]
+pub(crate) struct Options {
+    pub(crate) help: bool,
+    pub(crate) flags: Flags,
+    pub(crate) selection: Selection,
+    /// Whether a text is searched as one, and not line by line.
+    pub(crate) multiline: bool,
+    pub(crate) json: bool,
+    pub(crate) color: Option<Color>,
+    /// The tree to show.
+    pub(crate) stage: Option<Stage>,
+    /// Whether to use the small table instead of that of all of Unicode.
+    pub(crate) small: bool,
+    /// Whether a pattern is explained by a page.
+    pub(crate) html: bool,
+}
+
+/// The options, and the texts that they have.
+#[derive(Clone, Copy)]
+pub(crate) struct Given<'a> {
+    pub(crate) options: Options,
+    /// The pattern, if an option has it.
+    pub(crate) pattern: Option<PatternSource<'a>>,
+    /// The text of the page.
+    pub(crate) text: Option<&'a str>,
+}
+
+/// What is specified where no option is given.
+pub(crate) fn nothing_given() -> Given<'static>
+    ensures { given_by result ≡ nothing_given }
+{
+    Given {
+        options: Options {
+            help: false,
+            flags: Flags::default(),
+            selection: Selection {
+                invert: false,
+                numbers: false,
+                shown: Shown::Lines,
+                max_count: None,
+                binary: false,
+                paints: false,
+            },
+            multiline: false,
+            json: false,
+            color: None,
+            stage: None,
+            small: false,
+            html: false,
+        },
+        pattern: None,
+        text: None,
+    }
+}

@@ -1,0 +1,73 @@
+//! What options without an argument set.
+ghost use Rattle.std.specs.Prelude.{◌≡◌};
+ghost use Rattle.regex_options.specs.Given.{switched};
+
+use crate::given::Options;
+use crate::table::Switch;
+use crate::task::Selection;
+use regress_base::types::Flags;
+
+/// Returns the options with one more.
+pub(crate) fn switched(switch: Switch, options: Options) -> Options
+    ensures { result ≡ switched switch options }
+{
+    let selection = options.selection;
+    match switch {
+        Switch::Help => Options {
+            help: true,
+            ..options
+        },
+        Switch::IgnoreCase => Options {
+            flags: Flags {
+                icase: true,
+                ..options.flags
+            },
+            ..options
+        },
+        Switch::Multiline => Options {
+            multiline: true,
+            ..options
+        },
+        Switch::Json => Options {
+            json: true,
+            ..options
+        },
+        Switch::Stage(stage) => Options {
+            stage: Some(stage),
+            ..options
+        },
+        Switch::Small => Options {
+            small: true,
+            ..options
+        },
+        Switch::Html => Options {
+            html: true,
+            ..options
+        },
+        Switch::Binary => Options {
+            selection: Selection {
+                binary: true,
+                ..selection
+            },
+            ..options
+        },
+        Switch::Invert => Options {
+            selection: Selection {
+                invert: true,
+                ..selection
+            },
+            ..options
+        },
+        Switch::Numbers => Options {
+            selection: Selection {
+                numbers: true,
+                ..selection
+            },
+            ..options
+        },
+        Switch::Shown(shown) => Options {
+            selection: Selection { shown, ..selection },
+            ..options
+        },
+    }
+}

@@ -1,0 +1,46 @@
+//! What to do with each line.
+
+/// A task for the lines of a text.
+#[derive(Clone, Copy)]
+pub enum Task<'a> {
+    /// Show the lines that match, or what the options select.
+    Match(Selection),
+    /// Replace each match by the expansion of this template.
+    Replace(&'a str),
+    /// Write each piece between matches on a line.
+    Split,
+}
+
+/// Which lines are selected, and what is shown of them.
+#[derive(Clone, Copy)]
+pub struct Selection {
+    /// Whether the lines without a match are selected.
+    pub invert: bool,
+    /// Whether the number of a line is shown.
+    pub numbers: bool,
+    /// What is shown.
+    pub shown: Shown,
+    /// How many lines of an input are selected at most.
+    pub max_count: Option<u64>,
+    /// Whether lines that are not UTF-8 are searched too: bytes that are not match nowhere.
+    pub binary: bool,
+    /// Whether matches are in color.
+    pub paints: bool,
+}
+
+/// What is shown of the selected lines.
+#[derive(Clone, Copy)]
+pub enum Shown {
+    /// The lines.
+    Lines,
+    /// Each match that is not empty, on a line of its own.
+    Matches,
+    /// An object of JSON for each match, on a line of its own.
+    Json,
+    /// Only how many there are.
+    Count,
+    /// Only the name of the input, if there is one.
+    Names,
+    /// Nothing: the search ends at the first one.
+    Nothing,
+}

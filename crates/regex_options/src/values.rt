@@ -1,0 +1,106 @@
+//! What options with an argument set.
+ghost use Rattle.std.specs.Prelude.{◌≡◌, option_map};
+ghost use Rattle.regex_options.specs.Given.{color_of, count_of, given_by, valued, with_color, with_count, with_flags};
+
+use crate::given::{Color, Given, Options};
+use crate::source::PatternSource;
+use crate::table::Value;
+use crate::task::Selection;
+use regress_arguments::parse_flags;
+use regress_base::types::Flags;
+
+/// Returns what is given with one more option; `None` if its argument is invalid.
+pub(crate) fn valued<'a>(value: Value, text: &'a str, given: Given<'a>) -> Option<Given<'a>>
+    ensures { option_map given_by result ≡ valued value text.now (given_by given.entry) }
+{
+    match value {
+        Value::Pattern => Some(Given {
+            pattern: Some(PatternSource::Text(text)),
+            ..given
+        }),
+        Value::File => Some(Given {
+            pattern: Some(PatternSource::File(text)),
+            ..given
+        }),
+        Value::Text => Some(Given {
+            text: Some(text),
+            ..given
+        }),
+        Value::Flags => Some(Given {
+            options: with_flags(given.options, text)?,
+            ..given
+        }),
+        Value::Count => Some(Given {
+            options: with_count(given.options, text)?,
+            ..given
+        }),
+        Value::Color => Some(Given {
+            options: with_color(given.options, text)?,
+            ..given
+        }),
+    }
+}
+
+/// Sets the flags of letters, as JavaScript reads them: `v` includes `u`, and both together are invalid.
+fn with_flags(options: Options, letters: &str) -> Option<Options>
+    ensures { result ≡ with_flags letters.now options }
+{
+    let flags = parse_flags(letters)?;
+    if flags.unicode && flags.unicode_sets {
+        return None;
+    }
+    Some(Options {
+        flags: Flags {
+            icase: flags.icase || options.flags.icase,
+            unicode: flags.unicode || flags.unicode_sets,
+            ..flags
+        },
+        ..options
+    })
+}
+
+/// Sets how many lines are selected at most.
+fn with_count(options: Options, text: &str) -> Option<Options>
+    ensures { result ≡ with_count text.now options }
+{
+    let count = read_count(text)?;
+    Some(Options {
+        selection: Selection {
+            max_count: Some(count),
+            ..options.selection
+        },
+        ..options
+    })
+}
+
+/// Parses decimal digits.
+fn read_count(text: &str) -> Option<u64>
+    ensures { result ≡ count_of text.now }
+{
+    if text.starts_with('+') {
+        return None;
+    }
+    text.parse::<u64>().ok()
+}
+
+/// Sets when matches are in color.
+fn with_color(options: Options, when: &str) -> Option<Options>
+    ensures { result ≡ with_color when.now options }
+{
+    let color = color_of(when)?;
+    Some(Options {
+        color: Some(color),
+        ..options
+    })
+}
+
+fn color_of(when: &str) -> Option<Color>
+    ensures { result ≡ color_of when.now }
+{
+    match when {
+        "always" => Some(Color::Always),
+        "never" => Some(Color::Never),
+        "auto" => Some(Color::Auto),
+        _ => None,
+    }
+}
