@@ -6,15 +6,18 @@ use std::alloc::{AllocError, Global};
 
 /// The label of a box: words before, a text from the pattern, and words after.
 #[derive(Drop)]
-pub(crate) struct Label {
-    pub(crate) front: &'static str,
-    pub(crate) text: String,
-    pub(crate) after: &'static str,
+pub struct Label {
+    /// The words before.
+    pub front: &'static str,
+    /// The text from the pattern.
+    pub text: String,
+    /// The words after.
+    pub after: &'static str,
 }
 
 impl Label {
     /// Returns a label of words only.
-    pub(crate) fn words(alloc: Global, words: &'static str) -> Label {
+    pub fn words(alloc: Global, words: &'static str) -> Label {
         Label {
             front: words,
             text: String::new(alloc),
@@ -23,17 +26,17 @@ impl Label {
     }
 
     /// Returns the column at which the text begins.
-    pub(crate) fn text_column(&self) -> u32 {
+    pub fn text_column(&self) -> u32 {
         column_after(self.front)
     }
 
     /// Returns the column at which the words after the text begin.
-    pub(crate) fn after_column(&self) -> u32 {
+    pub fn after_column(&self) -> u32 {
         self.text_column().saturating_add(column_after(&self.text))
     }
 
     /// Returns the width in columns.
-    pub(crate) fn columns(&self) -> u32 {
+    pub fn columns(&self) -> u32 {
         self.after_column()
             .saturating_add(column_after(self.after))
             .saturating_sub(1)
@@ -49,7 +52,8 @@ fn column_after(text: &str) -> u32 {
     }
 }
 
-pub(crate) fn anchor_words(end: AnchorType, multiline: bool) -> &'static str {
+/// Returns the words of `^` or `$`.
+pub fn anchor_words(end: AnchorType, multiline: bool) -> &'static str {
     match (end, multiline) {
         (AnchorType::StartOfLine, false) => "start of text",
         (AnchorType::StartOfLine, true) => "start of line",
@@ -58,7 +62,8 @@ pub(crate) fn anchor_words(end: AnchorType, multiline: bool) -> &'static str {
     }
 }
 
-pub(crate) fn lookaround_words(negate: bool, backwards: bool) -> &'static str {
+/// Returns the words of a lookaround.
+pub fn lookaround_words(negate: bool, backwards: bool) -> &'static str {
     match (negate, backwards) {
         (false, false) => "followed by",
         (true, false) => "not followed by",
@@ -68,7 +73,10 @@ pub(crate) fn lookaround_words(negate: bool, backwards: bool) -> &'static str {
 }
 
 /// Returns the label of a group, numbered from 1, with its quoted name.
-pub(crate) fn group_text(
+///
+/// # Errors
+/// Returns [`AllocError`] if an allocation fails.
+pub fn group_text(
     alloc: Global,
     front: &str,
     group: u32,
@@ -81,7 +89,10 @@ pub(crate) fn group_text(
 }
 
 /// Returns how many iterations a loop takes, and whether it is lazy. The label is empty if the lines show that.
-pub(crate) fn iterations_text(alloc: Global, quant: &Quantifier) -> Result<String, AllocError> {
+///
+/// # Errors
+/// Returns [`AllocError`] if an allocation fails.
+pub fn iterations_text(alloc: Global, quant: &Quantifier) -> Result<String, AllocError> {
     let mut text = times(alloc, quant.min, quant.max)?;
     if !quant.greedy && quant.max != Some(quant.min) {
         text.push_str(if text.is_empty() { "lazy" } else { ", lazy" })?;

@@ -62,10 +62,10 @@ fn push_word(words: &str, text: &mut String) -> Result<(), AllocError> {
 
 /// Returns the set of characters that a node lists, and whether it matches those outside of it; `None` for a node that
 /// is no set of characters.
-pub(crate) fn set_of(
-    alloc: Global,
-    node: &Node,
-) -> Result<Option<(bool, CodePointSet)>, AllocError> {
+///
+/// # Errors
+/// Returns [`AllocError`] if an allocation fails.
+pub fn set_of(alloc: Global, node: &Node) -> Result<Option<(bool, CodePointSet)>, AllocError> {
     Ok(Some(match node {
         Node::ByteSet(bytes) => (false, set_of_bytes(alloc, bytes)?),
         Node::CharSet(all) => (false, set_of_characters(alloc, all)?),

@@ -1,7 +1,7 @@
 -- The loop descends, and the calls in it are on smaller nodes.
 use Rattle.std.proofs.Common.{◌≤◌}
 use Rattle.regress_tree.specs.declared.ir.node.Node.{size-Node}
-use Rattle.regress_railroad.proofs.names.+gather.Given as goal
+use Rattle.regress_labels.proofs.names.+gather.Given as goal
 
 abbrev pub invariant-gather-loop-node : goal.invariant-gather-loop-node
 invariant-gather-loop-node l = size-Node l.node ≤ size-Node l.initial.node

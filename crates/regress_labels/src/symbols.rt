@@ -52,12 +52,12 @@ pub fn push_symbol(c: u32, alloc: Global, text: &mut String) -> Result<(), Alloc
 }
 
 /// Returns the number of columns that a character takes.
-pub(crate) fn columns_of(c: u32) -> u32 {
+pub fn columns_of(c: u32) -> u32 {
     if is_within(&WIDE, c) { 2 } else { 1 }
 }
 
 /// Returns the number of columns that a text takes, saturating.
-pub(crate) fn columns(text: &str) -> u32 {
+pub fn columns(text: &str) -> u32 {
     let mut sum = 0_u32;
     for c in text.chars() {
         sum = sum.saturating_add(columns_of(u32::from(c)));

@@ -54,14 +54,14 @@ pub struct Character {
 
 impl Character {
     /// Returns a character that is matched exactly.
-    pub(crate) fn plain(c: u32) -> Character {
+    pub fn plain(c: u32) -> Character {
         let either_case = false;
         Character { c, either_case }
     }
 }
 
 /// Returns the only character of a set, or the ASCII letter that the set contains in both cases.
-pub(crate) fn only_character(intervals: &[Interval]) -> Option<Character> {
+pub fn only_character(intervals: &[Interval]) -> Option<Character> {
     match intervals {
         [only] if only.first() == only.last() => Some(Character::plain(only.first())),
         [upper, lower] => letter(*upper, *lower),
@@ -88,7 +88,10 @@ fn letter(upper: Interval, lower: Interval) -> Option<Character> {
 }
 
 /// Returns the label of a set or, if `negated`, of its complement; `None` if it never matches.
-pub(crate) fn set_label(
+///
+/// # Errors
+/// Returns [`AllocError`] if an allocation fails.
+pub fn set_label(
     alloc: Global,
     negated: bool,
     mut set: CodePointSet,
@@ -202,7 +205,10 @@ fn is_punctuation(c: u32) -> bool {
 }
 
 /// Returns the label of a set of strings, or `None` if it is empty.
-pub(crate) fn strings_label(
+///
+/// # Errors
+/// Returns [`AllocError`] if an allocation fails.
+pub fn strings_label(
     alloc: Global,
     strings: &[BoxedSlice<u32>],
     icase: bool,
