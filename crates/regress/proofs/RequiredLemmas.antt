@@ -7,8 +7,8 @@ use Rattle.regress_front.specs.Tree.{Tree}
 use Rattle.regress_front.specs.WellFormed.{captures}
 use Rattle.regress_match.specs.Matched.{outcomes_at}
 use Rattle.regress_program.specs.Found.{no_groups}
-use Rattle.regress_required.specs.Required.{AbsentFrom, IsRequiredLiteral}
-use Rattle.regress_required.proofs.lemmas.Required.{no_matches}
+use Rattle.regress_prefilter.specs.Required.{AbsentFrom, IsRequiredLiteral}
+use Rattle.regress_prefilter.proofs.lemmas.Required.{no_matches}
 use Rattle.regress.specs.Compiled.{setting_of, tree_of}
 use Rattle.regress.specs.Found.{MatchesSomewhere}
 use Rattle.regress.specs.Required.{RequiresLiteral}

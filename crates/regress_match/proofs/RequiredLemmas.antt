@@ -8,8 +8,8 @@ use Rattle.regress_tree.specs.Setting.{Setting}
 use Rattle.regress_tree.specs.Tree.{Tree}
 use Rattle.regress_tree.specs.WellFormed.{captures}
 use Rattle.regress_program.specs.Found.{no_groups}
-use Rattle.regress_required.specs.Required.{IsRequired, NoneFrom}
-use Rattle.regress_required.proofs.lemmas.Required.{no_matches}
+use Rattle.regress_prefilter.specs.Required.{IsRequired, NoneFrom}
+use Rattle.regress_prefilter.proofs.lemmas.Required.{no_matches}
 use Rattle.regress_match.specs.Matched.{outcomes_at}
 use Rattle.regress_match.specs.Searched.{EndsHere}
 

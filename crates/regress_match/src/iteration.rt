@@ -9,7 +9,7 @@ ghost use Rattle.regress_match.specs.Kept.{IsRunOf};
 ghost use Rattle.regress_match.specs.Matched.{Finds, IfMatched, IfOutOfSteps, IsInside, start_of};
 ghost use Rattle.regress_match.specs.Matcher.{factor_of, matcher_outcomes, matcher_tree, outcome_if};
 ghost use Rattle.regress_match.specs.Searched.{EndsHere, offset_after};
-ghost use Rattle.regress_required.specs.Required.{NoneFrom};
+ghost use Rattle.regress_prefilter.specs.Required.{NoneFrom};
 
 use crate::matcher::Matcher;
 use crate::matcher_matches::MatcherMatches;

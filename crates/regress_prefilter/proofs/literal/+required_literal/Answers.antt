@@ -3,9 +3,9 @@ use Rattle.std.proofs.Common.{arith, ◌≡◌, ◌∙◌, ◌∷◌, ◌+◌, L
 use Rattle.std.proofs.lemmas.List.{drop_more}
 use Rattle.regress_tree.specs.Tree.{Tree, tree, trees, cat, leaf, byte_sequence}
 use Rattle.regress_tree.proofs.lemmas.Nodes.{tree-ByteSequence}
-use Rattle.regress_required.specs.Required.{AbsentFrom, IsRequiredLiteral}
-use Rattle.regress_required.proofs.RequiredLemmas.{same_requires, cat_requires, group_requires, loop_requires, loop_one_requires, first_requires, rest_requires, literal_lasts, literal_required, found_of_part, found_of_two}
-use Rattle.regress_required.proofs.literal.+required_literal.Goals as goal
+use Rattle.regress_prefilter.specs.Required.{AbsentFrom, IsRequiredLiteral}
+use Rattle.regress_prefilter.proofs.RequiredLemmas.{same_requires, cat_requires, group_requires, loop_requires, loop_one_requires, first_requires, rest_requires, literal_lasts, literal_required, found_of_part, found_of_two}
+use Rattle.regress_prefilter.proofs.literal.+required_literal.Goals as goal
 
 pub required_literal-returns-in-Cat : goal.required_literal-returns-in-Cat
 required_literal-returns-in-Cat t c =

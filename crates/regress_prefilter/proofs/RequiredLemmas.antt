@@ -20,7 +20,7 @@ use Rattle.regress_tree.specs.declared.ir.node.Node.{Node}
 use Rattle.regress_tree.specs.declared.ir.node.Node.TheVariants.{Cat, Alt, CaptureGroup, Loop, Loop1CharBody}
 use Rattle.regress_tree.proofs.lemmas.Nodes.{tree-Cat, tree-Alt, tree-CaptureGroup, tree-Loop, tree-Loop1CharBody}
 use Rattle.regress_tree.proofs.lemmas.Onward.{Advances-less, Advances-stay, Advances-then, Advances-or, Advances-hold_at, Advances-one_character, Advances-these_bytes, Advances-any_string, Advances-back_reference, Advances-capture, Advances-look, Advances-repeat}
-use Rattle.regress_required.specs.Required.{AbsentFrom, AreRequired, IsRequired, IsRequiredLiteral, Needs, NoneFrom, Requires}
+use Rattle.regress_prefilter.specs.Required.{AbsentFrom, AreRequired, IsRequired, IsRequiredLiteral, Needs, NoneFrom, Requires}
 
 -- ---- matchers
 

@@ -2,7 +2,7 @@
 ghost use Rattle.std.specs.Prelude.{◌≡◌, ◌||◌, ◌&&◌, ℕ, IfSome, IsTrue, nat_lt, not};
 ghost use Rattle.regress_base.specs.ByteBitmap.{contains};
 ghost use Rattle.regress_tree.specs.Tree.{tree, trees, cat};
-ghost use Rattle.regress_required.specs.Required.{AreRequired, IsRequired};
+ghost use Rattle.regress_prefilter.specs.Required.{AreRequired, IsRequired};
 
 use regress_base::bytesearch::ByteBitmap;
 use regress_tree::ir::Node;

@@ -6,9 +6,9 @@ use Rattle.regress_tree.specs.Tree.{Tree, tree, trees, cat, leaf, byte_sequence}
 use Rattle.regress_tree.specs.declared.ir.node.Node.{size-Node}
 use Rattle.regress_tree.proofs.lemmas.Visits.{right_smaller}
 use Rattle.regress_tree.proofs.lemmas.Nodes.{tree-ByteSequence}
-use Rattle.regress_required.specs.Required.{IsRequired, NoneFrom}
-use Rattle.regress_required.proofs.RequiredLemmas.{same_requires, cat_requires, alt_requires, group_requires, loop_requires, loop_one_requires, bytes_required, not_lacking, of_complement, one_more}
-use Rattle.regress_required.proofs.required.+required_bytes.Goals as goal
+use Rattle.regress_prefilter.specs.Required.{IsRequired, NoneFrom}
+use Rattle.regress_prefilter.proofs.RequiredLemmas.{same_requires, cat_requires, alt_requires, group_requires, loop_requires, loop_one_requires, bytes_required, not_lacking, of_complement, one_more}
+use Rattle.regress_prefilter.proofs.required.+required_bytes.Goals as goal
 
 pub required_bytes-loop-last-preserved : goal.required_bytes-loop-last-preserved
 required_bytes-loop-last-preserved t c =

@@ -5,7 +5,7 @@ use Rattle.regress_tree.specs.Reading.{forwards}
 use Rattle.regress_tree.specs.Setting.{Setting}
 use Rattle.regress_tree.specs.Steps.{MatchState, dedup}
 use Rattle.regress_tree.specs.Tree.{Tree}
-use Rattle.regress_required.specs.Required.{Requires}
+use Rattle.regress_prefilter.specs.Required.{Requires}
 
 pub no_matches : (absent : List ℕ → ℕ → Type 0) (t : Tree) → Requires absent t → (setting : Setting) (bytes : List ℕ) (s : MatchState) →
     absent bytes s.position → matches setting bytes forwards t s ≡ []

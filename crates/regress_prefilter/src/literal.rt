@@ -1,7 +1,7 @@
 //! The literal without which a tree has no match.
 ghost use Rattle.std.specs.Prelude.{◌≡◌, ◌⊎◌, IfSome};
 ghost use Rattle.regress_tree.specs.Tree.{tree, trees, cat};
-ghost use Rattle.regress_required.specs.Required.{IsRequiredLiteral};
+ghost use Rattle.regress_prefilter.specs.Required.{IsRequiredLiteral};
 
 use regress_tree::ir::Node;
 

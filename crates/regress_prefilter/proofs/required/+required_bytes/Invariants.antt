@@ -4,8 +4,8 @@ use Rattle.std.specs.Prelude.{nat_lt}
 use Rattle.regress_base.specs.ByteBitmap.{contains}
 use Rattle.regress_tree.specs.Tree.{tree, trees, cat}
 use Rattle.regress_tree.specs.declared.ir.node.Node.{size-Node}
-use Rattle.regress_required.specs.Required.{IsRequired}
-use Rattle.regress_required.proofs.required.+required_bytes.Given as goal
+use Rattle.regress_prefilter.specs.Required.{IsRequired}
+use Rattle.regress_prefilter.proofs.required.+required_bytes.Given as goal
 
 abbrev pub invariant-required_bytes-loop-last : goal.invariant-required_bytes-loop-last
 invariant-required_bytes-loop-last l = record {
