@@ -6,7 +6,7 @@ use Rattle.std.proofs.lemmas.Slice.Eq.{starts_is}
 use Rattle.std.proofs.Math.Seq.{take-append_seam}
 use Rattle.memchr.specs.Find.{FindsNeedle, Nowhere, OccursAt}
 use Rattle.memchr.proofs.lemmas.MatchLemmas.{OccursAt-from_part}
-use Rattle.regress_required.specs.Required.{AbsentFrom}
+use Rattle.regress_prefilter.specs.Required.{AbsentFrom}
 
 absent_nowhere : (literal text : List ℕ) → Nowhere (OccursAt text literal) 0 (length text + 1) → AbsentFrom literal text 0
 absent_nowhere [] text none = λ k from starts.

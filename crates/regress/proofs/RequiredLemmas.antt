@@ -6,8 +6,8 @@ use Rattle.regress_front.specs.Setting.{Setting}
 use Rattle.regress_front.specs.Tree.{Tree}
 use Rattle.regress_front.specs.WellFormed.{captures}
 use Rattle.regress_found.specs.Found.{outcomes_at, initial_state}
-use Rattle.regress_required.specs.Required.{AbsentFrom, IsRequiredLiteral}
-use Rattle.regress_required.proofs.lemmas.Required.{no_matches}
+use Rattle.regress_prefilter.specs.Required.{AbsentFrom, IsRequiredLiteral}
+use Rattle.regress_prefilter.proofs.lemmas.Required.{no_matches}
 use Rattle.regress.specs.Compiled.{setting_of, tree_of}
 use Rattle.regress.specs.Searched.{MatchesSomewhere}
 use Rattle.regress.specs.Required.{RequiresLiteral}

@@ -1,6 +1,6 @@
 -- What each match of a regular expression contains.
 use Rattle.std.specs.Prelude.{ℕ, List}
-use Rattle.regress_required.specs.Required.{AbsentFrom}
+use Rattle.regress_prefilter.specs.Required.{AbsentFrom}
 use Rattle.regress.specs.Compiled.{outcomes_of}
 use Rattle.regress.specs.Searched.{MatchesSomewhere}
 use Rattle.regress.specs.declared.pattern.Regex.{Regex}

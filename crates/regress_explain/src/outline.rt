@@ -1,8 +1,8 @@
 //! The parts of a pattern in its order, each with its span and its meaning.
 
 use crate::words::{Source, words};
+use regress_labels::group_names;
 use regress_parse::{Span, SpannedRegex};
-use regress_railroad::group_names;
 use regress_tree::ir::Node;
 use regress_tree::ir::held::body;
 use std::alloc::{AllocError, Global};

@@ -1,7 +1,8 @@
 //! Texts as they are shown: invisible characters by their numbers.
 
+use regress_labels::push_symbol;
 use regress_parse::Span;
-use regress_railroad::{excerpt, push_symbol};
+use regress_railroad::excerpt;
 use std::alloc::{AllocError, Global};
 
 /// Returns the source text at a span, cut off if it is long.

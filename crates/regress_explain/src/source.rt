@@ -4,8 +4,8 @@ use crate::markup::{Element, Markup, Tag, Written};
 use crate::outline::Part;
 use crate::shown::push_shown;
 use regress_base::types::Flags;
+use regress_labels::flags_text;
 use regress_parse::Span;
-use regress_railroad::flags_text;
 
 /// Writes the section of the pattern, with its flags in the heading.
 pub(crate) fn write_pattern(

@@ -2,10 +2,10 @@
 
 use crate::shown::written;
 use regress_base::types::{AnchorType, Quantifier};
-use regress_parse::Span;
-use regress_railroad::{
+use regress_labels::{
     Character, is_seen, name_of, push_symbol, quoted, set_words, single_character,
 };
+use regress_parse::Span;
 use regress_tree::ir::Node;
 use std::alloc::{AllocError, Global};
 

@@ -31,5 +31,6 @@ pub mod parse {
 pub mod optimizer {
     pub use crate::pipeline::parse_and_optimize;
     pub use regress_normalize::optimize;
-    pub use regress_rewrite::{PassAction, Rewrite, run_pass};
+    pub use regress_passes::{Rewrite, run_pass};
+    pub use regress_rewrite::PassAction;
 }

@@ -8,8 +8,8 @@ use Rattle.regress_tree.specs.Setting.{Setting}
 use Rattle.regress_tree.specs.Tree.{Tree}
 use Rattle.regress_tree.specs.WellFormed.{captures}
 use Rattle.regress_found.specs.Found.{initial_state, outcomes_at}
-use Rattle.regress_required.specs.Required.{IsRequired, NoneFrom}
-use Rattle.regress_required.proofs.lemmas.Required.{no_matches}
+use Rattle.regress_prefilter.specs.Required.{IsRequired, NoneFrom}
+use Rattle.regress_prefilter.proofs.lemmas.Required.{no_matches}
 use Rattle.regress_found.specs.Repeated.{EndsHere}
 
 pub nothing_left : (setting : Setting) (t : Tree) (text : List ℕ) (byte from to : ℕ) → IsRequired byte t → NoneFrom byte text from →

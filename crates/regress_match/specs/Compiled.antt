@@ -10,7 +10,7 @@ use Rattle.regress_tree.specs.WellFormed.{captures}
 use Rattle.regress_unicode.specs.declared.Tables.{Tables}
 use Rattle.regress_found.specs.Found.{initial_state}
 use Rattle.regress_program.specs.Program.{Out, IsSolution}
-use Rattle.regress_required.specs.Required.{IsRequired}
+use Rattle.regress_prefilter.specs.Required.{IsRequired}
 use Rattle.regress_code.specs.Code.{code_routines, outcomes_from, setting_with}
 use Rattle.regress_code.specs.declared.code.Code.{Code}
 

@@ -20,7 +20,7 @@ use regress_code::Code;
 use regress_leaves::case_facts::CaseFacts;
 use regress_program::CompileFault;
 use regress_program::groups::group_count;
-use regress_required::required_byte;
+use regress_prefilter::required_byte;
 use regress_tree::ir::Regex;
 use regress_unicode::Tables;
 use std::alloc::Global;

@@ -11,7 +11,7 @@ ghost use Rattle.regress_found.specs.Found.{IsInside, start_of};
 ghost use Rattle.regress_match.specs.Matcher.{factor_of, outcome_if};
 ghost use Rattle.regress_match.specs.Pattern.{matcher_outcomes, matcher_tree};
 ghost use Rattle.regress_found.specs.Repeated.{EndsHere, offset_after};
-ghost use Rattle.regress_required.specs.Required.{NoneFrom};
+ghost use Rattle.regress_prefilter.specs.Required.{NoneFrom};
 
 use crate::matcher::Matcher;
 use crate::matcher_matches::MatcherMatches;

@@ -5,7 +5,7 @@ ghost use Rattle.regress_tree.specs.Tree.{tree};
 ghost use Rattle.regress_unicode.specs.TableOf.{table_of};
 ghost use Rattle.regress_leaves.specs.Known.{AreFactsOf, AreFactsOf-prop};
 ghost use Rattle.regress_match.specs.Compiled.{IfRequired-prop, IsCodeOf, IsCodeOf-prop};
-ghost use Rattle.regress_required.specs.Required.{IsRequired};
+ghost use Rattle.regress_prefilter.specs.Required.{IsRequired};
 
 use regress_code::Code;
 use regress_leaves::case_facts::CaseFacts;

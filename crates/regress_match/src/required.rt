@@ -1,10 +1,10 @@
 //! What each match contains.
 ghost use Rattle.std.specs.Prelude.{IfSome};
 ghost use Rattle.regress_match.specs.Pattern.{matcher_tree};
-ghost use Rattle.regress_required.specs.Required.{IsRequired, IsRequiredLiteral};
+ghost use Rattle.regress_prefilter.specs.Required.{IsRequired, IsRequiredLiteral};
 
 use crate::matcher::Matcher;
-use regress_required::required_literal;
+use regress_prefilter::required_literal;
 
 impl Matcher {
     /// Returns a byte that each match contains, if one is known, and if the program has at most `limit` instructions.

@@ -14,8 +14,8 @@ use Rattle.regress_tree.specs.Units.{weight, loops, IsLess}
 use Rattle.regress_tree.specs.WellFormed.{one_character}
 use Rattle.regress_tree.proofs.lemmas.Measures.{LacksShape-here}
 use Rattle.regress_tree.proofs.lemmas.Positions.{IsAllowed-one_character}
-use Rattle.regress_rewrite.specs.declared.rewrite.PassAction.{PassAction}
-use Rattle.regress_rewrite.specs.declared.rewrite.PassAction.TheVariants.{Keep}
+use Rattle.regress_rewrite.specs.declared.action.PassAction.{PassAction}
+use Rattle.regress_rewrite.specs.declared.action.PassAction.TheVariants.{Keep}
 use Rattle.regress_rewrite.specs.Law.{IsPart, Keeps, after, ObeysLaw}
 use Rattle.regress_rewrite.proofs.lemmas.Keeps.{Keeps-refl, Keeps-trans, IsPart-kept}
 use Rattle.regress_rewrite.proofs.lemmas.Emptying.{emptied_keeps}

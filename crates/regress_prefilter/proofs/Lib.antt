@@ -1,3 +1,4 @@
 pub mod lemmas
 mod FirstSetLemmas
 mod AnchorLemmas
+mod RequiredLemmas

@@ -1,3 +1,4 @@
 pub mod OneCharacter
 pub mod FirstSets
 pub mod Candidates
+pub mod Required

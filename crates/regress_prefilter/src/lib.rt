@@ -1,8 +1,13 @@
-//! The positions in a text at which a match of a tree can begin, determined without matching.
+//! What of the matches of a tree is known without matching: the positions at which they can begin, and a byte and a
+//! literal that each of them contains.
 #![tactic(auto)]
 
 pub mod candidates;
 pub mod first_sets;
+pub mod literal;
+pub mod required;
 
 pub use candidates::{Candidates, candidates_of, next_candidate_from};
 pub use first_sets::{first_bytes, next_candidate};
+pub use literal::required_literal;
+pub use required::required_byte;

@@ -1,9 +1,8 @@
 //! Parts of a diagram with their extents.
 
 use crate::diagram::{BoxKind, Diagram, Extent, FrameKind, Iterations, NO_EXTENT, Shape, clear};
-use crate::labels::Label;
 use crate::style::{GAP, HALF, NOTE, PADDING, RADIUS, text_width};
-use crate::symbols::columns;
+use regress_labels::{Label, columns};
 use std::alloc::{AllocError, Global};
 
 /// Returns a box with a label.

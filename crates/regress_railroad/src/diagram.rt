@@ -1,7 +1,7 @@
 //! Diagrams: nested parts, each with its extent.
 
-use crate::labels::Label;
 use crate::style::{END, GAP, RADIUS};
+use regress_labels::Label;
 
 /// A point, in user units from the upper left corner. Sums saturate at `u32::MAX`, and differences at 0.
 #[derive(Clone, Copy)]

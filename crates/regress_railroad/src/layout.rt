@@ -2,14 +2,14 @@
 
 use crate::boxes::{boxed, framed, loop_around, set_box, tracks};
 use crate::diagram::{BoxKind, Diagram, FrameKind, Iterations};
-use crate::labels::{Label, anchor_words, group_text, iterations_text, lookaround_words};
-use crate::names::{group_names, name_of};
 use crate::row::{Piece, Row};
-use crate::sets::{Character, only_character, set_label, strings_label};
 use crate::source::{Source, excerpt};
-use crate::words::set_of;
 use regress_base::codepointset::CodePointSet;
 use regress_base::types::Quantifier;
+use regress_labels::{
+    Character, Label, anchor_words, group_names, group_text, iterations_text, lookaround_words,
+    name_of, only_character, set_label, set_of, strings_label,
+};
 use regress_parse::Span;
 use regress_tree::ir::Node;
 use std::alloc::{AllocError, Global};

@@ -2,10 +2,9 @@
 ghost use Rattle.std.specs.Prelude.{◌≡◌, OnOk};
 
 use crate::diagram::{BoxKind, Extent, FrameKind, Iterations, Point, clear};
-use crate::labels::Label;
 use crate::style::{END, HALF, NOTE, PADDING, text_width};
-use crate::symbols::columns;
 use crate::ways::{Drawn, draw_line, draw_way_over, draw_way_under};
+use regress_labels::{Label, columns};
 use regress_svg::{Element, Sheet};
 
 /// Draws a text from a point on its baseline, unless it is empty.

@@ -4,13 +4,12 @@ ghost use Rattle.regress_svg.specs.Markup.{IsDocument};
 
 use crate::diagram::{Diagram, Point};
 use crate::draw::draw;
-use crate::labels::flags_text;
 use crate::layout::layout;
 use crate::parts::{draw_circle, draw_text};
 use crate::source::Source;
 use crate::style::{MARGIN, STYLE, text_width};
-use crate::symbols::columns;
 use crate::ways::{Drawn, draw_line};
+use regress_labels::{columns, flags_text};
 use regress_parse::Span;
 use regress_svg::{Element, Sheet};
 use regress_tree::ir::Regex;

@@ -2,10 +2,9 @@
 
 use crate::boxes::literal;
 use crate::diagram::{Diagram, Extent, NO_EXTENT, Shape, clear};
-use crate::sets::Character;
 use crate::source::{Source, excerpt, joined};
 use crate::style::{GAP, LIST_WIDTH, RADIUS};
-use crate::symbols::{columns_of, is_seen, push_symbol};
+use regress_labels::{Character, columns_of, is_seen, push_symbol};
 use regress_parse::Span;
 use std::alloc::{AllocError, Global};
 use std::fmt::Write;

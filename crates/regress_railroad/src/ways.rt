@@ -3,21 +3,26 @@ ghost use Rattle.std.specs.Prelude.{◌≡◌, OnOk};
 
 use crate::diagram::{Extent, Point};
 use crate::style::RADIUS;
-use regress_svg::{Element, Sheet, Step};
+use regress_svg::{Element, PathCommand, Sheet};
 use std::alloc::AllocError;
 
 /// The result of drawing.
 pub(crate) type Drawn = Result<(), AllocError>;
 
-fn draw_path(class: &str, from: Point, steps: &[Step], sheet: &mut Sheet) -> Drawn
+fn draw_path(class: &str, from: Point, commands: &[PathCommand], sheet: &mut Sheet) -> Drawn
     ensures { OnOk result (sheet.new.depth ≡ sheet.old.depth) }
 {
     let (x, y) = (from.x, from.y);
-    sheet.draw(Element::Path { class, x, y, steps })
+    sheet.draw(Element::Path {
+        class,
+        x,
+        y,
+        commands,
+    })
 }
 
-fn line_to(to: Point) -> Step {
-    Step::Line { x: to.x, y: to.y }
+fn line_to(to: Point) -> PathCommand {
+    PathCommand::Line { x: to.x, y: to.y }
 }
 
 /// Returns the point next to a corner, towards another point, where the rounding begins or ends.
@@ -34,9 +39,9 @@ fn adjoin(corner: Point, other: Point) -> Point {
 }
 
 /// Returns the rounded corner towards another point.
-fn rounded_corner(corner: Point, to: Point) -> Step {
+fn rounded_corner(corner: Point, to: Point) -> PathCommand {
     let end = adjoin(corner, to);
-    Step::Curve {
+    PathCommand::Curve {
         control_x: corner.x,
         control_y: corner.y,
         x: end.x,
@@ -51,19 +56,19 @@ pub(crate) fn draw_line(from: Point, to: Point, sheet: &mut Sheet) -> Drawn
     if from.x >= to.x {
         return Ok(());
     }
-    draw_path("line", from, &[Step::Horizontal { x: to.x }], sheet)
+    draw_path("line", from, &[PathCommand::Horizontal { x: to.x }], sheet)
 }
 
 /// Draws a line round a corner.
 pub(crate) fn draw_corner(from: Point, corner: Point, to: Point, sheet: &mut Sheet) -> Drawn
     ensures { OnOk result (sheet.new.depth ≡ sheet.old.depth) }
 {
-    let steps = [
+    let commands = [
         line_to(adjoin(corner, from)),
         rounded_corner(corner, to),
         line_to(to),
     ];
-    draw_path("line", from, &steps, sheet)
+    draw_path("line", from, &commands, sheet)
 }
 
 /// Draws a line round four corners.
@@ -71,7 +76,7 @@ pub(crate) fn draw_way(from: Point, corners: [Point; 4], to: Point, sheet: &mut 
     ensures { OnOk result (sheet.new.depth ≡ sheet.old.depth) }
 {
     let [a, b, c, d] = corners;
-    let steps = [
+    let commands = [
         rounded_corner(a, b),
         line_to(adjoin(b, a)),
         rounded_corner(b, c),
@@ -80,7 +85,7 @@ pub(crate) fn draw_way(from: Point, corners: [Point; 4], to: Point, sheet: &mut 
         line_to(adjoin(d, c)),
         rounded_corner(d, to),
     ];
-    draw_path("line", from, &steps, sheet)
+    draw_path("line", from, &commands, sheet)
 }
 
 /// Draws the line that bypasses a loop's body above.

@@ -1,11 +1,5 @@
 pub mod lemmas
-pub mod LawfulLemmas
-pub mod TakenLemmas
 pub mod ListLemmas
-pub mod SweepLemmas
-pub mod PassesLemmas
 pub mod SpliceLemmas
 pub mod SimplifyLemmas
-pub mod ChargeLemmas
-pub mod EmptiesLemmas
-pub mod form
+pub mod LeafLemmas

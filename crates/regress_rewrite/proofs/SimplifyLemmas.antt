@@ -28,11 +28,11 @@ use Rattle.regress_tree.proofs.lemmas.ByteSequences.{one_character-agree}
 use Rattle.regress_base.proofs.lemmas.Literals.{scalar_in_range}
 use Rattle.regress_tree.proofs.lemmas.Measures.{IsLess-lighter}
 use Rattle.regress_tree.proofs.lemmas.Positions.{AsOneCharacter-map}
-use Rattle.regress_rewrite.specs.declared.rewrite.PassAction.{PassAction}
-use Rattle.regress_rewrite.specs.declared.rewrite.PassAction.TheVariants.{Keep, Modified, Remove, Replace}
+use Rattle.regress_rewrite.specs.declared.action.PassAction.{PassAction}
+use Rattle.regress_rewrite.specs.declared.action.PassAction.TheVariants.{Keep, Modified, Remove, Replace}
 use Rattle.regress_rewrite.specs.Law.{IsPart, Keeps, after, ObeysLaw}
 use Rattle.regress_rewrite.specs.Simplify.{bracket_of, Simplifies}
-use Rattle.regress_rewrite.proofs.LawfulLemmas.{keep_lawful, modified_lawful, replace_lawful}
+use Rattle.regress_rewrite.proofs.lemmas.Lawful.{keep_lawful, modified_lawful, replace_lawful}
 
 -- ---- the set of a bracket's code points
 

@@ -1,7 +1,7 @@
 -- Lemmas about this crate's definitions, for the crates that use it.
-pub mod Changes
 pub mod Checked
 pub mod Keeps
+pub mod Lawful
 pub mod Spine
 pub mod Parts
 pub mod Splicing

@@ -8,8 +8,8 @@ use Rattle.regress_tree.specs.Setting.{Setting}
 use Rattle.regress_tree.specs.WellFormed.{Position, IsAllowed, captures}
 use Rattle.regress_tree.specs.Units.{account, IsLess}
 use Rattle.regress_tree.specs.Shapes.{LacksShape, is_simplified_away}
-use Rattle.regress_rewrite.specs.declared.rewrite.PassAction.{PassAction}
-use Rattle.regress_rewrite.specs.declared.rewrite.PassAction.TheVariants.{Keep, Modified, Remove, Replace}
+use Rattle.regress_rewrite.specs.declared.action.PassAction.{PassAction}
+use Rattle.regress_rewrite.specs.declared.action.PassAction.TheVariants.{Keep, Modified, Remove, Replace}
 
 -- the tree may appear somewhere in a well-formed tree
 abbrev pub IsPart : Tree → Type 0

@@ -5,8 +5,8 @@ use Rattle.regress_base.specs.declared.types.bracket.BracketContents.{BracketCon
 use Rattle.regress_base.specs.Listing.{code_points}
 use Rattle.regress_tree.specs.Tree.{Leaf, Tree, leaf, char_set, bracket, tree}
 use Rattle.regress_tree.specs.Shapes.{is_small_bracket, is_long_bracket, is_simplified_away}
-use Rattle.regress_rewrite.specs.declared.rewrite.PassAction.{PassAction}
-use Rattle.regress_rewrite.specs.declared.rewrite.PassAction.TheVariants.{Keep, Modified, Remove, Replace}
+use Rattle.regress_rewrite.specs.declared.action.PassAction.{PassAction}
+use Rattle.regress_rewrite.specs.declared.action.PassAction.TheVariants.{Keep, Modified, Remove, Replace}
 
 -- the bracket with these contents
 abbrev pub bracket_of : BracketContents → Leaf

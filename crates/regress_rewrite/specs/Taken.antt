@@ -1,8 +1,6 @@
 -- Lists of trees with some removed.
 use Rattle.std.specs.Prelude.{◌≡◌, ◌⊎◌, Bool, if◌then◌else◌}
-use Rattle.regress_tree.specs.Tree.{Tree, Trees, leaf, empty, no_trees, more_trees, tree}
-use Rattle.regress_rewrite.specs.declared.rewrite.PassAction.{PassAction}
-use Rattle.regress_rewrite.specs.declared.rewrite.PassAction.TheVariants.{Modified, Replace}
+use Rattle.regress_tree.specs.Tree.{Tree, Trees, leaf, empty, no_trees, more_trees}
 
 -- the list without the trees that pass the test
 abbrev pub list_without : (Tree → Bool) → Trees → Trees
@@ -12,9 +10,3 @@ list_without test (more_trees t ts) = if test t then list_without test ts else m
 -- the tree replaces a `Cat` of these parts: it is the only one, or `Empty` if there is none
 abbrev pub IsOnlyPart : Tree → Trees → Type 0
 IsOnlyPart t parts = ((parts ≡ no_trees) × (t ≡ leaf empty)) ⊎ (parts ≡ more_trees t no_trees)
-
--- The effect of the action on a `Cat` that keeps just these parts: they remain its parts, or a node replaces it.
-abbrev pub ReplacesCat : PassAction → (parts left : Trees) → Type 0
-ReplacesCat Modified parts left = left ≡ parts
-ReplacesCat (Replace node) parts left = IsOnlyPart (tree node) parts
-ReplacesCat action parts left = ⊥

@@ -9,7 +9,7 @@ ghost use Rattle.regress_tree.specs.Shapes.{code_point_count, gap_count, is_simp
 ghost use Rattle.regress_rewrite.specs.Law.{IsPart, after, ObeysLaw};
 ghost use Rattle.regress_rewrite.specs.Simplify.{Simplifies};
 
-use crate::rewrite::PassAction;
+use crate::action::PassAction;
 use regress_base::codepointset::{CodePointSet, Interval};
 use regress_base::types::{BracketContents, MAX_CHAR_SET_LENGTH};
 use regress_tree::ir::Node;

@@ -4,30 +4,30 @@ use Rattle.std.specs.Fmt.{decimal}
 use Rattle.regress_svg.specs.Escape.{escaped_text}
 use Rattle.regress_svg.specs.declared.element.Element.{Element}
 use Rattle.regress_svg.specs.declared.element.Element.TheVariants.{Rectangle, Circle, Path, Text, Title, Description, Style}
-use Rattle.regress_svg.specs.declared.element.Step.{Step}
-use Rattle.regress_svg.specs.declared.element.Step.TheVariants.{Move, Line, Horizontal, Vertical, Curve}
+use Rattle.regress_svg.specs.declared.element.PathCommand.{PathCommand}
+use Rattle.regress_svg.specs.declared.element.PathCommand.TheVariants.{Move, Line, Horizontal, Vertical, Curve}
 
 -- a path command
-abbrev pub step_bytes : Step → List ℕ
-step_bytes (Move x y) = codes "M" ++ decimal x ++ codes " " ++ decimal y
-step_bytes (Line x y) = codes "L" ++ decimal x ++ codes " " ++ decimal y
-step_bytes (Horizontal x) = codes "H" ++ decimal x
-step_bytes (Vertical y) = codes "V" ++ decimal y
-step_bytes (Curve control_x control_y x y) =
+abbrev pub command_bytes : PathCommand → List ℕ
+command_bytes (Move x y) = codes "M" ++ decimal x ++ codes " " ++ decimal y
+command_bytes (Line x y) = codes "L" ++ decimal x ++ codes " " ++ decimal y
+command_bytes (Horizontal x) = codes "H" ++ decimal x
+command_bytes (Vertical y) = codes "V" ++ decimal y
+command_bytes (Curve control_x control_y x y) =
     codes "Q" ++ decimal control_x ++ codes " " ++ decimal control_y ++ codes " " ++ decimal x ++ codes " " ++ decimal y
 
 -- the path commands in order
-abbrev pub steps_bytes : List Step → List ℕ
-steps_bytes steps = flat_map step_bytes steps
+abbrev pub commands_bytes : List PathCommand → List ℕ
+commands_bytes commands = flat_map command_bytes commands
 
 -- the note after a text, or nothing if it is empty
 abbrev pub note_bytes : List ℕ → List ℕ
 note_bytes note = if length note == 0 then [] else codes "<tspan class=\"note\">" ++ escaped_text note ++ codes "</tspan>"
 
 -- a path with its class, its start and its commands
-abbrev pub path_bytes : List ℕ → ℕ → ℕ → List Step → List ℕ
-path_bytes class x y steps =
-    codes "<path class=\"" ++ escaped_text class ++ codes "\" d=\"M" ++ decimal x ++ codes " " ++ decimal y ++ steps_bytes steps ++ codes "\"/>"
+abbrev pub path_bytes : List ℕ → ℕ → ℕ → List PathCommand → List ℕ
+path_bytes class x y commands =
+    codes "<path class=\"" ++ escaped_text class ++ codes "\" d=\"M" ++ decimal x ++ codes " " ++ decimal y ++ commands_bytes commands ++ codes "\"/>"
 
 -- a text with its class and its position, and a note after it
 abbrev pub text_bytes : List ℕ → ℕ → ℕ → List ℕ → List ℕ → List ℕ
@@ -43,7 +43,7 @@ element_bytes (Rectangle class x y width height radius) =
 element_bytes (Circle class x y radius) =
     codes "<circle class=\"" ++ escaped_text class.now ++ codes "\" cx=\"" ++ decimal x ++ codes "\" cy=\"" ++ decimal y ++ codes "\" r=\"" ++ decimal radius
     ++ codes "\"/>"
-element_bytes (Path class x y steps) = path_bytes class.now x y steps.now
+element_bytes (Path class x y commands) = path_bytes class.now x y commands.now
 element_bytes (Text class x y text note) = text_bytes class.now x y text.now note.now
 element_bytes (Title text) = codes "<title>" ++ escaped_text text.now ++ codes "</title>"
 element_bytes (Description text) = codes "<desc>" ++ escaped_text text.now ++ codes "</desc>"

@@ -1,7 +1,7 @@
 //! The elements of a picture.
 ghost use Rattle.std.specs.Prelude.{◌≡◌};
 ghost use Rattle.std.specs.Fmt.{WritesOnOk};
-ghost use Rattle.regress_svg.specs.Markup.{note_bytes, path_bytes, step_bytes, steps_bytes, text_bytes};
+ghost use Rattle.regress_svg.specs.Markup.{note_bytes, path_bytes, command_bytes, commands_bytes, text_bytes};
 
 use crate::escape::Escaped;
 use std::fmt;
@@ -38,7 +38,7 @@ pub enum Element<'a> {
         /// The radius.
         radius: u32,
     },
-    /// `path`, from the point (`x`, `y`) along the steps in order.
+    /// `path`, from the point (`x`, `y`) along the commands in order.
     Path {
         /// The class of the element.
         class: &'a str,
@@ -46,8 +46,8 @@ pub enum Element<'a> {
         x: u32,
         /// The vertical position of the start.
         y: u32,
-        /// The steps in order.
-        steps: &'a [Step],
+        /// The commands in order.
+        commands: &'a [PathCommand],
     },
     /// `text`, at the point (`x`, `y`); its style determines how it is aligned there. The note, if it is not empty,
     /// follows the text in a `tspan` of the class `note`.
@@ -71,9 +71,9 @@ pub enum Element<'a> {
     Style(&'a str),
 }
 
-/// A step of a path, from the end of the one before it to the given point.
+/// A command of a path, from the end of the one before it to the given point.
 #[derive(Clone, Copy)]
-pub enum Step {
+pub enum PathCommand {
     /// A new start, without a line.
     Move {
         /// The horizontal position of the point.
@@ -145,7 +145,12 @@ impl fmt::Display for Element<'_> {
                     "<circle class=\"{class}\" cx=\"{x}\" cy=\"{y}\" r=\"{radius}\"/>"
                 )
             }
-            Element::Path { class, x, y, steps } => write_path(class, x, y, steps, f),
+            Element::Path {
+                class,
+                x,
+                y,
+                commands,
+            } => write_path(class, x, y, commands, f),
             Element::Text {
                 class,
                 x,
@@ -164,13 +169,13 @@ fn write_path<W: Write>(
     class: &str,
     x: u32,
     y: u32,
-    steps: &[Step],
+    commands: &[PathCommand],
     f: &mut Formatter<W>,
 ) -> fmt::Result
-    ensures { WritesOnOk W.write_str_gives f.old result (path_bytes class.now x y steps.now) f.new }
+    ensures { WritesOnOk W.write_str_gives f.old result (path_bytes class.now x y commands.now) f.new }
 {
     write!(f, "<path class=\"{}\" d=\"M{x} {y}", Escaped(class))?;
-    write_steps(steps, f)?;
+    write_commands(commands, f)?;
     f.write_str("\"/>")
 }
 
@@ -200,25 +205,25 @@ fn write_note<W: Write>(note: &str, f: &mut Formatter<W>) -> fmt::Result
     write!(f, "<tspan class=\"note\">{}</tspan>", Escaped(note))
 }
 
-fn write_steps<W: Write>(steps: &[Step], f: &mut Formatter<W>) -> fmt::Result
-    ensures { WritesOnOk W.write_str_gives f.old result (steps_bytes steps.now) f.new }
+fn write_commands<W: Write>(commands: &[PathCommand], f: &mut Formatter<W>) -> fmt::Result
+    ensures { WritesOnOk W.write_str_gives f.old result (commands_bytes commands.now) f.new }
 {
-    for step in steps {
-        write_step(*step, f)?;
+    for command in commands {
+        write_command(*command, f)?;
     }
     Ok(())
 }
 
 /// Writes a command of the path data.
-fn write_step<W: Write>(step: Step, f: &mut Formatter<W>) -> fmt::Result
-    ensures { WritesOnOk W.write_str_gives f.old result (step_bytes step) f.new }
+fn write_command<W: Write>(command: PathCommand, f: &mut Formatter<W>) -> fmt::Result
+    ensures { WritesOnOk W.write_str_gives f.old result (command_bytes command) f.new }
 {
-    match step {
-        Step::Move { x, y } => write!(f, "M{x} {y}"),
-        Step::Line { x, y } => write!(f, "L{x} {y}"),
-        Step::Horizontal { x } => write!(f, "H{x}"),
-        Step::Vertical { y } => write!(f, "V{y}"),
-        Step::Curve {
+    match command {
+        PathCommand::Move { x, y } => write!(f, "M{x} {y}"),
+        PathCommand::Line { x, y } => write!(f, "L{x} {y}"),
+        PathCommand::Horizontal { x } => write!(f, "H{x}"),
+        PathCommand::Vertical { y } => write!(f, "V{y}"),
+        PathCommand::Curve {
             control_x,
             control_y,
             x,

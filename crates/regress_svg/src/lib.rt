@@ -6,7 +6,7 @@ mod escape;
 mod law;
 mod sheet;
 
-pub use element::{Element, Step};
+pub use element::{Element, PathCommand};
 pub use escape::Escaped;
 pub use law::texts_hold_no_markup;
 pub use sheet::Sheet;

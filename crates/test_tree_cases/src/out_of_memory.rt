@@ -1,6 +1,7 @@
 //! A caller's own rewrite, in which an allocation fails at a node.
 
-use regress_rewrite::{PassAction, Rewrite};
+use regress_passes::Rewrite;
+use regress_rewrite::PassAction;
 use regress_tree::ir::{Node, Walk};
 use std::alloc::AllocError;
 

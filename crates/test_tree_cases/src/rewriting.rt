@@ -5,11 +5,11 @@ ghost use Rattle.regress_tree.specs.WellFormed.{IsWellFormed};
 use crate::census::Census;
 use crate::out_of_memory::WantsMemory;
 use crate::printing::report_tree;
-use regress_rewrite::rewrites::{
+use regress_passes::rewrites::{
     Flatten, FormLiteralBytes, Promote1CharLoops, PropagateEarlyFails, RemoveEmpties,
     SimplifyBrackets, UnrollLoops,
 };
-use regress_rewrite::{Rewrite, run_pass};
+use regress_passes::{Rewrite, run_pass};
 use regress_tree::ir::Regex;
 use test_notation::{Call, Fault, Promise};
 

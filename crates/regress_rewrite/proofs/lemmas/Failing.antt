@@ -30,9 +30,9 @@ use Rattle.regress_tree.proofs.lemmas.TreeContexts.{left_of, right_of, PartsAllo
 use Rattle.regress_tree.proofs.lemmas.Positions.{AsOneCharacter-free}
 use Rattle.regress_tree.proofs.lemmas.Lists.{PartsAllowed-more, IsAllowed-from_last}
 use Rattle.regress_rewrite.specs.Law.{IsPart, Keeps, ObeysLaw}
-use Rattle.regress_rewrite.specs.declared.rewrite.PassAction.TheVariants.{Replace}
+use Rattle.regress_rewrite.specs.declared.action.PassAction.TheVariants.{Replace}
 use Rattle.regress_rewrite.proofs.lemmas.Keeps.{Keeps-part}
-use Rattle.regress_rewrite.proofs.LawfulLemmas.{replace_lawful}
+use Rattle.regress_rewrite.proofs.lemmas.Lawful.{replace_lawful}
 
 -- ---- nodes that fail
 
@@ -146,23 +146,15 @@ parts_free (cat parts) is n p m = m.0
 parts_free (alt left right) is n p m = m.0
 parts_free (wrapped w body) is n p m = m.0
 
-no_member : (greatest : ℕ) (p : Position) → NotAsOneCharacter p → IsSmallSet [] greatest p
+pub no_member : (greatest : ℕ) (p : Position) → NotAsOneCharacter p → IsSmallSet [] greatest p
 no_member greatest p free = record { bounded = All-nil _; small = omega arith; some = AsOneCharacter-free p _ free }
 
 -- the leaf matches nothing, may appear wherever the body of a `Loop1CharBody` may not, and is no bracket
-record IsNothing (l : Leaf) : Type 0 where
-  none : (setting : Setting) (bytes : List ℕ) (d : Direction) (s : MatchState) → steps setting bytes d (leaf l) s ≡ []
-  occurs : (n : ℕ) (p : Position) → NotAsOneCharacter p → LeafIsAllowed n l p
-  small : units_of_leaf l ≤ 1
-  other : is_simplified_away (leaf l) ≡ false
-
-no_character_nothing : IsNothing (char_set [])
-no_character_nothing = record {
-  none = λ setting bytes d s. one_character-none d bytes (λ c. false) (λ c scalar. refl) s;
-  occurs = λ n p free. no_member code_point_max p free;
-  small = omega arith;
-  other = refl;
-}
+pub record IsNothing (l : Leaf) : Type 0 where
+  pub none : (setting : Setting) (bytes : List ℕ) (d : Direction) (s : MatchState) → steps setting bytes d (leaf l) s ≡ []
+  pub occurs : (n : ℕ) (p : Position) → NotAsOneCharacter p → LeafIsAllowed n l p
+  pub small : units_of_leaf l ≤ 1
+  pub other : is_simplified_away (leaf l) ≡ false
 
 no_byte_nothing : IsNothing (byte_set [])
 no_byte_nothing = record {
@@ -172,7 +164,7 @@ no_byte_nothing = record {
   other = refl;
 }
 
-nothing_keeps : (d : Direction) (t : Tree) (l : Leaf) → IsNothing l → fails_by_part t ≡ true → has_group t ≡ false → MatchesNothing 4 t →
+pub nothing_keeps : (d : Direction) (t : Tree) (l : Leaf) → IsNothing l → fails_by_part t ≡ true → has_group t ≡ false → MatchesNothing 4 t →
     Keeps d t (leaf l)
 nothing_keeps d t l nothing is free fails = record {
   meaning = λ setting text is_text. Alike-from_same (λ s.
@@ -187,26 +179,6 @@ nothing_keeps d t l nothing is free fails = record {
 pub fails_keeps : (d : Direction) (t : Tree) → is_alt t ≡ false → fails_by_part t ≡ true → has_group t ≡ false → IsPart t →
     Keeps d t (leaf (byte_set []))
 fails_keeps d t other is free part = nothing_keeps d t (byte_set []) no_byte_nothing is free (tree_fails t other is part)
-
-removed : (t : Tree) → fails_by_part t ≡ true → has_group t ≡ false → is_failed_away t ≡ true
-removed t is free = and_from (fails_by_part t) (not (has_group t)) is (ap not free)
-
-module _ (d : Direction) (t left : Tree) (is : fails_by_part t ≡ true) (free : has_group t ≡ false) where
-  replaced : (new : Tree) (node : Node) → tree node ≡ new → Keeps d t new → IsLess new t →
-      ObeysLaw is_failed_away true d t left (Replace node)
-  replaced new node node_is keeps is_less =
-      replace_lawful is_failed_away true d t (removed t is free) left node (subst (λ (u : Tree). Keeps d t u) (sym node_is) keeps)
-      (subst (λ (u : Tree). IsLess u t) (sym node_is) is_less)
-
-  -- an empty set
-  fail_lawful : (node : Node) → tree node ≡ leaf (char_set []) → MatchesNothing 4 t → ObeysLaw is_failed_away true d t left (Replace node)
-  fail_lawful node node_is fails =
-      replaced (leaf (char_set [])) node node_is (nothing_keeps d t (char_set []) no_character_nothing is free fails)
-      (IsLess-lighter (leaf (char_set [])) t (omega arith) (omega (arith, fails.heavy)))
-
-  pub whole_lawful : (node : Node) → is_alt t ≡ false → tree node ≡ leaf (char_set []) → IsPart t →
-      ObeysLaw is_failed_away true d t left (Replace node)
-  whole_lawful node other node_is part = fail_lawful node node_is (tree_fails t other is part)
 
 -- An `Alt`, by its sides.
 
@@ -228,45 +200,3 @@ module _ (d : Direction) (first second : Tree) where
       ap (λ states. steps setting (encode_utf8_all text) d first s ++ states) (fails.none setting (encode_utf8_all text) d s)
       ∙ append-nil _))
       (λ n p m. inside_occurs n first p m.0 m.1) (sym (ap (λ cs. captures first ++ cs) none ∙ append-nil _))
-
-  both_fail : MatchesNothing 2 first → MatchesNothing 2 second → MatchesNothing 4 (alt first second)
-  both_fail a b = record {
-    none = λ setting bytes d s. ap₂ ◌++◌ (a.none setting bytes d s) (b.none setting bytes d s);
-    heavy = omega (arith, a.heavy, b.heavy);
-  }
-
-  sides_lawful : (left : Tree) (node : Node) → fails_by_part (alt first second) ≡ true → has_group (alt first second) ≡ false →
-      IsPart (alt first second) →
-      (match_always_fails first ≡ false → tree node ≡ first) →
-      (match_always_fails first ≡ true → match_always_fails second ≡ false → tree node ≡ second) →
-      (match_always_fails first ≡ true → match_always_fails second ≡ true → tree node ≡ leaf (char_set [])) →
-      ObeysLaw is_failed_away true d (alt first second) left (Replace node)
-  sides_lawful left node is free part at_first at_second at_none =
-      let frees = or_parts (has_group first) (has_group second) free in
-      let fails_first : match_always_fails first ≡ true → MatchesNothing 2 first = λ e. node_fails first e part.0 inside part.2.1 in
-      let fails_second : match_always_fails second ≡ true → MatchesNothing 2 second = λ e. node_fails second e part.0 inside part.2.2 in
-      elim (cases_Bool (match_always_fails first)) [
-        | inl first_is ↦ elim (cases_Bool (match_always_fails second)) [
-          | inl second_is ↦
-              fail_lawful d (alt first second) left is free node (at_none first_is second_is)
-              (both_fail (fails_first first_is) (fails_second second_is))
-          | inr second_not ↦
-              replaced d (alt first second) left is free second node (at_second first_is second_not)
-              (right_keeps (fails_first first_is) (captures-free first frees.0)) (IsLess-part (right_of first) second)
-        ]
-        | inr first_not ↦
-            let second_is = sym (ap (λ b. b || match_always_fails second) first_not) ∙ is in
-            replaced d (alt first second) left is free first node (at_first first_not)
-            (left_keeps (fails_second second_is) (captures-free second frees.1)) (IsLess-part (left_of second) first)
-      ]
-
--- the same for a tree that is an `Alt`
-pub alt_lawful : (d : Direction) (t left first second : Tree) (node : Node) → t ≡ alt first second → fails_by_part t ≡ true →
-    has_group t ≡ false → IsPart t → (match_always_fails first ≡ false → tree node ≡ first) →
-    (match_always_fails first ≡ true → match_always_fails second ≡ false → tree node ≡ second) →
-    (match_always_fails first ≡ true → match_always_fails second ≡ true → tree node ≡ leaf (char_set [])) →
-    ObeysLaw is_failed_away true d t left (Replace node)
-alt_lawful d t left first second node t_is is free part at_first at_second at_none =
-    subst (λ (u : Tree). ObeysLaw is_failed_away true d u left (Replace node)) (sym t_is)
-    (sides_lawful d first second left node (sym (ap fails_by_part t_is) ∙ is) (sym (ap has_group t_is) ∙ free)
-    (subst (λ (u : Tree). IsPart u) t_is part) at_first at_second at_none)

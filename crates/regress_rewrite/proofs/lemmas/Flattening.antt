@@ -1,4 +1,4 @@
--- Flattening obeys the law, and makes the tree less.
+-- Splicing keeps what the law requires.
 use Rattle.std.proofs.Common.{◌≡◌, ℕ, ◌<◌, ◌≤◌, Bool, true, false, ◌||◌, ◌++◌, inl, inr, refl, sym, ap, ap₂, subst, ◌∙◌, append-nil, arith, le_refl, List, Result, Ok, Err}
 use Rattle.std.specs.Prelude.{encode_utf8_all, IfOk}
 use Rattle.std.specs.declared.alloc.AllocError.{AllocError}
@@ -19,12 +19,12 @@ use Rattle.regress_tree.proofs.lemmas.Alike.{Alike-from_same}
 use Rattle.regress_tree.proofs.lemmas.Outcomes.{flat_map-stay}
 use Rattle.regress_tree.proofs.lemmas.Measures.{some_node-append, total-append, IsLess-lighter}
 use Rattle.regress_tree.proofs.lemmas.Lists.{append_trees-none, steps-append, captures-append, PartsAllowed-last_of, PartsAllowed-append}
-use Rattle.regress_rewrite.specs.declared.rewrite.PassAction.{PassAction}
-use Rattle.regress_rewrite.specs.declared.rewrite.PassAction.TheVariants.{Keep, Modified, Remove, Replace}
+use Rattle.regress_rewrite.specs.declared.action.PassAction.{PassAction}
+use Rattle.regress_rewrite.specs.declared.action.PassAction.TheVariants.{Keep, Modified, Remove, Replace}
 use Rattle.regress_rewrite.specs.Law.{Keeps, ObeysLaw}
-use Rattle.regress_rewrite.specs.Splice.{parts_of, spliced, Flattens}
+use Rattle.regress_rewrite.specs.Splice.{parts_of, spliced}
 use Rattle.regress_rewrite.specs.Taken.{IsOnlyPart}
-use Rattle.regress_rewrite.proofs.LawfulLemmas.{alone_keeps, keep_lawful, modified_lawful, replace_lawful}
+use Rattle.regress_rewrite.proofs.lemmas.Lawful.{alone_keeps, keep_lawful, modified_lawful, replace_lawful}
 
 -- Where the parts may appear.
 
@@ -93,14 +93,6 @@ module _ (test : Tree → Bool) (no_cat : (ts : Trees) → test (cat ts) ≡ fal
   some_node-spliced (more_trees t ts) =
       some_node-append test (parts_of t) (spliced ts) ∙ ap₂ ◌||◌ (some_node-parts_of t) (some_node-spliced ts)
 
--- splicing a list with a `Cat` reduces its weight
-weight-less : (ts : Trees) → has_cat ts ≡ true → total_in_list weights (spliced ts) < total_in_list weights ts
-weight-less no_trees some = absurd (false≢true some)
-weight-less (more_trees (cat parts) ts) some = omega (arith, total-append weights parts (spliced ts), total-spliced weights ts)
-weight-less (more_trees (leaf l) ts) some = omega (arith, weight-less ts some)
-weight-less (more_trees (alt left right) ts) some = omega (arith, weight-less ts some)
-weight-less (more_trees (wrapped w body) ts) some = omega (arith, weight-less ts some)
-
 pub spliced_keeps : (d : Direction) (ts : Trees) → Keeps d (cat ts) (cat (spliced ts))
 spliced_keeps d ts = record {
   meaning = λ setting text is_text. Alike-from_same (λ s. sym (steps-spliced setting (encode_utf8_all text) d ts s));
@@ -109,29 +101,3 @@ spliced_keeps d ts = record {
   account = omega (arith, total-spliced sizes ts, total-spliced unrollables ts);
   brackets = λ lacks. some_node-spliced is_simplified_away (λ us. refl) ts ∙ lacks;
 }
-
--- The law.
-
-alone_short : (t : Tree) (ts : Trees) → IsOnlyPart t ts → is_flattened_away (cat ts) ≡ true
-alone_short t ts (inl none) = ap (λ us. is_flattened_away (cat us)) none.0
-alone_short t ts (inr one) = ap (λ us. is_flattened_away (cat us)) one
-
-flattens_lawful : (d : Direction) (action : PassAction) (old new : Trees) → Flattens action old new →
-    ObeysLaw is_flattened_away true d (cat old) (cat new) action
-flattens_lawful d Keep old new flattens =
-    subst (λ (ts : Trees). ObeysLaw is_flattened_away true d (cat old) (cat ts) Keep) (sym flattens.1)
-    (keep_lawful is_flattened_away true d (cat old) flattens.0)
-flattens_lawful d Modified old new flattens =
-    subst (λ (ts : Trees). ObeysLaw is_flattened_away true d (cat old) (cat ts) Modified) (sym flattens.1)
-    (modified_lawful is_flattened_away true d (cat old) (or_right (is_short old) (has_cat old) flattens.0) (cat (spliced old))
-    (spliced_keeps d old)
-    (IsLess-lighter (cat (spliced old)) (cat old) (omega (arith, total-spliced unrollables old)) (omega (arith, weight-less old flattens.0))))
-flattens_lawful d Remove old new flattens = absurd flattens
-flattens_lawful d (Replace node) old new flattens =
-    let alone = alone_keeps is_flattened_away true d (tree node) old flattens in
-    replace_lawful is_flattened_away true d (cat old) (alone_short (tree node) old flattens) (cat new) node alone.0 alone.1
-
-pub flatten_lawful : (d : Direction) (r : Result PassAction AllocError) (was is : Trees) → IfOk r (λ action. Flattens action was is) →
-    IfOk r (ObeysLaw is_flattened_away true d (cat was) (cat is))
-flatten_lawful d (Ok action) was is flattens = flattens_lawful d action was is flattens
-flatten_lawful d (Err e) was is flattens = tt

@@ -22,7 +22,7 @@ use Rattle.regress_tree.proofs.lemmas.Positions.{AsOneCharacter-free, last_of-fr
 use Rattle.regress_tree.proofs.lemmas.Lists.{steps-append, captures-append}
 use Rattle.regress_tree.proofs.lemmas.ByteSequences.{these_bytes-none, these_bytes-append, these_bytes_before-append}
 use Rattle.regress_rewrite.specs.Law.{Keeps}
-use Rattle.regress_rewrite.proofs.form.LeafLemmas.{weight-bytes}
+use Rattle.regress_rewrite.proofs.LeafLemmas.{weight-bytes}
 use Rattle.regress_rewrite.specs.Formed.{joined, bytes_of}
 
 abbrev pub written : List ℕ → Tree

@@ -1,4 +1,4 @@
--- The traversal of a list of parts, part by part.
+-- The parts of a list, one by one.
 use Rattle.std.proofs.Common.{◌≡◌, ℕ, ◌+◌, ◌<◌, ◌≤◌, Bool, List, [], ◌∷◌, ◌++◌, length, take, drop, get_or, set, Result, Ok, suc, sym, ap, subst, ◌∙◌, arith}
 use Rattle.std.specs.declared.alloc.AllocError.{AllocError}
 use Rattle.std.proofs.Math.Bool.{or-false}
@@ -13,15 +13,7 @@ use Rattle.regress_tree.proofs.lemmas.Lists.{trees-append}
 use Rattle.regress_tree.proofs.lemmas.Measures.{total-append, ListLacksShape-append}
 use Rattle.regress_tree.proofs.lemmas.TreeContexts.{TreeContext, among, put, LacksShape-part}
 use Rattle.regress_rewrite.specs.Law.{IsPart, Keeps}
-use Rattle.regress_rewrite.specs.Sweep.{Traversed, TraversedOf}
 use Rattle.regress_rewrite.proofs.lemmas.Keeps.{IsPart-kept, IsPart-part}
-use Rattle.regress_rewrite.proofs.lemmas.Changes.{joined}
-use Rattle.regress_rewrite.proofs.SweepLemmas.{Traversed-put, Traversed-then}
-
--- the traversal of the parts `initial`, when it has reached part `i`
-abbrev pub PartsSwept : (Tree → Bool) → Bool → Direction → List Node → List Node → ℕ → Result Bool AllocError → Type 0
-PartsSwept shape exact d initial now i =
-    Traversed (ListLacksShape shape (trees initial)) (ListLacksShape shape (trees (take i now))) exact d (cat (trees initial)) (cat (trees now))
 
 module _ (now : List Node) (i : ℕ) (in_list : i < length now) where
   -- where part `i` is
@@ -54,27 +46,6 @@ module _ (now : List Node) (i : ℕ) (in_list : i < length now) where
         let whole : trees initial ≡ append_trees (trees (take i initial)) (trees after) =
         ap trees cut ∙ trees-append (take i initial) after in
         omega (arith, ap units_in_list whole, total-append sizes (trees (take i initial)) (trees after))
-
-    module _ (shape : Tree → Bool) (exact : Bool) (d : Direction) (initial : List Node) (changed : Bool) (new : Node) where
-      part_lacks : ListLacksShape shape (trees initial) → cat (trees now) ≡ cat (trees initial) → LacksShape shape (tree old)
-      part_lacks lacks same =
-          let P : Tree → Type 0 = λ t. LacksInside shape t in
-          let lacks_now : LacksInside shape (cat (trees now)) = subst P (sym same) lacks in
-          LacksShape-part shape context (tree old) (subst P list_at lacks_now)
-
-      more_lack : ListLacksShape shape (trees (take i now)) → LacksShape shape (tree new) →
-          ListLacksShape shape (trees (take (i + 1) (set now i new)))
-      more_lack before here =
-          let one : ListLacksShape shape (trees (new ∷ [])) = or-false _ ∙ here in
-          rw (take_more_set now i new in_list, trees-append (take i now) (new ∷ []))
-          (ListLacksShape-append shape (trees (take i now)) (trees (new ∷ [])) before one)
-
-      pub parts_next : (response : Result Bool AllocError) → PartsSwept shape exact d initial now i (Ok changed) →
-          TraversedOf (LacksShape shape) exact d (tree old) (tree new) response →
-          PartsSwept shape exact d initial (set now i new) (i + 1) (joined changed response)
-      parts_next response so_far here =
-          let there = Traversed-put exact context d here in
-          Traversed-then exact d so_far (rw (list_at, list_set new) there) part_lacks more_lack
 
 -- the parts after `i` are unchanged
 pub unvisited-next : (now initial : List Node) (i : ℕ) (new : Node) → drop i now ≡ drop i initial →

@@ -1,4 +1,4 @@
--- Promotion obeys the law, and makes the loop less.
+-- Promotion keeps what the law requires.
 use Rattle.std.proofs.Common.{ℕ, ◌+◌, true, length, refl, ap, arith}
 use Rattle.std.specs.Prelude.{encode_utf8_all, IfOk, Result, Ok, Err}
 use Rattle.std.specs.declared.alloc.AllocError.{AllocError}
@@ -13,14 +13,13 @@ use Rattle.regress_tree.proofs.lemmas.Groups.{HasGroups-none}
 use Rattle.regress_tree.proofs.lemmas.Measures.{IsLess-lighter}
 use Rattle.regress_tree.proofs.lemmas.Positions.{IsAllowed-one_character, captures-one_character}
 use Rattle.regress_tree.proofs.lemmas.Iterations.{repeat-groupless}
-use Rattle.regress_rewrite.specs.declared.rewrite.PassAction.{PassAction}
-use Rattle.regress_rewrite.specs.declared.rewrite.PassAction.TheVariants.{Keep, Modified, Remove, Replace}
+use Rattle.regress_rewrite.specs.declared.action.PassAction.{PassAction}
+use Rattle.regress_rewrite.specs.declared.action.PassAction.TheVariants.{Keep, Modified, Remove, Replace}
 use Rattle.regress_rewrite.specs.Law.{IsPart, Keeps, ObeysLaw}
-use Rattle.regress_rewrite.specs.Promote.{Promotes}
-use Rattle.regress_rewrite.proofs.LawfulLemmas.{keep_lawful, replace_lawful}
+use Rattle.regress_rewrite.proofs.lemmas.Lawful.{keep_lawful, replace_lawful}
 
 module _ (d : Direction) (q : Quantifier) (start end : ℕ) (body : Tree) where
-  -- promotion obeys the law if the body may appear in a `Loop1CharBody`
+  -- promotion keeps it if the body may appear in a `Loop1CharBody`
   pub promoted_keeps : ((n : ℕ) → IsAllowed n body inside → IsAllowed n body one_character) → IsPart (wrapped (loop q start end) body) →
       Keeps d (wrapped (loop q start end) body) (wrapped (loop_one q) body)
   promoted_keeps occurs part =
@@ -34,20 +33,3 @@ module _ (d : Direction) (q : Quantifier) (start end : ℕ) (body : Tree) where
         account = omega arith;
         brackets = λ lacks. lacks;
       }
-
-  promotes_lawful : (action : PassAction) (left : Tree) → IsPart (wrapped (loop q start end) body) → Promotes action q body left →
-      ObeysLaw is_promoted_away true d (wrapped (loop q start end) body) (wrapped (loop q start end) left) action
-  promotes_lawful Keep left part promotes =
-      rw promotes.1 (keep_lawful is_promoted_away true d (wrapped (loop q start end) body) promotes.0)
-  promotes_lawful Modified left part none = absurd none
-  promotes_lawful Remove left part none = absurd none
-  promotes_lawful (Replace node) left part promotes =
-      replace_lawful is_promoted_away true d (wrapped (loop q start end) body) promotes.0 (wrapped (loop q start end) left) node
-      (rw promotes.1 (promoted_keeps (λ n. IsAllowed-one_character n n body inside promotes.0) part))
-      (rw promotes.1 (IsLess-lighter (wrapped (loop_one q) body) (wrapped (loop q start end) body) (omega arith) (omega arith)))
-
-  pub promote_lawful : (r : Result PassAction AllocError) (left : Tree) → IsPart (wrapped (loop q start end) body) →
-      IfOk r (λ action. Promotes action q body left) →
-      IfOk r (ObeysLaw is_promoted_away true d (wrapped (loop q start end) body) (wrapped (loop q start end) left))
-  promote_lawful (Ok action) left part promotes = promotes_lawful action left part promotes
-  promote_lawful (Err e) left part promotes = tt

@@ -1,4 +1,4 @@
--- Unrolling obeys the law, and makes the tree less.
+-- Unrolling keeps what the law requires, and makes the tree less.
 use Rattle.std.proofs.Common.{◌≡◌, ℕ, zero, suc, ◌+◌, ◌-◌, ◌*◌, ◌≤◌, Bool, true, false, ◌||◌, inl, inr, List, [], ◌∷◌, ◌++◌, length, Option, Some, None, refl, sym, ap, ap₂, ◌∙◌, append-nil, flat_map, mul-le-mul, arith}
 use Rattle.std.specs.Prelude.{encode_utf8_all}
 use Rattle.std.specs.Option.{option_eq}
@@ -26,10 +26,10 @@ use Rattle.regress_tree.proofs.lemmas.Measures.{total-append, total-copies, loop
 use Rattle.regress_tree.proofs.lemmas.Outcomes.{flat_map-stay}
 use Rattle.regress_tree.proofs.lemmas.Positions.{last_of-free}
 use Rattle.regress_tree.proofs.lemmas.Lists.{append_trees-none, steps-append, captures-append, trees-append, PartsAllowed-append}
-use Rattle.regress_rewrite.specs.declared.rewrite.PassAction.TheVariants.{Modified}
+use Rattle.regress_rewrite.specs.declared.action.PassAction.TheVariants.{Modified}
 use Rattle.regress_rewrite.specs.Law.{IsPart, Keeps, ObeysLaw}
-use Rattle.regress_rewrite.specs.Unroll.{further_iterations, further_loop, unrolled, unrolled_loop}
-use Rattle.regress_rewrite.proofs.LawfulLemmas.{modified_lawful}
+use Rattle.regress_rewrite.specs.Unroll.{further_iterations, further_loop, unrolled}
+use Rattle.regress_rewrite.proofs.lemmas.Lawful.{modified_lawful}
 
 -- The iterations that may follow the minimum.
 
@@ -192,34 +192,8 @@ module _ (q : Quantifier) (start end : ℕ) (body : Tree) where
     pub unrolled_less : IsLess (unrolled q start end body) (wrapped (loop q start end) body)
     unrolled_less = record { less = inl (omega (arith, loops-unrolled (loops-none body may.no_loop), one_loop)) }
 
-  -- The law.
-
-  pub unroll_lawful : (d : Direction) → IsPart (wrapped (loop q start end) body) → may_unroll q start end body ≡ true →
-      ObeysLaw is_unrolled_away true d (wrapped (loop q start end) body) (unrolled q start end body) Modified
-  unroll_lawful d part may =
-      let facts = MayUnroll-from q start end body may in
-      modified_lawful is_unrolled_away true d (wrapped (loop q start end) body) may (unrolled q start end body)
-      (unrolled_keeps facts d part) (unrolled_less facts)
-
   -- The node that the code makes: the copies, without a loop and with it.
 
   module _ (parts : List Node) (copied : trees parts ≡ copies q.min body) where
     pub unrolled-without : is_zero (further_iterations q).max ≡ true → cat (trees parts) ≡ unrolled q start end body
     unrolled-without none = rw none (ap cat copied ∙ ap cat (sym (append_trees-none (copies q.min body))))
-
-    pub unrolled-with : (further : Node) → tree further ≡ wrapped (loop (further_iterations q) start end) body →
-        is_zero (further_iterations q).max ≡ false → cat (trees (parts ++ further ∷ [])) ≡ unrolled q start end body
-    unrolled-with further is some =
-        rw some (ap cat (trees-append parts (further ∷ []) ∙ ap₂ (λ (ts : Trees) (t : Tree). append_trees ts (more_trees t no_trees)) copied is))
-
--- The same for any node.
-
-pub loop_lawful : (d : Direction) (t new : Tree) → IsPart t → is_unrolled_away t ≡ true → new ≡ unrolled_loop t →
-    ObeysLaw is_unrolled_away true d t new Modified
-loop_lawful d (leaf l) new part is made = absurd (false≢true is)
-loop_lawful d (cat parts) new part is made = absurd (false≢true is)
-loop_lawful d (alt left right) new part is made = absurd (false≢true is)
-loop_lawful d (wrapped (capture_group id name) body) new part is made = absurd (false≢true is)
-loop_lawful d (wrapped (loop q start end) body) new part is made = rw made (unroll_lawful q start end body d part is)
-loop_lawful d (wrapped (loop_one q) body) new part is made = absurd (false≢true is)
-loop_lawful d (wrapped (lookaround negate backwards start end) body) new part is made = absurd (false≢true is)

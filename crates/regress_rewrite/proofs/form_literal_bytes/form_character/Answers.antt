@@ -1,6 +1,6 @@
 use Rattle.std.proofs.Common.{◌++◌, ◌∙◌, ap}
 use Rattle.std.specs.Char.{encode_utf8}
-use Rattle.regress_rewrite.proofs.form.LeafLemmas.{encoded_lawful}
+use Rattle.regress_rewrite.proofs.LeafLemmas.{encoded_lawful}
 use Rattle.regress_rewrite.proofs.form_literal_bytes.form_character.Goals as goal
 
 pub returns-clause-lawful : goal.returns-clause-lawful

@@ -1,5 +1,5 @@
 use Rattle.std.proofs.Common.{◌∙◌, sym, ap, Vec, Global, ℕ, option_map}
-use Rattle.regress_rewrite.proofs.form.LeafLemmas.{set_lawful, no_set_lawful}
+use Rattle.regress_rewrite.proofs.LeafLemmas.{set_lawful, no_set_lawful}
 use Rattle.regress_rewrite.proofs.form_literal_bytes.form_set.Goals as goal
 
 pub returns-in-Some-clause-lawful : goal.returns-in-Some-clause-lawful

@@ -8,7 +8,7 @@ use Rattle.regress_tree.specs.Shapes.{is_simplified_away}
 use Rattle.regress_tree.specs.Tree.{Tree, tree, leaf, bracket}
 use Rattle.regress_tree.proofs.lemmas.Nodes.{tree-Bracket}
 use Rattle.regress_rewrite.specs.Law.{IsPart}
-use Rattle.regress_rewrite.proofs.LawfulLemmas.{lawful_as}
+use Rattle.regress_rewrite.proofs.lemmas.Lawful.{lawful_as}
 use Rattle.regress_rewrite.proofs.SimplifyLemmas.{simplify_lawful, simplify_leaf}
 use Rattle.regress_rewrite.proofs.simplify_brackets.simplify_brackets.Goals as goal
 

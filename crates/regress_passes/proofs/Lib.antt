@@ -1,0 +1,15 @@
+mod ChangesLemmas
+mod SweepLemmas
+mod PartsLemmas
+mod SpineLemmas
+mod PassesLemmas
+mod TakenLemmas
+mod EmptiesLemmas
+mod FailsLemmas
+mod FlattenLemmas
+mod PromoteLemmas
+mod ChargeLemmas
+mod UnrollLemmas
+mod PartLemmas
+mod HalvesLemmas
+mod NeighbourLemmas

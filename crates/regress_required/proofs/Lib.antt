@@ -1,2 +1,0 @@
-pub mod lemmas
-mod RequiredLemmas

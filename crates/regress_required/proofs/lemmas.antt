@@ -1,2 +1,0 @@
--- Lemmas on the definitions of this crate that the crates above may cite.
-pub mod Required

@@ -1,4 +1,0 @@
-pub mod HalvesLemmas
-pub mod LeafLemmas
-pub mod PartLemmas
-pub mod NeighbourLemmas
