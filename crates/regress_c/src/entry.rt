@@ -32,9 +32,11 @@ pub extern "C" fn regress_front_parse_code_points(
     ensures status { EncodingResult (IsRequest pattern.now flags optimize) (setting_by flags) pattern.now (optimize == 1)
         words.old result needed.new kind.new position.new words.new }
 {
-    write_encoding(
-        alloc, pattern, flags, optimize, words, needed, kind, position,
-    )
+    let reply = write_encoding(alloc, pattern, flags, optimize, words);
+    *needed = reply.needed;
+    *kind = reply.kind;
+    *position = reply.position;
+    reply.status
 }
 
 /// As `regress_front_parse_code_points`, for a pattern in UTF-8. `position` counts code points here too.
@@ -55,9 +57,11 @@ pub extern "C" fn regress_front_parse_text(
     ensures status { EncodingResult (IsTextRequest pattern.now flags optimize) (setting_by flags) (chars pattern.now) (optimize == 1)
         words.old result needed.new kind.new position.new words.new }
 {
-    write_encoding_of_text(
-        alloc, pattern, flags, optimize, words, needed, kind, position,
-    )
+    let reply = write_encoding_of_text(alloc, pattern, flags, optimize, words);
+    *needed = reply.needed;
+    *kind = reply.kind;
+    *position = reply.position;
+    reply.status
 }
 
 /// Writes the text of the syntax error of a pattern in code points to `text`, in UTF-8, and its length in bytes to
@@ -80,7 +84,11 @@ pub extern "C" fn regress_front_tell_fault(
     ensures status { ErrorResult (IsRequest pattern.now flags 0) (setting_by flags) pattern.now
         text.old result needed.new kind.new position.new text.new }
 {
-    write_error(alloc, pattern, flags, text, needed, kind, position)
+    let reply = write_error(alloc, pattern, flags, text);
+    *needed = reply.needed;
+    *kind = reply.kind;
+    *position = reply.position;
+    reply.status
 }
 
 /// As `regress_front_tell_fault`, for a pattern in UTF-8. `position` counts code points here too.
@@ -100,5 +108,9 @@ pub extern "C" fn regress_front_tell_fault_of_text(
     ensures status { ErrorResult (IsTextRequest pattern.now flags 0) (setting_by flags) (chars pattern.now)
         text.old result needed.new kind.new position.new text.new }
 {
-    write_error_of_text(alloc, pattern, flags, text, needed, kind, position)
+    let reply = write_error_of_text(alloc, pattern, flags, text);
+    *needed = reply.needed;
+    *kind = reply.kind;
+    *position = reply.position;
+    reply.status
 }

@@ -26,7 +26,11 @@ pub extern "C" fn regress_differences(
     ensures status { DifferencesResult (IsTextRequest pattern.now flags 0) (setting_by flags) (chars pattern.now)
         differences.old result needed.new kind.new position.new differences.new }
 {
-    differing::write_differences_of_text(alloc, pattern, flags, differences, needed, kind, position)
+    let reply = differing::write_differences_of_text(alloc, pattern, flags, differences);
+    *needed = reply.needed;
+    *kind = reply.kind;
+    *position = reply.position;
+    reply.status
 }
 
 /// Writes the name of a kind of difference, in UTF-8. A zero follows if there is room.

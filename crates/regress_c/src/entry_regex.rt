@@ -15,7 +15,8 @@ use regress_capi::compiling::write_handle;
 use regress_capi::handle::Handle;
 use regress_capi::limits::Limits;
 use regress_capi::reasons::reason_number;
-use regress_capi::{searches, texts};
+use regress_capi::searches::{self, Searched};
+use regress_capi::texts;
 use std::alloc::Global;
 
 const ABI_VERSION: u32 = 3;
@@ -47,7 +48,10 @@ pub extern "C" fn regress_compile(
     ensures status { CompileResult (IsTextRequest pattern.now flags 0) (setting_by flags) pattern.now (limits_of limits.now)
         handle.old.value result kind.new position.new handle.new.value }
 {
-    write_handle(alloc, pattern, flags, limits, handle, kind, position)
+    let reply = write_handle(alloc, pattern, flags, limits, handle);
+    *kind = reply.kind;
+    *position = reply.position;
+    reply.status
 }
 
 /// Writes the start and the end of the leftmost match from the byte offset `from` on, and those of its groups.
@@ -75,7 +79,7 @@ pub extern "C" fn regress_find(
         spans.old result needed.new spans.new) }
 {
     let regex = handle.take(alloc);
-    let status = searches::write_first(alloc, &regex, text, from, spans, needed);
+    let status = searches::write_first(alloc, &regex, Searched { text, from }, spans, needed);
     *handle = Handle::of(regex);
     status
 }
@@ -103,7 +107,7 @@ pub extern "C" fn regress_find_all(
         (AreEndsOfAll text.now (outcomes_of regex text.now) from) ⊥ spans.old result needed.new spans.new) }
 {
     let regex = handle.take(alloc);
-    let status = searches::write_all(alloc, &regex, text, from, spans, needed);
+    let status = searches::write_all(alloc, &regex, Searched { text, from }, spans, needed);
     *handle = Handle::of(regex);
     status
 }

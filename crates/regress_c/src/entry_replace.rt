@@ -4,8 +4,9 @@ ghost use Rattle.regress_capi.specs.EscapeResults.{EscapeResult};
 ghost use Rattle.regress_capi.specs.ReplaceResults.{HasAllReplaced, HasFirstReplaced};
 ghost use Rattle.regress_capi.specs.SearchResults.{SearchResult};
 
+use regress_capi::escaping;
 use regress_capi::handle::Handle;
-use regress_capi::{escaping, replacing};
+use regress_capi::replacing::{self, Replaced};
 use std::alloc::Global;
 
 /// Writes the text with its leftmost match replaced by the expansion of a template, and the text if there is none.
@@ -32,7 +33,13 @@ pub extern "C" fn regress_replace(
         (HasFirstReplaced regex text.now template.now) ⊥ out.old result needed.new out.new) }
 {
     let regex = handle.take(alloc);
-    let status = replacing::write_first_replaced(alloc, &regex, text, template, out, needed);
+    let status = replacing::write_first_replaced(
+        alloc,
+        &regex,
+        Replaced { text, template },
+        out,
+        needed,
+    );
     *handle = Handle::of(regex);
     status
 }
@@ -59,7 +66,13 @@ pub extern "C" fn regress_replace_all(
         (HasAllReplaced regex text.now template.now) ⊥ out.old result needed.new out.new) }
 {
     let regex = handle.take(alloc);
-    let status = replacing::write_all_replaced(alloc, &regex, text, template, out, needed);
+    let status = replacing::write_all_replaced(
+        alloc,
+        &regex,
+        Replaced { text, template },
+        out,
+        needed,
+    );
     *handle = Handle::of(regex);
     status
 }

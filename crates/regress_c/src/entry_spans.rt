@@ -31,17 +31,12 @@ pub extern "C" fn regress_front_parse_code_points_with_spans(
     ensures status { SpannedResult (IsRequest pattern.now flags 0) (setting_by flags) pattern.now words.old spans.old
         result needed.new spans_needed.new kind.new position.new words.new spans.new }
 {
-    write_encoding_with_spans(
-        alloc,
-        pattern,
-        flags,
-        words,
-        needed,
-        spans,
-        spans_needed,
-        kind,
-        position,
-    )
+    let report = write_encoding_with_spans(alloc, pattern, flags, words, spans);
+    *needed = report.reply.needed;
+    *spans_needed = report.spans_needed;
+    *kind = report.reply.kind;
+    *position = report.reply.position;
+    report.reply.status
 }
 
 /// As `regress_front_parse_code_points_with_spans`, for a pattern in UTF-8. Spans and `position` count code points here
@@ -64,15 +59,10 @@ pub extern "C" fn regress_front_parse_text_with_spans(
     ensures status { SpannedResult (IsTextRequest pattern.now flags 0) (setting_by flags) (chars pattern.now) words.old spans.old
         result needed.new spans_needed.new kind.new position.new words.new spans.new }
 {
-    write_encoding_of_text_with_spans(
-        alloc,
-        pattern,
-        flags,
-        words,
-        needed,
-        spans,
-        spans_needed,
-        kind,
-        position,
-    )
+    let report = write_encoding_of_text_with_spans(alloc, pattern, flags, words, spans);
+    *needed = report.reply.needed;
+    *spans_needed = report.spans_needed;
+    *kind = report.reply.kind;
+    *position = report.reply.position;
+    report.reply.status
 }

@@ -1,5 +1,5 @@
 -- The result of compiling a pattern, from what it computed.
-use Rattle.std.proofs.Common.{◌≡◌, ℕ, List, Option, chars, sym, subst}
+use Rattle.std.proofs.Common.{◌≡◌, ℕ, List, Option, chars, refl, sym, subst}
 use Rattle.std.specs.Prelude.{Some}
 use Rattle.regress_front.specs.Setting.{Setting}
 use Rattle.regress_lexer.specs.FaultKinds.{number_of}
@@ -17,12 +17,12 @@ module _ {Asked : Type 0} {setting : Setting} {text : List ℕ} {options : Optio
   compile-ok new regex is made =
       subst (λ v. CompileResult Asked setting text options old 0 0 0 v) (sym made) (compiled asked (subst (λ t. IsCompiledWithin setting t options regex) same is))
 
-  pub compile-rejected : (kind : FaultKind) (message : List ℕ) (number position : ℕ) → IsSyntaxError setting (chars pattern) kind message position →
-      number ≡ number_of kind → CompileResult Asked setting text options old 5 number position old
-  compile-rejected kind message number position error numbered =
+  pub compile-rejected : (kind : FaultKind) (message : List ℕ) (position : ℕ) → IsSyntaxError setting (chars pattern) kind message position →
+      CompileResult Asked setting text options old 5 (number_of kind) position old
+  compile-rejected kind message position error =
       rejected asked (subst (λ t. NoneIsAccepted setting (chars t)) same error.rejected) (record {
         kind = kind;
-        numbered = numbered;
+        numbered = refl;
         reported = subst (λ t. IsReported setting (chars t) kind position) same error.reported;
       })
 

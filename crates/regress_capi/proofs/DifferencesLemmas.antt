@@ -1,11 +1,14 @@
 -- The result of reporting differences, from what it computed.
-use Rattle.std.proofs.Common.{◌≡◌, ◌++◌, ◌<◌, ℕ, List, [], drop, length, true, sym, ap, ◌∙◌, subst}
-use Rattle.std.specs.Prelude.{IfOk, Result, Ok, Err}
+use Rattle.std.proofs.Common.{◌≡◌, ◌++◌, ◌<◌, ℕ, List, [], Bool, drop, length, true, false, refl, sym, ap, ◌∙◌, subst}
+use Rattle.std.specs.Prelude.{IfOk, MatchBool, Result, Ok, Err}
 use Rattle.regress_tree.specs.Setting.{Setting}
 use Rattle.regress_lexer.specs.Source.{Source}
 use Rattle.regress_syntax.specs.Syntax.{Pattern}
-use Rattle.regress_parse.specs.Accepted.{IsAccepted, OfAccepted}
+use Rattle.regress_parse.specs.Accepted.{IsAccepted, NoneIsAccepted, OfAccepted}
+use Rattle.regress_parse.specs.Fault.{RejectedOnlyIf, ReportsKindAt, unplaced}
+use Rattle.regress_parse.specs.Settled.{IsReported}
 use Rattle.regress_parse.specs.declared.fault.PlacedFault.{PlacedFault}
+use Rattle.regress_parse.specs.declared.fault.PlacedFault.TheVariants.{Syntax, Memory}
 use Rattle.regress_spans.specs.Paired.{spanned_of}
 use Rattle.regress_ecma.specs.Compared.{IsComparable}
 use Rattle.regress_ecma.specs.Differences.{HasCaseDataOfUnicode}
@@ -13,6 +16,7 @@ use Rattle.regress_differences.specs.CaseMode.{flags_somewhere}
 use Rattle.regress_differences.specs.Reported.{reported}
 use Rattle.regress_differences.specs.declared.kind.Difference.{Difference}
 use Rattle.regress_capi.specs.DifferencesResults.{AreDifferences, AreNumbered, DifferencesResult, differences_written, differences_out_of_memory, differences_little, differences_bad, differences_rejected}
+use Rattle.regress_capi.specs.Replies.{of_fault, of_items}
 use Rattle.regress_capi.specs.declared.differing.NumberedDifference.{NumberedDifference}
 
 module _ (setting : Setting) (source : Source) where
@@ -29,18 +33,22 @@ module _ (setting : Setting) (source : Source) where
 
 module _ {setting : Setting} {source : Source} where
   -- the differences written are those that are computed
-  pub differences-written : {old new : List NumberedDifference} {needed : ℕ} (items handed : List NumberedDifference) →
-      AreNumbered setting source items → needed ≡ length items → handed ≡ items → new ≡ handed ++ drop (length handed) old →
-      DifferencesResult (Unit {0}) setting source old 0 needed 0 0 new
-  differences-written {old = old} items handed are count same put =
+  pub differences-given : {old new : List NumberedDifference} {needed : ℕ} (fits : Bool) (items handed : List NumberedDifference) →
+      AreNumbered setting source items → needed ≡ length items → handed ≡ items →
+      MatchBool fits (new ≡ handed ++ drop (length handed) old) ((new ≡ old) × (length old < length handed)) →
+      DifferencesResult (Unit {0}) setting source old (of_items fits needed).status needed 0 0 new
+  differences-given {old = old} true items handed are count same put =
       differences_written tt (items, are, count, put ∙ ap (λ xs. xs ++ drop (length xs) old) same)
+  differences-given {old = old} {needed = needed} false items handed are count same left =
+      subst (λ buffer. DifferencesResult (Unit {0}) setting source old 3 needed 0 0 buffer) (sym left.0)
+      (differences_little tt (items, are, count, subst (λ xs. length old < length xs) same left.1))
 
-  pub differences-little : {old new : List NumberedDifference} {needed : ℕ} (items handed : List NumberedDifference) →
-      AreNumbered setting source items → needed ≡ length items → handed ≡ items → new ≡ old → length old < length handed →
-      DifferencesResult (Unit {0}) setting source old 3 needed 0 0 new
-  differences-little {old = old} {needed = needed} items handed are count same left less =
-      subst (λ buffer. DifferencesResult (Unit {0}) setting source old 3 needed 0 0 buffer) (sym left)
-      (differences_little tt (items, are, count, subst (λ xs. length old < length xs) same less))
+  pub differences-fault : (X : Type 0) {old : List NumberedDifference} (fault : PlacedFault) →
+      RejectedOnlyIf (unplaced {X = X} (Err fault)) (NoneIsAccepted setting source) → ReportsKindAt {X = X} (Err fault) (IsReported setting source) →
+      DifferencesResult (Unit {0}) setting source old (of_fault 5 fault).status (of_fault 5 fault).needed (of_fault 5 fault).kind
+      (of_fault 5 fault).position old
+  differences-fault X (Syntax kind error position) none is = differences_rejected tt none (record { kind = kind; numbered = refl; reported = is })
+  differences-fault X (Memory e) none is = differences_out_of_memory tt
 
   -- of a pattern whose arguments are valid
   pub differences-asked : {A : Type 0} {old new : List NumberedDifference} {status needed kind position : ℕ} → A →

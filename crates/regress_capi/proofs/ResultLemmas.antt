@@ -1,12 +1,16 @@
 -- The result of a call, from what it computed.
-use Rattle.std.proofs.Common.{◌≡◌, ◌++◌, ◌<◌, ℕ, List, Bool, false, drop, length, refl, sym, ap, ◌∙◌, subst}
+use Rattle.std.proofs.Common.{◌≡◌, ◌++◌, ◌<◌, ℕ, List, Bool, true, false, drop, length, refl, sym, ap, ◌∙◌, subst}
+use Rattle.std.specs.Prelude.{Err, MatchBool}
 use Rattle.regress_tree.specs.Setting.{Setting}
 use Rattle.regress_lexer.specs.Source.{Source}
 use Rattle.regress_lexer.specs.declared.fault.FaultKind.{FaultKind}
 use Rattle.regress_parse.specs.Accepted.{NoneIsAccepted}
-use Rattle.regress_parse.specs.Fault.{text_of}
+use Rattle.regress_parse.specs.Fault.{RejectedOnlyIf, ReportsKindAt, text_of, unplaced}
 use Rattle.regress_parse.specs.Settled.{IsReported}
+use Rattle.regress_parse.specs.declared.fault.PlacedFault.{PlacedFault}
+use Rattle.regress_parse.specs.declared.fault.PlacedFault.TheVariants.{Syntax, Memory}
 use Rattle.regress_lexer.specs.FaultKinds.{number_of}
+use Rattle.regress_capi.specs.Replies.{of_fault, of_items, of_text}
 use Rattle.regress_capi.specs.Results.{AreWords}
 use Rattle.regress_capi.specs.EncodingResults.{EncodingResult, written, rejected}
 use Rattle.regress_capi.specs.EncodingResults as words
@@ -15,35 +19,36 @@ use Rattle.regress_capi.specs.ErrorResults as faults
 
 module _ {Asked : Type 0} {setting : Setting} {source : Source} where
   -- the words written are the words computed
-  pub words-written : {optimized : Bool} {old new : List ℕ} {needed : ℕ} (items handed : List ℕ) → Asked →
-      AreWords setting source optimized items → needed ≡ length items → handed ≡ items → new ≡ handed ++ drop (length handed) old →
-      EncodingResult Asked setting source optimized old 0 needed 0 0 new
-  words-written {old = old} items handed asked are count same put =
+  pub words-given : {optimized : Bool} {old new : List ℕ} {needed : ℕ} (fits : Bool) (items handed : List ℕ) → Asked →
+      AreWords setting source optimized items → needed ≡ length items → handed ≡ items →
+      MatchBool fits (new ≡ handed ++ drop (length handed) old) ((new ≡ old) × (length old < length handed)) →
+      EncodingResult Asked setting source optimized old (of_items fits needed).status needed 0 0 new
+  words-given {old = old} true items handed asked are count same put =
       written asked (items, are, count, put ∙ ap (λ xs. xs ++ drop (length xs) old) same)
+  words-given {optimized = optimized} {old = old} {needed = needed} false items handed asked are count same left =
+      subst (λ buffer. EncodingResult Asked setting source optimized old 3 needed 0 0 buffer) (sym left.0)
+      (words.little asked (items, are, count, subst (λ xs. length old < length xs) same left.1))
 
-  pub words-little : {optimized : Bool} {old new : List ℕ} {needed : ℕ} (items handed : List ℕ) → Asked →
-      AreWords setting source optimized items → needed ≡ length items → handed ≡ items → new ≡ old → length old < length handed →
-      EncodingResult Asked setting source optimized old 3 needed 0 0 new
-  words-little {optimized = optimized} {old = old} {needed = needed} items handed asked are count same left less =
-      subst (λ buffer. EncodingResult Asked setting source optimized old 3 needed 0 0 buffer) (sym left)
-      (words.little asked (items, are, count, subst (λ xs. length old < length xs) same less))
+  pub words-fault : (X : Type 0) {optimized : Bool} {old : List ℕ} (fault : PlacedFault) → Asked →
+      RejectedOnlyIf (unplaced {X = X} (Err fault)) (NoneIsAccepted setting source) → ReportsKindAt {X = X} (Err fault) (IsReported setting source) →
+      EncodingResult Asked setting source optimized old (of_fault 1 fault).status (of_fault 1 fault).needed (of_fault 1 fault).kind
+      (of_fault 1 fault).position old
+  words-fault X (Syntax kind error position) asked none is = rejected asked none (record { kind = kind; numbered = refl; reported = is })
+  words-fault X (Memory e) asked none is = words.out_of_memory asked
 
   -- an accepted pattern has no syntax error
   pub no-fault : {old : List ℕ} (items : List ℕ) → Asked → AreWords setting source false items → ErrorResult Asked setting source old 0 0 0 0 old
   no-fault items asked are = faultless are.1.pattern asked are.1.accepted
 
-  pub fault-reported : {old new : List ℕ} (kind : FaultKind) (number position : ℕ) (text handed : List ℕ) → Asked →
-      NoneIsAccepted setting source → number ≡ number_of kind → IsReported setting source kind position → text ≡ text_of kind →
-      handed ≡ text → new ≡ handed ++ drop (length handed) old → ErrorResult Asked setting source old 1 (length handed) number position new
-  fault-reported kind number position text handed asked none numbered is says same put =
-      reported asked none (handed, (record { kind = kind; numbered = numbered; reported = is }, same ∙ says), refl, put)
-
-  pub fault-little : {old new : List ℕ} (kind : FaultKind) (number position : ℕ) (text handed : List ℕ) → Asked →
-      NoneIsAccepted setting source → number ≡ number_of kind → IsReported setting source kind position → text ≡ text_of kind →
-      handed ≡ text → new ≡ old → length old < length handed → ErrorResult Asked setting source old 3 (length handed) number position new
-  fault-little {old = old} kind number position text handed asked none numbered is says same left less =
-      subst (λ buffer. ErrorResult Asked setting source old 3 (length handed) number position buffer) (sym left)
-      (faults.little asked none (handed, (record { kind = kind; numbered = numbered; reported = is }, same ∙ says), refl, less))
+  pub fault-given : {old new : List ℕ} (fits : Bool) (kind : FaultKind) (position : ℕ) (text handed : List ℕ) → Asked →
+      NoneIsAccepted setting source → IsReported setting source kind position → text ≡ text_of kind → handed ≡ text →
+      MatchBool fits (new ≡ handed ++ drop (length handed) old) ((new ≡ old) × (length old < length handed)) →
+      ErrorResult Asked setting source old (of_text fits (length handed) (number_of kind) position).status (length handed) (number_of kind) position new
+  fault-given true kind position text handed asked none is says same put =
+      reported asked none (handed, (record { kind = kind; numbered = refl; reported = is }, same ∙ says), refl, put)
+  fault-given {old = old} false kind position text handed asked none is says same left =
+      subst (λ buffer. ErrorResult Asked setting source old 3 (length handed) (number_of kind) position buffer) (sym left.0)
+      (faults.little asked none (handed, (record { kind = kind; numbered = refl; reported = is }, same ∙ says), refl, left.1))
 
 -- -- of a text
 

@@ -1,18 +1,22 @@
 -- The result of parsing with spans, from what it computed.
-use Rattle.std.proofs.Common.{◌≡◌, ◌<◌, ℕ, List, length, sym, ap, subst}
-use Rattle.std.specs.Prelude.{◌⊎◌, IfOk, Result, Ok, Err, zip}
+use Rattle.std.proofs.Common.{◌≡◌, ◌++◌, ◌<◌, ℕ, Bool, true, false, List, drop, length, refl, sym, ap, subst}
+use Rattle.std.specs.Prelude.{◌⊎◌, IfOk, MatchBool, Result, Ok, Err, zip}
 use Rattle.regress_tree.specs.Setting.{Setting}
 use Rattle.regress_tree.specs.Tree.{Tree}
 use Rattle.regress_tree.specs.Visits.{nodes}
 use Rattle.regress_tree.specs.WellFormed.{captures}
 use Rattle.regress_lexer.specs.Source.{Source}
 use Rattle.regress_syntax.specs.Syntax.{Pattern}
-use Rattle.regress_parse.specs.Accepted.{IsAccepted, Means, OfAccepted}
+use Rattle.regress_parse.specs.Accepted.{IsAccepted, Means, NoneIsAccepted, OfAccepted}
+use Rattle.regress_parse.specs.Fault.{RejectedOnlyIf, ReportsKindAt, unplaced}
+use Rattle.regress_parse.specs.Settled.{IsReported}
 use Rattle.regress_parse.specs.TreeOf.{tree_of}
 use Rattle.regress_parse.specs.Spans.{spans_of}
 use Rattle.regress_parse.specs.declared.fault.PlacedFault.{PlacedFault}
+use Rattle.regress_parse.specs.declared.fault.PlacedFault.TheVariants.{Syntax, Memory}
 use Rattle.regress_parse.specs.declared.span.Span.{Span}
 use Rattle.regress_spans.specs.Paired.{postorder, spanned_of}
+use Rattle.regress_capi.specs.Replies.{of_fault, of_items}
 use Rattle.regress_capi.specs.SpannedResults.{ArePlaced, AreSpannedWords, SpannedResult, spanned_written, spanned_rejected, spanned_out_of_memory, spanned_little, spanned_bad}
 use Rattle.regress_capi.specs.declared.spanning.NodeSpan.{NodeSpan}
 
@@ -52,12 +56,22 @@ module _ {setting : Setting} {source : Source} {A : Type 0} {old_words : List �
   spanned-asked asked (spanned_little u wants) = spanned_little asked wants
   spanned-asked asked (spanned_bad none) = absurd (none tt)
 
-  -- a buffer is too small, and both are unchanged
-  pub spanned-little : {words : List ℕ} {spans : List NodeSpan} {needed spans_needed : ℕ} (xs : List ℕ) (ys : List NodeSpan) → A →
-      AreSpannedWords setting source xs ys → needed ≡ length xs → spans_needed ≡ length ys → words ≡ old_words → spans ≡ old_spans →
-      ((length old_words < length xs) ⊎ (length old_spans < length ys)) →
-      SpannedResult A setting source old_words old_spans 3 needed spans_needed 0 0 words spans
-  spanned-little {words} {spans} {needed} {spans_needed} xs ys asked are count spans_count same same_spans less =
-      subst (λ ws. SpannedResult A setting source old_words old_spans 3 needed spans_needed 0 0 ws spans) (sym same)
-      (subst (λ ss. SpannedResult A setting source old_words old_spans 3 needed spans_needed 0 0 old_words ss) (sym same_spans)
-      (spanned_little asked (xs, ys, are, count, spans_count, less)))
+  -- the words and spans written are those that are computed
+  pub spanned-given : {words : List ℕ} {spans : List NodeSpan} {needed spans_needed : ℕ} (fit : Bool) (xs : List ℕ) (ys : List NodeSpan) → A →
+      AreSpannedWords setting source xs ys → needed ≡ length xs → spans_needed ≡ length ys →
+      MatchBool fit ((words ≡ xs ++ drop (length xs) old_words) × (spans ≡ ys ++ drop (length ys) old_spans))
+      ((words ≡ old_words) × (spans ≡ old_spans) × ((length old_words < length xs) ⊎ (length old_spans < length ys))) →
+      SpannedResult A setting source old_words old_spans (of_items fit needed).status needed spans_needed 0 0 words spans
+  spanned-given true xs ys asked are count spans_count put = spanned_written asked (xs, ys, are, count, spans_count, put.0, put.1)
+  spanned-given {words} {spans} {needed} {spans_needed} false xs ys asked are count spans_count left =
+      subst (λ ws. SpannedResult A setting source old_words old_spans 3 needed spans_needed 0 0 ws spans) (sym left.0)
+      (subst (λ ss. SpannedResult A setting source old_words old_spans 3 needed spans_needed 0 0 old_words ss) (sym left.1)
+      (spanned_little asked (xs, ys, are, count, spans_count, left.2)))
+
+  pub spanned-fault : (X : Type 0) (fault : PlacedFault) → A → RejectedOnlyIf (unplaced {X = X} (Err fault)) (NoneIsAccepted setting source) →
+      ReportsKindAt {X = X} (Err fault) (IsReported setting source) →
+      SpannedResult A setting source old_words old_spans (of_fault 1 fault).status (of_fault 1 fault).needed 0 (of_fault 1 fault).kind
+      (of_fault 1 fault).position old_words old_spans
+  spanned-fault X (Syntax kind error position) asked none is =
+      spanned_rejected asked none (record { kind = kind; numbered = refl; reported = is })
+  spanned-fault X (Memory e) asked none is = spanned_out_of_memory asked

@@ -1,4 +1,5 @@
 pub mod Request
+pub mod Replies
 pub mod Results
 pub mod EncodingResults
 pub mod ErrorResults

@@ -6,6 +6,7 @@ ghost use Rattle.regress_capi.specs.Request.{setting_by, IsTextRequest};
 
 use super::handle::Handle;
 use super::limits::Limits;
+use super::reply::Reply;
 use super::request::{are_options, make_tables, parse_flags};
 use super::results::{BAD_INPUT, MEMORY, OK};
 use regress::{Error, Options, Regex};
@@ -16,8 +17,8 @@ pub(crate) const SYNTAX: u32 = 5;
 
 const TOO_LARGE: u32 = 6;
 
-/// Compiles a pattern within the limits that a caller passes, and writes its handle, or the kind and the position of its
-/// syntax error. Returns the status.
+/// Compiles a pattern within the limits that a caller passes, and writes its handle. Returns the kind and the position of
+/// its syntax error, if it has one.
 ///
 /// # Errors
 /// The status is 2 if an allocation failed, 4 if the arguments are invalid, 5 if the pattern is rejected, and 6 if it may
@@ -28,63 +29,39 @@ pub fn write_handle(
     bits: u32,
     limits: &Limits,
     handle: &mut Handle,
-    kind: &mut u32,
-    position: &mut usize,
-) -> u32
+) -> Reply
     ensures status { CompileResult (IsTextRequest pattern.now bits 0) (setting_by bits) pattern.now (limits_of limits.now)
-        handle.old.value result kind.new position.new handle.new.value }
+        handle.old.value result.status result.kind result.position handle.new.value }
 {
-    write_compiled(
-        alloc,
-        pattern,
-        bits,
-        limits.options(),
-        handle,
-        kind,
-        position,
-    )
+    write_compiled(alloc, pattern, bits, limits.options(), handle)
 }
 
-/// Compiles a pattern, and writes its handle, or the kind and the position of its syntax error. Returns the status.
+/// Compiles a pattern, and writes its handle. Returns the kind and the position of its syntax error, if it has one.
 fn write_compiled(
     alloc: Global,
     pattern: &[u8],
     bits: u32,
     options: Options,
     handle: &mut Handle,
-    kind: &mut u32,
-    position: &mut usize,
-) -> u32
+) -> Reply
     ensures status { CompileResult (IsTextRequest pattern.now bits 0) (setting_by bits) pattern.now options
-        handle.old.value result kind.new position.new handle.new.value }
+        handle.old.value result.status result.kind result.position handle.new.value }
 {
-    *kind = 0;
-    *position = 0;
     if !are_options(bits, 0) {
-        return BAD_INPUT;
+        return Reply::bare(BAD_INPUT);
     }
     match str::from_utf8(pattern) {
         Ok(pattern) => match compile(alloc, pattern, bits, options) {
             Ok(regex) => {
                 *handle = Handle::of(regex);
-                OK
+                Reply::bare(OK)
             }
-            Err(
-                Error::Syntax {
-                    kind: found,
-                    position: at,
-                    ..
-                },
-            ) => {
-                *kind = found.number();
-                *position = at;
-                SYNTAX
-            }
-            Err(Error::TooLarge) => TOO_LARGE,
+            Err(Error::Syntax { kind, position, .. }) => Reply::of_error(SYNTAX, &kind, position),
+            Err(Error::TooLarge) => Reply::bare(TOO_LARGE),
             Err(Error::Flags(_)) => unreachable!(),
-            Err(Error::Memory) => MEMORY,
+            Err(Error::Memory) => Reply::bare(MEMORY),
         },
-        Err(_) => BAD_INPUT,
+        Err(_) => Reply::bare(BAD_INPUT),
     }
 }
 

@@ -12,8 +12,9 @@ ghost use Rattle.regress_capi.specs.TextResults.{TextResult};
 
 use super::buffer::copy_to;
 use super::compiling::SYNTAX;
+use super::reply::Reply;
 use super::request::{make_tables, parse_flags, read_points};
-use super::results::{BAD_INPUT, MEMORY, OK, ROOM};
+use super::results::{BAD_INPUT, MEMORY};
 use super::texts::give_terminated;
 use regress_differences::{Difference, DifferenceKind, differences};
 use regress_front::parse::PlacedFault;
@@ -33,8 +34,7 @@ pub struct NumberedDifference {
     pub end: usize,
 }
 
-/// Writes the differences of a pattern in UTF-8 and their number, or the kind and the position of its syntax error.
-/// Returns the status.
+/// Writes the differences of a pattern in UTF-8. Returns their number, or the kind and the position of its syntax error.
 ///
 /// # Errors
 /// The status is 2 if an allocation failed, 3 if `buffer` is too small, 4 if the arguments are invalid, and 5 if the
@@ -44,58 +44,34 @@ pub fn write_differences_of_text(
     pattern: &[u8],
     bits: u32,
     buffer: &mut [NumberedDifference],
-    needed: &mut usize,
-    kind: &mut u32,
-    position: &mut usize,
-) -> u32
+) -> Reply
     ensures status { DifferencesResult (IsTextRequest pattern.now bits 0) (setting_by bits) (chars pattern.now)
-        buffer.old result needed.new kind.new position.new buffer.new }
+        buffer.old result.status result.needed result.kind result.position buffer.new }
 {
-    *needed = 0;
-    *kind = 0;
-    *position = 0;
     match read_points(alloc, pattern, bits, 0) {
-        Ok(Some(points)) => write_differences(alloc, &points, bits, buffer, needed, kind, position),
-        Ok(None) => BAD_INPUT,
-        Err(_) => MEMORY,
+        Ok(Some(points)) => write_differences(alloc, &points, bits, buffer),
+        Ok(None) => Reply::bare(BAD_INPUT),
+        Err(_) => Reply::bare(MEMORY),
     }
 }
 
-/// Writes the differences of a pattern and their number, or the kind and the position of its syntax error. Returns the
-/// status.
+/// Writes the differences of a pattern. Returns their number, or the kind and the position of its syntax error.
 fn write_differences(
     alloc: Global,
     pattern: &[u32],
     bits: u32,
     buffer: &mut [NumberedDifference],
-    needed: &mut usize,
-    kind: &mut u32,
-    position: &mut usize,
-) -> u32
+) -> Reply
     requires { All (λ c. c ≤ code_point_max) pattern.now }
     ensures status { DifferencesResult (Unit {0}) (setting_by bits) pattern.now
-        buffer.old result needed.new kind.new position.new buffer.new }
+        buffer.old result.status result.needed result.kind result.position buffer.new }
 {
-    *needed = 0;
-    *kind = 0;
-    *position = 0;
     match numbered_differences(alloc, pattern, bits) {
         Ok(items) => {
-            *needed = items.len();
-            if copy_to(&items, buffer) { OK } else { ROOM }
+            let fits = copy_to(&items, buffer);
+            Reply::of_items(fits, items.len())
         }
-        Err(
-            PlacedFault::Syntax {
-                kind: found,
-                position: at,
-                ..
-            },
-        ) => {
-            *kind = found.number();
-            *position = at;
-            SYNTAX
-        }
-        Err(PlacedFault::Memory(_)) => MEMORY,
+        Err(fault) => Reply::of_fault(SYNTAX, &fault),
     }
 }
 

@@ -12,9 +12,12 @@ pub mod limits;
 mod loose;
 pub mod reasons;
 pub mod replacing;
+mod reply;
 mod request;
 pub mod results;
 pub mod searches;
 pub mod spanning;
 pub mod texts;
 mod trees;
+
+pub use reply::Reply;

@@ -10,6 +10,13 @@ use super::texts::give_text;
 use regress::{Regex, SearchError};
 use std::alloc::Global;
 
+/// A text in which matches are replaced, and the template for them.
+#[derive(Clone, Copy)]
+pub struct Replaced<'a> {
+    pub text: &'a [u8],
+    pub template: &'a [u8],
+}
+
 /// Writes the text with its leftmost match replaced by the expansion of a template. Returns the status.
 ///
 /// # Errors
@@ -18,16 +25,15 @@ use std::alloc::Global;
 pub fn write_first_replaced(
     alloc: Global,
     regex: &Regex,
-    text: &[u8],
-    template: &[u8],
+    replaced: Replaced<'_>,
     out: &mut [u8],
     needed: &mut usize,
 ) -> u32
-    ensures status { SearchResult (IsUtf8 text.now × IsUtf8 template.now) (HasFirstReplaced regex.now text.now template.now) ⊥
-        out.old result needed.new out.new }
+    ensures status { SearchResult (IsUtf8 replaced.entry.text.now × IsUtf8 replaced.entry.template.now)
+        (HasFirstReplaced regex.now replaced.entry.text.now replaced.entry.template.now) ⊥ out.old result needed.new out.new }
 {
     *needed = 0;
-    match decode(text, template) {
+    match decode(replaced.text, replaced.template) {
         Some((text, template)) => report(regex.replace(alloc, text, template), out, needed),
         None => BAD_INPUT,
     }
@@ -40,16 +46,15 @@ pub fn write_first_replaced(
 pub fn write_all_replaced(
     alloc: Global,
     regex: &Regex,
-    text: &[u8],
-    template: &[u8],
+    replaced: Replaced<'_>,
     out: &mut [u8],
     needed: &mut usize,
 ) -> u32
-    ensures status { SearchResult (IsUtf8 text.now × IsUtf8 template.now) (HasAllReplaced regex.now text.now template.now) ⊥
-        out.old result needed.new out.new }
+    ensures status { SearchResult (IsUtf8 replaced.entry.text.now × IsUtf8 replaced.entry.template.now)
+        (HasAllReplaced regex.now replaced.entry.text.now replaced.entry.template.now) ⊥ out.old result needed.new out.new }
 {
     *needed = 0;
-    match decode(text, template) {
+    match decode(replaced.text, replaced.template) {
         Some((text, template)) => report(regex.replace_all(alloc, text, template), out, needed),
         None => BAD_INPUT,
     }

@@ -5,6 +5,7 @@ ghost use Rattle.regress_capi.specs.EncodingResults.{EncodingResult};
 ghost use Rattle.regress_capi.specs.ErrorResults.{ErrorResult};
 
 use super::buffer::copy_to;
+use super::reply::Reply;
 use super::request::{is_request, read_points};
 use super::trees::make_encoding;
 use regress_front::parse::PlacedFault;
@@ -20,8 +21,8 @@ pub(crate) const ROOM: u32 = 3;
 
 pub(crate) const BAD_INPUT: u32 = 4;
 
-/// Writes the encoding of a pattern's tree to `words` and its length to `needed`, or the number of the kind of the
-/// pattern's syntax error to `kind` and its code-point index to `position`. Returns the status.
+/// Writes the encoding of a pattern's tree to `words`. Returns its length, or the kind and the position of the pattern's
+/// syntax error.
 ///
 /// # Errors
 /// The status is 1 if the pattern is rejected, 2 if an allocation failed, 3 if `words` is too small, and 4 if the
@@ -32,40 +33,23 @@ pub fn write_encoding(
     bits: u32,
     choice: u32,
     words: &mut [u32],
-    needed: &mut usize,
-    kind: &mut u32,
-    position: &mut usize,
-) -> u32
+) -> Reply
     ensures status { EncodingResult (IsRequest pattern.now bits choice) (setting_by bits) pattern.now (choice == 1)
-        words.old result needed.new kind.new position.new words.new }
+        words.old result.status result.needed result.kind result.position words.new }
 {
-    *needed = 0;
-    *kind = 0;
-    *position = 0;
     if !is_request(pattern, bits, choice) {
-        return BAD_INPUT;
+        return Reply::bare(BAD_INPUT);
     }
     match make_encoding(alloc, pattern, bits, choice == 1) {
         Ok(items) => {
-            *needed = items.len();
-            if copy_to(&items, words) { OK } else { ROOM }
+            let fits = copy_to(&items, words);
+            Reply::of_items(fits, items.len())
         }
-        Err(
-            PlacedFault::Syntax {
-                kind: found,
-                position: at,
-                ..
-            },
-        ) => {
-            *kind = found.number();
-            *position = at;
-            FAULT
-        }
-        Err(PlacedFault::Memory(_)) => MEMORY,
+        Err(fault) => Reply::of_fault(FAULT, &fault),
     }
 }
 
-/// Writes the same for a pattern in UTF-8. Returns the status.
+/// Writes the same for a pattern in UTF-8.
 ///
 /// # Errors
 /// As `write_encoding`; a pattern that is not UTF-8 is an invalid argument.
@@ -75,90 +59,58 @@ pub fn write_encoding_of_text(
     bits: u32,
     choice: u32,
     words: &mut [u32],
-    needed: &mut usize,
-    kind: &mut u32,
-    position: &mut usize,
-) -> u32
+) -> Reply
     ensures status { EncodingResult (IsTextRequest pattern.now bits choice) (setting_by bits) (chars pattern.now) (choice == 1)
-        words.old result needed.new kind.new position.new words.new }
+        words.old result.status result.needed result.kind result.position words.new }
 {
-    *needed = 0;
-    *kind = 0;
-    *position = 0;
     match read_points(alloc, pattern, bits, choice) {
-        Ok(Some(points)) => write_encoding(
-            alloc, &points, bits, choice, words, needed, kind, position,
-        ),
-        Ok(None) => BAD_INPUT,
-        Err(_) => MEMORY,
+        Ok(Some(points)) => write_encoding(alloc, &points, bits, choice, words),
+        Ok(None) => Reply::bare(BAD_INPUT),
+        Err(_) => Reply::bare(MEMORY),
     }
 }
 
-/// Writes the text of a pattern's syntax error to `text`, its length in bytes to `needed`, the number of its kind to
-/// `kind`, and its code-point index to `position`; 0 if the pattern is accepted. Returns the status.
+/// Writes the text of a pattern's syntax error to `text`. Returns its length in bytes, its kind and its position, or no
+/// numbers if the pattern is accepted.
 ///
 /// # Errors
 /// The status is 1 if the pattern is rejected and the text is written, 2 if an allocation failed, 3 if it is rejected and
 /// `text` is too small, and 4 if the arguments are invalid.
-pub fn write_error(
-    alloc: Global,
-    pattern: &[u32],
-    bits: u32,
-    text: &mut [u8],
-    needed: &mut usize,
-    kind: &mut u32,
-    position: &mut usize,
-) -> u32
+pub fn write_error(alloc: Global, pattern: &[u32], bits: u32, text: &mut [u8]) -> Reply
     ensures status { ErrorResult (IsRequest pattern.now bits 0) (setting_by bits) pattern.now
-        text.old result needed.new kind.new position.new text.new }
+        text.old result.status result.needed result.kind result.position text.new }
 {
-    *needed = 0;
-    *kind = 0;
-    *position = 0;
     if !is_request(pattern, bits, 0) {
-        return BAD_INPUT;
+        return Reply::bare(BAD_INPUT);
     }
     match make_encoding(alloc, pattern, bits, false) {
-        Ok(_) => OK,
+        Ok(_) => Reply::bare(OK),
         Err(
             PlacedFault::Syntax {
-                kind: found,
+                kind,
                 error,
-                position: at,
+                position,
             },
         ) => {
             let bytes = error.text.as_bytes();
-            *needed = bytes.len();
-            *kind = found.number();
-            *position = at;
-            if copy_to(bytes, text) { FAULT } else { ROOM }
+            let fits = copy_to(bytes, text);
+            Reply::of_text(fits, bytes.len(), &kind, position)
         }
-        Err(PlacedFault::Memory(_)) => MEMORY,
+        Err(PlacedFault::Memory(_)) => Reply::bare(MEMORY),
     }
 }
 
-/// Writes the same for a pattern in UTF-8. Returns the status.
+/// Writes the same for a pattern in UTF-8.
 ///
 /// # Errors
 /// As `write_error`; a pattern that is not UTF-8 is an invalid argument.
-pub fn write_error_of_text(
-    alloc: Global,
-    pattern: &[u8],
-    bits: u32,
-    text: &mut [u8],
-    needed: &mut usize,
-    kind: &mut u32,
-    position: &mut usize,
-) -> u32
+pub fn write_error_of_text(alloc: Global, pattern: &[u8], bits: u32, text: &mut [u8]) -> Reply
     ensures status { ErrorResult (IsTextRequest pattern.now bits 0) (setting_by bits) (chars pattern.now)
-        text.old result needed.new kind.new position.new text.new }
+        text.old result.status result.needed result.kind result.position text.new }
 {
-    *needed = 0;
-    *kind = 0;
-    *position = 0;
     match read_points(alloc, pattern, bits, 0) {
-        Ok(Some(points)) => write_error(alloc, &points, bits, text, needed, kind, position),
-        Ok(None) => BAD_INPUT,
-        Err(_) => MEMORY,
+        Ok(Some(points)) => write_error(alloc, &points, bits, text),
+        Ok(None) => Reply::bare(BAD_INPUT),
+        Err(_) => Reply::bare(MEMORY),
     }
 }

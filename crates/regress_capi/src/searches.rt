@@ -18,6 +18,13 @@ const NO_MATCH: u32 = 1;
 
 const OUT_OF_STEPS: u32 = 7;
 
+/// A text, and the byte offset from which it is searched.
+#[derive(Clone, Copy)]
+pub struct Searched<'a> {
+    pub text: &'a [u8],
+    pub from: usize,
+}
+
 /// Writes the ends of the leftmost match from an offset on and of its groups. Returns the status.
 ///
 /// # Errors
@@ -26,17 +33,17 @@ const OUT_OF_STEPS: u32 = 7;
 pub fn write_first(
     alloc: Global,
     regex: &Regex,
-    text: &[u8],
-    from: usize,
+    searched: Searched<'_>,
     spans: &mut [usize],
     needed: &mut usize,
 ) -> u32
-    ensures status { SearchResult (IsUtf8 text.now) (AreEndsOfFirst text.now (outcomes_of regex.now text.now) from)
-        (Finds text.now (outcomes_of regex.now text.now) from None) spans.old result needed.new spans.new }
+    ensures status { SearchResult (IsUtf8 searched.entry.text.now)
+        (AreEndsOfFirst searched.entry.text.now (outcomes_of regex.now searched.entry.text.now) searched.entry.from)
+        (Finds searched.entry.text.now (outcomes_of regex.now searched.entry.text.now) searched.entry.from None) spans.old result needed.new spans.new }
 {
     *needed = 0;
-    match str::from_utf8(text) {
-        Ok(text) => report(first_ends(alloc, regex, text, from), spans, needed),
+    match str::from_utf8(searched.text) {
+        Ok(text) => report(first_ends(alloc, regex, text, searched.from), spans, needed),
         Err(_) => BAD_INPUT,
     }
 }
@@ -48,17 +55,17 @@ pub fn write_first(
 pub fn write_all(
     alloc: Global,
     regex: &Regex,
-    text: &[u8],
-    from: usize,
+    searched: Searched<'_>,
     spans: &mut [usize],
     needed: &mut usize,
 ) -> u32
-    ensures status { SearchResult (IsUtf8 text.now) (AreEndsOfAll text.now (outcomes_of regex.now text.now) from) ⊥
+    ensures status { SearchResult (IsUtf8 searched.entry.text.now)
+        (AreEndsOfAll searched.entry.text.now (outcomes_of regex.now searched.entry.text.now) searched.entry.from) ⊥
         spans.old result needed.new spans.new }
 {
     *needed = 0;
-    match str::from_utf8(text) {
-        Ok(text) => report(all_ends(alloc, regex, text, from), spans, needed),
+    match str::from_utf8(searched.text) {
+        Ok(text) => report(all_ends(alloc, regex, text, searched.from), spans, needed),
         Err(_) => BAD_INPUT,
     }
 }

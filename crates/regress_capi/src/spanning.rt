@@ -6,15 +6,17 @@ ghost use Rattle.regress_front.specs.Tree.{tree};
 ghost use Rattle.regress_front.specs.Accepted.{NoneIsAccepted};
 ghost use Rattle.regress_front.specs.Fault.{RejectedOnlyIf, ReportsKindAt, unplaced};
 ghost use Rattle.regress_front.specs.Settled.{IsReported};
+ghost use Rattle.regress_capi.specs.Replies.{bare};
 ghost use Rattle.regress_capi.specs.Request.{setting_by, IsRequest, IsTextRequest};
 ghost use Rattle.regress_capi.specs.SpannedResults.{ArePlaced, AreSpannedWords, SpannedResult, span_at};
 
+use super::reply::Reply;
 use super::request::{is_request, make_tables, parse_flags, read_points};
-use super::results::{BAD_INPUT, FAULT, MEMORY, OK, ROOM};
+use super::results::{BAD_INPUT, FAULT, MEMORY};
+use regress_encoding::{encode, postorder_numbers};
 use regress_front::parse::{PlacedFault, Span, SpannedRegex, try_parse_with_spans};
 use regress_front::types::Flags;
 use regress_front::unicode::Tables;
-use regress_encoding::{encode, postorder_numbers};
 use std::alloc::{AllocError, Global};
 
 /// The span of a node: a half-open range of code-point indices of the pattern.
@@ -25,6 +27,25 @@ pub struct NodeSpan {
     pub end: usize,
 }
 
+/// A reply, with the number of spans of the whole result.
+#[derive(Clone, Copy)]
+pub struct SpannedReply {
+    pub reply: Reply,
+    pub spans_needed: usize,
+}
+
+impl SpannedReply {
+    /// Returns a status without numbers.
+    fn bare(status: u32) -> SpannedReply
+        ensures { result ≡ record { reply = bare status; spans_needed = 0 } }
+    {
+        SpannedReply {
+            reply: Reply::bare(status),
+            spans_needed: 0,
+        }
+    }
+}
+
 /// The words of a tree, and the span of each node in the order of the words.
 #[derive(Drop)]
 pub(crate) struct SpannedWords {
@@ -32,8 +53,8 @@ pub(crate) struct SpannedWords {
     spans: Vec<NodeSpan>,
 }
 
-/// Writes the encoding of a pattern's tree to `words` and the spans of its nodes, in the order of the words, to `spans`,
-/// and their lengths; or the kind and the position of the pattern's syntax error. Returns the status.
+/// Writes the encoding of a pattern's tree to `words`, and the spans of its nodes, in the order of the words, to `spans`.
+/// Returns their lengths, or the kind and the position of the pattern's syntax error.
 ///
 /// # Errors
 /// The status is 1 if the pattern is rejected, 2 if an allocation failed, 3 if `words` or `spans` is too small, and 4 if
@@ -43,36 +64,18 @@ pub fn write_encoding_with_spans(
     pattern: &[u32],
     bits: u32,
     words: &mut [u32],
-    needed: &mut usize,
     spans: &mut [NodeSpan],
-    spans_needed: &mut usize,
-    kind: &mut u32,
-    position: &mut usize,
-) -> u32
+) -> SpannedReply
     ensures status { SpannedResult (IsRequest pattern.now bits 0) (setting_by bits) pattern.now words.old spans.old
-        result needed.new spans_needed.new kind.new position.new words.new spans.new }
+        result.reply.status result.reply.needed result.spans_needed result.reply.kind result.reply.position words.new spans.new }
 {
-    *needed = 0;
-    *spans_needed = 0;
-    *kind = 0;
-    *position = 0;
     if !is_request(pattern, bits, 0) {
-        return BAD_INPUT;
+        return SpannedReply::bare(BAD_INPUT);
     }
-    write_spanned(
-        alloc,
-        pattern,
-        bits,
-        words,
-        needed,
-        spans,
-        spans_needed,
-        kind,
-        position,
-    )
+    write_spanned(alloc, pattern, bits, words, spans)
 }
 
-/// Writes the same for a pattern in UTF-8. Returns the status.
+/// Writes the same for a pattern in UTF-8.
 ///
 /// # Errors
 /// As `write_encoding_with_spans`; a pattern that is not UTF-8 is an invalid argument.
@@ -81,79 +84,42 @@ pub fn write_encoding_of_text_with_spans(
     pattern: &[u8],
     bits: u32,
     words: &mut [u32],
-    needed: &mut usize,
     spans: &mut [NodeSpan],
-    spans_needed: &mut usize,
-    kind: &mut u32,
-    position: &mut usize,
-) -> u32
+) -> SpannedReply
     ensures status { SpannedResult (IsTextRequest pattern.now bits 0) (setting_by bits) (chars pattern.now) words.old spans.old
-        result needed.new spans_needed.new kind.new position.new words.new spans.new }
+        result.reply.status result.reply.needed result.spans_needed result.reply.kind result.reply.position words.new spans.new }
 {
-    *needed = 0;
-    *spans_needed = 0;
-    *kind = 0;
-    *position = 0;
     match read_points(alloc, pattern, bits, 0) {
-        Ok(Some(points)) => write_spanned(
-            alloc,
-            &points,
-            bits,
-            words,
-            needed,
-            spans,
-            spans_needed,
-            kind,
-            position,
-        ),
-        Ok(None) => BAD_INPUT,
-        Err(_) => MEMORY,
+        Ok(Some(points)) => write_spanned(alloc, &points, bits, words, spans),
+        Ok(None) => SpannedReply::bare(BAD_INPUT),
+        Err(_) => SpannedReply::bare(MEMORY),
     }
 }
 
-/// Writes the encoding of the tree of a pattern in code points and the spans of its nodes, or the kind and the position of
-/// its syntax error. Returns the status.
+/// Writes the encoding of the tree of a pattern in code points, and the spans of its nodes.
 fn write_spanned(
     alloc: Global,
     pattern: &[u32],
     bits: u32,
     words: &mut [u32],
-    needed: &mut usize,
     spans: &mut [NodeSpan],
-    spans_needed: &mut usize,
-    kind: &mut u32,
-    position: &mut usize,
-) -> u32
+) -> SpannedReply
     requires { All (λ c. c ≤ code_point_max) pattern.now }
     ensures status { SpannedResult (Unit {0}) (setting_by bits) pattern.now words.old spans.old
-        result needed.new spans_needed.new kind.new position.new words.new spans.new }
+        result.reply.status result.reply.needed result.spans_needed result.reply.kind result.reply.position words.new spans.new }
 {
-    *needed = 0;
-    *spans_needed = 0;
-    *kind = 0;
-    *position = 0;
     match spanned_words(alloc, pattern, bits) {
         Ok(found) => {
-            *needed = found.words.len();
-            *spans_needed = found.spans.len();
-            if copy_both(&found, words, spans) {
-                OK
-            } else {
-                ROOM
+            let fit = copy_both(&found, words, spans);
+            SpannedReply {
+                reply: Reply::of_items(fit, found.words.len()),
+                spans_needed: found.spans.len(),
             }
         }
-        Err(
-            PlacedFault::Syntax {
-                kind: found,
-                position: at,
-                ..
-            },
-        ) => {
-            *kind = found.number();
-            *position = at;
-            FAULT
-        }
-        Err(PlacedFault::Memory(_)) => MEMORY,
+        Err(fault) => SpannedReply {
+            reply: Reply::of_fault(FAULT, &fault),
+            spans_needed: 0,
+        },
     }
 }
 

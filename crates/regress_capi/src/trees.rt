@@ -11,12 +11,12 @@ ghost use Rattle.regress_capi.specs.Request.{setting_by};
 ghost use Rattle.regress_capi.specs.Results.{IsResult, AreWords};
 
 use super::request::{make_tables, parse_flags};
+use regress_encoding::encode;
 use regress_front::ir::Regex;
 use regress_front::optimizer::optimize;
 use regress_front::parse::{PlacedFault, try_parse_with_position};
 use regress_front::types::Flags;
 use regress_front::unicode::Tables;
-use regress_encoding::encode;
 use std::alloc::Global;
 
 /// Returns the encoding of the pattern's tree, as parsed or optimized.

@@ -13,13 +13,13 @@ returns-in-Ok-Some c =
       status =
           differences-asked read.0
           (subst
-          (λ source. DifferencesResult (Unit {0}) (setting_by c.args.bits) source c.args.buffer.now c.write_differences.result
-          c.write_differences.new.needed c.write_differences.new.kind c.write_differences.new.position c.write_differences.new.buffer)
+          (λ source. DifferencesResult (Unit {0}) (setting_by c.args.bits) source c.args.buffer.now c.write_differences.result.status
+          c.write_differences.result.needed c.write_differences.result.kind c.write_differences.result.position c.write_differences.new.buffer)
           same c.write_differences.ensures.status);
     }
 
 pub returns-in-Ok-None : goal.returns-in-Ok-None
-returns-in-Ok-None c = record { status = differences_bad (rw c.in-Ok-None.field-0-is at c.in-Ok-None.ensures.points) }
+returns-in-Ok-None c = record { status = rw c.bare.ensures (differences_bad (rw c.in-Ok-None.field-0-is at c.in-Ok-None.ensures.points)) }
 
 pub returns-in-Err : goal.returns-in-Err
-returns-in-Err c = record { status = differences_out_of_memory c.in-Err.ensures.out_of_memory }
+returns-in-Err c = record { status = rw c.bare-in-Err.ensures (differences_out_of_memory c.in-Err.ensures.out_of_memory) }

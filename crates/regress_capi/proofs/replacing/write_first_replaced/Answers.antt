@@ -9,7 +9,7 @@ pub returns-in-Some : goal.returns-in-Some
 returns-in-Some c = record {
   status =
       text-reports (λ out. string_bytes out) c.replace.result (c.in-Some.ensures.2, c.in-Some.ensures.3)
-      (subst (λ t. IfOk c.replace.result (λ out. HasFirstReplaced c.args.regex.now c.args.text.now t (string_bytes out))) c.in-Some.ensures.1
+      (subst (λ t. IfOk c.replace.result (λ out. HasFirstReplaced c.args.regex.now c.args.replaced.text.now t (string_bytes out))) c.in-Some.ensures.1
       (subst (λ t. IfOk c.replace.result (λ out. HasFirstReplaced c.args.regex.now t c.in-Some.template.now (string_bytes out))) c.in-Some.ensures.0
       c.replace.ensures))
       c.report.ensures;

@@ -12,13 +12,13 @@ returns-in-Ok-Some c =
     let read = rw c.in-Ok-Some.field-0-is at c.in-Ok-Some.ensures.points in
     let same : c.deref.result.now ≡ chars c.args.pattern.now = c.deref.ensures.value ∙ read.1 in
     let status = subst (λ source. EncodingResult (IsRequest source c.args.bits c.args.choice) (setting_by c.args.bits) source
-    (c.args.choice == 1) c.args.words.now c.write_encoding.result c.write_encoding.new.needed c.write_encoding.new.kind
-    c.write_encoding.new.position c.write_encoding.new.words) same c.write_encoding.ensures.status in
+    (c.args.choice == 1) c.args.words.now c.write_encoding.result.status c.write_encoding.result.needed c.write_encoding.result.kind
+    c.write_encoding.result.position c.write_encoding.new.words) same c.write_encoding.ensures.status in
     let points : All (λ c. c ≤ code_point_max) (chars c.args.pattern.now) = subst (All (λ c. c ≤ code_point_max)) read.1 read.2 in
     record { status = words-asked (λ asked. read.0) (λ asked. (points, asked.1)) status }
 
 pub returns-in-Ok-None : goal.returns-in-Ok-None
-returns-in-Ok-None c = record { status = bad (rw c.in-Ok-None.field-0-is at c.in-Ok-None.ensures.points) }
+returns-in-Ok-None c = record { status = rw c.bare.ensures (bad (rw c.in-Ok-None.field-0-is at c.in-Ok-None.ensures.points)) }
 
 pub returns-in-Err : goal.returns-in-Err
-returns-in-Err c = record { status = out_of_memory c.in-Err.ensures.out_of_memory }
+returns-in-Err c = record { status = rw c.bare-in-Err.ensures (out_of_memory c.in-Err.ensures.out_of_memory) }

@@ -1,7 +1,6 @@
 use Rattle.std.proofs.Common.{◌≡◌, ◌++◌, append-nil, flat_map, sym, ap, ◌∙◌, subst}
 use Rattle.regress.specs.Found.{match_of}
-use Rattle.regress.specs.Groups.{span_of}
-use Rattle.regress.specs.Groups.{spans_left}
+use Rattle.regress.specs.Groups.{span_of, spans_left}
 use Rattle.regress_capi.specs.Spans.{ends_of, match_ends}
 use Rattle.regress_capi.proofs.SearchLemmas.{span_more}
 use Rattle.regress_capi.proofs.searches.push_ends.Goals as goal

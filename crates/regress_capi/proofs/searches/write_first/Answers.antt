@@ -11,8 +11,8 @@ pub returns-in-Ok : goal.returns-in-Ok
 returns-in-Ok c = record {
   status =
       subst
-      (λ t. SearchResult (IsUtf8 c.args.text.now) (AreEndsOfFirst t (outcomes_of c.args.regex.now t) c.args.from)
-      (Finds t (outcomes_of c.args.regex.now t) c.args.from None) c.args.spans.now c.report.result c.report.new.needed c.report.new.buffer)
+      (λ t. SearchResult (IsUtf8 c.args.searched.text.now) (AreEndsOfFirst t (outcomes_of c.args.regex.now t) c.args.searched.from)
+      (Finds t (outcomes_of c.args.regex.now t) c.args.searched.from None) c.args.spans.now c.report.result c.report.new.needed c.report.new.buffer)
       c.in-Ok.ensures.cases.0
       (search-reports (λ v. v.items) c.first_ends.result c.in-Ok.ensures.cases.1 c.first_ends.ensures c.report.ensures);
 }

@@ -13,14 +13,15 @@ returns-in-Ok-Some c =
       status =
           spanned-asked read.0
           (subst
-          (λ source. SpannedResult (Unit {0}) (setting_by c.args.bits) source c.args.words.now c.args.spans.now c.write_spanned.result
-          c.write_spanned.new.needed c.write_spanned.new.spans_needed c.write_spanned.new.kind c.write_spanned.new.position
+          (λ source. SpannedResult (Unit {0}) (setting_by c.args.bits) source c.args.words.now c.args.spans.now c.write_spanned.result.reply.status
+          c.write_spanned.result.reply.needed c.write_spanned.result.spans_needed c.write_spanned.result.reply.kind
+          c.write_spanned.result.reply.position
           c.write_spanned.new.words c.write_spanned.new.spans)
           same c.write_spanned.ensures.status);
     }
 
 pub returns-in-Ok-None : goal.returns-in-Ok-None
-returns-in-Ok-None c = record { status = spanned_bad (rw c.in-Ok-None.field-0-is at c.in-Ok-None.ensures.points) }
+returns-in-Ok-None c = record { status = rw c.bare.ensures (spanned_bad (rw c.in-Ok-None.field-0-is at c.in-Ok-None.ensures.points)) }
 
 pub returns-in-Err : goal.returns-in-Err
-returns-in-Err c = record { status = spanned_out_of_memory c.in-Err.ensures.out_of_memory }
+returns-in-Err c = record { status = rw c.bare-in-Err.ensures (spanned_out_of_memory c.in-Err.ensures.out_of_memory) }

@@ -5,7 +5,7 @@ use Rattle.regress_capi.proofs.spanning.write_encoding_with_spans.Goals as goal
 
 pub returns-then-not-is_request : goal.returns-then-not-is_request
 returns-then-not-is_request c = record {
-  status = spanned_bad (λ asked. let yes : c.is_request.result ≡ true = c.is_request.ensures.1 asked in cc);
+  status = rw c.bare.ensures (spanned_bad (λ asked. let yes : c.is_request.result ≡ true = c.is_request.ensures.1 asked in cc));
 }
 
 pub returns : goal.returns
