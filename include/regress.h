@@ -63,13 +63,13 @@ typedef struct regress_regex {
    - nodes: the nodes of the tree of the pattern, as regress_front_node_bound_utf8 bounds them, by default a million.
    - instructions: those of its program, where the body of a loop {n,m} counts m times, or if it is one character, about
      m / 64 times; by default 250,000.
-   - tables: the number of instructions up to which a search may be linear, by default a thousand. It takes up to two
-     bits of memory for each instruction and byte of the text. */
+   - linear_instructions: the number of instructions up to which a search may be linear, by default a thousand. It takes
+     up to two bits of memory for each instruction and byte of the text. */
 typedef struct regress_limits {
     uint64_t steps;
     size_t nodes;
     size_t instructions;
-    size_t tables;
+    size_t linear_instructions;
 } regress_limits;
 
 /* What a group without a capture has as its start and its end. */
@@ -88,13 +88,13 @@ uint32_t regress_compile(const uint8_t *pattern, size_t length, uint32_t flags, 
 
 /* Returns 1 if searches take linear time, also those for all matches, which limits.steps does not apply to, else 0. They
    do if the pattern has neither a back reference nor a capture group in a lookaround that is not negated, and if it has
-   at most limits.tables instructions. */
+   at most limits.linear_instructions instructions. */
 uint32_t regress_is_linear(regress_regex *handle);
 
 /* Why searches are not linear. The numbers never change; a later version may have more of them. */
 #define REGRESS_NONLINEAR_BACK_REFERENCE 1u        /* the pattern has a back reference */
 #define REGRESS_NONLINEAR_CAPTURING_LOOKAROUND 2u  /* a lookaround that is not negated contains a capture group */
-#define REGRESS_NONLINEAR_TOO_MANY_INSTRUCTIONS 3u /* the pattern has more than limits.tables instructions */
+#define REGRESS_NONLINEAR_TOO_MANY_INSTRUCTIONS 3u /* the pattern has more than limits.linear_instructions instructions */
 
 /* Returns why searches are not linear, one of REGRESS_NONLINEAR_.., and 0 if they are. If there are several reasons, it
    is the one with the least number. */
@@ -106,7 +106,7 @@ uint64_t regress_steps_per_character(regress_regex *handle);
 
 /* Returns an upper bound for the steps of regress_find and regress_is_match for each byte of a text, and once more; at
    most UINT64_MAX. Then they take linear time, and limits.steps does not apply to them. The result is 0 if that is not
-   known: if the pattern has a back reference, or more than limits.tables instructions. */
+   known: if the pattern has a back reference, or more than limits.linear_instructions instructions. */
 uint64_t regress_find_steps_per_character(regress_regex *handle);
 
 /* Searches for the leftmost match that starts at the byte offset `from` or later.

@@ -90,7 +90,7 @@ class error(Exception):
         self.kind = kind
 
 
-def compile(pattern, flags='', *, steps=None, nodes=None, instructions=None, tables=None):
+def compile(pattern, flags='', *, steps=None, nodes=None, instructions=None, linear_instructions=None):
     """Compiles a pattern to a Pattern.
 
     flags are JavaScript's letters. A Pattern is returned as it is, if no flags are given. The limits are:
@@ -100,7 +100,8 @@ def compile(pattern, flags='', *, steps=None, nodes=None, instructions=None, tab
         nodes         the nodes of the tree of the pattern, as node_bound() bounds them; a million by default
         instructions  those of its program, where the body of a loop {n,m} counts m times, or if it is one character,
                       about m / 64 times; 250,000 by default
-        tables        the instructions up to which a search may take linear time; a thousand by default. It takes up to
+        linear_instructions
+                      the instructions up to which a search may take linear time; a thousand by default. It takes up to
                       two bits of memory for each instruction and byte of the text
 
     Raises error if the pattern or the flags are rejected.
@@ -109,7 +110,7 @@ def compile(pattern, flags='', *, steps=None, nodes=None, instructions=None, tab
         if flags:
             raise ValueError('flags are not allowed with a compiled pattern')
         return pattern
-    return Pattern(pattern, flags, steps, nodes, instructions, tables)
+    return Pattern(pattern, flags, steps, nodes, instructions, linear_instructions)
 
 
 def escape(text):
@@ -200,10 +201,10 @@ class Pattern:
         groupindex: a dict from the names of groups to their numbers; if groups share a name, that of the first
     """
 
-    def __init__(self, pattern, flags='', steps=None, nodes=None, instructions=None, tables=None):
+    def __init__(self, pattern, flags='', steps=None, nodes=None, instructions=None, linear_instructions=None):
         self.pattern = _pattern_text(pattern)
         self.flags = _letters(flags, pattern)
-        self._limits = (steps, nodes, instructions, tables)
+        self._limits = (steps, nodes, instructions, linear_instructions)
         self._program = _Program(_utf8(pattern), _bits(self.flags), self._limits, pattern)
         # For fullmatch, at its first call.
         self._full = None
@@ -482,7 +483,7 @@ class _Limits(ctypes.Structure):
     """The regress_limits of regress.h. 0 is the default of each."""
 
     _fields_ = [('steps', ctypes.c_uint64), ('nodes', ctypes.c_size_t), ('instructions', ctypes.c_size_t),
-                ('tables', ctypes.c_size_t)]
+                ('linear_instructions', ctypes.c_size_t)]
 
 
 class _Difference(ctypes.Structure):

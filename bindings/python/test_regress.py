@@ -241,7 +241,7 @@ class Calls(unittest.TestCase):
         # A linear search has no limit of steps, unless the program is too long for tables.
         self.assertIsNone(regress.compile('(a*)*b', steps=1).search('a' * 1000))
         with self.assertRaises(regress.error) as caught:
-            regress.compile('(a*)*b', steps=1, tables=1).search('a' * 1000)
+            regress.compile('(a*)*b', steps=1, linear_instructions=1).search('a' * 1000)
         self.assertEqual(caught.exception.kind, 'OutOfSteps')
         large = '(?:(?:ab){400}){700}'
         with self.assertRaises(regress.error) as caught:
@@ -257,8 +257,8 @@ class Calls(unittest.TestCase):
         for pattern, nonlinear in (
             (regress.compile(r'(a)\1'), 'back-reference'),
             (regress.compile('(?=(a))b'), 'capturing-lookaround'),
-            (regress.compile('(a*)*b', tables=1), 'too-many-instructions'),
-            (regress.compile(r'(?=(a))\1', tables=1), 'back-reference'),
+            (regress.compile('(a*)*b', linear_instructions=1), 'too-many-instructions'),
+            (regress.compile(r'(?=(a))\1', linear_instructions=1), 'back-reference'),
         ):
             self.assertFalse(pattern.is_linear)
             self.assertIsNone(pattern.steps_per_character)

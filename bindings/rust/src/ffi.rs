@@ -37,7 +37,7 @@ pub(crate) struct Limits {
     pub(crate) steps: u64,
     pub(crate) nodes: usize,
     pub(crate) instructions: usize,
-    pub(crate) tables: usize,
+    pub(crate) linear_instructions: usize,
 }
 
 /// A `regress_difference` of the library.

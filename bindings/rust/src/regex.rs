@@ -80,7 +80,7 @@ pub struct Options {
     pub instructions: usize,
     /// The number of instructions up to which a search may be linear. By default a thousand. It takes up to two bits of
     /// memory for each instruction and byte of the text.
-    pub tables: usize,
+    pub linear_instructions: usize,
     pub table: Table,
 }
 
@@ -90,7 +90,7 @@ impl Default for Options {
             steps: 1_000_000_000,
             nodes: 1_000_000,
             instructions: 250_000,
-            tables: 1_000,
+            linear_instructions: 1_000,
             table: Table::Whole,
         }
     }
@@ -128,7 +128,7 @@ impl Regex {
             steps: options.steps,
             nodes: options.nodes,
             instructions: options.instructions,
-            tables: options.tables,
+            linear_instructions: options.linear_instructions,
         };
         let recipe = Recipe::new(pattern, bits(flags, options.table), limits);
         let failed = |status| compile_error(status, pattern, recipe.bits);
@@ -332,7 +332,7 @@ impl Regex {
     /// [`Options::steps`] does not apply to them.
     ///
     /// They do if the pattern has neither a back reference nor a capture group in a lookaround that is not negated, and
-    /// if its program has at most [`Options::tables`] instructions.
+    /// if its program has at most [`Options::linear_instructions`] instructions.
     pub fn is_linear(&self) -> bool {
         self.nonlinear().is_none()
     }
@@ -360,7 +360,7 @@ impl Regex {
     /// Returns whether a search for one match ([`Regex::find`], [`Regex::is_match`] and the like) takes time linear in
     /// the length of the text, so that [`Options::steps`] does not apply to it.
     ///
-    /// It does if the pattern has no back reference, and if its program has at most [`Options::tables`] instructions.
+    /// It does if the pattern has no back reference, and if its program has at most [`Options::linear_instructions`] instructions.
     ///
     /// ```
     /// use regress_front::Regex;

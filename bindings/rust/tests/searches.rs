@@ -102,9 +102,9 @@ fn all_matches_from_an_offset_on_are_found() {
 
 #[test]
 fn the_reason_why_searches_are_not_linear_is_known() {
-    let within = |pattern, tables| {
+    let within = |pattern, linear_instructions| {
         let options = Options {
-            tables,
+            linear_instructions,
             ..Options::default()
         };
         let regex = Regex::with_options(pattern, Flags::default(), options).unwrap();
@@ -270,7 +270,7 @@ fn linear_searches_have_no_step_limit() {
     assert!(regex.is_linear());
     assert!(regex.steps_per_character().is_some_and(|steps| steps > 0));
     assert_eq!(regex.is_match(&text), Ok(false));
-    let regex = within("(a*)*b", Options { tables: 1, ..steps }).unwrap();
+    let regex = within("(a*)*b", Options { linear_instructions: 1, ..steps }).unwrap();
     assert!(!regex.is_linear());
     assert_eq!(regex.steps_per_character(), None);
     assert_eq!(regex.is_match(&text), Err(SearchError::OutOfSteps));

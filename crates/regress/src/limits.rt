@@ -16,7 +16,7 @@ pub struct Options {
     /// The number of instructions up to which a program is searched in linear time, where it can be. The tables that this
     /// needs take up to two bits for each instruction and byte of the text. A thousand by default, so at most 250 times
     /// the length of the text.
-    pub tables: usize,
+    pub linear_instructions: usize,
 }
 
 impl Default for Options {
@@ -30,7 +30,7 @@ impl Default for Options {
             steps: 1_000_000_000,
             nodes: 1_000_000,
             instructions: 250_000,
-            tables: 1_000,
+            linear_instructions: 1_000,
         }
     }
 }

@@ -137,9 +137,9 @@ impl Regex {
         ensures small { IfOk result (λ _. options.nodes < usize.MAX → HasAtMost flags (chars pattern.now) options.nodes) }
         ensures within { IfOk result (λ regex. program_size (tree_of regex) ≤ options.instructions) }
         ensures limit { IfOk result (λ regex. limit_of regex ≡ options.steps) }
-        ensures linear { IfOk result (λ regex. IsFactorOf options.tables (tree_of regex) (factor_of regex)) }
-        ensures find_linear { IfOk result (λ regex. IsFindFactorOf options.tables (tree_of regex) (find_factor_of regex)) }
-        ensures nonlinear { IfOk result (λ regex. IsNonlinearOf options.tables (tree_of regex) (nonlinear_of regex)) }
+        ensures linear { IfOk result (λ regex. IsFactorOf options.linear_instructions (tree_of regex) (factor_of regex)) }
+        ensures find_linear { IfOk result (λ regex. IsFindFactorOf options.linear_instructions (tree_of regex) (find_factor_of regex)) }
+        ensures nonlinear { IfOk result (λ regex. IsNonlinearOf options.linear_instructions (tree_of regex) (nonlinear_of regex)) }
     {
         let points = code_points(alloc, pattern)?;
         Regex::from_unicode(alloc, &points, flags, options, tables)
@@ -169,9 +169,9 @@ impl Regex {
         ensures small { IfOk result (λ _. options.nodes < usize.MAX → HasAtMost flags pattern.now options.nodes) }
         ensures within { IfOk result (λ regex. program_size (tree_of regex) ≤ options.instructions) }
         ensures limit { IfOk result (λ regex. limit_of regex ≡ options.steps) }
-        ensures linear { IfOk result (λ regex. IsFactorOf options.tables (tree_of regex) (factor_of regex)) }
-        ensures find_linear { IfOk result (λ regex. IsFindFactorOf options.tables (tree_of regex) (find_factor_of regex)) }
-        ensures nonlinear { IfOk result (λ regex. IsNonlinearOf options.tables (tree_of regex) (nonlinear_of regex)) }
+        ensures linear { IfOk result (λ regex. IsFactorOf options.linear_instructions (tree_of regex) (factor_of regex)) }
+        ensures find_linear { IfOk result (λ regex. IsFindFactorOf options.linear_instructions (tree_of regex) (find_factor_of regex)) }
+        ensures nonlinear { IfOk result (λ regex. IsNonlinearOf options.linear_instructions (tree_of regex) (nonlinear_of regex)) }
     {
         let bound = node_bound(pattern, flags);
         if bound > options.nodes {
@@ -182,7 +182,7 @@ impl Regex {
         let source = text_of(alloc, pattern)?;
         let limits = Limits {
             instructions: options.instructions,
-            tables: options.tables,
+            linear_instructions: options.linear_instructions,
         };
         let matcher = Matcher::new(alloc, compiled, tables, limits)?;
         Ok(Regex {
@@ -380,7 +380,7 @@ impl Regex {
     /// Returns whether a search for all matches is known to take time linear in the length of the text.
     ///
     /// It is if the pattern has neither a back reference nor a capture group in a lookaround that is not negated, and
-    /// if its program has at most `tables` of [`Options`] instructions.
+    /// if its program has at most `linear_instructions` of [`Options`] instructions.
     ///
     /// # Examples
     /// ```
@@ -395,7 +395,7 @@ impl Regex {
     /// Returns whether a search for one match is known to take time linear in the length of the text: also where
     /// lookarounds contain capture groups. It is if [`Regex::is_linear`].
     ///
-    /// A back reference rules it out, and so does a program of more than `tables` of [`Options`] instructions.
+    /// A back reference rules it out, and so does a program of more than `linear_instructions` of [`Options`] instructions.
     ///
     /// # Examples
     /// ```

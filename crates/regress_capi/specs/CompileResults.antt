@@ -22,16 +22,16 @@ limits_of l = record {
   steps = or_default l.steps default_options.steps;
   nodes = or_default l.nodes default_options.nodes;
   instructions = or_default l.instructions default_options.instructions;
-  tables = or_default l.tables default_options.tables;
+  linear_instructions = or_default l.linear_instructions default_options.linear_instructions;
 }
 
 -- The regular expression is compiled from this text, and searches within these limits.
 pub record IsCompiledWithin (setting : Setting) (text : List ℕ) (options : Options) (regex : Regex) : Type 0 where
   pub compiled : IsCompiled setting text regex
   pub limit : limit_of regex ≡ options.steps
-  pub linear : IsFactorOf options.tables (tree_of regex) (factor_of regex)
-  pub find_linear : IsFindFactorOf options.tables (tree_of regex) (find_factor_of regex)
-  pub nonlinear : IsNonlinearOf options.tables (tree_of regex) (nonlinear_of regex)
+  pub linear : IsFactorOf options.linear_instructions (tree_of regex) (factor_of regex)
+  pub find_linear : IsFindFactorOf options.linear_instructions (tree_of regex) (find_factor_of regex)
+  pub nonlinear : IsNonlinearOf options.linear_instructions (tree_of regex) (nonlinear_of regex)
 
 -- The status, `kind`, `position`, and the handle before and after. `Asked` states that the arguments are valid.
 pub data CompileResult (Asked : Type 0) (setting : Setting) (text : List ℕ) (options : Options) (old : Option Regex) :

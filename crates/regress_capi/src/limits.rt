@@ -10,7 +10,7 @@ pub struct Limits {
     pub steps: u64,
     pub nodes: usize,
     pub instructions: usize,
-    pub tables: usize,
+    pub linear_instructions: usize,
 }
 
 impl Limits {
@@ -27,7 +27,7 @@ impl Limits {
             },
             nodes: or_default(self.nodes, default.nodes),
             instructions: or_default(self.instructions, default.instructions),
-            tables: or_default(self.tables, default.tables),
+            linear_instructions: or_default(self.linear_instructions, default.linear_instructions),
         }
     }
 }

@@ -29,7 +29,7 @@ use std::sync::Arc;
 impl Matcher {
     /// Compiles a pattern into a program of at most `limits.instructions` instructions.
     ///
-    /// Searches take linear time if the program is linear and has at most `limits.tables` instructions; searches for one
+    /// Searches take linear time if the program is linear and has at most `limits.linear_instructions` instructions; searches for one
     /// match also where lookarounds capture.
     ///
     /// # Errors
@@ -46,16 +46,16 @@ impl Matcher {
     ) -> Result<Matcher, CompileFault>
         ensures setting { IfOk result (λ m. matcher_setting m ≡ record { flags = regex.flags; table = table_of (arc_value tables.now) }) }
         ensures tree { IfOk result (λ m. matcher_tree m ≡ tree regex.node) }
-        ensures linear { IfOk result (λ m. IsFactorOf limits.tables (tree regex.node) (factor_of m)) }
-        ensures find_linear { IfOk result (λ m. IsFindFactorOf limits.tables (tree regex.node) (find_factor_of m)) }
-        ensures nonlinear { IfOk result (λ m. IsNonlinearOf limits.tables (tree regex.node) (nonlinear_of m)) }
+        ensures linear { IfOk result (λ m. IsFactorOf limits.linear_instructions (tree regex.node) (factor_of m)) }
+        ensures find_linear { IfOk result (λ m. IsFindFactorOf limits.linear_instructions (tree regex.node) (find_factor_of m)) }
+        ensures nonlinear { IfOk result (λ m. IsNonlinearOf limits.linear_instructions (tree regex.node) (nonlinear_of m)) }
         ensures costs { IfOk result (λ m. (text : List ℕ) → HasCosts m text) }
         ensures within { IfOk result (λ _. program_size (tree regex.node) ≤ limits.instructions) }
         ensures too_long { result ≡ Err TooLong → length (captures (tree regex.node)) < usize.MAX → limits.instructions < program_size (tree regex.node) }
     {
         let groups = group_count(&regex.node);
         let code = compiled(alloc, &regex, groups, limits.instructions)?;
-        let within = code.instructions() <= limits.tables;
+        let within = code.instructions() <= limits.linear_instructions;
         let required_byte = required_byte(&regex.node);
         let facts = CaseFacts::find(tables, regex.flags);
         let tables = Arc::try_clone(tables)?;

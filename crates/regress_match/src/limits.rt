@@ -8,7 +8,7 @@ pub struct Limits {
     pub instructions: usize,
     /// The number of instructions up to which a program is searched by tables, in linear time. The tables take up to two
     /// bits for each instruction and byte of a text. A thousand by default, so at most 250 times the length of the text.
-    pub tables: usize,
+    pub linear_instructions: usize,
 }
 
 impl Default for Limits {
@@ -20,7 +20,7 @@ impl Default for Limits {
     fn default() -> Limits {
         Limits {
             instructions: 250_000,
-            tables: 1_000,
+            linear_instructions: 1_000,
         }
     }
 }

@@ -29,7 +29,7 @@ pub(crate) fn report_limits(call: &mut Call, flags: Flags, tables: &Arc<Tables>)
 fn report_limit(call: &mut Call, regex: Regex, tables: &Arc<Tables>, instructions: usize) {
     let limits = Limits {
         instructions,
-        tables: 0,
+        linear_instructions: 0,
     };
     match Matcher::new(call.alloc(), regex, tables, limits) {
         Ok(matcher) => {

@@ -51,18 +51,18 @@ pub(crate) fn parse_question(call: &mut Call) -> Question {
     }
 }
 
-/// Returns a matcher that makes tables for programs of at most `tables_limit` instructions.
+/// Returns a matcher that makes tables for programs of at most `linear_instructions` instructions.
 pub(crate) fn matcher_of(
     call: &mut Call,
     regex: Regex,
     tables: &Arc<Tables>,
-    tables_limit: usize,
+    linear_instructions: usize,
 ) -> Option<Matcher>
     ensures { IfSome result (λ matcher. matcher_tree matcher ≡ tree regex.node) }
 {
     let limits = Limits {
         instructions: INSTRUCTIONS,
-        tables: tables_limit,
+        linear_instructions,
     };
     match Matcher::new(call.alloc(), regex, tables, limits) {
         Ok(matcher) => Some(matcher),

@@ -52,7 +52,7 @@ mod tests {
             steps: 0,
             nodes: 0,
             instructions: 0,
-            tables: 0,
+            linear_instructions: 0,
         };
         let recipe = Recipe::new("a+b", 0, limits);
         let found = recipe.with_handle(|outer| {

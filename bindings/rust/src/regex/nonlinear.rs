@@ -10,7 +10,7 @@ pub enum Nonlinear {
     BackReference,
     /// A lookaround that is not negated contains a capture group, or a loop around one.
     CapturingLookaround,
-    /// The program has more than [`Options::tables`](crate::Options::tables) instructions.
+    /// The program has more than [`Options::linear_instructions`](crate::Options::linear_instructions) instructions.
     TooManyInstructions,
 }
 

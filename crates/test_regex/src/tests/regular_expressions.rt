@@ -283,11 +283,16 @@ fn is_out_of_steps(alloc: Global, regex: &Regex, text: &str) -> bool {
 }
 
 /// Compiles a pattern for searches of at most `steps` steps if they are not linear, with tables for programs of at most
-/// `tables` instructions.
-fn limited(alloc: Global, pattern: &str, steps: u64, tables: usize) -> Result<Regex, Fail> {
+/// `linear_instructions` instructions.
+fn limited(
+    alloc: Global,
+    pattern: &str,
+    steps: u64,
+    linear_instructions: usize,
+) -> Result<Regex, Fail> {
     let options = Options {
         steps,
-        tables,
+        linear_instructions,
         ..Options::default()
     };
     let small = Arc::new(alloc, Tables::small(alloc)?)?;
