@@ -8,8 +8,12 @@ use Rattle.regress_program.specs.declared.compiler.Compiler.{Compiler}
 use Rattle.regress_program.specs.Compiled.{matching, Code, Grown, Compiled}
 use Rattle.regress_program.specs.Pushed.{Pushed}
 use Rattle.regress_program.specs.Program.{split}
+use Rattle.regress_program.specs.Adds.{Adds, Tidies}
 use Rattle.regress_program.specs.Alternatives.{HasLeft, Waiting}
+use Rattle.regress_program.specs.Contents.{content}
+use Rattle.regress_program.proofs.AddLemmas.{IsPartOf, Longer, longer}
 use Rattle.regress_program.proofs.CompileLemmas.{compiled_or, compiled_later}
+use Rattle.regress_program.proofs.PieceLemmas.{tidies_later, tidies_or}
 
 pub waiting_none : (a c : Code) (next : ℕ) (whole : Tree) → Waiting a c next [] whole whole
 unfolding Waiting
@@ -33,7 +37,12 @@ waiting_pop a c next (e ∷ entries) entry whole rest waiting =
 
 pub left_later : (a b c : Code) (next entry : ℕ) (whole right : Tree) → Grown b c → HasLeft a b next entry whole right → HasLeft a c next entry whole right
 left_later a b c next entry whole right grown is =
-    record { left = is.left; is = is.is; compiled = compiled_later a b c (matching is.left) next entry grown is.compiled }
+    record {
+      left = is.left;
+      is = is.is;
+      compiled = compiled_later a b c (matching is.left) next entry grown is.compiled;
+      tidies = tidies_later a b c (content is.left) next entry (longer b c grown) is.tidies;
+    }
 
 pub waiting_later : (a b c : Code) (next : ℕ) (entries : List ℕ) (whole rest : Tree) → Grown b c → Waiting a b next entries whole rest →
     Waiting a c next entries whole rest
@@ -53,10 +62,18 @@ compiled_alternative a b c next first second at whole rest is right pushed =
     subst (λ t. Compiled a c (matching t) next at) (sym is.is)
     (compiled_or a b c (matching is.left) (matching rest) next first second at is.compiled right pushed)
 
+pub tidies_alternative : (a b c : Code) (next first second at : ℕ) (whole rest : Tree) → Longer a b → HasLeft a b next first whole rest →
+    Tidies a b (content rest) next second → Pushed b c (split first second) at → Tidies a c (content whole) next at
+tidies_alternative a b c next first second at whole rest grown is right pushed =
+    subst (λ t. Tidies a c (content t) next at) (sym is.is)
+    (tidies_or a b c (content is.left) (content rest) next first second at grown is.tidies right pushed)
+
 -- The left sides of `whole` down to the right side `rest` have been compiled, whose leaves are next.
 pub record Splitting (leaves : List Test) (old new : Compiler) (next : ℕ) (entries : List ℕ) (whole rest : Tree) : Type 0 where
   pub grown : Grown (code_in leaves old) (code_in leaves new)
   pub waiting : Waiting (code_in leaves old) (code_in leaves new) next entries whole rest
+  pub adds : Adds (code_in leaves old) (code_in leaves new) (content whole)
+  pub part : IsPartOf (content rest) (content whole)
   pub has : HasLeaves leaves new.next_leaf (leaves_of rest)
   pub after : new.next_leaf + length (leaves_of rest) ≡ old.next_leaf + length (leaves_of whole)
 
@@ -65,4 +82,6 @@ pub record Joining (leaves : List Test) (old new : Compiler) (next entry : ℕ) 
   pub joined : Tree
   pub waiting : Waiting (code_in leaves old) (code_in leaves new) next entries whole joined
   pub compiled : Compiled (code_in leaves old) (code_in leaves new) (matching joined) next entry
+  pub adds : Adds (code_in leaves old) (code_in leaves new) (content whole)
+  pub tidies : Tidies (code_in leaves old) (code_in leaves new) (content joined) next entry
   pub after : new.next_leaf ≡ old.next_leaf + length (leaves_of whole)

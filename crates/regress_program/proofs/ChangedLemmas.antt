@@ -1,10 +1,12 @@
 -- The range of a routine has the groups that its instructions change.
-use Rattle.std.proofs.Common.{◌≡◌, ℕ, zero, suc, ◌+◌, ◌≤◌, ◌<◌, Bool, true, false, min, max, List, [], ◌∷◌, ◌++◌, length, take, slice_get, slice_index_or, Some, if◌then◌else◌, refl, sym, ap, ◌∙◌, subst, arith}
+use Rattle.std.proofs.Common.{◌≡◌, ℕ, zero, suc, ◌+◌, ◌-◌, ◌≤◌, ◌<◌, Bool, true, false, min, max, nat_le, List, [], ◌∷◌, ◌++◌, length, take, slice_get, slice_index_or, Some, if◌then◌else◌, refl, sym, ap, ◌∙◌, subst, arith}
 use Rattle.std.proofs.lemmas.List.{length-append, length-take, get_or_append_left, get_or-append-add}
 use Rattle.regress_program.specs.declared.ranges.GroupRange.{GroupRange}
 use Rattle.regress_program.specs.Program.{Op, accept, fail, part, split, begin_loop, repeat, end_loop, unsets, begin_group, end_group, look, Routine}
 use Rattle.regress_program.specs.Ranges.{no_groups, is_empty, IsIn, hull, changed_by, changed_by_all, ranges_after, ranges_of}
-use Rattle.regress_program.specs.Shape.{Fits, IsProgram}
+use Rattle.regress_program.specs.Adds.{IsRangeWithin}
+use Rattle.regress_program.specs.Shape.{Fits, AllFit, IsProgram}
+use Rattle.std.proofs.lemmas.Option.{slice_get_within}
 
 not-empty : (r : GroupRange) (id : ℕ) → IsIn r id → is_empty r ≡ true → ⊥
 not-empty r id is empty = by is.0 is.1
@@ -41,6 +43,37 @@ changed-all earlier (o ∷ ops) zero op id is changed =
     hull-left (changed_by earlier o) (changed_by_all earlier ops) id (subst (λ x. IsIn (changed_by earlier x) id) same changed)
 changed-all earlier (o ∷ ops) (suc pc) op id is changed =
     hull-right (changed_by earlier o) (changed_by_all earlier ops) id (changed-all earlier ops pc op id is changed)
+
+-- Where no instruction changes a group outside a range, all of them change none.
+hull-within : (start end : ℕ) (a b : GroupRange) → IsRangeWithin start end a → IsRangeWithin start end b → IsRangeWithin start end (hull a b)
+hull-within low high a b one two = by (is_empty a) (is_empty b) refl refl
+  where
+    some : (r : GroupRange) → is_empty r ≡ false → r.start < r.end
+    some r is = lt_of r.end r.start is
+      where
+        lt_of : (m n : ℕ) → nat_le m n ≡ false → n < m
+        lt_of m n e = grind arith
+
+    by : (x y : Bool) → is_empty a ≡ x → is_empty b ≡ y →
+        IsRangeWithin low high (if x then b else if y then a else record { start = min a.start b.start; end = max a.end b.end })
+    by true y left right = two
+    by false true left right = one
+    by false false left right = λ id is.
+        let a-some : a.start < a.end = some a left in
+        let b-some : b.start < b.end = some b right in
+        let a-first = one a.start (omega arith, a-some) in
+        let a-last = one (a.end - 1) (omega (arith, a-some), omega (arith, a-some)) in
+        let b-first = two b.start (omega arith, b-some) in
+        let b-last = two (b.end - 1) (omega (arith, b-some), omega (arith, b-some)) in
+        (omega (arith, is.0, a-first.0, b-first.0), omega (arith, is.1, a-last.1, b-last.1, a-some, b-some))
+
+all-within : (start end : ℕ) (ranges : List GroupRange) (ops : List Op) →
+    ((pc : ℕ) (op : Op) → slice_get ops pc ≡ Some op → IsRangeWithin start end (changed_by ranges op)) →
+    IsRangeWithin start end (changed_by_all ranges ops)
+all-within start end ranges [] each = λ id is. absurd (omega (arith, is.1))
+all-within start end ranges (op ∷ ops) each =
+    hull-within start end (changed_by ranges op) (changed_by_all ranges ops) (each 0 op refl)
+    (all-within start end ranges ops (λ pc o found. each (suc pc) o found))
 
 -- ---- the ranges of a program
 
@@ -107,3 +140,18 @@ changed-in program is_program i r is pc op lt is_op id changed =
     ((is_program i r is).fit pc op (omega arith) lt is_op) in
     subst (λ x. IsIn x id) (sym of.at_index)
     (changed-all of.earlier r.ops pc op id is_op (subst (λ x. IsIn x id) same changed))
+
+-- A routine, of which the lookarounds are among the routines before it, changes no group outside a range if no instruction does.
+pub range-within : (program before : List Routine) (i : ℕ) (r : Routine) → slice_get program i ≡ Some r → length before ≤ i →
+    AllFit before r.ops 0 (length r.ops) → (start end : ℕ) →
+    ((pc : ℕ) (op : Op) → slice_get r.ops pc ≡ Some op → IsRangeWithin start end (changed_by (ranges_of program) op)) →
+    IsRangeWithin start end (range_in (ranges_of program) i)
+range-within program before i r is le fit low high each =
+    let n : 0 + i ≡ i = omega arith in
+    let of : IsRangeOf (ranges_of program) i r = subst (λ k. IsRangeOf (ranges_of program) k r) n (range-at [] program i r is) in
+    subst (λ x. IsRangeWithin low high x) (sym of.at_index)
+    (all-within low high of.earlier r.ops
+    (λ pc op found.
+    subst (λ x. IsRangeWithin low high x)
+    (changed-same (ranges_of program) of.earlier before i (length r.ops) pc op of.before le (fit pc op (omega arith) (slice_get_within r.ops pc op found) found))
+    (each pc op found)))

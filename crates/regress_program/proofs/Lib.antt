@@ -1,4 +1,5 @@
 pub mod lemmas
+mod AddLemmas
 mod AlternativeLemmas
 mod CaptureLemmas
 mod ChangedLemmas
@@ -11,7 +12,9 @@ mod KeepLemmas
 mod LeafLemmas
 mod LeavesLemmas
 mod LocalLemmas
+mod OnceLemmas
 mod PartLemmas
+mod PieceLemmas
 mod PutLemmas
 mod RangeLemmas
 mod RepeatLemmas

@@ -1,6 +1,8 @@
 -- Alternatives that have been compiled and are not yet joined.
 use Rattle.std.specs.Prelude.{◌≡◌, ℕ, List, [], ◌∷◌}
 use Rattle.regress_tree.specs.Tree.{Tree, alt}
+use Rattle.regress_program.specs.Adds.{Tidies}
+use Rattle.regress_program.specs.Contents.{content}
 use Rattle.regress_program.specs.Compiled.{matching, Code, Compiled}
 
 -- The tree is an alternation with this right side, and its left side has been compiled.
@@ -8,6 +10,7 @@ pub record HasLeft (old new : Code) (next entry : ℕ) (whole right : Tree) : Ty
   pub left : Tree
   pub is : whole ≡ alt left right
   pub compiled : Compiled old new (matching left) next entry
+  pub tidies : Tidies old new (content left) next entry
 
 -- The left sides of `whole` down to the right side `rest` have been compiled, and start at these instructions.
 unfoldable pub Waiting : (old new : Code) (next : ℕ) (entries : List ℕ) (whole rest : Tree) → Type 0

@@ -6,7 +6,9 @@ use Rattle.regress_leaves.specs.declared.test.Test.{Test}
 use Rattle.regress_prefilter.specs.OneCharacter.{takes_one}
 use Rattle.regress_tree.specs.Repetition.{iteration}
 use Rattle.regress_tree.specs.Tree.{Tree}
+use Rattle.regress_program.specs.Adds.{Holds, HoldsRoutine}
 use Rattle.regress_program.specs.Compiled.{Matching, matching, repeated, Code, Compiled, HasRoutine}
+use Rattle.regress_program.specs.Contents.{Contents, nothing, in_iteration, in_iterations}
 use Rattle.regress_program.specs.LeavesOf.{HasLeaves}
 use Rattle.regress_program.specs.Program.{Op}
 use Rattle.regress_program.specs.Pushed.{Pushed}
@@ -25,29 +27,37 @@ pub record Coded (old new : Compiler) (entry : ℕ) (Means : List Test → Type 
   pub grown : length old.instructions.items ≤ length new.instructions.items
   pub means : (leaves : List Test) → Means leaves
 
--- With these leaves, the instructions that have been added match f from `entry` on, and then go on at `next`. They name
--- n leaves from `from` on.
-pub record EmitsWith (leaves : List Test) (old new : Compiler) (from n : ℕ) (f : Matching) (next entry : ℕ) : Type 0 where
+-- With these leaves, the instructions that have been added match f from `entry` on, and then go on at `next`. They are of
+-- the part c of the pattern, and tidy from `entry` on if it is. They name n leaves from `from` on.
+pub record EmitsWith (leaves : List Test) (old new : Compiler) (from n : ℕ) (f : Matching) (c : Contents) (next entry : ℕ) : Type 0 where
   pub after : new.next_leaf ≡ from + n
   pub compiled : Compiled (code_in leaves old) (code_in leaves new) f next entry
+  pub holds : Holds (code_in leaves old) (code_in leaves new) c next entry
 
 -- This holds with leaves that are these trees from `from` on.
-abbrev pub Emits : (old new : Compiler) → (from : ℕ) → List Tree → Matching → (next entry : ℕ) → Type 0
-Emits old new from ts f next entry = Coded old new entry (λ leaves. HasLeaves leaves from ts → EmitsWith leaves old new from (length ts) f next entry)
+abbrev pub Emits : (old new : Compiler) → (from : ℕ) → List Tree → Matching → Contents → (next entry : ℕ) → Type 0
+Emits old new from ts f c next entry =
+    Coded old new entry (λ leaves. HasLeaves leaves from ts → EmitsWith leaves old new from (length ts) f c next entry)
 
 -- The same for a number of copies. Without any, no leaf is named.
-pub record CopiesWith (leaves : List Test) (old new : Compiler) (from n copies : ℕ) (f : Matching) (next entry : ℕ) : Type 0 where
+pub record CopiesWith (leaves : List Test) (old new : Compiler) (from n copies : ℕ) (f : Matching) (c : Contents) (next entry : ℕ) : Type 0 where
   pub after : 0 < copies → new.next_leaf ≡ from + n
   pub compiled : Compiled (code_in leaves old) (code_in leaves new) f next entry
+  pub holds : Holds (code_in leaves old) (code_in leaves new) c next entry
 
-abbrev pub EmitsCopies : (old new : Compiler) → (from : ℕ) → List Tree → (copies : ℕ) → Matching → (next entry : ℕ) → Type 0
-EmitsCopies old new from ts copies f next entry =
-    Coded old new entry (λ leaves. HasLeaves leaves from ts → CopiesWith leaves old new from (length ts) copies f next entry)
+abbrev pub EmitsCopies : (old new : Compiler) → (from : ℕ) → List Tree → (copies : ℕ) → Matching → Contents → (next entry : ℕ) → Type 0
+EmitsCopies old new from ts copies f c next entry =
+    Coded old new entry (λ leaves. HasLeaves leaves from ts → CopiesWith leaves old new from (length ts) copies f c next entry)
+
+-- With these leaves, the instructions that have been added match f, and contain no back reference and change no group.
+pub record CharactersWith (leaves : List Test) (old new : Compiler) (f : Matching) (next entry : ℕ) : Type 0 where
+  pub compiled : Compiled (code_in leaves old) (code_in leaves new) f next entry
+  pub holds : Holds (code_in leaves old) (code_in leaves new) nothing next entry
 
 -- The instructions that have been added match characters with one leaf.
 abbrev pub EmitsCharacters : (old new : Compiler) → (leaf : ℕ) → (Matching → Matching) → (next entry : ℕ) → Type 0
 EmitsCharacters old new leaf f next entry = Coded old new entry (λ leaves. takes_one (leaf_in leaves leaf) ≡ true →
-    Compiled (code_in leaves old) (code_in leaves new) (f (matching (leaf_in leaves leaf))) next entry)
+    CharactersWith leaves old new (f (matching (leaf_in leaves leaf))) next entry)
 
 -- n instructions have been added, those of finished routines included.
 abbrev pub Spends : (old new : Compiler) → (n : ℕ) → Type 0
@@ -59,19 +69,28 @@ pub record EmitsOne (old new : Compiler) (op : List Test → Op) (at : ℕ) : Ty
   pub grown : length new.instructions.items ≡ length old.instructions.items + 1
   pub means : (leaves : List Test) → Pushed (code_in leaves old) (code_in leaves new) (op leaves) at
 
--- With these leaves, the last routine has been added, which matches f in the direction d. It names n leaves.
-pub record RoutineWith (leaves : List Test) (old new : Compiler) (n : ℕ) (f : Matching) (d : Direction) (i : ℕ) : Type 0 where
+-- With these leaves, the last routine has been added, which matches f in the direction d. It changes only groups that the
+-- part c changes, and what has been added is of the part. It names n leaves.
+pub record RoutineWith (leaves : List Test) (old new : Compiler) (n : ℕ) (f : Matching) (c : Contents) (d : Direction) (i : ℕ) : Type 0 where
   pub after : new.next_leaf ≡ old.next_leaf + n
   pub has : HasRoutine (code_in leaves old) (code_in leaves new) f d i
+  pub holds : HoldsRoutine (code_in leaves old) (code_in leaves new) c i
 
 -- This holds with leaves that are these trees from the next one on.
-pub record EmitsRoutine (old new : Compiler) (ts : List Tree) (f : Matching) (d : Direction) (i : ℕ) : Type 0 where
+pub record EmitsRoutine (old new : Compiler) (ts : List Tree) (f : Matching) (c : Contents) (d : Direction) (i : ℕ) : Type 0 where
   pub same : length new.instructions.items ≡ length old.instructions.items
-  pub means : (leaves : List Test) → HasLeaves leaves old.next_leaf ts → RoutineWith leaves old new (length ts) f d i
+  pub means : (leaves : List Test) → HasLeaves leaves old.next_leaf ts → RoutineWith leaves old new (length ts) f c d i
 
 -- one iteration of a loop over f
 abbrev pub iterating : Iterations → Matching → Matching
 iterating i f d setting bytes = iteration i.start i.end (f d setting bytes)
+
+-- what an iteration contains, and what such iterations do, of a body that contains c
+abbrev pub iteration_of : Iterations → Contents → Contents
+iteration_of i c = in_iteration i.start i.end c
+
+abbrev pub loop_of : Iterations → Contents → Contents
+loop_of i c = in_iterations (iteration_of i c)
 
 -- a loop over f
 abbrev pub looping : Iterations → Quantifier → Matching → Matching

@@ -1,8 +1,10 @@
+pub mod Adds
 pub mod Alternatives
 pub mod Below
 pub mod Claims
 pub mod CodeOf
 pub mod Compiled
+pub mod Contents
 pub mod Cost
 pub mod Isolated
 pub mod Iterates
@@ -16,5 +18,6 @@ pub mod Shape
 pub mod Size
 pub mod Stays
 pub mod Tidy
+pub mod TidyFrom
 pub mod Unique
 pub mod Views

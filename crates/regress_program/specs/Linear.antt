@@ -1,6 +1,7 @@
 -- Linear programs: those without back references, and in which no lookaround that succeeds changes captures.
 use Rattle.std.specs.Prelude.{if◌then◌else◌, Bool, true, false, not, ◌&&◌, List, nat_lt, slice_get, Option, Some, None}
 use Rattle.std.specs.List.{list_all, list_any}
+use Rattle.regress_tree.specs.Shapes.{some_node}
 use Rattle.regress_tree.specs.Tree.{Tree, leaf, back_ref}
 use Rattle.regress_program.specs.declared.nonlinear.Nonlinear.{Nonlinear}
 use Rattle.regress_program.specs.declared.nonlinear.Nonlinear.TheVariants.{BackReference, CapturingLookaround}
@@ -10,6 +11,10 @@ use Rattle.regress_program.specs.Program.{Op, part, unsets, end_group, look, Rou
 abbrev pub is_back_ref : Tree → Bool
 is_back_ref (leaf (back_ref group icase)) = true
 is_back_ref t = false
+
+-- The tree has a back reference.
+abbrev pub has_back_reference : Tree → Bool
+has_back_reference = some_node is_back_ref
 
 -- the instruction is a back reference
 abbrev pub is_back_reference : Op → Bool

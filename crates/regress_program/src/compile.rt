@@ -1,13 +1,17 @@
 //! Compiles patterns into programs.
-ghost use Rattle.std.specs.Prelude.{◌≡◌, ◌≤◌, ◌<◌, Err, IfOk, IfErr, length, min};
+ghost use Rattle.std.specs.Prelude.{◌≡◌, ◌≤◌, ◌<◌, Err, IfOk, IfErr, false, length, min, true};
 ghost use Rattle.regress_tree.specs.Tree.{tree, trees, cat};
-ghost use Rattle.regress_tree.specs.WellFormed.{captures};
+ghost use Rattle.regress_tree.specs.WellFormed.{IsWellFormed, captures};
 ghost use Rattle.regress_program.specs.CodeOf.{Emits, Spends};
 ghost use Rattle.regress_program.specs.Compiled.{matching, IsPattern, total};
+ghost use Rattle.regress_program.specs.Contents.{content, content_of_parts};
 ghost use Rattle.regress_program.specs.LeavesOf.{leaves_of, leaves_of_parts};
+ghost use Rattle.regress_program.specs.Linear.{has_back_reference};
 ghost use Rattle.regress_program.specs.Search.{flags_of, groups_of, instructions_of, routines_of};
 ghost use Rattle.regress_program.specs.Shape.{IsForwards, IsProgram};
 ghost use Rattle.regress_program.specs.Size.{program_size, size, size_of_parts};
+ghost use Rattle.regress_program.specs.Tidy.{has_no_back_reference};
+ghost use Rattle.regress_program.specs.TidyFrom.{IsTidy};
 ghost use Rattle.regress_program.specs.Views.{program_in};
 ghost use Rattle.regress_program.specs.declared.fault.CompileFault.TheVariants.{TooLong};
 
@@ -32,6 +36,8 @@ fn compile(
     ensures program { IfOk result (λ parts. IsProgram (program_in parts.0.items parts.1.items)) }
     ensures means { IfOk result (λ parts. IsPattern (program_in parts.0.items parts.1.items) (tree node.now)) }
     ensures forwards { IfOk result (λ parts. IsForwards (program_in parts.0.items parts.1.items)) }
+    ensures plain { IfOk result (λ parts. has_back_reference (tree node.now) ≡ false → has_no_back_reference (program_in parts.0.items parts.1.items) ≡ true) }
+    ensures tidy { IfOk result (λ parts. IsWellFormed (tree node.now) → IsTidy (program_in parts.0.items parts.1.items)) }
     ensures size { IfOk result (λ parts. total (program_in parts.0.items parts.1.items) ≡ program_size (tree node.now)) }
     ensures within { IfOk result (λ parts. total (program_in parts.0.items parts.1.items) ≤ limit) }
     ensures too_long { IfErr result (λ fault. fault ≡ TooLong → limit < program_size (tree node.now)) }
@@ -64,6 +70,8 @@ impl Program {
         ensures pattern { IfOk result (λ p. IsPattern (routines_of p) (tree regex.now.node)) }
         ensures flags { IfOk result (λ p. flags_of p ≡ regex.now.flags) }
         ensures groups { IfOk result (λ p. groups_of p ≡ min (length (captures (tree regex.now.node))) usize.MAX) }
+        ensures plain { IfOk result (λ p. has_back_reference (tree regex.now.node) ≡ false → has_no_back_reference (routines_of p) ≡ true) }
+        ensures tidy { IfOk result (λ p. IsWellFormed (tree regex.now.node) → IsTidy (routines_of p)) }
         ensures size { IfOk result (λ p. instructions_of p ≡ program_size (tree regex.now.node)) }
         ensures within { IfOk result (λ p. instructions_of p ≤ limit) }
         ensures too_long { result ≡ Err TooLong → limit < program_size (tree regex.now.node) }
@@ -82,7 +90,7 @@ impl Compiler {
     #[cycle(compile)]
     pub(crate) fn node(&mut self, node: &Node, next: usize) -> Result<usize, CompileFault>
         requires { next < length self.old.instructions.items }
-        ensures emits { IfOk result (Emits self.old self.new self.old.next_leaf (leaves_of (tree node.now)) (matching (tree node.now)) next) }
+        ensures emits { IfOk result (Emits self.old self.new self.old.next_leaf (leaves_of (tree node.now)) (matching (tree node.now)) (content (tree node.now)) next) }
         ensures spends { IfOk result (λ _. Spends self.old self.new (size (tree node.now))) }
         ensures too_long { IfErr result (λ fault. fault ≡ TooLong → self.old.left < size (tree node.now)) }
     {
@@ -106,7 +114,7 @@ impl Compiler {
     #[cycle(compile)]
     fn other(&mut self, node: &Node, next: usize) -> Result<usize, CompileFault>
         requires { next < length self.old.instructions.items }
-        ensures emits { IfOk result (Emits self.old self.new self.old.next_leaf (leaves_of (tree node.now)) (matching (tree node.now)) next) }
+        ensures emits { IfOk result (Emits self.old self.new self.old.next_leaf (leaves_of (tree node.now)) (matching (tree node.now)) (content (tree node.now)) next) }
         ensures spends { IfOk result (λ _. Spends self.old self.new (size (tree node.now))) }
         ensures too_long { IfErr result (λ fault. fault ≡ TooLong → self.old.left < size (tree node.now)) }
     {
@@ -153,7 +161,8 @@ impl Compiler {
     #[cycle(compile)]
     fn sequence(&mut self, parts: &[Node], next: usize) -> Result<usize, CompileFault>
         requires { next < length self.old.instructions.items }
-        ensures emits { IfOk result (Emits self.old self.new self.old.next_leaf (leaves_of_parts (trees parts.now)) (matching (cat (trees parts.now))) next) }
+        ensures emits { IfOk result (Emits self.old self.new self.old.next_leaf (leaves_of_parts (trees parts.now)) (matching (cat (trees parts.now)))
+            (content_of_parts (trees parts.now)) next) }
         ensures spends { IfOk result (λ _. Spends self.old self.new (size_of_parts (trees parts.now))) }
         ensures too_long { IfErr result (λ fault. fault ≡ TooLong → self.old.left < size_of_parts (trees parts.now)) }
     {

@@ -4,6 +4,7 @@ ghost use Rattle.regress_tree.specs.Reading.{direction_if};
 ghost use Rattle.regress_tree.specs.Tree.{tree};
 ghost use Rattle.regress_program.specs.CodeOf.{Emits, EmitsRoutine, Spends};
 ghost use Rattle.regress_program.specs.Compiled.{matching, looking};
+ghost use Rattle.regress_program.specs.Contents.{content, in_lookaround};
 ghost use Rattle.regress_program.specs.LeavesOf.{leaves_of};
 ghost use Rattle.regress_program.specs.Size.{size};
 ghost use Rattle.regress_program.specs.declared.fault.CompileFault.TheVariants.{TooLong};
@@ -26,7 +27,7 @@ impl Compiler {
     ) -> Result<usize, CompileFault>
         requires { next < length self.old.instructions.items }
         ensures emits { IfOk result (Emits self.old self.new self.old.next_leaf (leaves_of (tree contents.now))
-            (looking negate (direction_if backwards) (matching (tree contents.now))) next) }
+            (looking negate (direction_if backwards) (matching (tree contents.now))) (in_lookaround (content (tree contents.now))) next) }
         ensures spends { IfOk result (λ _. Spends self.old self.new (size (tree contents.now) + 2)) }
         ensures too_long { IfErr result (λ fault. fault ≡ TooLong → self.old.left < size (tree contents.now) + 2) }
     {
@@ -41,7 +42,8 @@ impl Compiler {
     /// Compiles a node as a routine, and returns its index.
     #[cycle(compile)]
     pub(crate) fn routine(&mut self, node: &Node, backwards: bool) -> Result<usize, CompileFault>
-        ensures emits { IfOk result (EmitsRoutine self.old self.new (leaves_of (tree node.now)) (matching (tree node.now)) (direction_if backwards)) }
+        ensures emits { IfOk result (EmitsRoutine self.old self.new (leaves_of (tree node.now)) (matching (tree node.now)) (content (tree node.now))
+            (direction_if backwards)) }
         ensures spends { IfOk result (λ _. Spends self.old self.new (size (tree node.now) + 1)) }
         ensures too_long { IfErr result (λ fault. fault ≡ TooLong → self.old.left < size (tree node.now) + 1) }
     {

@@ -2,8 +2,9 @@
 ghost use Rattle.std.specs.Prelude.{◌≡◌, ◌<◌, IfOk, IfErr, None, length, true};
 ghost use Rattle.regress_prefilter.specs.OneCharacter.{takes_one};
 ghost use Rattle.regress_tree.specs.Tree.{loop_one, tree, wrapped};
-ghost use Rattle.regress_program.specs.CodeOf.{iterating, looping, iteration_size, Emits, EmitsCopies, Spends};
+ghost use Rattle.regress_program.specs.CodeOf.{iterating, iteration_of, looping, loop_of, iteration_size, Emits, EmitsCopies, Spends};
 ghost use Rattle.regress_program.specs.Compiled.{matching, optional, any_number};
+ghost use Rattle.regress_program.specs.Contents.{content};
 ghost use Rattle.regress_program.specs.LeavesOf.{is_never, leaves_of, leaves_of_loop};
 ghost use Rattle.regress_program.specs.Size.{size, size_of_characters, size_of_optional, size_of_extra, size_of_loop};
 ghost use Rattle.regress_program.specs.declared.fault.CompileFault.TheVariants.{TooLong};
@@ -45,7 +46,7 @@ impl Compiler {
         requires greedy { iterations.greedy ≡ quantifier.greedy }
         requires first { iterations.first_leaf ≡ self.old.next_leaf }
         ensures emits { IfOk result (Emits self.old self.new iterations.first_leaf (leaves_of_loop quantifier (leaves_of (tree body.now)))
-            (looping iterations quantifier (matching (tree body.now))) next) }
+            (looping iterations quantifier (matching (tree body.now))) (loop_of iterations (content (tree body.now))) next) }
         ensures spends { IfOk result (λ _. Spends self.old self.new (size_of_loop quantifier (iteration_size iterations (tree body.now)))) }
         ensures too_long { IfErr result (λ fault. fault ≡ TooLong → self.old.left < size_of_loop quantifier (iteration_size iterations (tree body.now))) }
     {
@@ -72,7 +73,7 @@ impl Compiler {
     ) -> Result<usize, CompileFault>
         requires { next < length self.old.instructions.items }
         ensures emits { IfOk result (Emits self.old self.new self.old.next_leaf (leaves_of (wrapped (loop_one quantifier) (tree body.now)))
-            (matching (wrapped (loop_one quantifier) (tree body.now))) next) }
+            (matching (wrapped (loop_one quantifier) (tree body.now))) (content (wrapped (loop_one quantifier) (tree body.now))) next) }
         ensures spends { IfOk result (λ _. Spends self.old self.new (size (wrapped (loop_one quantifier) (tree body.now)))) }
         ensures too_long { IfErr result (λ fault. fault ≡ TooLong → self.old.left < size (wrapped (loop_one quantifier) (tree body.now))) }
     {
@@ -104,7 +105,7 @@ impl Compiler {
         requires one { takes_one (tree body.now) ≡ true }
         requires without_groups { iterations ≡ record { start = 0; end = 0; greedy = quantifier.greedy; first_leaf = self.old.next_leaf } }
         ensures emits { IfOk result (EmitsCopies self.old self.new iterations.first_leaf (leaves_of (tree body.now)) 0
-            (matching (wrapped (loop_one quantifier) (tree body.now))) next) }
+            (matching (wrapped (loop_one quantifier) (tree body.now))) (content (wrapped (loop_one quantifier) (tree body.now))) next) }
         ensures spends { IfOk result (λ _. Spends self.old self.new (size_of_characters quantifier)) }
         ensures too_long { IfErr result (λ fault. fault ≡ TooLong → self.old.left < size_of_characters quantifier) }
     {
@@ -130,7 +131,7 @@ impl Compiler {
     ) -> Result<usize, CompileFault>
         requires { next < length self.old.instructions.items }
         ensures emits { IfOk result (Emits self.old self.new iterations.first_leaf (leaves_of (tree body.now))
-            (any_number iterations.greedy (iterating iterations (matching (tree body.now)))) next) }
+            (any_number iterations.greedy (iterating iterations (matching (tree body.now)))) (loop_of iterations (content (tree body.now))) next) }
         ensures spends { IfOk result (λ _. Spends self.old self.new (size_of_extra (iteration_size iterations (tree body.now)) None)) }
         ensures too_long { IfErr result (λ fault. fault ≡ TooLong → self.old.left < size_of_extra (iteration_size iterations (tree body.now)) None) }
     {
@@ -161,7 +162,7 @@ impl Compiler {
     ) -> Result<usize, CompileFault>
         requires { next < length self.old.instructions.items }
         ensures emits { IfOk result (EmitsCopies self.old self.new iterations.first_leaf (leaves_of (tree body.now)) count
-            (optional iterations.greedy count (iterating iterations (matching (tree body.now)))) next) }
+            (optional iterations.greedy count (iterating iterations (matching (tree body.now)))) (loop_of iterations (content (tree body.now))) next) }
         ensures spends { IfOk result (λ _. Spends self.old self.new (size_of_optional (iteration_size iterations (tree body.now)) count)) }
         ensures too_long { IfErr result (λ fault. fault ≡ TooLong → self.old.left < size_of_optional (iteration_size iterations (tree body.now)) count) }
     {
@@ -196,7 +197,7 @@ impl Compiler {
     ) -> Result<usize, CompileFault>
         requires { next < length self.old.instructions.items }
         ensures emits { IfOk result (Emits self.old self.new iterations.first_leaf (leaves_of (tree body.now))
-            (iterating iterations (matching (tree body.now))) next) }
+            (iterating iterations (matching (tree body.now))) (iteration_of iterations (content (tree body.now))) next) }
         ensures spends { IfOk result (λ _. Spends self.old self.new (iteration_size iterations (tree body.now))) }
         ensures too_long { IfErr result (λ fault. fault ≡ TooLong → self.old.left < iteration_size iterations (tree body.now)) }
     {

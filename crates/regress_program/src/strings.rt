@@ -3,6 +3,7 @@ ghost use Rattle.std.specs.Prelude.{◌≡◌, ◌<◌, Bool, IfOk, IfErr, lengt
 ghost use Rattle.std.specs.Box.{boxed_slice_items};
 ghost use Rattle.regress_program.specs.CodeOf.{Emits, Spends};
 ghost use Rattle.regress_program.specs.Compiled.{matching, strings};
+ghost use Rattle.regress_program.specs.Contents.{nothing};
 ghost use Rattle.regress_program.specs.LeavesOf.{leaves_of_strings};
 ghost use Rattle.regress_program.specs.Size.{size};
 ghost use Rattle.regress_program.specs.declared.fault.CompileFault.TheVariants.{TooLong};
@@ -21,7 +22,7 @@ impl Compiler {
     ) -> Result<usize, CompileFault>
         requires { next < length self.old.instructions.items }
         ensures emits { (icase : Bool) → (let ss = map boxed_slice_items alternatives.now in
-            IfOk result (Emits self.old self.new self.old.next_leaf (leaves_of_strings ss icase) (matching (strings ss icase)) next)) }
+            IfOk result (Emits self.old self.new self.old.next_leaf (leaves_of_strings ss icase) (matching (strings ss icase)) nothing next)) }
         ensures spends { (icase : Bool) → IfOk result (λ _. Spends self.old self.new (size (strings (map boxed_slice_items alternatives.now) icase))) }
         ensures too_long { (icase : Bool) → IfErr result (λ fault. fault ≡ TooLong → self.old.left < size (strings (map boxed_slice_items alternatives.now) icase)) }
     {

@@ -2,10 +2,13 @@ use Rattle.std.proofs.Common.{◌≡◌, Some, length, sym, ap, ◌∙◌, arith
 use Rattle.regress_tree.specs.Tree.{tree}
 use Rattle.regress_program.specs.CodeOf.{code_in}
 use Rattle.regress_program.specs.Compiled.{total}
+use Rattle.regress_program.specs.Contents.{content}
 use Rattle.regress_program.specs.LeavesOf.{leaves_of}
 use Rattle.regress_program.specs.Program.{Routine}
 use Rattle.regress_program.specs.Views.{program_in}
 use Rattle.regress_program.proofs.LeavesLemmas.{has-all}
+use Rattle.regress_program.proofs.OnceLemmas.{refers-tree, well_formed-tidy}
+use Rattle.regress_program.proofs.PieceLemmas.{program_plain, program_tidy}
 use Rattle.regress_program.proofs.ViewLemmas.{is_pattern, no_routines}
 use Rattle.regress_program.proofs.compile.compile.Goals as goal
 
@@ -45,3 +48,17 @@ returns-clause-within c =
     let body = (c.in_ok-routine.ensures.emits.means leaves has).has in
     let none : total (program_in leaves c.new.result.items) ≡ 0 = ap (λ rs. total (program_in leaves rs)) c.new.ensures.items in
     omega (arith, body.grown.spent, none, ap length body.same)
+
+pub returns-clause-plain : goal.returns-clause-plain
+returns-clause-plain c = λ none.
+    let leaves = c.in_ok-leaves.leaves.items in
+    let has = has-all leaves (leaves_of (tree c.args.node.now)) (omega (arith, c.in_ok-leaves.leaves.ok)) c.in_ok-leaves.ensures in
+    program_plain _ (code_in leaves c.routine.new.self) (content (tree c.args.node.now)) c.in_ok-routine.field-0
+    (ap (program_in leaves) c.new.ensures.items) (c.in_ok-routine.ensures.emits.means leaves has).holds (refers-tree (tree c.args.node.now) ∙ none)
+
+pub returns-clause-tidy : goal.returns-clause-tidy
+returns-clause-tidy c = λ well.
+    let leaves = c.in_ok-leaves.leaves.items in
+    let has = has-all leaves (leaves_of (tree c.args.node.now)) (omega (arith, c.in_ok-leaves.leaves.ok)) c.in_ok-leaves.ensures in
+    program_tidy _ (code_in leaves c.routine.new.self) (content (tree c.args.node.now)) c.in_ok-routine.field-0
+    (ap (program_in leaves) c.new.ensures.items) (c.in_ok-routine.ensures.emits.means leaves has).holds (well_formed-tidy (tree c.args.node.now) well)

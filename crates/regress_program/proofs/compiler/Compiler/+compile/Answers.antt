@@ -11,21 +11,25 @@ use Rattle.regress_tree.specs.declared.ir.node.Node.{the_lemmas}
 use Rattle.regress_tree.specs.Reading.{direction_if}
 use Rattle.regress_tree.specs.Tree.{Tree, alt, cat, loop, loop_one, tree, trees, wrapped}
 use Rattle.regress_program.specs.Alternatives.{HasLeft, Waiting}
-use Rattle.regress_program.specs.CodeOf.{code_in, iterating, iteration_size, Coded, CopiesWith, Emits, Spends}
+use Rattle.regress_program.specs.Adds.{Holds, Tidies}
+use Rattle.regress_program.specs.CodeOf.{code_in, iterating, iteration_of, iteration_size, loop_of, Coded, CopiesWith, Emits, Spends}
 use Rattle.regress_program.specs.Compiled.{matching, strings, exactly, optional, any_number, extra, after_iterations, Compiled}
+use Rattle.regress_program.specs.Contents.{nothing, content, content_of_parts, either_of, in_iteration, in_iterations}
 use Rattle.regress_program.specs.Iterates.{Iterates}
 use Rattle.regress_program.specs.LeavesOf.{leaves_of, leaves_of_loop, leaves_of_parts, leaves_of_strings}
-use Rattle.regress_program.specs.Program.{part}
+use Rattle.regress_program.specs.Program.{part, repeat}
 use Rattle.regress_program.specs.Pushed.{Pushed}
 use Rattle.regress_program.specs.declared.loops.Iterations.{Iterations}
 use Rattle.regress_program.specs.Size.{size, size_of_optional, size_of_loop, size_of_parts}
 use Rattle.regress_program.specs.Views.{leaf_in, op_in, ops_in, routine_in, program_in}
-use Rattle.regress_program.proofs.AlternativeLemmas.{waiting_none, waiting_push, waiting_pop, waiting_later, waiting_done, compiled_alternative}
+use Rattle.regress_program.proofs.AddLemmas.{IsPartOf, part-same, part-left, part-right, adds-none, adds-part, adds-then, longer, pushed-ops, pushed-routines}
+use Rattle.regress_program.proofs.AlternativeLemmas.{waiting_none, waiting_push, waiting_pop, waiting_later, waiting_done, compiled_alternative, tidies_alternative}
 use Rattle.regress_program.proofs.CodeLemmas.{Grown-same, Grown-then, Grown-push}
 use Rattle.regress_program.proofs.CompileLemmas.{compiled_nothing, compiled_part, compiled_group, compiled_unset, compiled_without_groups, compiled_earlier, compiled_later}
 use Rattle.regress_program.proofs.CountLemmas.{compiled_counted, compiled_plain}
 use Rattle.regress_program.proofs.LeavesLemmas.{copies-bounded, has-at, has-first, has-leaf, has-room, has-same, has-second, loop-leaves, many-wrapped, never-bounds, never-leaves, one-leaf, one-wrapped, optional_copies, parts-leaves, some-copies}
-use Rattle.regress_program.proofs.RepeatLemmas.{iterates_last, iterates_more, compiled_optional, compiled_any_number, compiled_mandatory, compiled_never, compiled_no_mandatory, compiled_unbounded, compiled_bounded, compiled_repeated}
+use Rattle.regress_program.proofs.PieceLemmas.{part-then, tidies_later, tidies_earlier, tidies_or, holds_less, holds_nothing, holds_part, holds_group, holds_unset, less_without_groups, holds_last, holds_more, holds_optional, holds_any_number, holds_no_mandatory, holds_mandatory, holds_repeated, holds_plain, holds_look, holds_routine, holds_counted, holds_sequence, adds_split, plain_leaf}
+use Rattle.regress_program.proofs.RepeatLemmas.{Written, iterates_last, iterates_more, compiled_optional, compiled_any_number, compiled_mandatory, compiled_never, compiled_no_mandatory, compiled_unbounded, compiled_bounded, compiled_repeated}
 use Rattle.regress_program.proofs.RoutineLemmas.{compiled_look, has_routine}
 use Rattle.regress_program.proofs.SizeLemmas.{too_long, copies-more, loop-unbounded, loop-bounded, parts-more, parts-within}
 use Rattle.regress_program.proofs.ViewLemmas.{below, part_if_leaf, nothing_at_empty, nothing_at_goal, sequence_more}
@@ -50,13 +54,25 @@ any_number-returns-clause-emits t c =
       grown = omega (arith, pushed.grown, c.in_ok-start.ensures.emits.grown, c.in_ok-again.ensures.emits.grown);
       means = λ leaves has.
           let one = c.in_ok-start.ensures.emits.means leaves has in
+          let a = code_in leaves c.args.self.now in
+          let b = code_in leaves c.push.new.self in
+          let e = code_in leaves before in
+          let g = code_in leaves after in
+          let h = code_in leaves c.push-2.new.self in
+          let written : Written e g c.in_ok-again.again (repeat c.args.iterations.greedy c.in_ok-start.start c.args.next) = record {
+            routines = refl;
+            ops = map-set (op_in leaves) before.instructions.items c.in_ok-again.again repeats;
+            left = refl;
+          } in
           record {
             after = c.push-2.ensures.leaf ∙ one.after;
             compiled =
-                compiled_any_number (code_in leaves c.args.self.now) (code_in leaves c.push.new.self) (code_in leaves before) (code_in leaves after)
-                (code_in leaves c.push-2.new.self) c.args.iterations.greedy f c.args.next c.in_ok-again.again c.in_ok-start.start at
-                (below leaves c.args.self.now.instructions.items c.args.next c.requires) (c.in_ok-again.ensures.emits.means leaves) one.compiled
-                (record { routines = refl; ops = map-set (op_in leaves) before.instructions.items c.in_ok-again.again repeats; left = refl }) (pushed.means leaves);
+                compiled_any_number a b e g h c.args.iterations.greedy f c.args.next c.in_ok-again.again c.in_ok-start.start at
+                (below leaves c.args.self.now.instructions.items c.args.next c.requires) (c.in_ok-again.ensures.emits.means leaves) one.compiled written
+                (pushed.means leaves);
+            holds =
+                holds_any_number a b e g h c.args.iterations.greedy (iteration_of c.args.iterations (content (tree c.args.body.now))) c.args.next
+                c.in_ok-again.again c.in_ok-start.start at one.compiled.grown (c.in_ok-again.ensures.emits.means leaves) one.holds written (pushed.means leaves);
           };
     })
     c.push-2.ensures.emits
@@ -73,6 +89,7 @@ at_most-returns-then-count-eq0-clause-emits t c = record {
         compiled =
             subst (λ (k : ℕ). Compiled a a (optional c.args.iterations.greedy k f) c.args.next c.args.next) (sym c.if-count-eq0.true)
             (compiled_nothing a c.args.next (below leaves c.args.self.now.instructions.items c.args.next c.requires));
+        holds = holds_nothing a (loop_of c.args.iterations (content (tree c.args.body.now))) c.args.next;
       };
 }
 
@@ -86,6 +103,11 @@ at_most-loop-i-init t c = record {
       (iterating c.args.iterations (matching (tree c.args.body.now))) c.args.next c.in_ok-end.end c.in_ok-start.start
       (below leaves c.args.self.now.instructions.items c.args.next c.requires) (c.in_ok-end.ensures.emits.means leaves)
       (c.in_ok-start.ensures.emits.means leaves has).compiled;
+  holds = λ leaves has.
+      let one = c.in_ok-start.ensures.emits.means leaves has in
+      holds_last (code_in leaves c.args.self.now) (code_in leaves c.push.new.self) (code_in leaves c.iteration.new.self)
+      (iteration_of c.args.iterations (content (tree c.args.body.now))) c.args.next c.in_ok-end.end c.in_ok-start.start one.compiled.grown
+      (c.in_ok-end.ensures.emits.means leaves) one.holds;
   spent = omega (arith, c.in_ok-end.ensures.spends, c.in_ok-start.ensures.spends);
 }
 
@@ -105,6 +127,12 @@ at_most-loop-i-preserved t c =
           (code_in leaves c.iteration-in-loop-i.new.self) c.args.iterations.greedy f c.args.next l.start c.in_ok-again.again c.in_ok-start-2.start (l._i - 1)
           (below leaves c.args.self.now.instructions.items c.args.next c.requires) (l.invariant.iterates leaves has) (c.in_ok-again.ensures.emits.means leaves)
           (c.in_ok-start-2.ensures.emits.means leaves has).compiled);
+      holds = λ leaves has.
+          let one = c.in_ok-start-2.ensures.emits.means leaves has in
+          holds_more (code_in leaves c.args.self.now) (code_in leaves l.self) (code_in leaves c.push-in-loop-i.new.self)
+          (code_in leaves c.iteration-in-loop-i.new.self) c.args.iterations.greedy (iteration_of c.args.iterations (content (tree c.args.body.now))) c.args.next
+          l.start c.in_ok-again.again c.in_ok-start-2.start (l.invariant.iterates leaves has).grown one.compiled.grown (l.invariant.holds leaves has)
+          (c.in_ok-again.ensures.emits.means leaves) one.holds;
       spent =
           let n = iteration_size c.args.iterations (tree c.args.body.now) in
           omega (arith, l.invariant.spent, c.in_ok-again.ensures.spends, c.in_ok-start-2.ensures.spends, copies-more (n + 1) l._i);
@@ -126,6 +154,10 @@ at_most-returns-clause-emits t c =
                 subst (λ k. Compiled (code_in leaves c.args.self.now) (code_in leaves c.push-2.new.self) (optional c.args.iterations.greedy k f) c.args.next at) number
                 (compiled_optional (code_in leaves c.args.self.now) (code_in leaves l.self) (code_in leaves c.push-2.new.self) c.args.iterations.greedy f c.args.next
                 l.start at (l._i - 1) (below leaves c.args.self.now.instructions.items c.args.next c.requires) (l.invariant.iterates leaves has) (pushed.means leaves));
+            holds =
+                holds_optional (code_in leaves c.args.self.now) (code_in leaves l.self) (code_in leaves c.push-2.new.self) c.args.iterations.greedy
+                (iteration_of c.args.iterations (content (tree c.args.body.now))) c.args.next l.start at (l.invariant.iterates leaves has).grown
+                (l.invariant.holds leaves has) (pushed.means leaves);
           };
     })
     c.push-2.ensures.emits
@@ -141,6 +173,11 @@ iteration-returns-then-self-before-clause-emits t c = record {
         compiled =
             compiled_without_groups (code_in leaves c.args.self.now) (code_in leaves c.node.new.self) (matching (tree c.args.body.now)) c.args.iterations.start
             c.args.iterations.end c.args.next c.in_ok-contents.contents c.if-iterations.true body.compiled;
+        holds =
+            let f = content (tree c.args.body.now) in
+            let i = c.args.iterations in
+            holds_less (code_in leaves c.args.self.now) (code_in leaves c.node.new.self) f (iteration_of i f) c.args.next c.in_ok-contents.contents
+            (less_without_groups f i.start i.end c.if-iterations.true) body.holds;
       };
 }
 
@@ -157,6 +194,9 @@ iteration-returns-clause-emits t c =
             compiled =
                 compiled_unset (code_in leaves c.args.self.now) (code_in leaves c.node.new.self) (code_in leaves c.push.new.self) (matching (tree c.args.body.now))
                 c.args.iterations.start c.args.iterations.end c.args.next c.in_ok-contents.contents at body.compiled (pushed.means leaves);
+            holds =
+                holds_unset (code_in leaves c.args.self.now) (code_in leaves c.node.new.self) (code_in leaves c.push.new.self) (content (tree c.args.body.now))
+                c.args.iterations.start c.args.iterations.end c.args.next c.in_ok-contents.contents at body.compiled.grown body.holds (pushed.means leaves);
           };
     })
     c.push.ensures.emits
@@ -175,6 +215,7 @@ repeat-returns-then-is_never-clause-emits t c = record {
             (never-bounds q never).0 (never-bounds q never).1
             (λ d setting bytes. Stays-iteration bytes d (matching (tree c.args.body.now) d setting bytes) (Stays-tree setting bytes d (tree c.args.body.now))
             c.args.iterations.start c.args.iterations.end) (below leaves c.args.self.now.instructions.items c.args.next c.requires.below);
+        holds = holds_nothing (code_in leaves c.args.self.now) (loop_of c.args.iterations (content (tree c.args.body.now))) c.args.next;
       };
 }
 
@@ -214,19 +255,22 @@ repeat-loop-i-init t c =
       copies = λ leaves has.
           let a = code_in leaves c.args.self.now in
           let b = code_in leaves c.match-quantifier.self in
-          let optional_part : CopiesWith leaves c.args.self.now c.match-quantifier.self first (length ts) (optional_copies q) (extra q f) c.args.next c.match-quantifier.entry =
+          let body = iteration_of c.args.iterations (content (tree c.args.body.now)) in
+          let optional_part : CopiesWith leaves c.args.self.now c.match-quantifier.self first (length ts) (optional_copies q) (extra q f) (in_iterations body) c.args.next
+          c.match-quantifier.entry =
           elim c.match-quantifier.branch [
             | repeat-in-None+in_ok-entry-in-None w ↦
                 (let new = w.any_number.new.self in
                 let n = w.in_ok-entry-in-None.entry in
                 let one = w.in_ok-entry-in-None.ensures.emits.means leaves has in
-                subst (λ s. CopiesWith leaves c.args.self.now s first (length ts) (optional_copies q) (extra q f) c.args.next c.match-quantifier.entry) (sym w.self-is)
-                (subst (λ k. CopiesWith leaves c.args.self.now new first (length ts) (optional_copies q) (extra q f) c.args.next k) (sym w.entry-is)
+                subst (λ s. CopiesWith leaves c.args.self.now s first (length ts) (optional_copies q) (extra q f) (in_iterations body) c.args.next c.match-quantifier.entry) (sym w.self-is)
+                (subst (λ k. CopiesWith leaves c.args.self.now new first (length ts) (optional_copies q) (extra q f) (in_iterations body) c.args.next k) (sym w.entry-is)
                 (record {
                   after = λ some. one.after;
                   compiled =
                       compiled_unbounded a (code_in leaves new) q f c.args.next n w.in-None.is
                       (subst (λ g. Compiled a (code_in leaves new) (any_number g f) c.args.next n) c.requires.greedy one.compiled);
+                  holds = one.holds;
                 })))
             | repeat-in-Some+in_ok-entry-in-Some w ↦
                 (let new = w.at_most.new.self in
@@ -234,8 +278,8 @@ repeat-loop-i-init t c =
                 let n = w.in_ok-entry-in-Some.entry in
                 let some = w.in_ok-entry-in-Some.ensures.emits.means leaves has in
                 let number : optional_copies q ≡ w.saturating_sub.result = copies-bounded q w.in-Some.max w.in-Some.is ∙ sym w.saturating_sub.ensures in
-                subst (λ s. CopiesWith leaves c.args.self.now s first (length ts) (optional_copies q) (extra q f) c.args.next c.match-quantifier.entry) (sym w.self-is)
-                (subst (λ k. CopiesWith leaves c.args.self.now new first (length ts) (optional_copies q) (extra q f) c.args.next k) (sym w.entry-is)
+                subst (λ s. CopiesWith leaves c.args.self.now s first (length ts) (optional_copies q) (extra q f) (in_iterations body) c.args.next c.match-quantifier.entry) (sym w.self-is)
+                (subst (λ k. CopiesWith leaves c.args.self.now new first (length ts) (optional_copies q) (extra q f) (in_iterations body) c.args.next k) (sym w.entry-is)
                 (record {
                   after = λ is. some.after (omega (arith, is, number));
                   compiled =
@@ -245,11 +289,13 @@ repeat-loop-i-init t c =
                       c.args.iterations.start c.args.iterations.end)
                       (subst (λ k. Compiled a e (optional q.greedy k f) c.args.next n) w.saturating_sub.ensures
                       (subst (λ g. Compiled a e (optional g w.saturating_sub.result f) c.args.next n) c.requires.greedy some.compiled));
+                  holds = some.holds;
                 })))
           ] in
           record {
             after = λ some. optional_part.after (omega (arith, some));
             compiled = compiled_no_mandatory a b f (extra q f) c.args.next c.match-quantifier.entry optional_part.compiled;
+            holds = holds_no_mandatory a b body (in_iterations body) c.args.next c.match-quantifier.entry optional_part.holds;
           };
       spent = omega (arith, spent);
     }
@@ -263,11 +309,16 @@ repeat-loop-i-preserved t c =
       grown = omega (arith, l.invariant.grown, c.in_ok-entry.ensures.emits.grown);
       copies = λ leaves has.
           let one = c.in_ok-entry.ensures.emits.means leaves has in
+          let before = l.invariant.copies leaves has in
+          let body = iteration_of c.args.iterations (content (tree c.args.body.now)) in
           record {
             after = λ some. one.after;
             compiled =
                 compiled_mandatory (code_in leaves c.args.self.now) (code_in leaves l.self) (code_in leaves c.iteration.new.self) f
-                (extra c.args.quantifier f) c.args.next l.entry c.in_ok-entry.entry l._i (l.invariant.copies leaves has).compiled one.compiled;
+                (extra c.args.quantifier f) c.args.next l.entry c.in_ok-entry.entry l._i before.compiled one.compiled;
+            holds =
+                holds_mandatory (code_in leaves c.args.self.now) (code_in leaves l.self) (code_in leaves c.iteration.new.self) body (in_iterations body)
+                c.args.next l.entry c.in_ok-entry.entry before.compiled.grown one.compiled.grown before.holds one.holds;
           };
       spent =
           let n = iteration_size c.args.iterations (tree c.args.body.now) in
@@ -295,6 +346,9 @@ repeat-returns-clause-emits t c =
                 (matching (tree c.args.body.now)) c.args.next l.entry
                 (subst (λ k. Compiled (code_in leaves c.args.self.now) (code_in leaves l.self) (after_iterations k f (extra q f)) c.args.next l.entry) all
                 copies.compiled);
+            holds =
+                holds_repeated (code_in leaves c.args.self.now) (code_in leaves l.self) (iteration_of c.args.iterations (content (tree c.args.body.now)))
+                c.args.next l.entry copies.holds;
           };
     }
 
@@ -328,33 +382,43 @@ repeat_character-returns-clause-emits t c =
           let takes : takes_one (leaf_in leaves from) ≡ true = ap takes_one leaf-is ∙ c.requires.one in
           let a = code_in leaves c.args.self.now in
           let b = code_in leaves c.match-quantifier.self in
-          let optional_part : Compiled a b (extra q f) c.args.next c.match-quantifier.entry =
+          let body = in_iteration 0 0 (content u) in
+          let optional_part : Compiled a b (extra q f) c.args.next c.match-quantifier.entry × Holds a b (in_iterations body) c.args.next c.match-quantifier.entry =
           elim c.match-quantifier.branch [
             | repeat_character-in-None+in_ok-entry-in-None w ↦
                 (let e = code_in leaves w.any_number.new.self in
                 let n = w.in_ok-entry-in-None.entry in
                 let is = w.in_ok-entry-in-None.ensures.emits.means leaves has in
                 let plain = compiled_plain a e c.args.iterations f c.args.next n none is.compiled in
-                subst (λ s. Compiled a (code_in leaves s) (extra q f) c.args.next c.match-quantifier.entry) (sym w.self-is)
-                (subst (λ k. Compiled a e (extra q f) c.args.next k) (sym w.entry-is)
-                (compiled_unbounded a e q f c.args.next n w.in-None.is
-                (subst (λ g. Compiled a e (any_number g f) c.args.next n) (ap (λ (i : Iterations). i.greedy) c.requires.without_groups) plain))))
+                subst (λ s. Compiled a (code_in leaves s) (extra q f) c.args.next c.match-quantifier.entry × Holds a (code_in leaves s) (in_iterations body) c.args.next c.match-quantifier.entry)
+                (sym w.self-is)
+                (subst (λ k. Compiled a e (extra q f) c.args.next k × Holds a e (in_iterations body) c.args.next k) (sym w.entry-is) (
+                  compiled_unbounded a e q f c.args.next n w.in-None.is
+                      (subst (λ g. Compiled a e (any_number g f) c.args.next n) (ap (λ (i : Iterations). i.greedy) c.requires.without_groups) plain),
+                  subst (λ (i : Iterations). Holds a e (loop_of i (content u)) c.args.next n) c.requires.without_groups is.holds,
+                )))
             | repeat_character-in-Some+in_ok-entry-in-Some w ↦
                 (let e = code_in leaves w.up_to.new.self in
                 let n = w.in_ok-entry-in-Some.entry in
-                let is = subst (λ v. Compiled a e (optional q.greedy w.saturating_sub.result (matching v)) c.args.next n) leaf-is
-                (w.in_ok-entry-in-Some.ensures.emits.means leaves takes) in
-                subst (λ s. Compiled a (code_in leaves s) (extra q f) c.args.next c.match-quantifier.entry) (sym w.self-is)
-                (subst (λ k. Compiled a e (extra q f) c.args.next k) (sym w.entry-is)
-                (compiled_bounded a e q f c.args.next n w.in-Some.max w.in-Some.is (λ d setting bytes. Stays-tree setting bytes d u)
-                (subst (λ k. Compiled a e (optional q.greedy k f) c.args.next n) w.saturating_sub.ensures is))))
+                let some = w.in_ok-entry-in-Some.ensures.emits.means leaves takes in
+                let is = subst (λ v. Compiled a e (optional q.greedy w.saturating_sub.result (matching v)) c.args.next n) leaf-is some.compiled in
+                subst (λ s. Compiled a (code_in leaves s) (extra q f) c.args.next c.match-quantifier.entry × Holds a (code_in leaves s) (in_iterations body) c.args.next c.match-quantifier.entry)
+                (sym w.self-is)
+                (subst (λ k. Compiled a e (extra q f) c.args.next k × Holds a e (in_iterations body) c.args.next k) (sym w.entry-is) (
+                  compiled_bounded a e q f c.args.next n w.in-Some.max w.in-Some.is (λ d setting bytes. Stays-tree setting bytes d u)
+                      (subst (λ k. Compiled a e (optional q.greedy k f) c.args.next n) w.saturating_sub.ensures is),
+                  holds_plain a e (in_iterations body) c.args.next n some.holds,
+                )))
           ] in
-          let counted = subst (λ v. Compiled b (code_in leaves c.exactly.new.self) (exactly q.min (matching v)) c.match-quantifier.entry at) leaf-is
-          (more.means leaves takes) in
+          let last = more.means leaves takes in
+          let counted = subst (λ v. Compiled b (code_in leaves c.exactly.new.self) (exactly q.min (matching v)) c.match-quantifier.entry at) leaf-is last.compiled in
           record {
             after = λ some. absurd (omega (arith, some));
             compiled =
-                compiled_counted u c.requires.one a b (code_in leaves c.exactly.new.self) q c.args.next c.match-quantifier.entry at optional_part counted;
+                compiled_counted u c.requires.one a b (code_in leaves c.exactly.new.self) q c.args.next c.match-quantifier.entry at optional_part.0 counted;
+            holds =
+                holds_counted a b (code_in leaves c.exactly.new.self) body c.args.next c.match-quantifier.entry at optional_part.0.grown last.compiled.grown
+                optional_part.1 last.holds;
           };
     })
     c.exactly.ensures.emits
@@ -376,6 +440,7 @@ repeat_one-returns-in_ok-entry-clause-emits t c =
           record {
             after = omega (arith, c.saturating_add-self.ensures, has-room leaves from u one, ap length sole, ap length (one-leaf u takes));
             compiled = (emits.means leaves body).compiled;
+            holds = (emits.means leaves body).holds;
           };
     }
 
@@ -391,7 +456,11 @@ repeat_one-returns-else-takes_one-clause-emits t c =
       grown = emits.grown;
       means = λ leaves has.
           let is = emits.means leaves (has-same leaves from (leaves_of (wrapped (loop_one q) u)) (leaves_of_loop q (leaves_of u)) sole has) in
-          record { after = omega (arith, is.after, ap length sole); compiled = is.compiled };
+          record {
+            after = omega (arith, is.after, ap length sole);
+            compiled = is.compiled;
+            holds = is.holds;
+          };
     })
     c.repeat.ensures.emits
 
@@ -412,6 +481,9 @@ look-returns-clause-emits t c =
                 compiled_look (code_in leaves c.args.self.now) (code_in leaves c.routine.new.self) (code_in leaves c.push.new.self)
                 (matching (tree c.args.contents.now)) c.args.negate (direction_if c.args.backwards) i c.args.next at
                 (below leaves c.args.self.now.instructions.items c.args.next c.requires) body.has (pushed.means leaves);
+            holds =
+                holds_look (code_in leaves c.args.self.now) (code_in leaves c.routine.new.self) (code_in leaves c.push.new.self)
+                (content (tree c.args.contents.now)) c.args.negate i c.args.next at body.has.grown body.holds (pushed.means leaves);
           };
     })
     c.push.ensures.emits
@@ -447,6 +519,12 @@ routine-returns-clause-emits t c = record {
             entry c.in_ok-push.field-0 (c.len.result - 1) cleared (c.in_ok-push.ensures.emits.means leaves) is.compiled
             (ap₂ (λ rs os. record { routines = rs; ops = os; left = body.left }) routines ops)
             (omega (arith, c.len.ensures, c.push-2.new.self.ok, long, length-map body.routines.items (routine_in leaves)));
+        holds =
+            holds_routine a (code_in leaves emptied) (code_in leaves c.push.new.self) (code_in leaves body) (code_in leaves new) (content (tree c.args.node.now))
+            (routine_in leaves r) c.in_ok-push.field-0 (c.len.result - 1) is.compiled.grown cleared (c.in_ok-push.ensures.emits.means leaves) is.holds
+            (ap (program_in leaves) pushed ∙ map-append (routine_in leaves) body.routines.items (r ∷ [])) ops
+            (ap (λ v. ops_in leaves v.items) c.replace-instructions.ensures.value)
+            (omega (arith, c.len.ensures, c.push-2.new.self.ok, long, length-map body.routines.items (routine_in leaves)));
       };
 }
 
@@ -464,6 +542,8 @@ node-loop-rest-init t c =
             waiting =
                 subst (λ es. Waiting a a c.args.next es (tree c.args.node.now) (tree c.args.node.now)) (sym none)
                 (waiting_none a a c.args.next (tree c.args.node.now));
+            adds = adds-none a (content (tree c.args.node.now));
+            part = part-same (content (tree c.args.node.now));
             has = has;
             after = refl;
           };
@@ -480,7 +560,7 @@ node-loop-rest-preserved t c =
     let rest-is : tree l.rest.now ≡ alt (tree left) (tree right) = ap tree c.in-Alt.is ∙ tree-Alt c.in-Alt.left c.in-Alt.right in
     let sizes : size (tree l.rest.now) ≡ size (tree left) + size (tree right) + 1 = ap size rest-is in
     let spends : Spends l.self c.node.new.self (size (tree left)) = rw c.deref.ensures at c.in_ok-node.ensures.spends in
-    let emits : Emits l.self c.node.new.self l.self.next_leaf (leaves_of (tree left)) (matching (tree left)) c.args.next c.in_ok-node.field-0 =
+    let emits : Emits l.self c.node.new.self l.self.next_leaf (leaves_of (tree left)) (matching (tree left)) (content (tree left)) c.args.next c.in_ok-node.field-0 =
     rw c.deref.ensures at c.in_ok-node.ensures.emits in
     rw c.deref-rest.ensures (record {
       grown = omega (arith, l.invariant.grown, emits.grown);
@@ -495,13 +575,22 @@ node-loop-rest-preserved t c =
             left = tree left;
             is = rest-is;
             compiled = compiled_earlier a b e (matching (tree left)) c.args.next c.in_ok-node.field-0 before.grown node.compiled;
+            tidies = tidies_earlier a b e (content (tree left)) c.args.next c.in_ok-node.field-0 before.grown node.holds.tidies;
           } in
+          let whole = content (tree c.args.node.now) in
+          let sides = content (alt (tree left) (tree right)) in
+          let part : IsPartOf sides whole = subst (λ u. IsPartOf (content u) whole) rest-is before.part in
+          let first = part-then (content (tree left)) sides whole (part-left (content (tree left)) (content (tree right))) part in
           record {
             grown = Grown-then a b e before.grown node.compiled.grown;
             waiting =
                 subst (λ es. Waiting a e c.args.next es (tree c.args.node.now) (tree right)) (sym items)
                 (waiting_push a e c.args.next l.entries.items c.in_ok-node.field-0 (tree c.args.node.now) (tree l.rest.now) (tree right)
                 (waiting_later a b e c.args.next l.entries.items (tree c.args.node.now) (tree l.rest.now) node.compiled.grown before.waiting) is);
+            adds =
+                adds-then a b e whole node.compiled.grown.ops node.compiled.grown.routines before.adds
+                (adds-part b e (content (tree left)) whole first node.holds.adds);
+            part = part-then (content (tree right)) sides whole (part-right (content (tree left)) (content (tree right))) part;
             has =
                 has-at leaves (l.self.next_leaf + length (leaves_of (tree left))) c.node.new.self.next_leaf (leaves_of (tree right)) node.after
                 (has-second leaves l.self.next_leaf (leaves_of (tree left)) (leaves_of (tree right)) both);
@@ -535,6 +624,10 @@ node-loop-first-init t c =
             waiting =
                 waiting_later a b e c.args.next l.entries.items (tree c.args.node.now) (tree l.rest.now) last.compiled.grown before.waiting;
             compiled = compiled_earlier a b e (matching (tree l.rest.now)) c.args.next c.in_ok-entry.entry before.grown last.compiled;
+            adds =
+                adds-then a b e (content (tree c.args.node.now)) last.compiled.grown.ops last.compiled.grown.routines before.adds
+                (adds-part b e (content (tree l.rest.now)) (content (tree c.args.node.now)) before.part last.holds.adds);
+            tidies = tidies_earlier a b e (content (tree l.rest.now)) c.args.next c.in_ok-entry.entry before.grown last.holds.tidies;
             after = last.after ∙ before.after;
           };
       spent = omega (arith, l.invariant.spent, c.in_ok-entry.ensures.spends);
@@ -563,6 +656,12 @@ node-loop-first-preserved t c =
             compiled =
                 compiled_alternative a b e c.args.next c.in-Some.first l.entry c.in_ok-entry-2.entry popped.0 before.joined popped.1.1
                 before.compiled pushed;
+            adds =
+                adds-then a b e (content whole) grown.ops grown.routines before.adds
+                (adds_split b e (content whole) c.in-Some.first l.entry c.in_ok-entry-2.entry pushed);
+            tidies =
+                tidies_alternative a b e c.args.next c.in-Some.first l.entry c.in_ok-entry-2.entry popped.0 before.joined (longer a b before.compiled.grown)
+                popped.1.1 before.tidies pushed;
             after = c.push-in-Some.ensures.leaf ∙ before.after;
           };
       spent =
@@ -583,7 +682,11 @@ node-returns-clause-emits t c =
           let none : l.entries.items ≡ [] = nil_from_length l.entries.items (omega (arith, c.in_default-pop.ensures.cases, l.entries.ok)) in
           let same : whole ≡ is.joined =
           waiting_done a b c.args.next whole is.joined (subst (λ es. Waiting a b c.args.next es whole is.joined) none is.waiting) in
-          record { after = is.after; compiled = subst (λ u. Compiled a b (matching u) c.args.next l.entry) (sym same) is.compiled };
+          record {
+            after = is.after;
+            compiled = subst (λ u. Compiled a b (matching u) c.args.next l.entry) (sym same) is.compiled;
+            holds = record { adds = is.adds; tidies = subst (λ u. Tidies a b (content u) c.args.next l.entry) (sym same) is.tidies };
+          };
     }
 
 -- ---- other nodes
@@ -594,7 +697,7 @@ other-returns-in_ok-contents-in-CaptureGroup-clause-emits t c =
     let body = tree c.in-CaptureGroup.contents.value in
     let from = c.args.self.now.next_leaf in
     let is = ap tree c.in-CaptureGroup.is ∙ tree-CaptureGroup id c.in-CaptureGroup.contents c.in-CaptureGroup.name in
-    let inside : Emits c.push.new.self c.node.new.self c.push.new.self.next_leaf (leaves_of body) (matching body) c.in_ok-end-in-CaptureGroup.end
+    let inside : Emits c.push.new.self c.node.new.self c.push.new.self.next_leaf (leaves_of body) (matching body) (content body) c.in_ok-end-in-CaptureGroup.end
     c.in_ok-contents-in-CaptureGroup.contents =
     rw c.deref-in-CaptureGroup.ensures at c.in_ok-contents-in-CaptureGroup.ensures.emits in
     IfOk-weaker c.push-in-CaptureGroup.result _ _
@@ -613,6 +716,11 @@ other-returns-in_ok-contents-in-CaptureGroup-clause-emits t c =
                 (compiled_group a (code_in leaves c.push.new.self) (code_in leaves c.node.new.self) g (matching body) id c.args.next c.in_ok-end-in-CaptureGroup.end
                 c.in_ok-contents-in-CaptureGroup.contents at (below leaves c.args.self.now.instructions.items c.args.next c.requires)
                 (c.in_ok-end-in-CaptureGroup.ensures.emits.means leaves) contents.compiled (pushed.means leaves));
+            holds =
+                subst (λ u. Holds a g (content u) c.args.next at) (sym is)
+                (holds_group a (code_in leaves c.push.new.self) (code_in leaves c.node.new.self) g (content body) id c.args.next c.in_ok-end-in-CaptureGroup.end
+                c.in_ok-contents-in-CaptureGroup.contents at contents.compiled.grown (c.in_ok-end-in-CaptureGroup.ensures.emits.means leaves) contents.holds
+                (pushed.means leaves));
           };
     })
     c.push-in-CaptureGroup.ensures.emits
@@ -623,7 +731,7 @@ other-returns-in-LookaroundAssertion-clause-emits t c =
     let is = ap tree w.is ∙ tree-LookaroundAssertion w.negate w.backwards w.start_group w.end_group w.contents in
     IfOk-weaker c.look.result _ _
     (λ at compiled.
-    subst (λ u. Emits c.args.self.now c.look.new.self c.args.self.now.next_leaf (leaves_of u) (matching u) c.args.next at) (sym is)
+    subst (λ u. Emits c.args.self.now c.look.new.self c.args.self.now.next_leaf (leaves_of u) (matching u) (content u) c.args.next at) (sym is)
     (rw c.deref-in-LookaroundAssertion.ensures at compiled))
     c.look.ensures.emits
 
@@ -637,9 +745,9 @@ other-returns-in_ok-second-in-Alt-clause-emits t c =
     let first = c.in_ok-first-in-Alt.first in
     let second = c.in_ok-second-in-Alt.second in
     let is : tree c.args.node.now ≡ alt left right = ap tree c.in-Alt.is ∙ tree-Alt c.in-Alt.left c.in-Alt.right in
-    let emits : Emits c.args.self.now c.node-in-Alt.new.self from (leaves_of left) (matching left) next first =
+    let emits : Emits c.args.self.now c.node-in-Alt.new.self from (leaves_of left) (matching left) (content left) next first =
     rw c.deref-in-Alt.ensures at c.in_ok-first-in-Alt.ensures.emits in
-    let emits2 : Emits c.node-in-Alt.new.self c.node-in-Alt-2.new.self middle (leaves_of right) (matching right) next second =
+    let emits2 : Emits c.node-in-Alt.new.self c.node-in-Alt-2.new.self middle (leaves_of right) (matching right) (content right) next second =
     rw c.deref-in-Alt-2.ensures at c.in_ok-second-in-Alt.ensures.emits in
     IfOk-weaker c.push-in-Alt.result _ _
     (λ at pushed. record {
@@ -658,7 +766,10 @@ other-returns-in_ok-second-in-Alt-clause-emits t c =
             left = left;
             is = is;
             compiled = compiled_later a b e (matching left) next first two.compiled.grown one.compiled;
+            tidies = tidies_later a b e (content left) next first (longer b e two.compiled.grown) one.holds.tidies;
           } in
+          let both_sides = either_of (content left) (content right) in
+          let more = two.compiled.grown in
           record {
             after =
                 omega (
@@ -672,6 +783,17 @@ other-returns-in_ok-second-in-Alt-clause-emits t c =
             compiled =
                 compiled_alternative a e g next first second at (tree c.args.node.now) right has-left
                 (compiled_earlier a b e (matching right) next second one.compiled.grown two.compiled) (pushed.means leaves);
+            holds =
+                subst (λ u. Holds a g (content u) next at) (sym is) (record {
+                  adds = adds-then a e g both_sides (pushed-ops e g _ at (pushed.means leaves)) (pushed-routines e g _ at (pushed.means leaves))
+                      (adds-then a b e both_sides more.ops more.routines
+                      (adds-part a b (content left) both_sides (part-left (content left) (content right)) one.holds.adds)
+                      (adds-part b e (content right) both_sides (part-right (content left) (content right)) two.holds.adds))
+                      (adds_split e g both_sides first second at (pushed.means leaves));
+                  tidies =
+                      tidies_or a e g (content left) (content right) next first second at (longer a e (Grown-then a b e one.compiled.grown more)) has-left.tidies
+                      (tidies_earlier a b e (content right) next second one.compiled.grown two.holds.tidies) (pushed.means leaves);
+                });
           };
     })
     c.push-in-Alt.ensures.emits
@@ -688,13 +810,15 @@ other-returns-in_default-clause-emits t c =
       grown = omega (arith, pushed.grown);
       means = λ leaves has.
           let one = has-same leaves from (leaves_of u) (u ∷ []) sole has in
+          let a = code_in leaves c.args.self.now in
+          let b = code_in leaves c.push_leaf.new.self in
+          let emitted : Pushed a b (part u c.args.next) at =
+          subst (λ v. Pushed a b (part v c.args.next) at) (has-leaf leaves from u one) (pushed.means leaves) in
           record {
             after = omega (arith, c.push_leaf.ensures.leaf, has-room leaves from u one, ap length sole);
             compiled =
-                compiled_part (code_in leaves c.args.self.now) (code_in leaves c.push_leaf.new.self) u c.args.next at (part_if_leaf _ leaf)
-                (below leaves c.args.self.now.instructions.items c.args.next c.requires)
-                (subst (λ v. Pushed (code_in leaves c.args.self.now) (code_in leaves c.push_leaf.new.self) (part v c.args.next) at) (has-leaf leaves from u one)
-                (pushed.means leaves));
+                compiled_part a b u c.args.next at (part_if_leaf _ leaf) (below leaves c.args.self.now.instructions.items c.args.next c.requires) emitted;
+            holds = holds_part a b (content u) u c.args.next at (plain_leaf u leaf) emitted;
           };
     })
     c.push_leaf.ensures.emits
@@ -707,7 +831,7 @@ other-returns-in-Loop-clause-emits t c =
     let is = ap tree c.in-Loop.is ∙ tree-Loop c.in-Loop.loopee q groups in
     IfOk-weaker c.repeat.result _ _
     (λ at emits.
-    let P : Tree → Type 0 = λ v. Emits c.args.self.now c.repeat.new.self c.args.self.now.next_leaf (leaves_of v) (matching v) c.args.next at in
+    let P : Tree → Type 0 = λ v. Emits c.args.self.now c.repeat.new.self c.args.self.now.next_leaf (leaves_of v) (matching v) (content v) c.args.next at in
     let same : wrapped (loop q c.from.result c.from-in-Loop.result) u ≡ wrapped (loop q groups.start groups.end) u =
     ap₂ (λ (a b : ℕ). wrapped (loop q a b) u) c.from.ensures c.from-in-Loop.ensures in
     subst P (sym is) (subst P same (rw c.deref-in-Loop.ensures at emits)))
@@ -719,9 +843,9 @@ other-returns-in-StringSet-clause-emits t c =
     let is : tree c.args.node.now ≡ strings ss c.in-StringSet.icase = search (rules, the_lemmas) in
     IfOk-weaker c.strings.result _ _
     (λ at emits.
-    subst (λ u. Emits c.args.self.now c.strings.new.self c.args.self.now.next_leaf (leaves_of u) (matching u) c.args.next at) (sym is)
+    subst (λ u. Emits c.args.self.now c.strings.new.self c.args.self.now.next_leaf (leaves_of u) (matching u) (content u) c.args.next at) (sym is)
     (subst (λ ss. Emits c.args.self.now c.strings.new.self c.args.self.now.next_leaf (leaves_of_strings (map boxed_slice_items ss) c.in-StringSet.icase)
-    (matching (strings (map boxed_slice_items ss) c.in-StringSet.icase)) c.args.next at) c.deref-in-StringSet.ensures.value emits))
+    (matching (strings (map boxed_slice_items ss) c.in-StringSet.icase)) nothing c.args.next at) c.deref-in-StringSet.ensures.value emits))
     (c.strings.ensures.emits c.in-StringSet.icase)
 
 pub other-returns-in-StringSet-clause-spends : goal.other-returns-in-StringSet-clause-spends
@@ -755,6 +879,7 @@ other-returns-in-Empty-clause-emits t c = record {
         compiled =
             nothing_at_empty (code_in leaves c.args.self.now) (tree c.args.node.now) c.args.next is
             (below leaves c.args.self.now.instructions.items c.args.next c.requires);
+        holds = holds_nothing (code_in leaves c.args.self.now) (content (tree c.args.node.now)) c.args.next;
       };
 }
 
@@ -769,6 +894,7 @@ other-returns-in-Goal-clause-emits t c = record {
         compiled =
             nothing_at_goal (code_in leaves c.args.self.now) (tree c.args.node.now) c.args.next is
             (below leaves c.args.self.now.instructions.items c.args.next c.requires);
+        holds = holds_nothing (code_in leaves c.args.self.now) (content (tree c.args.node.now)) c.args.next;
       };
 }
 
@@ -787,6 +913,7 @@ sequence-loop-i-init t c =
               compiled =
                   subst (λ xs. Compiled a a (matching (cat (trees xs))) c.args.next c.args.next) (sym none)
                   (compiled_nothing a c.args.next (below leaves c.args.self.now.instructions.items c.args.next c.requires));
+              holds = holds_nothing a (content_of_parts (trees (drop (length c.args.parts.now) c.args.parts.now))) c.args.next;
             };
       };
       spent = omega (arith, ap (λ xs. size_of_parts (trees xs)) none);
@@ -816,6 +943,10 @@ sequence-loop-i-preserved t c =
               compiled =
                   sequence_more (code_in leaves c.args.self.now) (code_in leaves l.self) (code_in leaves c.node.new.self) c.args.parts.now l.i (l.i - 1) x
                   c.args.next l.entry c.in_ok-entry.entry refl c.loop-i-test.true l.invariant.within c.index-parts-i.is before.compiled one.compiled;
+              holds =
+                  holds_sequence (code_in leaves c.args.self.now) (code_in leaves l.self) (code_in leaves c.node.new.self) c.args.parts.now l.i (l.i - 1) x
+                  c.args.next l.entry c.in_ok-entry.entry before.compiled.grown one.compiled.grown refl c.loop-i-test.true l.invariant.within c.index-parts-i.is
+                  before.holds one.holds;
             };
       };
       spent =

@@ -2,8 +2,10 @@ use Rattle.std.proofs.Common.{◌≡◌, ℕ, ◌+◌, ◌-◌, ◌*◌, ◌≤�
 use Rattle.regress_leaves.specs.declared.test.Test.{Test}
 use Rattle.regress_tree.specs.declared.ir.node.Node.{size-Node}
 use Rattle.regress_tree.specs.Tree.{Tree, tree, trees, cat}
-use Rattle.regress_program.specs.CodeOf.{code_in, iterating, iteration_size, CopiesWith, Emits, Spends}
+use Rattle.regress_program.specs.Adds.{Holds}
+use Rattle.regress_program.specs.CodeOf.{code_in, iterating, iteration_of, iteration_size, loop_of, CopiesWith, Emits, Spends}
 use Rattle.regress_program.specs.Compiled.{Matching, matching, extra, after_iterations}
+use Rattle.regress_program.specs.Contents.{Contents, after_all, content, content_of_parts, in_iterations}
 use Rattle.regress_program.specs.Iterates.{Iterates}
 use Rattle.regress_program.specs.LeavesOf.{HasLeaves, leaves_of, leaves_of_parts}
 use Rattle.regress_program.specs.Size.{size, size_of_loop, size_of_parts}
@@ -21,6 +23,8 @@ invariant-at_most-loop-i l =
       after : (leaves : List Test) → HasLeaves leaves l.iterations.first_leaf ts → l.self.next_leaf ≡ l.iterations.first_leaf + length ts;
       iterates : (leaves : List Test) → HasLeaves leaves l.iterations.first_leaf ts →
           Iterates (code_in leaves l.fn.self) (code_in leaves l.self) l.iterations.greedy (iterating l.iterations (matching (tree l.fn.body))) l.next l.start (l._i - 1);
+      holds : (leaves : List Test) → HasLeaves leaves l.iterations.first_leaf ts →
+          Holds (code_in leaves l.fn.self) (code_in leaves l.self) (loop_of l.iterations (content (tree l.fn.body))) l.next l.start;
       spent : Spends l.fn.self l.self ((iteration_size l.iterations (tree l.fn.body) + 1) * l._i);
     }
 
@@ -53,12 +57,13 @@ invariant-repeat-loop-i l =
     let f : Matching = iterating l.iterations (matching (tree l.fn.body)) in
     let n : ℕ = iteration_size l.iterations (tree l.fn.body) in
     let ts : List Tree = leaves_of (tree l.fn.body) in
+    let c : Contents = iteration_of l.iterations (content (tree l.fn.body)) in
     record {
       begins : l.entry < length l.self.instructions.items;
       grown : length l.fn.self.instructions.items ≤ length l.self.instructions.items;
       copies : (leaves : List Test) → HasLeaves leaves l.iterations.first_leaf ts →
           CopiesWith leaves l.fn.self l.self l.iterations.first_leaf (length ts) (l._i + optional_copies l.fn.quantifier)
-          (after_iterations l._i f (extra l.fn.quantifier f)) l.next l.entry;
+          (after_iterations l._i f (extra l.fn.quantifier f)) (after_all c (in_iterations c)) l.next l.entry;
       spent : l.self.left + size_of_loop l.fn.quantifier n + n * l._i ≡ l.fn.self.left + n * l.fn.quantifier.min;
     }
 
@@ -66,7 +71,8 @@ invariant-repeat-loop-i l =
 abbrev pub invariant-sequence-loop-i : goal.invariant-sequence-loop-i
 invariant-sequence-loop-i l = record {
   within : l.i ≤ length l.parts;
-  emits : Emits l.fn.self l.self l.fn.self.next_leaf (leaves_of_parts (trees (drop l.i l.parts))) (matching (cat (trees (drop l.i l.parts)))) l.next l.entry;
+  emits : Emits l.fn.self l.self l.fn.self.next_leaf (leaves_of_parts (trees (drop l.i l.parts))) (matching (cat (trees (drop l.i l.parts))))
+      (content_of_parts (trees (drop l.i l.parts))) l.next l.entry;
   spent : Spends l.fn.self l.self (size_of_parts (trees (drop l.i l.parts)));
 }
 

@@ -2,9 +2,12 @@ use Rattle.std.proofs.Common.{◌≡◌, ℕ, ◌+◌, ◌-◌, ◌/◌, sym, su
 use Rattle.std.proofs.lemmas.Result.{IfOk-weaker, IfErr-weaker}
 use Rattle.regress_program.specs.CodeOf.{code_in}
 use Rattle.regress_program.specs.Compiled.{matching, optional, Compiled}
+use Rattle.regress_program.specs.Contents.{nothing}
 use Rattle.regress_program.specs.Views.{leaf_in}
+use Rattle.regress_program.proofs.AddLemmas.{longer}
 use Rattle.regress_program.proofs.CompileLemmas.{compiled_nothing, compiled_later}
 use Rattle.regress_program.proofs.CountLemmas.{compiled_split}
+use Rattle.regress_program.proofs.PieceLemmas.{holds_nothing, holds_preferred, tidies_later}
 use Rattle.regress_program.proofs.SizeLemmas.{too_long, up_to-none, up_to-even, up_to-odd}
 use Rattle.regress_program.proofs.ViewLemmas.{below}
 use Rattle.regress_program.proofs.compiler.Compiler.+up_to.Goals as goal
@@ -18,8 +21,12 @@ returns-then-count-eq0-clause-emits t c = record {
   grown = omega arith;
   means = λ leaves one.
       let a = code_in leaves c.args.self.now in
-      subst (λ (n : ℕ). Compiled a a (optional c.args.greedy n (matching (leaf_in leaves c.args.leaf))) c.args.next c.args.next) (sym c.if-count-eq0.true)
-      (compiled_nothing a c.args.next (below leaves c.args.self.now.instructions.items c.args.next c.requires));
+      record {
+        compiled =
+            subst (λ (n : ℕ). Compiled a a (optional c.args.greedy n (matching (leaf_in leaves c.args.leaf))) c.args.next c.args.next) (sym c.if-count-eq0.true)
+            (compiled_nothing a c.args.next (below leaves c.args.self.now.instructions.items c.args.next c.requires));
+        holds = holds_nothing a nothing c.args.next;
+      };
 }
 
 pub returns-in_err-rest-clause-too_long : goal.returns-in_err-rest-clause-too_long
@@ -57,13 +64,22 @@ returns-in_ok-first-clause-emits t c =
           let t = leaf_in leaves c.args.leaf in
           let a = code_in leaves c.args.self.now in
           let b = code_in leaves c.up_to.new.self in
-          let rest : Compiled a b (optional c.args.greedy (c.args.count - 1) (matching t)) next c.in_ok-rest.rest = c.in_ok-rest.ensures.emits.means leaves one in
+          let e = code_in leaves c.exactly.new.self in
+          let g = code_in leaves c.prefer.new.self in
+          let rest = c.in_ok-rest.ensures.emits.means leaves one in
+          let first = c.in_ok-first.ensures.emits.means leaves one in
           let none : Compiled a b (optional c.args.greedy 0 (matching t)) next next =
-          compiled_later a a b (optional c.args.greedy 0 (matching t)) next next rest.grown
+          compiled_later a a b (optional c.args.greedy 0 (matching t)) next next rest.compiled.grown
           (compiled_nothing a next (below leaves c.args.self.now.instructions.items next c.requires)) in
-          subst (λ (n : ℕ). Compiled a (code_in leaves c.prefer.new.self) (optional c.args.greedy n (matching t)) next at) number
-          (compiled_split t one a b (code_in leaves c.exactly.new.self) (code_in leaves c.prefer.new.self) c.args.greedy
-          (c.args.count - 1) 0 next c.in_ok-rest.rest next c.in_ok-first.first at rest none (c.in_ok-first.ensures.emits.means leaves one) (pushed.means leaves));
+          record {
+            compiled =
+                subst (λ (n : ℕ). Compiled a g (optional c.args.greedy n (matching t)) next at) number
+                (compiled_split t one a b e g c.args.greedy (c.args.count - 1) 0 next c.in_ok-rest.rest next c.in_ok-first.first at rest.compiled none
+                first.compiled (pushed.means leaves));
+            holds =
+                holds_preferred a b e g c.args.greedy next c.in_ok-rest.rest c.in_ok-first.first next at rest.compiled.grown first.compiled.grown rest.holds
+                first.holds (tidies_later a a b nothing next next (longer a b rest.compiled.grown) (holds_nothing a nothing next).tidies) (pushed.means leaves);
+          };
     })
     c.prefer.ensures.emits
 
@@ -92,11 +108,19 @@ returns-in_ok-first-2-clause-emits t c =
           let t = leaf_in leaves c.args.leaf in
           let a = code_in leaves c.args.self.now in
           let b = code_in leaves c.up_to-else-count-eq0-2.new.self in
-          let rest : Compiled a b (optional c.args.greedy half (matching t)) next c.in_ok-rest-2.rest = c.in_ok-rest-2.ensures.emits.means leaves one in
-          subst (λ (n : ℕ). Compiled a (code_in leaves c.prefer-else-count-eq0-2.new.self) (optional c.args.greedy n (matching t)) next at) number
-          (compiled_split t one a b (code_in leaves c.exactly-else-count-eq0-2.new.self) (code_in leaves c.prefer-else-count-eq0-2.new.self)
-          c.args.greedy half half next c.in_ok-rest-2.rest c.in_ok-rest-2.rest c.in_ok-first-2.first at rest rest (c.in_ok-first-2.ensures.emits.means leaves one)
-          (pushed.means leaves));
+          let e = code_in leaves c.exactly-else-count-eq0-2.new.self in
+          let g = code_in leaves c.prefer-else-count-eq0-2.new.self in
+          let rest = c.in_ok-rest-2.ensures.emits.means leaves one in
+          let first = c.in_ok-first-2.ensures.emits.means leaves one in
+          record {
+            compiled =
+                subst (λ (n : ℕ). Compiled a g (optional c.args.greedy n (matching t)) next at) number
+                (compiled_split t one a b e g c.args.greedy half half next c.in_ok-rest-2.rest c.in_ok-rest-2.rest c.in_ok-first-2.first at rest.compiled
+                rest.compiled first.compiled (pushed.means leaves));
+            holds =
+                holds_preferred a b e g c.args.greedy next c.in_ok-rest-2.rest c.in_ok-first-2.first c.in_ok-rest-2.rest at rest.compiled.grown
+                first.compiled.grown rest.holds first.holds rest.holds.tidies (pushed.means leaves);
+          };
     })
     c.prefer-else-count-eq0-2.ensures.emits
 

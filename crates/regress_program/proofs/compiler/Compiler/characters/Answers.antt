@@ -1,8 +1,10 @@
-use Rattle.std.proofs.Common.{arith}
+use Rattle.std.proofs.Common.{refl, arith}
 use Rattle.std.proofs.lemmas.Result.{IfOk-weaker}
 use Rattle.regress_program.specs.CodeOf.{code_in}
+use Rattle.regress_program.specs.Contents.{nothing}
 use Rattle.regress_program.specs.Views.{leaf_in}
 use Rattle.regress_program.proofs.CountLemmas.{compiled_character, compiled_characters}
+use Rattle.regress_program.proofs.PieceLemmas.{holds_part, plain_one}
 use Rattle.regress_program.proofs.ViewLemmas.{below}
 use Rattle.regress_program.proofs.compiler.Compiler.characters.Goals as goal
 
@@ -12,8 +14,16 @@ returns-then-count-eq1-clause-emits c =
     (λ at pushed. record {
       begins = omega (arith, pushed.at_end, pushed.grown);
       grown = omega (arith, pushed.grown);
-      means = λ leaves one. compiled_character (leaf_in leaves c.args.leaf) one (code_in leaves c.args.self.now) (code_in leaves c.push.new.self) c.args.count c.args.next at
-          c.if-count-eq1.true (below leaves c.args.self.now.instructions.items c.args.next c.requires) (pushed.means leaves);
+      means = λ leaves one.
+          let a = code_in leaves c.args.self.now in
+          let b = code_in leaves c.push.new.self in
+          let t = leaf_in leaves c.args.leaf in
+          record {
+            compiled =
+                compiled_character t one a b c.args.count c.args.next at c.if-count-eq1.true
+                (below leaves c.args.self.now.instructions.items c.args.next c.requires) (pushed.means leaves);
+            holds = holds_part a b nothing t c.args.next at (λ none. plain_one t one) (pushed.means leaves);
+          };
     })
     c.push.ensures.emits
 
@@ -23,7 +33,14 @@ returns-else-count-eq1-clause-emits c =
     (λ at pushed. record {
       begins = omega (arith, pushed.at_end, pushed.grown);
       grown = omega (arith, pushed.grown);
-      means = λ leaves one. compiled_characters (leaf_in leaves c.args.leaf) one (code_in leaves c.args.self.now) (code_in leaves c.push-else-count-eq1.new.self) c.args.count c.args.next at
-          (below leaves c.args.self.now.instructions.items c.args.next c.requires) (pushed.means leaves);
+      means = λ leaves one.
+          let a = code_in leaves c.args.self.now in
+          let b = code_in leaves c.push-else-count-eq1.new.self in
+          record {
+            compiled =
+                compiled_characters (leaf_in leaves c.args.leaf) one a b c.args.count c.args.next at
+                (below leaves c.args.self.now.instructions.items c.args.next c.requires) (pushed.means leaves);
+            holds = holds_part a b nothing _ c.args.next at (λ none. refl) (pushed.means leaves);
+          };
     })
     c.push-else-count-eq1.ensures.emits

@@ -1,16 +1,17 @@
 -- One more string is joined.
-use Rattle.std.proofs.Common.{◌≡◌, ◌+◌, ◌-◌, ◌<◌, Bool, List, [], ◌∷◌, ◌++◌, length, drop, map, refl, sym, ap, subst, ◌∙◌, arith}
+use Rattle.std.proofs.Common.{◌≡◌, ◌+◌, ◌-◌, ◌<◌, [], ◌∷◌, ◌++◌, length, drop, map, refl, ap, subst, ◌∙◌, arith}
 use Rattle.std.proofs.lemmas.List.{drop_all, length_push, nil_from_length}
 use Rattle.std.proofs.lemmas.Result.{IfOk-weaker}
 use Rattle.std.specs.Box.{boxed_slice_items}
-use Rattle.regress_leaves.specs.declared.test.Test.{Test}
-use Rattle.regress_tree.specs.Tree.{Tree, leaf, string_set}
+use Rattle.regress_tree.specs.Tree.{leaf, string_set}
 use Rattle.regress_program.specs.CodeOf.{code_in, Emits}
 use Rattle.regress_program.specs.Compiled.{matching, strings}
-use Rattle.regress_program.specs.LeavesOf.{HasLeaves, leaves_of_strings}
+use Rattle.regress_program.specs.Contents.{nothing}
+use Rattle.regress_program.specs.LeavesOf.{leaves_of_strings}
 use Rattle.regress_program.specs.Program.{part}
 use Rattle.regress_program.specs.Pushed.{Pushed}
 use Rattle.regress_program.proofs.LeavesLemmas.{has-at, has-first, has-leaf, has-room, has-same, has-second, string-at, strings-leaves}
+use Rattle.regress_program.proofs.PieceLemmas.{holds_fail, holds_part, holds_string}
 use Rattle.regress_program.proofs.ViewLemmas.{below, no_strings, last_string, more_strings}
 use Rattle.regress_program.proofs.compiler.Compiler.strings.Goals as goal
 
@@ -28,6 +29,7 @@ returns-then-i-eq0-clause-emits c = λ icase.
             compiled =
                 no_strings (code_in leaves c.args.self.now) (code_in leaves c.push.new.self) c.args.alternatives.now icase c.args.next at c.if-i-eq0.true
                 (pushed.means leaves);
+            holds = holds_fail (code_in leaves c.args.self.now) (code_in leaves c.push.new.self) nothing c.args.next at (pushed.means leaves);
           };
     })
     c.push.ensures.emits
@@ -51,13 +53,16 @@ loop-i-init c =
             let all : leaves_of_strings (map boxed_slice_items (drop (n - 1) ss)) icase ≡ t ∷ [] =
             strings-leaves ss icase n (n - 1) at.0 refl some (omega arith) at.1 ∙ ap (λ ts. ts ++ t ∷ []) none in
             let one = has-same leaves from (leaves_of_strings (map boxed_slice_items (drop (n - 1) ss)) icase) (t ∷ []) all has in
+            let a = code_in leaves c.args.self.now in
+            let b = code_in leaves c.push_leaf.new.self in
+            let text : Pushed a b (part t c.args.next) c.in_ok-entry.entry =
+            subst (λ u. Pushed a b (part u c.args.next) c.in_ok-entry.entry) (has-leaf leaves from t one) (c.in_ok-entry.ensures.emits.means leaves) in
             record {
               after = omega (arith, c.push_leaf.ensures.leaf, has-room leaves from t one, ap length all);
               compiled =
-                  last_string (code_in leaves c.args.self.now) (code_in leaves c.push_leaf.new.self) ss (n - 1) at.0 (boxed_slice_items at.0) icase c.args.next
-                  c.in_ok-entry.entry refl some at.1 refl (below leaves c.args.self.now.instructions.items c.args.next c.requires)
-                  (subst (λ u. Pushed (code_in leaves c.args.self.now) (code_in leaves c.push_leaf.new.self) (part u c.args.next) c.in_ok-entry.entry)
-                  (has-leaf leaves from t one) (c.in_ok-entry.ensures.emits.means leaves));
+                  last_string a b ss (n - 1) at.0 (boxed_slice_items at.0) icase c.args.next c.in_ok-entry.entry refl some at.1 refl
+                  (below leaves c.args.self.now.instructions.items c.args.next c.requires) text;
+              holds = holds_part a b nothing t c.args.next c.in_ok-entry.entry (λ none. refl) text;
             };
       };
       spent = omega (arith, some, c.in_ok-entry.ensures.spends);
@@ -83,6 +88,12 @@ loop-i-preserved c =
             let both = has-same leaves from (leaves_of_strings (map boxed_slice_items (drop (l.i - 1) ss)) icase) (rest ++ t ∷ []) whole has in
             let before = (l.invariant.emits icase).means leaves (has-first leaves from rest (t ∷ []) both) in
             let one = has-at leaves (from + length rest) here (t ∷ []) before.after (has-second leaves from rest (t ∷ []) both) in
+            let a = code_in leaves c.args.self.now in
+            let b = code_in leaves l.self in
+            let e = code_in leaves c.push_leaf-in-loop-i.new.self in
+            let g = code_in leaves c.push-in-loop-i.new.self in
+            let text : Pushed b e (part t c.args.next) c.in_ok-first.first =
+            subst (λ u. Pushed b e (part u c.args.next) c.in_ok-first.first) (has-leaf leaves here t one) (c.in_ok-first.ensures.emits.means leaves) in
             record {
               after =
                   omega (
@@ -95,12 +106,12 @@ loop-i-preserved c =
                     length_push rest t,
                   );
               compiled =
-                  more_strings (code_in leaves c.args.self.now) (code_in leaves l.self) (code_in leaves c.push_leaf-in-loop-i.new.self)
-                  (code_in leaves c.push-in-loop-i.new.self) ss l.i (l.i - 1) at.0 (boxed_slice_items at.0) icase c.args.next c.in_ok-first.first l.entry
+                  more_strings a b e g ss l.i (l.i - 1) at.0 (boxed_slice_items at.0) icase c.args.next c.in_ok-first.first l.entry
                   c.in_ok-entry-2.entry refl c.loop-i-test.true l.invariant.within at.1 refl
-                  (below leaves c.args.self.now.instructions.items c.args.next c.requires) before.compiled
-                  (subst (λ u. Pushed (code_in leaves l.self) (code_in leaves c.push_leaf-in-loop-i.new.self) (part u c.args.next) c.in_ok-first.first)
-                  (has-leaf leaves here t one) (c.in_ok-first.ensures.emits.means leaves)) (c.in_ok-entry-2.ensures.emits.means leaves);
+                  (below leaves c.args.self.now.instructions.items c.args.next c.requires) before.compiled text (c.in_ok-entry-2.ensures.emits.means leaves);
+              holds =
+                  holds_string a b e g t c.args.next l.entry c.in_ok-first.first c.in_ok-entry-2.entry before.compiled.grown refl before.holds text
+                  (c.in_ok-entry-2.ensures.emits.means leaves);
             };
       };
       spent =
@@ -112,5 +123,5 @@ returns-clause-emits c = λ icase.
     let l = c.loop-i in
     let start : l.i ≡ 0 = omega (arith, c.loop-i-test.false) in
     subst (λ k. let ss = map boxed_slice_items (drop k c.args.alternatives.now) in
-    Emits c.args.self.now l.self c.args.self.now.next_leaf (leaves_of_strings ss icase) (matching (strings ss icase)) c.args.next l.entry) start
+    Emits c.args.self.now l.self c.args.self.now.next_leaf (leaves_of_strings ss icase) (matching (strings ss icase)) nothing c.args.next l.entry) start
     (l.invariant.emits icase)

@@ -2,6 +2,7 @@ use Rattle.std.proofs.Common.{◌≡◌, ◌+◌, ◌*◌, ◌≤◌, Bool, drop
 use Rattle.std.specs.Box.{boxed_slice_items}
 use Rattle.regress_program.specs.CodeOf.{Emits}
 use Rattle.regress_program.specs.Compiled.{matching, strings}
+use Rattle.regress_program.specs.Contents.{nothing}
 use Rattle.regress_program.specs.LeavesOf.{leaves_of_strings}
 use Rattle.regress_program.proofs.compiler.Compiler.strings.Given as goal
 
@@ -9,7 +10,7 @@ abbrev pub invariant-loop-i : goal.invariant-loop-i
 invariant-loop-i l = record {
   within : l.i ≤ length l.alternatives;
   emits : (icase : Bool) → (let ss = map boxed_slice_items (drop l.i l.alternatives) in
-      Emits l.fn.self l.self l.fn.self.next_leaf (leaves_of_strings ss icase) (matching (strings ss icase)) l.next l.entry);
+      Emits l.fn.self l.self l.fn.self.next_leaf (leaves_of_strings ss icase) (matching (strings ss icase)) nothing l.next l.entry);
   spent : l.self.left + 2 * length l.alternatives ≡ l.fn.self.left + 2 * l.i + 1;
 }
 

@@ -1,0 +1,356 @@
+-- Compiled instructions are tidy where the part of the pattern is, and have no back reference where it has none.
+use Rattle.std.proofs.Common.{◌≡◌, ℕ, zero, suc, ◌+◌, ◌⊎◌, inl, inr, Bool, true, false, not, ◌&&◌, ◌||◌, ◌==◌, List, [], ◌∷◌, length, slice_get, Some, refl, sym, ap, subst, ◌∙◌, arith}
+use Rattle.std.proofs.lemmas.Bool.{cases_Bool, cases_lt}
+use Rattle.std.proofs.lemmas.Option.{slice_get_within, same_Some}
+use Rattle.regress_program.specs.declared.ranges.GroupRange.{GroupRange}
+use Rattle.regress_program.specs.Adds.{IsRangeWithin, IsOf, IsRoutineOf, Adds, Agree}
+use Rattle.regress_program.specs.Compiled.{Extends, Code, Grown}
+use Rattle.regress_program.specs.Contents.{Ids, union, ids_in, without_ids, AreAmong, AreWithin, Contents, in_sequence, either_of, grouped, in_iteration, in_iterations, after_all, alone, in_lookaround}
+use Rattle.regress_program.specs.Linear.{is_back_reference}
+use Rattle.regress_program.specs.Program.{Op, accept, fail, part, split, begin_loop, repeat, end_loop, unsets, begin_group, end_group, look, Routine}
+use Rattle.regress_program.specs.Pushed.{Pushed}
+use Rattle.regress_program.specs.Ranges.{changed_by, no_groups, ranges_of}
+use Rattle.regress_program.specs.Tidy.{followers}
+use Rattle.regress_program.specs.TidyFrom.{range_at, set_after, BeginsUnset, IsTidyFrom}
+use Rattle.regress_program.proofs.CodeLemmas.{get-append-last, length-push, Extends-same, Extends-then, Extends-push}
+
+-- ---- sets of ids
+
+pub or_left : (x y : Bool) → x ≡ true → (x || y) ≡ true
+or_left true y is = refl
+or_left false y is = cc
+
+pub or_right : (x y : Bool) → y ≡ true → (x || y) ≡ true
+or_right true y is = refl
+or_right false y is = is
+
+pub or_cases : (x y : Bool) → (x || y) ≡ true → (x ≡ true) ⊎ (y ≡ true)
+or_cases true y is = inl refl
+or_cases false y is = inr is
+
+pub and_left : (x y : Bool) → (x && y) ≡ true → x ≡ true
+and_left true y is = refl
+and_left false y is = cc
+
+pub and_right : (x y : Bool) → (x && y) ≡ true → y ≡ true
+and_right true y is = is
+and_right false y is = cc
+
+or_none : (x y : Bool) → (x || y) ≡ false → (x ≡ false) × (y ≡ false)
+or_none true y is = cc
+or_none false y is = (refl, is)
+
+pub among-same : (a : Ids) → AreAmong a a
+among-same a id is = is
+
+pub among-left : (a b : Ids) → AreAmong a (union a b)
+among-left a b id is = or_left (a id) (b id) is
+
+pub among-right : (a b : Ids) → AreAmong b (union a b)
+among-right a b id is = or_right (a id) (b id) is
+
+pub among-union : (a b c : Ids) → AreAmong a c → AreAmong b c → AreAmong (union a b) c
+among-union a b c one two id is = elim (or_cases (a id) (b id) is) [
+  | inl left ↦ one id left
+  | inr right ↦ two id right
+]
+
+pub among-then : (a b c : Ids) → AreAmong a b → AreAmong b c → AreAmong a c
+among-then a b c one two id is = two id (one id is)
+
+pub among-without : (start end : ℕ) (a : Ids) → AreAmong (without_ids start end a) a
+among-without start end a id is = and_left (a id) (not (ids_in start end id)) is
+
+-- both sides of a union
+pub among-both : (a b c e : Ids) → AreAmong a c → AreAmong b e → AreAmong (union a b) (union c e)
+among-both a b c e one two =
+    among-union a b (union c e) (among-then a c (union c e) one (among-left c e)) (among-then b e (union c e) two (among-right c e))
+
+-- what is added twice
+pub among-twice : (a b : Ids) → AreAmong (union (union a b) b) (union a b)
+among-twice a b = among-union (union a b) b (union a b) (among-same (union a b)) (among-right a b)
+
+pub among-apart : (a b c : Ids) → AreAmong (union (union a b) c) (union a (union b c))
+among-apart a b c =
+    among-union (union a b) c (union a (union b c))
+    (among-both a b a (union b c) (among-same a) (among-left b c))
+    (among-then c (union b c) (union a (union b c)) (among-right b c) (among-right a (union b c)))
+
+within-among : (start end : ℕ) (a b : Ids) → AreAmong a b → AreWithin start end b → AreWithin start end a
+within-among start end a b among within id is = within id (among id is)
+
+-- ---- fewer instructions, and fewer groups that may be set
+
+module _ (ranges : List GroupRange) (ops : List Op) where
+  pub tidy-fewer : (n pc : ℕ) (set : Ids) → IsTidyFrom ranges ops (suc n) pc set → IsTidyFrom ranges ops n pc set
+  tidy-fewer zero pc set is = tt
+  tidy-fewer (suc n) pc set is = λ op here.
+      ((is op here).0, λ i next follows. tidy-fewer n next (set_after ranges op set) ((is op here).1 i next follows))
+
+  unset-less : (op : Op) (few many : Ids) → AreAmong few many → BeginsUnset ranges op many → BeginsUnset ranges op few
+  unset-less accept few many among is = tt
+  unset-less fail few many among is = tt
+  unset-less (part t next) few many among is = tt
+  unset-less (split first second) few many among is = tt
+  unset-less (begin_loop greedy body next) few many among is = tt
+  unset-less (repeat greedy body next) few many among is = tt
+  unset-less (end_loop next) few many among is = tt
+  unset-less (unsets start end next) few many among is = tt
+  unset-less (begin_group next) few many among is = tt
+  unset-less (end_group id next) few many among is = tt
+  unset-less (look true routine next) few many among is = tt
+  unset-less (look false routine next) few many among is = λ id within. elim (cases_Bool (few id)) [
+    | inl set ↦ (let one = among id set in let none = is id within in cc)
+    | inr unset ↦ unset
+  ]
+
+  and_among : (x y z : Bool) → (x ≡ true → y ≡ true) → (x && z) ≡ true → (y && z) ≡ true
+  and_among true y z among is = subst (λ w. (w && z) ≡ true) (sym (among refl)) is
+  and_among false y z among is = cc
+
+  after-less : (op : Op) (few many : Ids) → AreAmong few many → AreAmong (set_after ranges op few) (set_after ranges op many)
+  after-less accept few many among = among
+  after-less fail few many among = among
+  after-less (part t next) few many among = among
+  after-less (split first second) few many among = among
+  after-less (begin_loop greedy body next) few many among = among
+  after-less (repeat greedy body next) few many among = among
+  after-less (end_loop next) few many among = among
+  after-less (unsets start end next) few many among = λ id. and_among (few id) (many id) (not (ids_in start end id)) (among id)
+  after-less (begin_group next) few many among = among
+  after-less (end_group id next) few many among = among-both few (λ k. k == id) many (λ k. k == id) among (λ k is. is)
+  after-less (look true routine next) few many among = among
+  after-less (look false routine next) few many among =
+      let new = ids_in (range_at ranges routine).start (range_at ranges routine).end in among-both few new many new among (λ k is. is)
+
+  pub tidy-less : (n pc : ℕ) (few many : Ids) → AreAmong few many → IsTidyFrom ranges ops n pc many → IsTidyFrom ranges ops n pc few
+  tidy-less zero pc few many among is = tt
+  tidy-less (suc n) pc few many among is = λ op here. (
+    unset-less op few many among (is op here).0,
+    λ i next follows.
+        tidy-less n next (set_after ranges op few) (set_after ranges op many) (after-less op few many among) ((is op here).1 i next follows),
+  )
+
+  -- an instruction that one other may follow, or two
+  pub tidy-one : (n at next : ℕ) (op : Op) (set : Ids) → slice_get ops at ≡ Some op → followers op ≡ next ∷ [] → BeginsUnset ranges op set →
+      IsTidyFrom ranges ops n next (set_after ranges op set) → IsTidyFrom ranges ops n at set
+  tidy-one zero at next op set here follow begins is = tt
+  tidy-one (suc n) at next op set here follow begins is = λ other there.
+      let same : op ≡ other = same_Some op other (sym here ∙ there) in
+      subst (λ o. BeginsUnset ranges o set × ((i to : ℕ) → slice_get (followers o) i ≡ Some to → IsTidyFrom ranges ops n to (set_after ranges o set))) same
+      (begins, λ i to follows. by i to (sym (ap (λ os. slice_get os i) follow) ∙ follows))
+    where
+      by : (i to : ℕ) → slice_get (next ∷ []) i ≡ Some to → IsTidyFrom ranges ops n to (set_after ranges op set)
+      by zero to e = subst (λ k. IsTidyFrom ranges ops n k (set_after ranges op set)) (same_Some next to e) (tidy-fewer n next (set_after ranges op set) is)
+      by (suc i) to e = cc
+
+  -- the same, where the instructions after it are tidy for one step less
+  pub tidy-turn : (n at first second : ℕ) (op : Op) (set : Ids) → slice_get ops at ≡ Some op → followers op ≡ first ∷ second ∷ [] → BeginsUnset ranges op set →
+      IsTidyFrom ranges ops n first (set_after ranges op set) → IsTidyFrom ranges ops n second (set_after ranges op set) →
+      IsTidyFrom ranges ops (suc n) at set
+  tidy-turn n at first second op set here follow begins one two other there =
+      let same : op ≡ other = same_Some op other (sym here ∙ there) in
+      subst (λ o. BeginsUnset ranges o set × ((i to : ℕ) → slice_get (followers o) i ≡ Some to → IsTidyFrom ranges ops n to (set_after ranges o set))) same
+      (begins, λ i to follows. by i to (sym (ap (λ os. slice_get os i) follow) ∙ follows))
+    where
+      by : (i to : ℕ) → slice_get (first ∷ second ∷ []) i ≡ Some to → IsTidyFrom ranges ops n to (set_after ranges op set)
+      by zero to e = subst (λ k. IsTidyFrom ranges ops n k (set_after ranges op set)) (same_Some first to e) one
+      by (suc zero) to e = subst (λ k. IsTidyFrom ranges ops n k (set_after ranges op set)) (same_Some second to e) two
+      by (suc (suc i)) to e = cc
+
+  pub tidy-two : (n at first second : ℕ) (op : Op) (set : Ids) → slice_get ops at ≡ Some op → followers op ≡ first ∷ second ∷ [] → BeginsUnset ranges op set →
+      IsTidyFrom ranges ops n first (set_after ranges op set) → IsTidyFrom ranges ops n second (set_after ranges op set) → IsTidyFrom ranges ops n at set
+  tidy-two zero at first second op set here follow begins one two = tt
+  tidy-two (suc n) at first second op set here follow begins one two =
+      tidy-turn n at first second op set here follow begins (tidy-fewer n first (set_after ranges op set) one)
+      (tidy-fewer n second (set_after ranges op set) two)
+
+  -- an instruction that none follows
+  pub tidy-none : (n at : ℕ) (op : Op) (set : Ids) → slice_get ops at ≡ Some op → followers op ≡ [] → BeginsUnset ranges op set → IsTidyFrom ranges ops n at set
+  tidy-none zero at op set here follow begins = tt
+  tidy-none (suc n) at op set here follow begins = λ other there.
+      let same : op ≡ other = same_Some op other (sym here ∙ there) in
+      subst (λ o. BeginsUnset ranges o set × ((i to : ℕ) → slice_get (followers o) i ≡ Some to → IsTidyFrom ranges ops n to (set_after ranges o set))) same
+      (begins, λ i to follows. (let e = sym (ap (λ os. slice_get os i) follow) ∙ follows in cc))
+
+-- ---- what parts contain
+
+-- The part a is one of b, or b itself.
+pub record IsPartOf (a b : Contents) : Type 0 where
+  pub refers : b.refers ≡ false → a.refers ≡ false
+  pub changes : AreAmong a.changes b.changes
+  pub tidy : (set : Ids) → b.tidy set → (before : Ids) × a.tidy before
+
+-- The part a has no more than b, where both begin.
+pub record HasNoMore (a b : Contents) : Type 0 where
+  pub refers : b.refers ≡ false → a.refers ≡ false
+  pub changes : AreAmong a.changes b.changes
+  pub tidy : (set : Ids) → b.tidy set → a.tidy set
+
+pub no_more-part : (a b : Contents) → HasNoMore a b → IsPartOf a b
+no_more-part a b is = record { refers = is.refers; changes = is.changes; tidy = λ set h. (set, is.tidy set h) }
+
+pub no_more-same : (a : Contents) → HasNoMore a a
+no_more-same a = record { refers = λ h. h; changes = among-same a.changes; tidy = λ set h. h }
+
+pub part-same : (a : Contents) → IsPartOf a a
+part-same a = no_more-part a a (no_more-same a)
+
+pub part-first : (a b : Contents) → IsPartOf a (in_sequence a b)
+part-first a b = record {
+  refers = λ none. (or_none a.refers b.refers none).0;
+  changes = among-left a.changes b.changes;
+  tidy = λ set h. (set, h.0);
+}
+
+pub part-second : (a b : Contents) → IsPartOf b (in_sequence a b)
+part-second a b = record {
+  refers = λ none. (or_none a.refers b.refers none).1;
+  changes = among-right a.changes b.changes;
+  tidy = λ set h. (union set a.changes, h.1);
+}
+
+pub part-left : (a b : Contents) → IsPartOf a (either_of a b)
+part-left a b = record {
+  refers = λ none. (or_none a.refers b.refers none).0;
+  changes = among-left a.changes b.changes;
+  tidy = λ set h. (set, h.0);
+}
+
+pub part-right : (a b : Contents) → IsPartOf b (either_of a b)
+part-right a b = record {
+  refers = λ none. (or_none a.refers b.refers none).1;
+  changes = among-right a.changes b.changes;
+  tidy = λ set h. (set, h.1);
+}
+
+pub part-grouped : (id : ℕ) (a : Contents) → IsPartOf a (grouped id a)
+part-grouped id a = record { refers = λ none. none; changes = among-left a.changes (λ k. k == id); tidy = λ set h. (set, h) }
+
+pub part-iteration : (start end : ℕ) (a : Contents) → IsPartOf a (in_iteration start end a)
+part-iteration start end a = record {
+  refers = λ none. none;
+  changes = among-right (ids_in start end) a.changes;
+  tidy = λ set h. (without_ids start end set, h (without_ids start end set) (among-same (without_ids start end set)));
+}
+
+pub part-iterations : (a : Contents) → IsPartOf a (in_iterations a)
+part-iterations a = record { refers = λ none. none; changes = among-same a.changes; tidy = λ set h. (set, h set (among-left set a.changes)) }
+
+pub part-after : (a b : Contents) → IsPartOf a (after_all a b)
+part-after a b = record {
+  refers = λ none. (or_none a.refers b.refers none).0;
+  changes = among-left a.changes b.changes;
+  tidy = λ set h. (set, h.0 set (among-left set a.changes));
+}
+
+pub part-rest : (a b : Contents) → IsPartOf b (after_all a b)
+part-rest a b = record {
+  refers = λ none. (or_none a.refers b.refers none).1;
+  changes = among-right a.changes b.changes;
+  tidy = λ set h. (set, h.1 set (among-left set a.changes));
+}
+
+pub part-lookaround : (a : Contents) → IsPartOf (alone a) (in_lookaround a)
+part-lookaround a = record { refers = λ none. none; changes = among-same a.changes; tidy = λ set h. (set, h.0) }
+
+-- ---- what is added
+
+pub is_of-part : (routines later : List Routine) (a b : Contents) (op : Op) → Extends routines later → IsPartOf a b → IsOf routines a op → IsOf later b op
+is_of-part routines later a b op ext is of = record {
+  plain = λ none. of.plain (is.refers none);
+  within = λ program more start end within.
+      of.within program (Extends-then routines later program ext more) start end (within-among start end a.changes b.changes is.changes within);
+}
+
+pub is_routine-part : (routines later : List Routine) (a b : Contents) (r : Routine) → Extends routines later → IsPartOf a b → IsRoutineOf routines a r →
+    IsRoutineOf later b r
+is_routine-part routines later a b r ext is of = record {
+  plain = λ none. of.plain (is.refers none);
+  tidy = λ set h program more. let before = is.tidy set h in of.tidy before.0 before.1 program (Extends-then routines later program ext more);
+}
+
+pub adds-part : (old new : Code) (a b : Contents) → IsPartOf a b → Adds old new a → Adds old new b
+adds-part old new a b is adds = record {
+  ops = λ i op low found. is_of-part new.routines new.routines a b op (Extends-same new.routines) is (adds.ops i op low found);
+  routines = λ i r low found. is_routine-part new.routines new.routines a b r (Extends-same new.routines) is (adds.routines i r low found);
+}
+
+pub adds-none : (a : Code) (c : Contents) → Adds a a c
+adds-none a c = record {
+  ops = λ i op low found. absurd (omega (arith, low, slice_get_within a.ops i op found));
+  routines = λ i r low found. absurd (omega (arith, low, slice_get_within a.routines i r found));
+}
+
+pub adds-then : (x y z : Code) (c : Contents) → Extends y.ops z.ops → Extends y.routines z.routines → Adds x y c → Adds y z c → Adds x z c
+adds-then x y z c ops routines first second = record {
+  ops = λ i op low found. elim (cases_lt i (length y.ops)) [
+    | inl before ↦ is_of-part y.routines z.routines c c op routines (part-same c) (first.ops i op low (sym (ops.same i before) ∙ found))
+    | inr after ↦ second.ops i op after found
+  ];
+  routines = λ i r low found. elim (cases_lt i (length y.routines)) [
+    | inl before ↦ is_routine-part y.routines z.routines c c r routines (part-same c) (first.routines i r low (sym (routines.same i before) ∙ found))
+    | inr after ↦ second.routines i r after found
+  ];
+}
+
+pub adds-push : (old new : Code) (op : Op) (at : ℕ) (c : Contents) → Pushed old new op at → IsOf new.routines c op → Adds old new c
+adds-push old new op at c pushed of = record {
+  ops = λ i other low found.
+      let len : length new.ops ≡ length old.ops + 1 = ap length pushed.ops ∙ length-push old.ops op in
+      let here : i ≡ length old.ops = omega (arith, low, len, slice_get_within new.ops i other found) in
+      let read : slice_get new.ops i ≡ Some op =
+      ap (slice_get new.ops) here ∙ ap (λ os. slice_get os (length old.ops)) pushed.ops ∙ get-append-last old.ops op in
+      subst (λ o. IsOf new.routines c o) (same_Some op other (sym read ∙ found)) of;
+  routines = λ i r low found.
+      let len : length new.routines ≡ length old.routines = ap length pushed.routines in
+      absurd (omega (arith, low, len, slice_get_within new.routines i r found));
+}
+
+none-within : (start end : ℕ) → IsRangeWithin start end no_groups
+none-within start end id is = absurd (omega (arith, is.1))
+
+-- ---- one instruction
+
+-- An instruction that changes no group, and is no back reference unless the part is.
+pub adds-quiet : (old new : Code) (op : Op) (at : ℕ) (c : Contents) → Pushed old new op at → (c.refers ≡ false → is_back_reference op ≡ false) →
+    ((ranges : List GroupRange) → changed_by ranges op ≡ no_groups) → Adds old new c
+adds-quiet old new op at c pushed plain none =
+    adds-push old new op at c pushed (record {
+      plain = plain;
+      within = λ program more start end within.
+          subst (λ x. IsRangeWithin start end x) (sym (none (ranges_of program))) (none-within start end);
+    })
+
+-- the instruction that has been pushed, in a routine that agrees
+pub read-pushed : (x old new : Code) (op : Op) (at : ℕ) (ops : List Op) → Extends x.ops old.ops → Pushed old new op at →
+    Agree (length x.ops) (length new.ops) new.ops ops → slice_get ops at ≡ Some op
+read-pushed x old new op at ops ext pushed agree =
+    let len : length new.ops ≡ length old.ops + 1 = ap length pushed.ops ∙ length-push old.ops op in
+    agree at (omega (arith, ext.grown, pushed.at_end)) (omega (arith, len, pushed.at_end))
+    ∙ ap (slice_get new.ops) pushed.at_end ∙ ap (λ os. slice_get os (length old.ops)) pushed.ops ∙ get-append-last old.ops op
+
+pub agree-first : (x y z : Code) (ops : List Op) → Extends y.ops z.ops → Agree (length x.ops) (length z.ops) z.ops ops →
+    Agree (length x.ops) (length y.ops) y.ops ops
+agree-first x y z ops ext agree i low high = agree i low (omega (arith, high, ext.grown)) ∙ ext.same i high
+
+pub agree-second : (x y z : Code) (ops : List Op) → Extends x.ops y.ops → Agree (length x.ops) (length z.ops) z.ops ops →
+    Agree (length y.ops) (length z.ops) z.ops ops
+agree-second x y z ops ext agree i low high = agree i (omega (arith, low, ext.grown)) high
+
+pub pushed-routines : (old new : Code) (op : Op) (at : ℕ) → Pushed old new op at → Extends old.routines new.routines
+pushed-routines old new op at pushed = subst (λ rs. Extends old.routines rs) (sym pushed.routines) (Extends-same old.routines)
+
+pub pushed-ops : (old new : Code) (op : Op) (at : ℕ) → Pushed old new op at → Extends old.ops new.ops
+pushed-ops old new op at pushed = subst (λ os. Extends old.ops os) (sym pushed.ops) (Extends-push old.ops op)
+
+-- Instructions and routines have been added.
+pub record Longer (old new : Code) : Type 0 where
+  pub ops : Extends old.ops new.ops
+  pub routines : Extends old.routines new.routines
+
+pub longer : (old new : Code) → Grown old new → Longer old new
+longer old new grown = record { ops = grown.ops; routines = grown.routines }
+
+pub longer-push : (old new : Code) (op : Op) (at : ℕ) → Pushed old new op at → Longer old new
+longer-push old new op at pushed = record { ops = pushed-ops old new op at pushed; routines = pushed-routines old new op at pushed }
