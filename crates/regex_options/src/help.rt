@@ -65,8 +65,7 @@ syntax, over all of Unicode.
 ";
 
 /// The help after the options.
-pub const HELP_AFTER: &str = "\
-
+pub const HELP_AFTER: &str = "\n\
 exit status:
   0  a line is selected, or the output of replace, split, escape, parse, draw or explain is written, or
      lint reports nothing
