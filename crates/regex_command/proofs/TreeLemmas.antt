@@ -8,7 +8,7 @@ use Rattle.regress_display.specs.Request.{Request}
 use Rattle.regress_display.specs.declared.request.Format.{Format}
 use Rattle.regress_display.specs.declared.request.Format.TheVariants.{Text, Json, Svg}
 use Rattle.regex_command.specs.Ending.{OrOutput}
-use Rattle.regex_command.specs.Trees.{HasFaultOutput, IsAnswer, IsFaultWritten, IsQuietFor, IsShowFailure}
+use Rattle.regex_command.specs.Trees.{HasFaultOutput, IsTreeOutput, IsFaultWritten, IsQuietFor, IsShowFailure}
 use Rattle.regex_command.specs.declared.failure.Failure.{Failure}
 use Rattle.regex_command.specs.declared.failure.Failure.TheVariants.{Output}
 use Rattle.regex_command.proofs.LintLemmas.{appends_nothing}
@@ -50,13 +50,13 @@ module _ (request : Request) (r : Result Bool Failure) where
 module _ (request : Request) (r : Result Bool Failure) where
   pub answers : (old between new : Option (List ℕ)) → between ≡ old →
       IfOk r (λ accepted. (accepted ≡ false) × Took between new (IsFaultWritten request.format request)) →
-      IfOk r (λ accepted. Took old new (IsAnswer accepted request))
+      IfOk r (λ accepted. Took old new (IsTreeOutput accepted request))
   answers old between new same = by r
     where
       by : (r : Result Bool Failure) → IfOk r (λ accepted. (accepted ≡ false) × Took between new (IsFaultWritten request.format request)) →
-          IfOk r (λ accepted. Took old new (IsAnswer accepted request))
+          IfOk r (λ accepted. Took old new (IsTreeOutput accepted request))
       by (Ok accepted) (is, took) =
-          subst (λ (b : Bool). Took old new (IsAnswer b request)) (sym is)
+          subst (λ (b : Bool). Took old new (IsTreeOutput b request)) (sym is)
           (subst (λ (o : Option (List ℕ)). Took o new (IsFaultWritten request.format request)) same took)
       by (Err failure) shown = tt
 

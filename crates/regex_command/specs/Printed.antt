@@ -20,7 +20,7 @@ use Rattle.regex_command.specs.Inputs.{WritesInputs, WritesSomeOf, inputs_of}
 use Rattle.regex_options.specs.Job.{Job, matching, replacing, splitting}
 use Rattle.regex_command.specs.Linted.{IsReport}
 use Rattle.regex_command.specs.Source.{LacksText, OfText}
-use Rattle.regex_command.specs.Trees.{IsAnswer, IsQuietFor, IsShowFailure}
+use Rattle.regex_command.specs.Trees.{IsTreeOutput, IsQuietFor, IsShowFailure}
 use Rattle.regex_options.specs.declared.request.View.{View}
 use Rattle.regex_command.specs.declared.failure.Failure.{Failure}
 use Rattle.regex_command.specs.declared.failure.Failure.TheVariants.{Argument, Memory, Output, Syntax, TooLarge, OutOfSteps, Unreadable, NotUtf8, PatternNotUtf8, TooLong}
@@ -77,7 +77,7 @@ module _ (flags : Flags) (text : List ℕ) where
   -- something is found, or the pattern is accepted and, for a report, without differences.
   abbrev pub Does : Action → (input old new : Option (List ℕ)) → (found : Bool) → Type 0
   Does (search job multiline files) input old new found = PrintsAll (unicode_setting flags) text job multiline files input old new found
-  Does (show view) input old new found = Took old new (IsAnswer found (view_of view flags text))
+  Does (show view) input old new found = Took old new (IsTreeOutput found (view_of view flags text))
   Does lint input old new found = Took old new (IsReport found (unicode_setting flags) (chars text))
   Does (explain form) input old new found = Took old new (IsExplanationIn form found (unicode_setting flags) (chars text))
 

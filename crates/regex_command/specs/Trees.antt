@@ -16,9 +16,9 @@ IsFaultWritten Json request bytes = IsFaultOutput request bytes
 IsFaultWritten Svg request bytes = NoneIsAccepted request × (bytes ≡ [])
 
 -- The tree of an accepted pattern, or what is written for a rejected one.
-abbrev pub IsAnswer : (accepted : Bool) → Request → List ℕ → Type 0
-IsAnswer true request bytes = IsOutput request bytes
-IsAnswer false request bytes = IsFaultWritten request.format request bytes
+abbrev pub IsTreeOutput : (accepted : Bool) → Request → List ℕ → Type 0
+IsTreeOutput true request bytes = IsOutput request bytes
+IsTreeOutput false request bytes = IsFaultWritten request.format request bytes
 
 -- Where a syntax error is written as JSON, nothing is written to standard error.
 abbrev pub IsQuietFor : Format → (quiet : Type 0) → Type 0

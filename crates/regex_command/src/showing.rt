@@ -6,7 +6,7 @@ ghost use Rattle.regress_display.specs.Fault.{IsFaultOutput};
 ghost use Rattle.regress_display.specs.Request.{requested};
 ghost use Rattle.regress_display.specs.Shown.{IsFirstOutput};
 ghost use Rattle.regex_command.specs.Ending.{OrOutput};
-ghost use Rattle.regex_command.specs.Trees.{HasFaultOutput, IsAnswer, IsFaultWritten, IsQuietFor, IsShowFailure};
+ghost use Rattle.regex_command.specs.Trees.{HasFaultOutput, IsTreeOutput, IsFaultWritten, IsQuietFor, IsShowFailure};
 ghost use Rattle.regex_command.specs.declared.failure.Failure.TheVariants.{Output};
 
 use crate::failure::{Failure, write_syntax_error};
@@ -25,7 +25,7 @@ pub(crate) fn print_tree<'f, W: Write, E: Write>(
     err: &mut E,
 ) -> Result<bool, Failure<'f>>
     ensures shown { IfOk result (λ accepted.
-        Took (W.contents out.old) (W.contents out.new) (IsAnswer accepted (requested request.entry))) }
+        Took (W.contents out.old) (W.contents out.new) (IsTreeOutput accepted (requested request.entry))) }
     ensures quiet { result ≡ Ok true → err.new ≡ err.old }
     ensures quiet_fault { IsQuietFor request.entry.format (err.new ≡ err.old) }
     ensures first { IfErr result (OrOutput ((out.new ≡ out.old)

@@ -26,9 +26,9 @@ usage_error TextWithoutPage = text_without_page
 usage_error (Unexpected word) = unexpected word.now
 
 -- a result as the code represents it
-abbrev pub told : {X Y : Type 0} → (X → Y) → Result X code.UsageError → Result Y UsageError
-told f (Ok x) = Ok (f x)
-told f (Err error) = Err (usage_error error)
+abbrev pub plain_result : {X Y : Type 0} → (X → Y) → Result X code.UsageError → Result Y UsageError
+plain_result f (Ok x) = Ok (f x)
+plain_result f (Err error) = Err (usage_error error)
 
 -- the second result, if the first one is no error
 abbrev pub on_ok : {X Y : Type 0} → (X → Result Y UsageError) → Result X UsageError → Result Y UsageError

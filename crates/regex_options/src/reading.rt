@@ -3,7 +3,7 @@ ghost use Rattle.std.specs.Prelude.{◌≡◌, drop, find, option_map};
 ghost use Rattle.regex_options.specs.Given.{given_by};
 ghost use Rattle.regex_options.specs.Reading.{after_prefix, is_option, lacked, long_parts, noted, options_of, parts_of, reading_of, short_value, start, used, with_letters, with_long, with_short, with_switch, with_value, with_word};
 ghost use Rattle.regex_options.specs.Table.{has_letter, has_long, is_valued};
-ghost use Rattle.regex_options.specs.Usage.{first_error, told, usage_error};
+ghost use Rattle.regex_options.specs.Usage.{first_error, plain_result, usage_error};
 
 use crate::command::Command;
 use crate::error::UsageError;
@@ -31,7 +31,7 @@ pub(crate) fn read_options<'a>(
     command: Command,
     args: &'a [String],
 ) -> Result<(Reading<'a>, &'a [String]), UsageError<'a>>
-    ensures { told (λ found. (reading_of found.0, found.1.now)) result ≡ options_of options.now command start args.now }
+    ensures { plain_result (λ found. (reading_of found.0, found.1.now)) result ≡ options_of options.now command start args.now }
 {
     let mut reading = Reading {
         given: nothing_given(),
@@ -85,7 +85,7 @@ fn read_word<'a>(
     reading: Reading<'a>,
     word: &'a str,
 ) -> Result<Reading<'a>, UsageError<'a>>
-    ensures { told reading_of result ≡ with_word options.now command word.now (reading_of reading.entry) }
+    ensures { plain_result reading_of result ≡ with_word options.now command word.now (reading_of reading.entry) }
 {
     match reading.awaits {
         Some(argument) => with_value(argument, word, word, reading),
@@ -104,7 +104,7 @@ fn with_long<'a>(
     long: &'a str,
     reading: Reading<'a>,
 ) -> Result<Reading<'a>, UsageError<'a>>
-    ensures { told reading_of result ≡ with_long options.now command word.now long.now (reading_of reading.entry) }
+    ensures { plain_result reading_of result ≡ with_long options.now command word.now long.now (reading_of reading.entry) }
 {
     let (name, value) = long_parts(long);
     match find_long(options, name) {
@@ -130,7 +130,7 @@ fn with_short<'a>(
     word: &'a str,
     reading: Reading<'a>,
 ) -> Result<Reading<'a>, UsageError<'a>>
-    ensures { told reading_of result ≡ with_short options.now command word.now (reading_of reading.entry) }
+    ensures { plain_result reading_of result ≡ with_short options.now command word.now (reading_of reading.entry) }
 {
     match find_valued(options, word) {
         Some(option) => used(command, option, word, short_value(option, word), reading),
@@ -173,7 +173,7 @@ fn with_letters<'a>(
     letters: &[u8],
     reading: Reading<'a>,
 ) -> Result<Reading<'a>, UsageError<'a>>
-    ensures { told reading_of result ≡ with_letters options.now command word.now letters.now (reading_of reading.entry) }
+    ensures { plain_result reading_of result ≡ with_letters options.now command word.now letters.now (reading_of reading.entry) }
 {
     let mut reading = reading;
     for letter in letters {
@@ -193,7 +193,7 @@ fn used<'a>(
     value: Option<&'a str>,
     reading: Reading<'a>,
 ) -> Result<Reading<'a>, UsageError<'a>>
-    ensures { told reading_of result
+    ensures { plain_result reading_of result
         ≡ used word.now option.sets (option_map (λ text. text.now) value.entry) (noted command option.scope word.now (reading_of reading.entry)) }
 {
     let noted = noted(command, option.scope, word, reading);
@@ -255,7 +255,7 @@ fn with_value<'a>(
     word: &'a str,
     reading: Reading<'a>,
 ) -> Result<Reading<'a>, UsageError<'a>>
-    ensures { told reading_of result ≡ with_value argument text.now word.now (reading_of reading.entry) }
+    ensures { plain_result reading_of result ≡ with_value argument text.now word.now (reading_of reading.entry) }
 {
     match valued(argument.value, text, reading.given) {
         Some(given) => Ok(Reading {

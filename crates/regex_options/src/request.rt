@@ -4,7 +4,7 @@ ghost use Rattle.regex_options.specs.Given.{given_by};
 ghost use Rattle.regex_options.specs.Job.{job};
 ghost use Rattle.regex_options.specs.Request.{action, action_of, after_pattern, alone, ask, asked_by, asked_form, command_with, conflict, escape_of, form_of, help_of, is_lines, other_of, paints, printed_format, replace_of, request_of, search_with, selection_of, stage_of, taken_pattern, unknown, view_in};
 ghost use Rattle.regex_options.specs.Source.{source};
-ghost use Rattle.regex_options.specs.Usage.{told, usage_error};
+ghost use Rattle.regex_options.specs.Usage.{plain_result, usage_error};
 
 use crate::command::{Command, command_of};
 use crate::error::UsageError;
@@ -99,7 +99,7 @@ pub struct Arguments<'a> {
 /// Returns why the arguments are invalid: the first error in their order; and otherwise which options exclude or need
 /// others, or which argument after the options is missing, or one too many.
 pub fn read_arguments(arguments: Arguments<'_>) -> Result<Asked<'_>, UsageError<'_>>
-    ensures { told ask result ≡ asked_by arguments.entry }
+    ensures { plain_result ask result ≡ asked_by arguments.entry }
 {
     let [first, rest @ ..] = arguments.words else {
         return Err(UsageError::Missing("COMMAND"));
@@ -117,7 +117,7 @@ fn read_other<'a>(
     word: &'a str,
     args: &'a [String],
 ) -> Result<Asked<'a>, UsageError<'a>>
-    ensures { told ask result ≡ other_of options.now word.now args.now }
+    ensures { plain_result ask result ≡ other_of options.now word.now args.now }
 {
     match word {
         "escape" => read_escape(args),
@@ -137,7 +137,7 @@ fn unknown(word: &str) -> UsageError<'_>
 }
 
 fn read_escape(args: &[String]) -> Result<Asked<'_>, UsageError<'_>>
-    ensures { told ask result ≡ escape_of args.now }
+    ensures { plain_result ask result ≡ escape_of args.now }
 {
     match args {
         [] => Err(UsageError::Missing("TEXT")),
@@ -150,7 +150,7 @@ fn read_help<'a>(
     options: &'a [OptionEntry],
     args: &'a [String],
 ) -> Result<Asked<'a>, UsageError<'a>>
-    ensures { told ask result ≡ help_of options.now args.now }
+    ensures { plain_result ask result ≡ help_of options.now args.now }
 {
     match args {
         [] => Ok(Asked::Help(options)),
@@ -164,7 +164,7 @@ fn read_command<'a>(
     command: Command,
     args: &'a [String],
 ) -> Result<Asked<'a>, UsageError<'a>>
-    ensures { told ask result ≡ command_with arguments.entry.options.now arguments.entry.terminal command args.now }
+    ensures { plain_result ask result ≡ command_with arguments.entry.options.now arguments.entry.terminal command args.now }
 {
     let (Reading { given, denied, .. }, rest) = read_options(arguments.options, command, args)?;
     if given.options.help {
@@ -205,7 +205,7 @@ fn read_request<'a>(
     args: &'a [String],
     terminal: bool,
 ) -> Result<Asked<'a>, UsageError<'a>>
-    ensures { told ask result ≡ request_of terminal command (given_by given.entry) args.now }
+    ensures { plain_result ask result ≡ request_of terminal command (given_by given.entry) args.now }
 {
     let Some((pattern, rest)) = take_pattern(given.pattern, args) else {
         return Err(UsageError::Missing("PATTERN"));
@@ -238,7 +238,7 @@ fn read_action<'a>(
     args: &'a [String],
     terminal: bool,
 ) -> Result<Action<'a>, UsageError<'a>>
-    ensures { told action result ≡ action_of terminal command (given_by given.entry) args.now }
+    ensures { plain_result action result ≡ action_of terminal command (given_by given.entry) args.now }
 {
     let options = given.options;
     match command {
@@ -261,7 +261,7 @@ fn read_action<'a>(
 
 /// Parses a template, and the files after it.
 fn replace_of(options: Options, args: &[String]) -> Result<Action<'_>, UsageError<'_>>
-    ensures { told action result ≡ replace_of options args.now }
+    ensures { plain_result action result ≡ replace_of options args.now }
 {
     match args {
         [template, files @ ..] => {
@@ -273,7 +273,7 @@ fn replace_of(options: Options, args: &[String]) -> Result<Action<'_>, UsageErro
 
 /// Returns an action, if no argument is left.
 fn alone<'a>(asked: Action<'a>, args: &'a [String]) -> Result<Action<'a>, UsageError<'a>>
-    ensures { told action result ≡ alone (action asked.entry) args.now }
+    ensures { plain_result action result ≡ alone (action asked.entry) args.now }
 {
     match args {
         [] => Ok(asked),
