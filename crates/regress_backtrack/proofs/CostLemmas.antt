@@ -105,12 +105,12 @@ module _ (input : Input) (outs : ℕ → Out) (costs : ℕ → Cost) (m : Machin
 
 -- ---- loops over one character
 
-module _ (cost : Cost) (g : Groups) (body turn next low : ℕ) (moved : Bool) where
+module _ (cost : Cost) (g : Groups) (body repeat_pc next low : ℕ) (moved : Bool) where
   abbrev again : ℕ → ℕ
   again k = cost (at (record { pc = body; moved = false; position = k }) g)
 
-  abbrev turned : ℕ → ℕ
-  turned k = cost (at (record { pc = turn; moved = true; position = k }) g)
+  abbrev at_repeat : ℕ → ℕ
+  at_repeat k = cost (at (record { pc = repeat_pc; moved = true; position = k }) g)
 
   abbrev after : ℕ → ℕ
   after k = cost (at (record { pc = next; moved = true; position = k }) g)
@@ -118,30 +118,30 @@ module _ (cost : Cost) (g : Groups) (body turn next low : ℕ) (moved : Bool) wh
   abbrev first : Place
   first = record { pc = next; moved = moved; position = low }
 
-  -- Each of the first iterations ends at the instruction `turn`, at which one more begins, or what follows.
+  -- Each of the first iterations ends at the instruction `repeat_pc`, at which one more begins, or what follows.
   pub swept_cost : (more : ℕ) →
-      ((k : ℕ) → k ≤ more → 1 + turned (low + suc k) ≤ again (low + k)) →
-      ((k : ℕ) → k < more → again (low + suc k) + after (low + suc k) ≤ turned (low + suc k)) →
-      suc more + (turned (low + suc more) + sum_by cost (range_points first more g)) ≤ again (low + zero) + cost (at first g)
-  swept_cost zero ends turns =
+      ((k : ℕ) → k ≤ more → 1 + at_repeat (low + suc k) ≤ again (low + k)) →
+      ((k : ℕ) → k < more → again (low + suc k) + after (low + suc k) ≤ at_repeat (low + suc k)) →
+      suc more + (at_repeat (low + suc more) + sum_by cost (range_points first more g)) ≤ again (low + zero) + cost (at first g)
+  swept_cost zero ends repeats =
       let one = ends zero (omega arith) in
       let sum = sum_by-cons cost (at first g) [] in
       omega (arith, one, sum)
-  swept_cost (suc more) ends turns =
-      let so_far = swept_cost more (λ k le. ends k (omega (arith, le))) (λ k lt. turns k (omega (arith, lt))) in
-      let turn' = turns more (omega arith) in
+  swept_cost (suc more) ends repeats =
+      let so_far = swept_cost more (λ k le. ends k (omega (arith, le))) (λ k lt. repeats k (omega (arith, lt))) in
+      let repeat' = repeats more (omega arith) in
       let one = ends (suc more) (omega arith) in
       let sum = sum_by-cons cost (at (record { pc = next; moved = true; position = low + suc more }) g) (range_points first more g) in
-      omega (arith, so_far, turn', one, sum)
+      omega (arith, so_far, repeat', one, sum)
 
 ends_moved : (k : ℕ) → (false || not (k + 1 == k)) ≡ true
 ends_moved k = grind arith
 
-module _ (input : Input) (is : IsInput input) (looping : Looping) (set : ByteBitmap) (turn : ℕ) (swept : IsSwept input looping set turn)
+module _ (input : Input) (is : IsInput input) (looping : Looping) (set : ByteBitmap) (repeat_pc : ℕ) (swept : IsSwept input looping set repeat_pc)
     (body_in : looping.body < length input.instructions.now) (outs : ℕ → Out) (costs : ℕ → Cost) (has : HasCost input outs costs) (g : Groups) where
   -- an iteration
   iteration_cost : (k : ℕ) → k < length input.text.now → slice_index input.text.now k < 128 → contains set (slice_index input.text.now k) ≡ true →
-      1 + costs input.index (at (record { pc = turn; moved = true; position = k + 1 }) g)
+      1 + costs input.index (at (record { pc = repeat_pc; moved = true; position = k + 1 }) g)
       ≤ costs input.index (at (record { pc = looping.body; moved = false; position = k }) g)
   iteration_cost k lt ascii member =
       let u = subject input.rules input.text.now in
@@ -152,36 +152,36 @@ module _ (input : Input) (is : IsInput input) (looping : Looping) (set : ByteBit
       subst (λ b. steps u.setting u.bytes (direction_if b) (tree swept.test.node) (state g.captures k) ≡ state g.captures (k + 1) ∷ []) (sym swept.forwards)
       (ascii_matches set (tree swept.test.node) start.0 start.1 u.setting u.bytes forwards (state g.captures k) (slice_index input.text.now k) (k + 1) ascii
       (ascii_after input.text.now k (slice_index input.text.now k) ascii lt refl) member) in
-      let same = costed input is outs costs has g p (insts.Leaf swept.leaf turn) body_in swept.body (omega (arith, lt)) in
-      let leaf = ap (λ o. op_cost input outs costs (part_of o turn) (at p g)) swept.is_test in
-      let ends = ap (cost_after cost turn (at p g)) one in
-      let here = ap (λ b. cost (at (record { pc = turn; moved = b; position = k + 1 }) g)) (ends_moved k) in
+      let same = costed input is outs costs has g p (insts.Leaf swept.leaf repeat_pc) body_in swept.body (omega (arith, lt)) in
+      let leaf = ap (λ o. op_cost input outs costs (part_of o repeat_pc) (at p g)) swept.is_test in
+      let ends = ap (cost_after cost repeat_pc (at p g)) one in
+      let here = ap (λ b. cost (at (record { pc = repeat_pc; moved = b; position = k + 1 }) g)) (ends_moved k) in
       omega (arith, same, leaf, ends, here)
 
   -- the end of an iteration
-  turned_cost : (k : ℕ) → k ≤ length input.text.now →
+  at_repeat_cost : (k : ℕ) → k ≤ length input.text.now →
       costs input.index (at (record { pc = looping.body; moved = false; position = k }) g)
       + costs input.index (at (record { pc = looping.next; moved = true; position = k }) g)
-      ≤ costs input.index (at (record { pc = turn; moved = true; position = k }) g)
-  turned_cost k le =
-      let p : Place = record { pc = turn; moved = true; position = k } in
-      let same = costed input is outs costs has g p (insts.Repeat true looping.body looping.next) swept.turn_in swept.turns le in
+      ≤ costs input.index (at (record { pc = repeat_pc; moved = true; position = k }) g)
+  at_repeat_cost k le =
+      let p : Place = record { pc = repeat_pc; moved = true; position = k } in
+      let same = costed input is outs costs has g p (insts.Repeat true looping.body looping.next) swept.repeat_in swept.repeats le in
       omega (arith, same)
 
   -- several iterations at once
   pub iterations_cost : (here : Place) (more : ℕ) → AreIn set input.text.now here.position (suc more) →
-      suc more + (costs input.index (at (record { pc = turn; moved = true; position = here.position + suc more }) g)
+      suc more + (costs input.index (at (record { pc = repeat_pc; moved = true; position = here.position + suc more }) g)
       + sum_by (costs input.index) (range_points (record here { pc = looping.next }) more g))
       ≤ costs input.index (at (record { pc = looping.body; moved = false; position = here.position }) g)
       + costs input.index (at (record here { pc = looping.next }) g)
   iterations_cost here more are =
       let cost = costs input.index in
       let low = here.position in
-      let all = swept_cost cost g looping.body turn looping.next low here.moved more
+      let all = swept_cost cost g looping.body repeat_pc looping.next low here.moved more
       (λ k le. let in_set = are k (omega (arith, le)) in
-      subst (λ n. 1 + cost (at (record { pc = turn; moved = true; position = n }) g) ≤ cost (at (record { pc = looping.body; moved = false; position = low + k }) g))
+      subst (λ n. 1 + cost (at (record { pc = repeat_pc; moved = true; position = n }) g) ≤ cost (at (record { pc = looping.body; moved = false; position = low + k }) g))
       (one_more low k) (iteration_cost (low + k) in_set.0 in_set.1.0 in_set.1.1))
-      (λ k lt. let in_set = are k (omega (arith, lt)) in turned_cost (low + suc k) (omega (arith, in_set.0))) in
+      (λ k lt. let in_set = are k (omega (arith, lt)) in at_repeat_cost (low + suc k) (omega (arith, in_set.0))) in
       omega (arith, all, ap (λ k. cost (at (record { pc = looping.body; moved = false; position = k }) g)) (the_low low))
     where
       the_low : (n : ℕ) → n ≡ n + zero

@@ -25,7 +25,7 @@ use Rattle.regress_backtrack.specs.declared.step.Next.{Next}
 use Rattle.regress_backtrack.specs.declared.step.Next.TheVariants as nexts
 use Rattle.regress_backtrack.specs.Machine.{Groups, at, groups_of, points}
 use Rattle.regress_backtrack.specs.Next.{CanStep, Fails, IsInput, Inside, Solve, ahead, Leads}
-use Rattle.regress_backtrack.specs.Run.{Answers, IsAfter}
+use Rattle.regress_backtrack.specs.Run.{IsResponseOf, IsAfter}
 use Rattle.regress_program.specs.declared.instruction.Instruction.TheVariants as insts
 use Rattle.regress_backtrack.proofs.MachineLemmas.{points-none}
 use Rattle.regress_backtrack.proofs.StepLemmas.{Goes, goes_on, goes_back, Remains, on_inside, back_inside}
@@ -148,10 +148,10 @@ same_run P s s' b b' p p' i i' cs cs' holds es eb ep ei ec =
     subst (λ x. P x b p i cs) es
     (subst (λ x. P s' x p i cs) eb (subst (λ x. P s' b' x i cs) ep (subst (λ x. P s' b' p' x cs) ei (subst (λ x. P s' b' p' i' x) ec holds))))
 
-pub same_answers : (m : Machine) (r : Response) (outs : ℕ → Out) (k : ℕ) (s s' : Setting) (b b' : List ℕ) (p p' : List Routine) (i i' : ℕ)
-    (cs cs' : List (Option CaptureSpan)) → (IsSolution s' b' p' outs → Answers (matcher_of s' b' p' outs i' (state cs' k)) m r) →
-    s' ≡ s → b' ≡ b → p' ≡ p → i' ≡ i → cs' ≡ cs → IsSolution s b p outs → Answers (matcher_of s b p outs i (state cs k)) m r
-same_answers m r outs k = same_run (λ s b p i cs. IsSolution s b p outs → Answers (matcher_of s b p outs i (state cs k)) m r)
+pub same_response : (m : Machine) (r : Response) (outs : ℕ → Out) (k : ℕ) (s s' : Setting) (b b' : List ℕ) (p p' : List Routine) (i i' : ℕ)
+    (cs cs' : List (Option CaptureSpan)) → (IsSolution s' b' p' outs → IsResponseOf (matcher_of s' b' p' outs i' (state cs' k)) m r) →
+    s' ≡ s → b' ≡ b → p' ≡ p → i' ≡ i → cs' ≡ cs → IsSolution s b p outs → IsResponseOf (matcher_of s b p outs i (state cs k)) m r
+same_response m r outs k = same_run (λ s b p i cs. IsSolution s b p outs → IsResponseOf (matcher_of s b p outs i (state cs k)) m r)
 
 pub same_cost : (left left' : ℕ) (outs : ℕ → Out) (costs : ℕ → Cost) (k : ℕ) (s s' : Setting) (b b' : List ℕ) (p p' : List Routine) (i i' : ℕ)
     (cs cs' : List (Option CaptureSpan)) → (IsCost s' b' p' outs costs → left ≤ left' + cost_of s' b' p' costs i' (state cs' k)) →
@@ -159,11 +159,11 @@ pub same_cost : (left left' : ℕ) (outs : ℕ → Out) (costs : ℕ → Cost) (
 same_cost left left' outs costs k = same_run (λ s b p i cs. IsCost s b p outs costs → left ≤ left' + cost_of s b p costs i (state cs k))
 
 -- a run that fails where it starts has no outcome
-pub fails_answers : (input : Input) → IsInput input → (m : Machine) (captures : List (Option CaptureSpan)) (k : ℕ) (outs : ℕ → Out) →
+pub fails_response : (input : Input) → IsInput input → (m : Machine) (captures : List (Option CaptureSpan)) (k : ℕ) (outs : ℕ → Out) →
     Fails input (record { pc = input.first; moved = true; position = k }) → Solve input outs →
-    Answers (matcher_of (subject input.rules input.text.now).setting input.text.now (code_routines input.code.now) outs input.index (state captures k)) m
+    IsResponseOf (matcher_of (subject input.rules input.text.now).setting input.text.now (code_routines input.code.now) outs input.index (state captures k)) m
     responses.NoMatch
-fails_answers input is m captures k outs none solve =
+fails_response input is m captures k outs none solve =
     let u = subject input.rules input.text.now in
     ap (λ o. outs input.index (start u.setting input.text.now o (state captures k))) is.is
     ∙ ap (λ pc. outs input.index (record { pc = pc; moved = true; state = state captures k; begins = [] })) (sym is.first)
@@ -199,19 +199,19 @@ module _ (out : Out) (m m' : Machine) (same : points m' ≡ points m) (begins : 
   fails states n is none = goes_back out m m' _ n is same (ap (flat_map (λ t. out (reach next (at p (groups_of m)) t))) none)
 
   pub look_goes : (negate : Bool) (body : Matcher) (inner : Machine) (r : Response) (n : Next) →
-      Answers (body (state m.captures.items p.position)) inner r → m'.captures.items ≡ inner.captures.items →
+      IsResponseOf (body (state m.captures.items p.position)) inner r → m'.captures.items ≡ inner.captures.items →
       (r ≡ responses.NoMatch → inner.captures.items ≡ m.captures.items) → IsAfter r negate (record p { pc = next }) n →
       Goes out m m' (flat_map (λ t. out (reach next (at p (groups_of m)) t)) (lookaround_matcher negate body (state m.captures.items p.position))) n
   unfolding lookaround_matcher
-  look_goes true body inner (responses.Matched k) n answers captures none is =
-      fails _ n is (ap (looked true (state m.captures.items p.position)) answers.1)
-  look_goes false body inner (responses.Matched k) n answers captures none is =
-      holds _ n is (ap (looked false (state m.captures.items p.position)) answers.1 ∙ ap (λ cs. state cs p.position ∷ []) (sym captures))
-  look_goes true body inner responses.NoMatch n answers captures none is =
-      holds _ n is (ap (looked true (state m.captures.items p.position)) answers ∙ ap (λ cs. state cs p.position ∷ []) (sym (captures ∙ none refl)))
-  look_goes false body inner responses.NoMatch n answers captures none is =
-      fails _ n is (ap (looked false (state m.captures.items p.position)) answers)
-  look_goes negate body inner responses.OutOfSteps n answers captures none is =
+  look_goes true body inner (responses.Matched k) n responds captures none is =
+      fails _ n is (ap (looked true (state m.captures.items p.position)) responds.1)
+  look_goes false body inner (responses.Matched k) n responds captures none is =
+      holds _ n is (ap (looked false (state m.captures.items p.position)) responds.1 ∙ ap (λ cs. state cs p.position ∷ []) (sym captures))
+  look_goes true body inner responses.NoMatch n responds captures none is =
+      holds _ n is (ap (looked true (state m.captures.items p.position)) responds ∙ ap (λ cs. state cs p.position ∷ []) (sym (captures ∙ none refl)))
+  look_goes false body inner responses.NoMatch n responds captures none is =
+      fails _ n is (ap (looked false (state m.captures.items p.position)) responds)
+  look_goes negate body inner responses.OutOfSteps n responds captures none is =
       subst (Goes out m m' _) (sym is) tt
 
   -- on from the lookaround
@@ -230,18 +230,18 @@ module _ (out : Out) (m m' : Machine) (same : points m' ≡ points m) (begins : 
       subst (λ x. cost_ahead cost m' x ≤ k + points_cost cost m) (sym is) (omega (arith, rest))
 
   pub look_cost : (cost : Cost) (negate : Bool) (body : Matcher) (inner : Machine) (r : Response) (n : Next) →
-      Answers (body (state m.captures.items p.position)) inner r → m'.captures.items ≡ inner.captures.items →
+      IsResponseOf (body (state m.captures.items p.position)) inner r → m'.captures.items ≡ inner.captures.items →
       (r ≡ responses.NoMatch → inner.captures.items ≡ m.captures.items) → IsAfter r negate (record p { pc = next }) n →
       cost_ahead cost m' n
       ≤ cost_after cost next (at p (groups_of m)) (lookaround_matcher negate body (state m.captures.items p.position)) + points_cost cost m
   unfolding lookaround_matcher
-  look_cost cost true body inner (responses.Matched k) n answers captures none is = stops_cost cost _ n is
-  look_cost cost false body inner (responses.Matched k) n answers captures none is =
-      goes_cost cost _ n is (ap (looked false (state m.captures.items p.position)) answers.1 ∙ ap (λ cs. state cs p.position ∷ []) (sym captures))
-  look_cost cost true body inner responses.NoMatch n answers captures none is =
-      goes_cost cost _ n is (ap (looked true (state m.captures.items p.position)) answers ∙ ap (λ cs. state cs p.position ∷ []) (sym (captures ∙ none refl)))
-  look_cost cost false body inner responses.NoMatch n answers captures none is = stops_cost cost _ n is
-  look_cost cost negate body inner responses.OutOfSteps n answers captures none is =
+  look_cost cost true body inner (responses.Matched k) n responds captures none is = stops_cost cost _ n is
+  look_cost cost false body inner (responses.Matched k) n responds captures none is =
+      goes_cost cost _ n is (ap (looked false (state m.captures.items p.position)) responds.1 ∙ ap (λ cs. state cs p.position ∷ []) (sym captures))
+  look_cost cost true body inner responses.NoMatch n responds captures none is =
+      goes_cost cost _ n is (ap (looked true (state m.captures.items p.position)) responds ∙ ap (λ cs. state cs p.position ∷ []) (sym (captures ∙ none refl)))
+  look_cost cost false body inner responses.NoMatch n responds captures none is = stops_cost cost _ n is
+  look_cost cost negate body inner responses.OutOfSteps n responds captures none is =
       subst (λ x. cost_ahead cost m' x ≤ cost_after cost next (at p (groups_of m)) (lookaround_matcher negate body (state m.captures.items p.position))
       + points_cost cost m) (sym is) (omega arith)
 

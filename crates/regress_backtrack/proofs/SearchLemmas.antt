@@ -23,10 +23,10 @@ use Rattle.regress_backtrack.specs.declared.run.Response.{Response}
 use Rattle.regress_backtrack.specs.declared.run.Response.TheVariants as responses
 use Rattle.regress_backtrack.specs.Backtracker.{AreCosts, AreOutcomes, SameRuns, cost_at, outcomes_at, run_code, run_tables, run_text, tree_outcomes_at}
 use Rattle.regress_code.specs.Code.{code_groups, code_routines, cost_from, outcomes_from, setting_with, tree_outcomes_from}
-use Rattle.regress_backtrack.specs.Run.{Answers}
+use Rattle.regress_backtrack.specs.Run.{IsResponseOf}
 use Rattle.regress_found.specs.Results.{IsSearchResult, IsMatchResult}
 use Rattle.regress_backtrack.specs.Searched.{IsFor}
-use Rattle.regress_backtrack.proofs.RunLemmas.{same_answers, same_cost}
+use Rattle.regress_backtrack.proofs.RunLemmas.{same_response, same_cost}
 
 -- what is so for each solution is so for each tree of the program
 pub of_tree : (code : Code) (tables : Tables) (text : List ℕ) (k : ℕ) → k ≤ length text → (P : List MatchState → Type 0) →
@@ -112,11 +112,11 @@ SameRuns-trans a b c one two = record {
 pub run_solved : (b : Backtracker) (input : Input) (captures : List (Option CaptureSpan)) (k : ℕ) (m : Machine) (r : Response) →
     IsFor (run_code b) (run_tables b) (run_text b) input → captures ≡ replicate (code_groups (run_code b)) None →
     ((outs : ℕ → Out) → IsSolution (subject input.rules input.text.now).setting input.text.now (code_routines input.code.now) outs →
-    Answers (matcher_of (subject input.rules input.text.now).setting input.text.now (code_routines input.code.now) outs input.index (state captures k)) m r) →
-    (outs : ℕ → Out) → AreOutcomes b outs → Answers (outcomes_at b outs k) m r
-run_solved b input captures k m r is unset answers outs =
-    same_answers m r outs k (setting_with (run_code b) (run_tables b)) _ (run_text b) _ (code_routines (run_code b)) _ (length (code_routines (run_code b)) - 1) _
-    (replicate (code_groups (run_code b)) None) _ (answers outs) is.setting is.same_text (ap code_routines is.code) is.index unset
+    IsResponseOf (matcher_of (subject input.rules input.text.now).setting input.text.now (code_routines input.code.now) outs input.index (state captures k)) m r) →
+    (outs : ℕ → Out) → AreOutcomes b outs → IsResponseOf (outcomes_at b outs k) m r
+run_solved b input captures k m r is unset responds outs =
+    same_response m r outs k (setting_with (run_code b) (run_tables b)) _ (run_text b) _ (code_routines (run_code b)) _ (length (code_routines (run_code b)) - 1) _
+    (replicate (code_groups (run_code b)) None) _ (responds outs) is.setting is.same_text (ap code_routines is.code) is.index unset
 
 -- the cost of a run from the input for the pattern, with every group unset
 pub run_cost : (b : Backtracker) (input : Input) (captures : List (Option CaptureSpan)) (k left left' : ℕ) (outs : ℕ → Out) (costs : ℕ → Cost) →
@@ -152,5 +152,5 @@ not_true b is h = let bad : true ≡ false = sym h ∙ is in cc
 
 -- the result at a position
 pub is_first : (k end : ℕ) (states : List MatchState) (m : Machine) (found : Match) → start_of found ≡ k → state_of found ≡ state m.captures.items end →
-    Answers states m (responses.Matched end) → (start_of found ≡ k) × ((rest : List MatchState) × (states ≡ state_of found ∷ rest))
-is_first k end states m found starts has answers = (starts, (answers.0, answers.1 ∙ ap (λ s. s ∷ answers.0) (sym has)))
+    IsResponseOf states m (responses.Matched end) → (start_of found ≡ k) × ((rest : List MatchState) × (states ≡ state_of found ∷ rest))
+is_first k end states m found starts has responds = (starts, (responds.0, responds.1 ∙ ap (λ s. s ∷ responds.0) (sym has)))

@@ -27,39 +27,39 @@ use Rattle.regress_program.specs.Views.{part_of}
 use Rattle.regress_backtrack.proofs.RunLemmas.{solved}
 use Rattle.regress_leaves.proofs.lemmas.Starts.{ascii_matches}
 
-module _ (out : Out) (g : Groups) (body turn next low : ℕ) (moved : Bool) where
+module _ (out : Out) (g : Groups) (body repeat_pc next low : ℕ) (moved : Bool) where
   abbrev again : ℕ → List MatchState
   again k = out (at (record { pc = body; moved = false; position = k }) g)
 
-  abbrev turned : ℕ → List MatchState
-  turned k = out (at (record { pc = turn; moved = true; position = k }) g)
+  abbrev at_repeat : ℕ → List MatchState
+  at_repeat k = out (at (record { pc = repeat_pc; moved = true; position = k }) g)
 
   abbrev after : ℕ → List MatchState
   after k = out (at (record { pc = next; moved = true; position = k }) g)
 
-  -- Each of the first iterations ends at the instruction `turn`, at which one more begins, or what follows.
+  -- Each of the first iterations ends at the instruction `repeat_pc`, at which one more begins, or what follows.
   pub swept_outcomes : (more : ℕ) →
-      ((k : ℕ) → k ≤ more → again (low + k) ≡ turned (low + suc k)) →
-      ((k : ℕ) → k < more → turned (low + suc k) ≡ again (low + suc k) ++ after (low + suc k)) →
+      ((k : ℕ) → k ≤ more → again (low + k) ≡ at_repeat (low + suc k)) →
+      ((k : ℕ) → k < more → at_repeat (low + suc k) ≡ again (low + suc k) ++ after (low + suc k)) →
       again (low + zero) ++ out (at (record { pc = next; moved = moved; position = low }) g)
-      ≡ turned (low + suc more) ++ flat_map out (range_points (record { pc = next; moved = moved; position = low }) more g)
-  swept_outcomes zero ends turns = ap₂ ◌++◌ (ends zero (omega arith)) (sym (append-nil _))
-  swept_outcomes (suc more) ends turns =
+      ≡ at_repeat (low + suc more) ++ flat_map out (range_points (record { pc = next; moved = moved; position = low }) more g)
+  swept_outcomes zero ends repeats = ap₂ ◌++◌ (ends zero (omega arith)) (sym (append-nil _))
+  swept_outcomes (suc more) ends repeats =
       let first : Place = record { pc = next; moved = moved; position = low } in
-      swept_outcomes more (λ k le. ends k (omega (arith, le))) (λ k lt. turns k (omega (arith, lt)))
-      ∙ ap (λ xs. xs ++ flat_map out (range_points first more g)) (turns more (omega arith))
+      swept_outcomes more (λ k le. ends k (omega (arith, le))) (λ k lt. repeats k (omega (arith, lt)))
+      ∙ ap (λ xs. xs ++ flat_map out (range_points first more g)) (repeats more (omega arith))
       ∙ ap (λ xs. (xs ++ after (low + suc more)) ++ flat_map out (range_points first more g)) (ends (suc more) (omega arith))
-      ∙ append_assoc (turned (low + suc (suc more))) (after (low + suc more)) (flat_map out (range_points first more g))
+      ∙ append_assoc (at_repeat (low + suc (suc more))) (after (low + suc more)) (flat_map out (range_points first more g))
 
 ends_moved : (k : ℕ) → (false || not (k + 1 == k)) ≡ true
 ends_moved k = grind arith
 
-module _ (input : Input) (is : IsInput input) (looping : Looping) (set : ByteBitmap) (turn : ℕ) (swept : IsSwept input looping set turn)
+module _ (input : Input) (is : IsInput input) (looping : Looping) (set : ByteBitmap) (repeat_pc : ℕ) (swept : IsSwept input looping set repeat_pc)
     (body_in : looping.body < length input.instructions.now) (outs : ℕ → Out) (solve : Solve input outs) (g : Groups) where
   -- an iteration
   pub iteration : (k : ℕ) → k < length input.text.now → slice_index input.text.now k < 128 → contains set (slice_index input.text.now k) ≡ true →
       outs input.index (at (record { pc = looping.body; moved = false; position = k }) g)
-      ≡ outs input.index (at (record { pc = turn; moved = true; position = k + 1 }) g)
+      ≡ outs input.index (at (record { pc = repeat_pc; moved = true; position = k + 1 }) g)
   iteration k lt ascii member =
       let u = subject input.rules input.text.now in
       let out = outs input.index in
@@ -70,36 +70,36 @@ module _ (input : Input) (is : IsInput input) (looping : Looping) (set : ByteBit
       subst (λ b. steps u.setting u.bytes (direction_if b) (tree swept.test.node) (state g.captures k) ≡ state g.captures (k + 1) ∷ []) (sym swept.forwards)
       (ascii_matches set (tree swept.test.node) start.0 start.1 u.setting u.bytes forwards (state g.captures k) (slice_index input.text.now k) (k + 1) ascii
       (ascii_after input.text.now k (slice_index input.text.now k) ascii lt refl) member) in
-      solved input is p (insts.Leaf swept.leaf turn) body_in swept.body u.setting u.bytes outs u.direction g solve is.direction (omega (arith, lt))
-      ∙ ap (λ o. outcomes_by u.setting u.bytes u.direction body_of out (part_of o turn) (at p g)) swept.is_test
-      ∙ ap (flat_map (λ s. out (reach turn (at p g) s))) one
+      solved input is p (insts.Leaf swept.leaf repeat_pc) body_in swept.body u.setting u.bytes outs u.direction g solve is.direction (omega (arith, lt))
+      ∙ ap (λ o. outcomes_by u.setting u.bytes u.direction body_of out (part_of o repeat_pc) (at p g)) swept.is_test
+      ∙ ap (flat_map (λ s. out (reach repeat_pc (at p g) s))) one
       ∙ append-nil _
-      ∙ ap (λ b. out (at (record { pc = turn; moved = b; position = k + 1 }) g)) (ends_moved k)
+      ∙ ap (λ b. out (at (record { pc = repeat_pc; moved = b; position = k + 1 }) g)) (ends_moved k)
 
   -- the end of an iteration
-  pub turned_on : (k : ℕ) → k ≤ length input.text.now →
-      outs input.index (at (record { pc = turn; moved = true; position = k }) g)
+  pub at_repeat_on : (k : ℕ) → k ≤ length input.text.now →
+      outs input.index (at (record { pc = repeat_pc; moved = true; position = k }) g)
       ≡ outs input.index (at (record { pc = looping.body; moved = false; position = k }) g)
       ++ outs input.index (at (record { pc = looping.next; moved = true; position = k }) g)
-  turned_on k le =
+  at_repeat_on k le =
       let u = subject input.rules input.text.now in
-      let p : Place = record { pc = turn; moved = true; position = k } in
-      solved input is p (insts.Repeat true looping.body looping.next) swept.turn_in swept.turns u.setting u.bytes outs u.direction g solve is.direction le
+      let p : Place = record { pc = repeat_pc; moved = true; position = k } in
+      solved input is p (insts.Repeat true looping.body looping.next) swept.repeat_in swept.repeats u.setting u.bytes outs u.direction g solve is.direction le
 
   -- several iterations at once
   pub iterations : (here : Place) (more : ℕ) → AreIn set input.text.now here.position (suc more) →
       outs input.index (at (record { pc = looping.body; moved = false; position = here.position }) g)
       ++ outs input.index (at (record here { pc = looping.next }) g)
-      ≡ outs input.index (at (record { pc = turn; moved = true; position = here.position + suc more }) g)
+      ≡ outs input.index (at (record { pc = repeat_pc; moved = true; position = here.position + suc more }) g)
       ++ flat_map (outs input.index) (range_points (record here { pc = looping.next }) more g)
   iterations here more are =
       ap (λ k. outs input.index (at (record { pc = looping.body; moved = false; position = k }) g) ++ outs input.index (at (record here { pc = looping.next }) g))
       (the_low here.position)
-      ∙ swept_outcomes (outs input.index) g looping.body turn looping.next here.position here.moved more
+      ∙ swept_outcomes (outs input.index) g looping.body repeat_pc looping.next here.position here.moved more
       (λ k le. let in_set = are k (omega (arith, le)) in
       iteration (here.position + k) in_set.0 in_set.1.0 in_set.1.1
-      ∙ ap (λ n. outs input.index (at (record { pc = turn; moved = true; position = n }) g)) (one_more here.position k))
-      (λ k lt. let in_set = are k (omega (arith, lt)) in turned_on (here.position + suc k) (omega (arith, in_set.0)))
+      ∙ ap (λ n. outs input.index (at (record { pc = repeat_pc; moved = true; position = n }) g)) (one_more here.position k))
+      (λ k lt. let in_set = are k (omega (arith, lt)) in at_repeat_on (here.position + suc k) (omega (arith, in_set.0)))
     where
       the_low : (n : ℕ) → n ≡ n + zero
       the_low n = omega arith

@@ -10,10 +10,10 @@ use Rattle.regress_backtrack.specs.declared.step.Next.{Next}
 use Rattle.regress_backtrack.specs.declared.step.Next.TheVariants as nexts
 
 -- The result is the first of the outcomes, or that there is none. Out of steps it states nothing.
-abbrev pub Answers : List MatchState → Machine → Response → Type 0
-Answers outcomes m (responses.Matched k) = (rest : List MatchState) × (outcomes ≡ state m.captures.items k ∷ rest)
-Answers outcomes m responses.NoMatch = outcomes ≡ []
-Answers outcomes m responses.OutOfSteps = Unit {0}
+abbrev pub IsResponseOf : List MatchState → Machine → Response → Type 0
+IsResponseOf outcomes m (responses.Matched k) = (rest : List MatchState) × (outcomes ≡ state m.captures.items k ∷ rest)
+IsResponseOf outcomes m responses.NoMatch = outcomes ≡ []
+IsResponseOf outcomes m responses.OutOfSteps = Unit {0}
 
 -- on from this place if a lookaround holds
 abbrev pub on_if : (holds : Bool) → Place → Next

@@ -7,7 +7,7 @@ ghost use Rattle.regress_program.specs.Compiled.{IsPattern};
 ghost use Rattle.regress_program.specs.Cost.{Cost};
 ghost use Rattle.regress_program.specs.Program.{Out};
 ghost use Rattle.regress_code.specs.Code.{code_groups, code_routines};
-ghost use Rattle.regress_backtrack.specs.Run.{Answers};
+ghost use Rattle.regress_backtrack.specs.Run.{IsResponseOf};
 ghost use Rattle.regress_backtrack.specs.declared.run.Response.TheVariants as responses;
 ghost use Rattle.regress_found.specs.Results.{IsMatchResult};
 ghost use Rattle.regress_backtrack.specs.Searched.{IsFor};
@@ -134,7 +134,7 @@ impl<'c, 'x> Backtracker<'c, 'x> {
 
     /// Returns the result of a run from a position, by its response and the captures after it.
     fn outcome_of(&mut self, alloc: Global, response: Response, position: usize) -> Outcome
-        ensures first { (states : List MatchState) → Answers states self.old.machine response → IsMatchResult position states result }
+        ensures first { (states : List MatchState) → IsResponseOf states self.old.machine response → IsMatchResult position states result }
         ensures spent { result ≡ OutOfSteps → response ≡ responses.OutOfSteps }
         ensures same { SameRuns self.old self.new }
     {
@@ -164,9 +164,9 @@ impl<'c, 'x> Backtracker<'c, 'x> {
         requires input { IsFor (run_code self.old) (run_tables self.old) (run_text self.old) input.now }
         requires position { position ≤ length (run_text self.old) }
         ensures solved { IfOk result (λ response. (outs : ℕ → Out) → AreOutcomes self.old outs →
-            Answers (outcomes_at self.old outs position) self.new.machine response) }
+            IsResponseOf (outcomes_at self.old outs position) self.new.machine response) }
         ensures first { IfOk result (λ response. (t : Tree) → IsPattern (code_routines (run_code self.old)) t →
-            Answers (tree_outcomes_at self.old t position) self.new.machine response) }
+            IsResponseOf (tree_outcomes_at self.old t position) self.new.machine response) }
         ensures left { IfOk result (λ _. left.new ≤ left.old) }
         ensures costs { IfOk result (λ _. (outs : ℕ → Out) (costs : ℕ → Cost) → AreCosts self.old outs costs →
             left.old ≤ left.new + cost_at self.old costs position) }

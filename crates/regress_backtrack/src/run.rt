@@ -9,7 +9,7 @@ ghost use Rattle.regress_code.specs.Code.{code_routines};
 ghost use Rattle.regress_backtrack.specs.Costs.{HasCost, cost_ahead, op_cost, points_cost};
 ghost use Rattle.regress_backtrack.specs.Machine.{at, groups_of, points, rewound};
 ghost use Rattle.regress_backtrack.specs.Next.{Inside, IsInput, Leads, Solve, ahead};
-ghost use Rattle.regress_backtrack.specs.Run.{Answers, IsAfter};
+ghost use Rattle.regress_backtrack.specs.Run.{IsResponseOf, IsAfter};
 ghost use Rattle.regress_backtrack.specs.declared.run.Response.TheVariants.{NoMatch, OutOfSteps};
 ghost use Rattle.regress_backtrack.specs.declared.step.Next.TheVariants as nexts;
 
@@ -67,10 +67,10 @@ pub fn run(
     requires program { IsProgram (code_routines input.now.code.now) }
     requires input { IsInput input.now }
     requires start { start ≤ length input.now.text.now }
-    ensures answers { IfOk result (λ response. (outs : ℕ → Out) → (let u = subject input.now.rules input.now.text.now in
+    ensures responds { IfOk result (λ response. (outs : ℕ → Out) → (let u = subject input.now.rules input.now.text.now in
         let program = code_routines input.now.code.now in
         IsSolution u.setting u.bytes program outs →
-        Answers (matcher_of u.setting u.bytes program outs input.now.index (state machine.old.captures.items start)) machine.new response)) }
+        IsResponseOf (matcher_of u.setting u.bytes program outs input.now.index (state machine.old.captures.items start)) machine.new response)) }
     ensures undo { IfOk result (λ _. (rewound machine.new).captures ≡ machine.old.captures.items) }
     ensures none { IfOk result (λ response. response ≡ NoMatch → machine.new.captures.items ≡ machine.old.captures.items) }
     ensures left { IfOk result (λ _. left.new ≤ left.old) }

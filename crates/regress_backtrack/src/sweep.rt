@@ -22,7 +22,7 @@ struct Swept<'c> {
     /// The ASCII characters that the leaf matches.
     set: &'c ByteBitmap,
     /// The instruction that ends an iteration, and begins another one or goes on after the loop.
-    turn: usize,
+    repeat_pc: usize,
 }
 
 /// Consumes the ASCII characters at a place at once, if the body of a greedy loop is a leaf that matches one character.
@@ -81,7 +81,7 @@ pub fn sweep(
     machine.choose_range(after, count - 1)?;
     *left = left.saturating_sub(count as u64);
     Ok(Some(Place {
-        pc: swept.turn,
+        pc: swept.repeat_pc,
         moved: true,
         position: here.position + count,
     }))
@@ -91,25 +91,29 @@ pub fn sweep(
 #[inline(always)]
 fn sole_leaf<'c>(input: &Input<'c, '_>, looping: Looping) -> Option<Swept<'c>>
     requires { looping.body < length input.now.instructions.now }
-    ensures { IfSome result (λ s. IsSwept input.now looping s.set.now s.turn) }
+    ensures { IfSome result (λ s. IsSwept input.now looping s.set.now s.repeat_pc) }
 {
     if input.rules.backwards {
         return None;
     }
-    let Instruction::Leaf { leaf, next: turn } = instruction_at(input, looping.body) else {
+    let Instruction::Leaf {
+        leaf,
+        next: repeat_pc,
+    } = instruction_at(input, looping.body)
+    else {
         return None;
     };
-    if turn >= input.instructions.len() {
+    if repeat_pc >= input.instructions.len() {
         return None;
     }
-    let Instruction::Repeat { greedy, body, next } = instruction_at(input, turn) else {
+    let Instruction::Repeat { greedy, body, next } = instruction_at(input, repeat_pc) else {
         return None;
     };
     if !greedy || body != looping.body || next != looping.next {
         return None;
     }
     match &test_at(input, leaf)?.start {
-        Start::Ascii(set) => Some(Swept { set, turn }),
+        Start::Ascii(set) => Some(Swept { set, repeat_pc }),
         _ => None,
     }
 }

@@ -24,7 +24,7 @@ struct Setting<'a> {
     /// The spans of the remaining nodes, in postorder.
     spans: slice::Iter<'a, Span>,
     /// Whether the node is inside a lookbehind, where the parts of a `Cat` are reversed.
-    turned: bool,
+    reversed: bool,
 }
 
 /// Lays out a tree.
@@ -40,7 +40,7 @@ pub(crate) fn layout(
         names: &names,
         source,
         spans: spans.iter(),
-        turned: false,
+        reversed: false,
     };
     lay_out(node, &mut setting)
 }
@@ -50,7 +50,7 @@ pub(crate) fn layout(
 fn lay_out(node: &Node, setting: &mut Setting<'_>) -> Result<Diagram, AllocError> {
     let mut pieces = Vec::new(setting.alloc);
     add(node, setting, &mut pieces)?;
-    if setting.turned {
+    if setting.reversed {
         pieces.reverse();
     }
     let mut row = Row::new(setting.alloc, setting.source);
@@ -101,9 +101,9 @@ fn piece(node: &Node, setting: &mut Setting<'_>) -> Result<Option<Piece>, AllocE
             contents,
             ..
         } => {
-            let turned = mem::replace(&mut setting.turned, *backwards);
+            let reversed = mem::replace(&mut setting.reversed, *backwards);
             let body = lay_out(contents, setting)?;
-            setting.turned = turned;
+            setting.reversed = reversed;
             lookaround(alloc, *negate, *backwards, body)?
         }
         _ => return leaf(node, setting),

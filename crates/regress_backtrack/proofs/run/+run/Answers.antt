@@ -12,11 +12,11 @@ use Rattle.regress_program.specs.Views.{op_in}
 use Rattle.regress_backtrack.specs.Machine.{Groups, at, changes_of, groups_of, points, rewound}
 use Rattle.regress_backtrack.specs.declared.run.Response.TheVariants as responses
 use Rattle.regress_backtrack.specs.Next.{Fails, Inside}
-use Rattle.regress_backtrack.specs.Run.{Answers}
+use Rattle.regress_backtrack.specs.Run.{IsResponseOf}
 use Rattle.regress_backtrack.proofs.CostLemmas.{costed}
 use Rattle.regress_backtrack.proofs.MachineLemmas.{left-lookaround, rewound-none}
 use Rattle.regress_backtrack.proofs.StepLemmas.{Goes, not_look, ok_map}
-use Rattle.regress_backtrack.proofs.RunLemmas.{fails_answers, can_step, advanced, look_fits, on_same, back_same, accept_same, on_all, back_all, begins-inside, begins-same, begins_cost, same_answers, same_cost, look_cost, look_goes, look_inside}
+use Rattle.regress_backtrack.proofs.RunLemmas.{fails_response, can_step, advanced, look_fits, on_same, back_same, accept_same, on_all, back_all, begins-inside, begins-same, begins_cost, same_response, same_cost, look_cost, look_goes, look_inside}
 use Rattle.regress_backtrack.proofs.run.+run.Goals as goal
 
 -- ---- one instruction
@@ -124,15 +124,15 @@ look-returns-then-fails-clause-leads t c = λ outs out solution.
     let inside = c.input_for-inside.ensures in
     let none : Fails c.input_for-inside.result (record { pc = c.input_for-inside.result.first; moved = true; position = c.args.here.position }) =
     c.fails.ensures c.if-fails.true in
-    let answers : Answers (matcher_of u.setting u.bytes (code_routines input.code.now) outs c.args.looking.routine
+    let responds : IsResponseOf (matcher_of u.setting u.bytes (code_routines input.code.now) outs c.args.looking.routine
     (state m.captures.items c.args.here.position)) m responses.NoMatch =
-    same_answers m responses.NoMatch outs c.args.here.position _ _ _ _ _ _ _ _ _ _
-    (fails_answers c.input_for-inside.result inside.input m m.captures.items c.args.here.position outs none) inside.setting
+    same_response m responses.NoMatch outs c.args.here.position _ _ _ _ _ _ _ _ _ _
+    (fails_response c.input_for-inside.result inside.input m m.captures.items c.args.here.position outs none) inside.setting
     inside.text
     (ap code_routines inside.code) inside.index refl solution in
     look_goes out m m refl refl c.args.here c.args.looking.next
     c.args.looking.negate (matcher_of u.setting u.bytes (code_routines input.code.now) outs c.args.looking.routine) m responses.NoMatch
-    c.on_if.result answers refl (λ none. refl) c.on_if.ensures
+    c.on_if.result responds refl (λ none. refl) c.on_if.ensures
 
 pub look-returns-then-fails-clause-inside : goal.look-returns-then-fails-clause-inside
 look-returns-then-fails-clause-inside t c = λ lt.
@@ -150,16 +150,16 @@ look-returns-clause-leads t c = λ outs out solution.
     let kept = left-lookaround m inner m' (c.in_ok-response.ensures.undo ∙ c.enter-outer.ensures.captures)
     (c.in_ok-leave.ensures.entries ∙ ap (λ s. s.entries.items ++ changes_of inner.stack.entries.items) c.enter-outer.ensures.stack)
     (c.in_ok-leave.ensures.begins ∙ ap (λ s. s.begins.items) c.enter-outer.ensures.stack) c.in_ok-leave.ensures.captures in
-    let answers : Answers (matcher_of u.setting u.bytes (code_routines input.code.now) outs c.args.looking.routine
+    let responds : IsResponseOf (matcher_of u.setting u.bytes (code_routines input.code.now) outs c.args.looking.routine
     (state m.captures.items c.args.here.position)) inner
     c.in_ok-response.response =
-    same_answers inner c.in_ok-response.response outs c.args.here.position _ _ _ _ _ _ _ _ _ _ (c.in_ok-response.ensures.answers outs) inside.setting
+    same_response inner c.in_ok-response.response outs c.args.here.position _ _ _ _ _ _ _ _ _ _ (c.in_ok-response.ensures.responds outs) inside.setting
     inside.text
     (ap code_routines inside.code) inside.index c.enter-outer.ensures.captures solution in
     look_goes out m m' kept.points (ap reverse (c.in_ok-leave.ensures.begins ∙ ap (λ s. s.begins.items) c.enter-outer.ensures.stack)) c.args.here
     c.args.looking.next
     c.args.looking.negate (matcher_of u.setting u.bytes (code_routines input.code.now) outs c.args.looking.routine) inner c.in_ok-response.response
-    c.next_after.result answers c.in_ok-leave.ensures.captures (λ none. c.in_ok-response.ensures.none none ∙ c.enter-outer.ensures.captures)
+    c.next_after.result responds c.in_ok-leave.ensures.captures (λ none. c.in_ok-response.ensures.none none ∙ c.enter-outer.ensures.captures)
     c.next_after.ensures
 
 pub look-returns-clause-inside : goal.look-returns-clause-inside
@@ -345,13 +345,13 @@ look-returns-then-fails-clause-costs t c = λ outs costs has.
     let body = matcher_of u.setting u.bytes (code_routines input.code.now) outs c.args.looking.routine in
     let none : Fails c.input_for-inside.result (record { pc = c.input_for-inside.result.first; moved = true; position = c.args.here.position }) =
     c.fails.ensures c.if-fails.true in
-    let answers : Answers (body (state m.captures.items c.args.here.position)) m responses.NoMatch =
-    same_answers m responses.NoMatch outs c.args.here.position _ _ _ _ _ _ _ _ _ _
-    (fails_answers c.input_for-inside.result inside.input m m.captures.items c.args.here.position outs none) inside.setting
+    let responds : IsResponseOf (body (state m.captures.items c.args.here.position)) m responses.NoMatch =
+    same_response m responses.NoMatch outs c.args.here.position _ _ _ _ _ _ _ _ _ _
+    (fails_response c.input_for-inside.result inside.input m m.captures.items c.args.here.position outs none) inside.setting
     inside.text
     (ap code_routines inside.code) inside.index refl has.outcomes in
     let ahead = look_cost (outs input.index) m m refl refl c.args.here c.args.looking.next (costs input.index) c.args.looking.negate body m responses.NoMatch
-    c.on_if.result answers refl (λ none. refl) c.on_if.ensures in
+    c.on_if.result responds refl (λ none. refl) c.on_if.ensures in
     omega (arith, ahead)
 
 pub look-returns-clause-costs : goal.look-returns-clause-costs
@@ -366,13 +366,13 @@ look-returns-clause-costs t c = λ outs costs has.
     let kept = left-lookaround m inner m' (c.in_ok-response.ensures.undo ∙ c.enter-outer.ensures.captures)
     (c.in_ok-leave.ensures.entries ∙ ap (λ s. s.entries.items ++ changes_of inner.stack.entries.items) c.enter-outer.ensures.stack)
     (c.in_ok-leave.ensures.begins ∙ ap (λ s. s.begins.items) c.enter-outer.ensures.stack) c.in_ok-leave.ensures.captures in
-    let answers : Answers (body (state m.captures.items c.args.here.position)) inner c.in_ok-response.response =
-    same_answers inner c.in_ok-response.response outs c.args.here.position _ _ _ _ _ _ _ _ _ _ (c.in_ok-response.ensures.answers outs) inside.setting
+    let responds : IsResponseOf (body (state m.captures.items c.args.here.position)) inner c.in_ok-response.response =
+    same_response inner c.in_ok-response.response outs c.args.here.position _ _ _ _ _ _ _ _ _ _ (c.in_ok-response.ensures.responds outs) inside.setting
     inside.text
     (ap code_routines inside.code) inside.index c.enter-outer.ensures.captures has.outcomes in
     let ahead = look_cost (outs input.index) m m' kept.points (ap reverse (c.in_ok-leave.ensures.begins ∙ ap (λ s. s.begins.items) c.enter-outer.ensures.stack))
     c.args.here c.args.looking.next (costs input.index) c.args.looking.negate body inner c.in_ok-response.response
-    c.next_after.result answers c.in_ok-leave.ensures.captures (λ none. c.in_ok-response.ensures.none none ∙ c.enter-outer.ensures.captures)
+    c.next_after.result responds c.in_ok-leave.ensures.captures (λ none. c.in_ok-response.ensures.none none ∙ c.enter-outer.ensures.captures)
     c.next_after.ensures in
     let taken = same_cost c.args.left.now c.run.new.left outs costs c.args.here.position _ _ _ _ _ _ _ _ _ _ (c.in_ok-response.ensures.costs outs costs)
     inside.setting inside.text (ap code_routines inside.code) inside.index c.enter-outer.ensures.captures has in

@@ -9,8 +9,8 @@ returns-in-Ascii c =
       leaf = c.in-Leaf.leaf;
       test = c.in_ok-set.field-0.now;
       body = c.instruction_at.ensures ∙ ap Some c.in-Leaf.is;
-      turn_in = omega (arith, c.if-turn-input.false);
-      turns = c.instruction_at-2.ensures ∙ ap Some c.in-Repeat.is
+      repeat_in = omega (arith, c.if-repeat_pc-input.false);
+      repeats = c.instruction_at-2.ensures ∙ ap Some c.in-Repeat.is
           ∙ turn_is c.in-Repeat.greedy c.in-Repeat.body c.args.looping.body c.in-Repeat.next c.args.looping.next greedy (omega (arith, c.if-body-looping.false))
           (omega (arith, c.if-next-looping.false));
       is_test = c.in_ok-set.ensures;

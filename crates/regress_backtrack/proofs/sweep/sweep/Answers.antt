@@ -13,29 +13,29 @@ returns-clause-leads c = λ outs solve.
     let m = c.args.machine.now in
     let g = groups_of m in
     let set = c.in-Some.swept.set.now in
-    let turn = c.in-Some.swept.turn in
+    let repeat_pc = c.in-Some.swept.repeat_pc in
     let count = c.count_of-count.result in
     let more = count - 1 in
     let same : count ≡ suc more = omega (arith, c.if-count-eq0.false) in
     let are : AreIn set input.text.now here.position (suc more) = λ k lt. c.count_of-count.ensures.are_in k (omega (arith, lt, same)) in
     let first : Place = record { pc = c.args.looping.next; moved = here.moved; position = here.position } in
-    let to : Place = record { pc = turn; moved = true; position = here.position + count } in
+    let to : Place = record { pc = repeat_pc; moved = true; position = here.position + count } in
     let out = outs input.index in
     swept_leads out m c.choose_range.new.self first to more
     (out (at (record { pc = c.args.looping.body; moved = false; position = here.position }) g) ++ out (at first g))
     c.in_ok-choose_range.ensures
-    (iterations input c.requires.input c.args.looping set turn c.in-Some.ensures c.requires.body outs solve g here more are
-    ∙ ap (λ n. out (at (record { pc = turn; moved = true; position = here.position + n }) g) ++ flat_map out (range_points first more g)) (sym same))
+    (iterations input c.requires.input c.args.looping set repeat_pc c.in-Some.ensures c.requires.body outs solve g here more are
+    ∙ ap (λ n. out (at (record { pc = repeat_pc; moved = true; position = here.position + n }) g) ++ flat_map out (range_points first more g)) (sym same))
 
 pub returns-clause-inside : goal.returns-clause-inside
 returns-clause-inside c =
     let here = c.args.here in
     let count = c.count_of-count.result in
     let first : Place = record { pc = c.args.looping.next; moved = here.moved; position = here.position } in
-    let to : Place = record { pc = c.in-Some.swept.turn; moved = true; position = here.position + count } in
+    let to : Place = record { pc = c.in-Some.swept.repeat_pc; moved = true; position = here.position + count } in
     let within : here.position + count ≤ length c.args.input.now.text.now = c.count_of-count.ensures.within in
     swept_inside c.args.input.now c.args.machine.now c.choose_range.new.self first to (count - 1) c.in_ok-choose_range.ensures c.requires.next
-    (omega (arith, within)) c.in-Some.ensures.turn_in within
+    (omega (arith, within)) c.in-Some.ensures.repeat_in within
 
 pub returns-clause-costs : goal.returns-clause-costs
 returns-clause-costs c = λ outs costs has.
@@ -44,16 +44,16 @@ returns-clause-costs c = λ outs costs has.
     let m = c.args.machine.now in
     let g = groups_of m in
     let set = c.in-Some.swept.set.now in
-    let turn = c.in-Some.swept.turn in
+    let repeat_pc = c.in-Some.swept.repeat_pc in
     let count = c.count_of-count.result in
     let more = count - 1 in
     let same : count ≡ suc more = omega (arith, c.if-count-eq0.false) in
     let are : AreIn set input.text.now here.position (suc more) = λ k lt. c.count_of-count.ensures.are_in k (omega (arith, lt, same)) in
     let first : Place = record { pc = c.args.looping.next; moved = here.moved; position = here.position } in
-    let to : Place = record { pc = turn; moved = true; position = here.position + count } in
+    let to : Place = record { pc = repeat_pc; moved = true; position = here.position + count } in
     let cost = costs input.index in
     let before = cost (at (record { pc = c.args.looping.body; moved = false; position = here.position }) g) + cost (at first g) in
-    let all = iterations_cost input c.requires.input c.args.looping set turn c.in-Some.ensures c.requires.body outs costs has g here more are in
-    let end = ap (λ n. cost (at (record { pc = turn; moved = true; position = here.position + n }) g)) same in
+    let all = iterations_cost input c.requires.input c.args.looping set repeat_pc c.in-Some.ensures c.requires.body outs costs has g here more are in
+    let end = ap (λ n. cost (at (record { pc = repeat_pc; moved = true; position = here.position + n }) g)) same in
     let ahead = swept_ahead cost m c.choose_range.new.self first to more before c.in_ok-choose_range.ensures (omega (arith, all, end)) in
     omega (arith, ahead, same, c.saturating_sub.ensures)
