@@ -1,12 +1,12 @@
 -- Compiled instructions are tidy where the part of the pattern is, and have no back reference where it has none.
-use Rattle.std.proofs.Common.{◌≡◌, ℕ, zero, suc, ◌+◌, ◌⊎◌, inl, inr, Bool, true, false, not, ◌&&◌, ◌||◌, ◌==◌, List, [], ◌∷◌, length, slice_get, Some, refl, sym, ap, subst, ◌∙◌, arith}
+use Rattle.std.proofs.Common.{◌≡◌, ℕ, zero, suc, ◌+◌, ◌⊎◌, inl, inr, Bool, true, false, not, ◌&&◌, ◌||◌, ◌==◌, List, [], ◌∷◌, length, slice_get, Some, refl, sym, ap, subst, ◌∙◌, arith, nat_lt}
 use Rattle.std.proofs.lemmas.Bool.{cases_Bool, cases_lt}
 use Rattle.std.proofs.lemmas.Option.{slice_get_within, same_Some}
 use Rattle.regress_program.specs.declared.ranges.GroupRange.{GroupRange}
 use Rattle.regress_program.specs.Adds.{IsRangeWithin, IsOf, IsRoutineOf, Adds, Agree}
 use Rattle.regress_program.specs.Compiled.{Extends, Code, Grown}
-use Rattle.regress_program.specs.Contents.{Ids, union, ids_in, without_ids, AreAmong, AreWithin, Contents, in_sequence, either_of, grouped, in_iteration, in_iterations, after_all, alone, in_lookaround}
-use Rattle.regress_program.specs.Linear.{is_back_reference}
+use Rattle.regress_program.specs.Contents.{Ids, union, ids_in, without_ids, AreAmong, AreWithin, Contents, in_sequence, either_of, grouped, in_iteration, in_iterations, after_all}
+use Rattle.regress_program.specs.Linear.{changes_captures, is_back_reference, is_capturing_lookaround}
 use Rattle.regress_program.specs.Program.{Op, accept, fail, part, split, begin_loop, repeat, end_loop, unsets, begin_group, end_group, look, Routine}
 use Rattle.regress_program.specs.Pushed.{Pushed}
 use Rattle.regress_program.specs.Ranges.{changed_by, no_groups, ranges_of}
@@ -36,7 +36,7 @@ pub and_right : (x y : Bool) → (x && y) ≡ true → y ≡ true
 and_right true y is = is
 and_right false y is = cc
 
-or_none : (x y : Bool) → (x || y) ≡ false → (x ≡ false) × (y ≡ false)
+pub or_none : (x y : Bool) → (x || y) ≡ false → (x ≡ false) × (y ≡ false)
 or_none true y is = cc
 or_none false y is = (refl, is)
 
@@ -178,20 +178,33 @@ module _ (ranges : List GroupRange) (ops : List Op) where
 -- The part a is one of b, or b itself.
 pub record IsPartOf (a b : Contents) : Type 0 where
   pub refers : b.refers ≡ false → a.refers ≡ false
+  pub captures : b.captures ≡ false → a.captures ≡ false
+  pub looks : b.looks ≡ false → a.looks ≡ false
   pub changes : AreAmong a.changes b.changes
   pub tidy : (set : Ids) → b.tidy set → (before : Ids) × a.tidy before
+
+-- The same for what routines are of.
+pub record IsRoutinePart (a b : Contents) : Type 0 where
+  pub refers : b.refers ≡ false → a.refers ≡ false
+  pub looks : b.looks ≡ false → a.looks ≡ false
+  pub tidy : (set : Ids) → b.tidy set → (before : Ids) × a.tidy before
+
+pub routine-part : (a b : Contents) → IsPartOf a b → IsRoutinePart a b
+routine-part a b is = record { refers = is.refers; looks = is.looks; tidy = is.tidy }
 
 -- The part a has no more than b, where both begin.
 pub record HasNoMore (a b : Contents) : Type 0 where
   pub refers : b.refers ≡ false → a.refers ≡ false
+  pub captures : b.captures ≡ false → a.captures ≡ false
+  pub looks : b.looks ≡ false → a.looks ≡ false
   pub changes : AreAmong a.changes b.changes
   pub tidy : (set : Ids) → b.tidy set → a.tidy set
 
 pub no_more-part : (a b : Contents) → HasNoMore a b → IsPartOf a b
-no_more-part a b is = record { refers = is.refers; changes = is.changes; tidy = λ set h. (set, is.tidy set h) }
+no_more-part a b is = record { refers = is.refers; captures = is.captures; looks = is.looks; changes = is.changes; tidy = λ set h. (set, is.tidy set h) }
 
 pub no_more-same : (a : Contents) → HasNoMore a a
-no_more-same a = record { refers = λ h. h; changes = among-same a.changes; tidy = λ set h. h }
+no_more-same a = record { refers = λ h. h; captures = λ h. h; looks = λ h. h; changes = among-same a.changes; tidy = λ set h. h }
 
 pub part-same : (a : Contents) → IsPartOf a a
 part-same a = no_more-part a a (no_more-same a)
@@ -199,6 +212,8 @@ part-same a = no_more-part a a (no_more-same a)
 pub part-first : (a b : Contents) → IsPartOf a (in_sequence a b)
 part-first a b = record {
   refers = λ none. (or_none a.refers b.refers none).0;
+  captures = λ none. (or_none a.captures b.captures none).0;
+  looks = λ none. (or_none a.looks b.looks none).0;
   changes = among-left a.changes b.changes;
   tidy = λ set h. (set, h.0);
 }
@@ -206,6 +221,8 @@ part-first a b = record {
 pub part-second : (a b : Contents) → IsPartOf b (in_sequence a b)
 part-second a b = record {
   refers = λ none. (or_none a.refers b.refers none).1;
+  captures = λ none. (or_none a.captures b.captures none).1;
+  looks = λ none. (or_none a.looks b.looks none).1;
   changes = among-right a.changes b.changes;
   tidy = λ set h. (union set a.changes, h.1);
 }
@@ -213,6 +230,8 @@ part-second a b = record {
 pub part-left : (a b : Contents) → IsPartOf a (either_of a b)
 part-left a b = record {
   refers = λ none. (or_none a.refers b.refers none).0;
+  captures = λ none. (or_none a.captures b.captures none).0;
+  looks = λ none. (or_none a.looks b.looks none).0;
   changes = among-left a.changes b.changes;
   tidy = λ set h. (set, h.0);
 }
@@ -220,26 +239,38 @@ part-left a b = record {
 pub part-right : (a b : Contents) → IsPartOf b (either_of a b)
 part-right a b = record {
   refers = λ none. (or_none a.refers b.refers none).1;
+  captures = λ none. (or_none a.captures b.captures none).1;
+  looks = λ none. (or_none a.looks b.looks none).1;
   changes = among-right a.changes b.changes;
   tidy = λ set h. (set, h.1);
 }
 
 pub part-grouped : (id : ℕ) (a : Contents) → IsPartOf a (grouped id a)
-part-grouped id a = record { refers = λ none. none; changes = among-left a.changes (λ k. k == id); tidy = λ set h. (set, h) }
+part-grouped id a = record { refers = λ none. none; captures = λ none. cc; looks = λ none. none; changes = among-left a.changes (λ k. k == id); tidy = λ set h. (set, h) }
 
 pub part-iteration : (start end : ℕ) (a : Contents) → IsPartOf a (in_iteration start end a)
 part-iteration start end a = record {
   refers = λ none. none;
+  captures = λ none. (or_none (nat_lt start end) a.captures none).1;
+  looks = λ none. none;
   changes = among-right (ids_in start end) a.changes;
   tidy = λ set h. (without_ids start end set, h (without_ids start end set) (among-same (without_ids start end set)));
 }
 
 pub part-iterations : (a : Contents) → IsPartOf a (in_iterations a)
-part-iterations a = record { refers = λ none. none; changes = among-same a.changes; tidy = λ set h. (set, h set (among-left set a.changes)) }
+part-iterations a = record {
+  refers = λ none. none;
+  captures = λ none. none;
+  looks = λ none. none;
+  changes = among-same a.changes;
+  tidy = λ set h. (set, h set (among-left set a.changes));
+}
 
 pub part-after : (a b : Contents) → IsPartOf a (after_all a b)
 part-after a b = record {
   refers = λ none. (or_none a.refers b.refers none).0;
+  captures = λ none. (or_none a.captures b.captures none).0;
+  looks = λ none. (or_none a.looks b.looks none).0;
   changes = among-left a.changes b.changes;
   tidy = λ set h. (set, h.0 set (among-left set a.changes));
 }
@@ -247,12 +278,11 @@ part-after a b = record {
 pub part-rest : (a b : Contents) → IsPartOf b (after_all a b)
 part-rest a b = record {
   refers = λ none. (or_none a.refers b.refers none).1;
+  captures = λ none. (or_none a.captures b.captures none).1;
+  looks = λ none. (or_none a.looks b.looks none).1;
   changes = among-right a.changes b.changes;
   tidy = λ set h. (set, h.1 set (among-left set a.changes));
 }
-
-pub part-lookaround : (a : Contents) → IsPartOf (alone a) (in_lookaround a)
-part-lookaround a = record { refers = λ none. none; changes = among-same a.changes; tidy = λ set h. (set, h.0) }
 
 -- ---- what is added
 
@@ -261,19 +291,22 @@ is_of-part routines later a b op ext is of = record {
   plain = λ none. of.plain (is.refers none);
   within = λ program more start end within.
       of.within program (Extends-then routines later program ext more) start end (within-among start end a.changes b.changes is.changes within);
+  spares = λ none. of.spares (is.captures none);
+  looks = λ none program more. of.looks (is.looks none) program (Extends-then routines later program ext more);
 }
 
-pub is_routine-part : (routines later : List Routine) (a b : Contents) (r : Routine) → Extends routines later → IsPartOf a b → IsRoutineOf routines a r →
+pub is_routine-part : (routines later : List Routine) (a b : Contents) (r : Routine) → Extends routines later → IsRoutinePart a b → IsRoutineOf routines a r →
     IsRoutineOf later b r
 is_routine-part routines later a b r ext is of = record {
   plain = λ none. of.plain (is.refers none);
   tidy = λ set h program more. let before = is.tidy set h in of.tidy before.0 before.1 program (Extends-then routines later program ext more);
+  looks = λ none program more. of.looks (is.looks none) program (Extends-then routines later program ext more);
 }
 
 pub adds-part : (old new : Code) (a b : Contents) → IsPartOf a b → Adds old new a → Adds old new b
 adds-part old new a b is adds = record {
   ops = λ i op low found. is_of-part new.routines new.routines a b op (Extends-same new.routines) is (adds.ops i op low found);
-  routines = λ i r low found. is_routine-part new.routines new.routines a b r (Extends-same new.routines) is (adds.routines i r low found);
+  routines = λ i r low found. is_routine-part new.routines new.routines a b r (Extends-same new.routines) (routine-part a b is) (adds.routines i r low found);
 }
 
 pub adds-none : (a : Code) (c : Contents) → Adds a a c
@@ -289,7 +322,7 @@ adds-then x y z c ops routines first second = record {
     | inr after ↦ second.ops i op after found
   ];
   routines = λ i r low found. elim (cases_lt i (length y.routines)) [
-    | inl before ↦ is_routine-part y.routines z.routines c c r routines (part-same c) (first.routines i r low (sym (routines.same i before) ∙ found))
+    | inl before ↦ is_routine-part y.routines z.routines c c r routines (routine-part c c (part-same c)) (first.routines i r low (sym (routines.same i before) ∙ found))
     | inr after ↦ second.routines i r after found
   ];
 }
@@ -314,10 +347,13 @@ none-within start end id is = absurd (omega (arith, is.1))
 
 -- An instruction that changes no group, and is no back reference unless the part is.
 pub adds-quiet : (old new : Code) (op : Op) (at : ℕ) (c : Contents) → Pushed old new op at → (c.refers ≡ false → is_back_reference op ≡ false) →
-    ((ranges : List GroupRange) → changed_by ranges op ≡ no_groups) → Adds old new c
-adds-quiet old new op at c pushed plain none =
+    ((ranges : List GroupRange) → changed_by ranges op ≡ no_groups) →
+    (changes_captures op ≡ false) × ((program : List Routine) → is_capturing_lookaround program op ≡ false) → Adds old new c
+adds-quiet old new op at c pushed plain none quiet =
     adds-push old new op at c pushed (record {
       plain = plain;
+      spares = λ h. quiet.0;
+      looks = λ h program more. quiet.1 program;
       within = λ program more start end within.
           subst (λ x. IsRangeWithin start end x) (sym (none (ranges_of program))) (none-within start end);
     })

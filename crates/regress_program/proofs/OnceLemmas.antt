@@ -7,7 +7,7 @@ use Rattle.regress_tree.specs.Shapes.{some_node_in_list}
 use Rattle.regress_tree.specs.Tree as trees
 use Rattle.regress_tree.specs.WellFormed.{Capture, captures, captures_of_trees, Position, one_character, inside, root, last_of, HasGroups, IsAllowed, PartsAllowed, IsWellFormed}
 use Rattle.regress_program.specs.Contents.{Ids, no_ids, union, ids_in, content, content_of_parts}
-use Rattle.regress_program.specs.Linear.{has_back_reference, is_back_ref}
+use Rattle.regress_program.specs.Linear.{changes_some, changes_some_of, has_back_reference, has_capturing_lookaround, is_back_ref, is_capturing_node}
 use Rattle.regress_program.proofs.AddLemmas.{and_left, and_right, or_cases, or_left, or_right}
 
 -- how often a group occurs
@@ -274,3 +274,64 @@ mutual
   refers-parts : (ts : Trees) → (content_of_parts ts).refers ≡ some_node_in_list is_back_ref ts
   refers-parts no_trees = refl
   refers-parts (more_trees t ts) = ap₂ ◌||◌ (refers-tree t) (refers-parts ts)
+
+-- ---- lookarounds that capture
+
+captures-leaf : (l : Leaf) → (content (leaf l)).captures ≡ false
+captures-leaf trees.empty = refl
+captures-leaf trees.goal = refl
+captures-leaf (trees.char c) = refl
+captures-leaf (trees.byte_sequence bytes) = refl
+captures-leaf (trees.byte_set bytes) = refl
+captures-leaf (trees.char_set characters) = refl
+captures-leaf trees.match_any = refl
+captures-leaf trees.match_any_except_line_terminator = refl
+captures-leaf (trees.anchor kind multiline) = refl
+captures-leaf (trees.word_boundary invert unicode_icase) = refl
+captures-leaf (trees.bracket invert intervals) = refl
+captures-leaf (back_ref group icase) = refl
+captures-leaf (trees.string_set strings icase) = refl
+
+looks-leaf : (l : Leaf) → (content (leaf l)).looks ≡ false
+looks-leaf trees.empty = refl
+looks-leaf trees.goal = refl
+looks-leaf (trees.char c) = refl
+looks-leaf (trees.byte_sequence bytes) = refl
+looks-leaf (trees.byte_set bytes) = refl
+looks-leaf (trees.char_set characters) = refl
+looks-leaf trees.match_any = refl
+looks-leaf trees.match_any_except_line_terminator = refl
+looks-leaf (trees.anchor kind multiline) = refl
+looks-leaf (trees.word_boundary invert unicode_icase) = refl
+looks-leaf (trees.bracket invert intervals) = refl
+looks-leaf (back_ref group icase) = refl
+looks-leaf (trees.string_set strings icase) = refl
+
+mutual
+  captures-tree : (t : Tree) → (content t).captures ≡ changes_some t
+  captures-tree (leaf l) = captures-leaf l
+  captures-tree (cat parts) = captures-parts parts
+  captures-tree (alt left right) = ap₂ ◌||◌ (captures-tree left) (captures-tree right)
+  captures-tree (wrapped (capture_group id name) body) = refl
+  captures-tree (wrapped (loop quantifier start end) body) = ap (λ b. nat_lt start end || b) (captures-tree body)
+  captures-tree (wrapped (loop_one quantifier) body) = captures-tree body
+  captures-tree (wrapped (lookaround negate backwards start end) body) = refl
+
+  captures-parts : (ts : Trees) → (content_of_parts ts).captures ≡ changes_some_of ts
+  captures-parts no_trees = refl
+  captures-parts (more_trees t ts) = ap₂ ◌||◌ (captures-tree t) (captures-parts ts)
+
+mutual
+  pub looks-tree : (t : Tree) → (content t).looks ≡ has_capturing_lookaround t
+  looks-tree (leaf l) = looks-leaf l
+  looks-tree (cat parts) = looks-parts parts
+  looks-tree (alt left right) = ap₂ ◌||◌ (looks-tree left) (looks-tree right)
+  looks-tree (wrapped (capture_group id name) body) = looks-tree body
+  looks-tree (wrapped (loop quantifier start end) body) = looks-tree body
+  looks-tree (wrapped (loop_one quantifier) body) = looks-tree body
+  looks-tree (wrapped (lookaround negate backwards start end) body) =
+      ap₂ (λ a b. (not negate && a) || b) (captures-tree body) (looks-tree body)
+
+  looks-parts : (ts : Trees) → (content_of_parts ts).looks ≡ some_node_in_list is_capturing_node ts
+  looks-parts no_trees = refl
+  looks-parts (more_trees t ts) = ap₂ ◌||◌ (looks-tree t) (looks-parts ts)

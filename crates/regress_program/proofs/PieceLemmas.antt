@@ -1,6 +1,6 @@
 -- Each kind of node as instructions: what they contain, and that they are tidy where it is.
-use Rattle.std.proofs.Common.{◌≡◌, ◌≢◌, ℕ, zero, suc, ◌+◌, ◌-◌, ◌≤◌, ◌<◌, inl, inr, Bool, true, false, not, ◌&&◌, ◌||◌, ◌==◌, nat_le, nat_lt, List, [], ◌∷◌, ◌++◌, length, drop, get_or, slice_get, Some, if◌then◌else◌, refl, sym, ap, subst, ◌∙◌, arith}
-use Rattle.std.specs.List.{list_all}
+use Rattle.std.proofs.Common.{Result, Ok, Err, IfOk, ◌≡◌, ◌≢◌, ℕ, zero, suc, ◌+◌, ◌-◌, ◌≤◌, ◌<◌, inl, inr, Bool, true, false, not, ◌&&◌, ◌||◌, ◌==◌, nat_le, nat_lt, List, [], ◌∷◌, ◌++◌, length, drop, get_or, slice_get, Some, if◌then◌else◌, refl, sym, ap, ap₂, subst, ◌∙◌, arith}
+use Rattle.std.specs.List.{list_all, list_any}
 use Rattle.std.proofs.lemmas.Bool.{and_from, cases_eq, cases_lt, eq-eqb, leb-true, le-leb, lt-ltb, ltb-true}
 use Rattle.std.proofs.lemmas.List.{length-set}
 use Rattle.std.proofs.lemmas.Option.{slice_get_within, same_Some}
@@ -8,13 +8,13 @@ use Rattle.regress_program.specs.declared.ranges.GroupRange.{GroupRange}
 use Rattle.regress_program.specs.Adds.{IsRangeWithin, IsOf, IsRoutineOf, Adds, Agree, Tidies, Holds, HoldsRoutine}
 use Rattle.regress_program.specs.Compiled.{Extends, Code, Grown}
 use Rattle.regress_program.specs.Contents.{Ids, no_ids, union, ids_in, without_ids, AreAmong, AreWithin, AreSeparate, Contents, nothing, in_sequence, either_of, grouped, in_iteration, in_iterations, after_all, alone, in_lookaround, content, content_of_parts}
-use Rattle.regress_program.specs.Linear.{is_back_ref, is_back_reference}
+use Rattle.regress_program.specs.Linear.{changes_captures, is_back_ref, is_back_reference, is_capturing, is_capturing_lookaround, is_linear, is_linear_op}
 use Rattle.regress_program.specs.Program.{Op, accept, fail, part, split, begin_loop, repeat, end_loop, unsets, begin_group, end_group, look, Routine}
 use Rattle.regress_program.specs.Pushed.{Pushed, preferred}
 use Rattle.regress_program.specs.Ranges.{changed_by, no_groups, ranges_of}
 use Rattle.regress_program.specs.Tidy.{followers, has_no_back_reference}
 use Rattle.regress_program.specs.TidyFrom.{range_at, set_after, BeginsUnset, IsTidyFrom, IsTidyRoutine, IsTidy}
-use Rattle.regress_program.proofs.AddLemmas.{among-same, among-left, among-right, among-union, among-then, among-both, among-apart, among-twice, among-without, and_left, and_right, is_of-part, is_routine-part, tidy-fewer, tidy-less, tidy-one, tidy-turn, tidy-two, tidy-none, HasNoMore, IsPartOf, no_more-part, part-first, part-second, part-grouped, part-iteration, part-iterations, part-after, part-rest, part-lookaround, adds-part, adds-none, adds-then, adds-push, adds-quiet, read-pushed, agree-first, agree-second, pushed-routines, pushed-ops, Longer, longer, longer-push}
+use Rattle.regress_program.proofs.AddLemmas.{among-same, among-left, among-right, among-union, among-then, among-both, among-apart, among-twice, among-without, and_left, and_right, is_of-part, is_routine-part, IsRoutinePart, routine-part, or_none, tidy-fewer, tidy-less, tidy-one, tidy-turn, tidy-two, tidy-none, HasNoMore, IsPartOf, no_more-part, part-first, part-second, part-grouped, part-iteration, part-iterations, part-after, part-rest, adds-part, adds-none, adds-then, adds-push, adds-quiet, read-pushed, agree-first, agree-second, pushed-routines, pushed-ops, Longer, longer, longer-push}
 use Rattle.regress_program.proofs.ChangedLemmas.{range-within}
 use Rattle.regress_program.proofs.CodeLemmas.{get-append-last, length-push, Extends-same, Extends-then, Extends-push, Extends-get, get-set-same, get-set-other}
 use Rattle.regress_program.proofs.RepeatLemmas.{Written}
@@ -77,13 +77,13 @@ tidies_quiet a b c f op next at grown pushed follow quiet = record {
 pub holds_part : (a b : Code) (c : Contents) (t : Tree) (next at : ℕ) → (c.refers ≡ false → is_back_ref t ≡ false) → Pushed a b (part t next) at →
     Holds a b c next at
 holds_part a b c t next at plain pushed = record {
-  adds = adds-quiet a b (part t next) at c pushed plain (λ ranges. refl);
+  adds = adds-quiet a b (part t next) at c pushed plain (λ ranges. refl) (refl, λ program. refl);
   tidies = tidies_quiet a a b c (part t next) next at (Extends-same a.ops) pushed refl (λ ranges set. (tt, refl));
 }
 
 pub holds_fail : (a b : Code) (c : Contents) (next at : ℕ) → Pushed a b fail at → Holds a b c next at
 holds_fail a b c next at pushed = record {
-  adds = adds-quiet a b fail at c pushed (λ none. refl) (λ ranges. refl);
+  adds = adds-quiet a b fail at c pushed (λ none. refl) (λ ranges. refl) (refl, λ program. refl);
   tidies = record {
     tidies = λ program ext ops agree set tidy n after.
         tidy-none (ranges_of program) ops n at fail set (read-pushed a a b fail at ops (Extends-same a.ops) pushed agree) refl tt;
@@ -107,7 +107,7 @@ holds_then a b c f g next middle entry grown more second first = record {
 }
 
 pub adds_split : (b c : Code) (f : Contents) (first second at : ℕ) → Pushed b c (split first second) at → Adds b c f
-adds_split b c f first second at pushed = adds-quiet b c (split first second) at f pushed (λ none. refl) (λ ranges. refl)
+adds_split b c f first second at pushed = adds-quiet b c (split first second) at f pushed (λ none. refl) (λ ranges. refl) (refl, λ program. refl)
 
 pub tidies_or : (a b c : Code) (f g : Contents) (next first second at : ℕ) → Longer a b → Tidies a b f next first → Tidies a b g next second →
     Pushed b c (split first second) at → Tidies a c (either_of f g) next at
@@ -141,9 +141,14 @@ holds_group a b c e f id next ends contents at grown end is begin =
       adds = adds-then a c e whole begun.ops begun.routines
           (adds-then a b c whole grown.ops grown.routines
           (adds-push a b (end_group id next) ends whole end
-          (record { plain = λ none. refl; within = λ program ext start end within. group-within start end id f.changes within }))
+          (record {
+            plain = λ none. refl;
+            within = λ program ext start end within. group-within start end id f.changes within;
+            spares = λ none. cc;
+            looks = λ none program more. refl;
+          }))
           (adds-part b c f whole (part-grouped id f) is.adds))
-          (adds-quiet c e (begin_group contents) at whole begin (λ none. refl) (λ ranges. refl));
+          (adds-quiet c e (begin_group contents) at whole begin (λ none. refl) (λ ranges. refl) (refl, λ program. refl));
       tidies = record {
         tidies = λ program ext ops agree set tidy n after.
             let ranges = ranges_of program in
@@ -180,7 +185,12 @@ holds_unset a b c f start' end' next body at grown is pushed =
     record {
       adds = adds-then a b c whole more.ops more.routines (adds-part a b f whole (part-iteration start' end' f) is.adds)
           (adds-push b c op at whole pushed
-          (record { plain = λ none. refl; within = λ program ext low high within. unset-within start' end' low high body f.changes within (ranges_of program) }));
+          (record {
+            plain = λ none. refl;
+            within = λ program ext low high within. unset-within start' end' low high body f.changes within (ranges_of program);
+            spares = λ none. (or_none (nat_lt start' end') f.captures none).0;
+            looks = λ none program more'. refl;
+          }));
       tidies = record {
         tidies = λ program ext ops agree set tidy n after.
             let ranges = ranges_of program in
@@ -205,6 +215,8 @@ no_ids_in start end none set id is = by (nat_le start id) (nat_lt id end) refl r
 pub less_without_groups : (f : Contents) (start' end' : ℕ) → end' ≤ start' → HasNoMore f (in_iteration start' end' f)
 less_without_groups f start' end' none = record {
   refers = λ h. h;
+  captures = λ h. (or_none (nat_lt start' end') f.captures h).1;
+  looks = λ h. h;
   changes = among-right (ids_in start' end') f.changes;
   tidy = λ set tidy. tidy set (no_ids_in start' end' none set);
 }
@@ -237,7 +249,7 @@ holds_last a b c f next turn body more pushed is =
     let whole = in_iterations f in
     let grown = longer-push a b (end_loop next) turn pushed in
     record {
-      adds = adds-then a b c whole more.ops more.routines (adds-quiet a b (end_loop next) turn whole pushed (λ none. refl) (λ ranges. refl))
+      adds = adds-then a b c whole more.ops more.routines (adds-quiet a b (end_loop next) turn whole pushed (λ none. refl) (λ ranges. refl) (refl, λ program. refl))
           (adds-part b c f whole (part-iterations f) is.adds);
       tidies = record {
         tidies = λ program ext ops agree set tidy n after.
@@ -255,7 +267,7 @@ holds_more a b c e greedy f next body turn body' grown more so_far pushed is =
     let op = repeat greedy body next in
     let turned = longer-push b c op turn pushed in
     let to_c : Adds a c whole =
-    adds-then a b c whole turned.ops turned.routines so_far.adds (adds-quiet b c op turn whole pushed (λ none. refl) (λ ranges. refl)) in
+    adds-then a b c whole turned.ops turned.routines so_far.adds (adds-quiet b c op turn whole pushed (λ none. refl) (λ ranges. refl) (refl, λ program. refl)) in
     record {
       adds = adds-then a c e whole more.ops more.routines to_c (adds-part c e f whole (part-iterations f) is.adds);
       tidies = record {
@@ -279,7 +291,7 @@ holds_optional a b c greedy f next body at grown so_far pushed =
     let op = begin_loop greedy body next in
     let more = longer-push b c op at pushed in
     record {
-      adds = adds-then a b c whole more.ops more.routines so_far.adds (adds-quiet b c op at whole pushed (λ none. refl) (λ ranges. refl));
+      adds = adds-then a b c whole more.ops more.routines so_far.adds (adds-quiet b c op at whole pushed (λ none. refl) (λ ranges. refl) (refl, λ program. refl));
       tidies = record {
         tidies = λ program ext ops agree set tidy n after.
             let ranges = ranges_of program in
@@ -322,13 +334,18 @@ module _ (a b c e g : Code) (greedy : Bool) (f : Contents) (next turn body at : 
       | inl here ↦
           (let same : again_op ≡ op = same_Some again_op op (sym at_turn ∙ ap (slice_get e.ops) (sym here) ∙ found) in
           subst (λ o. IsOf e.routines whole o) same
-          (record { plain = λ none. refl; within = λ program ext low' high' within id is'. absurd (omega (arith, is'.1)) }))
+          (record {
+            plain = λ none. refl;
+            within = λ program ext low' high' within id is'. absurd (omega (arith, is'.1));
+            spares = λ none. refl;
+            looks = λ none program more'. refl;
+          }))
       | inr other ↦
           is_of-part c.routines e.routines f whole op body_routines (part-iterations f)
           (is.adds.ops i op (omega (arith, low, other, first, holds.at_end)) (sym (rewritten i other) ∙ found))
     ];
     routines = λ i r low found.
-        is_routine-part c.routines e.routines f whole r body_routines (part-iterations f)
+        is_routine-part c.routines e.routines f whole r body_routines (routine-part f whole (part-iterations f))
         (is.adds.routines i r (omega (arith, low, ap length holds.routines)) (ap (λ rs. slice_get rs i) (sym written.routines) ∙ found));
   }
 
@@ -382,7 +399,7 @@ module _ (a b c e g : Code) (greedy : Bool) (f : Contents) (next turn body at : 
   pub holds_any_number : Holds a g (in_iterations f) next at
   holds_any_number = record {
     adds = adds-then a e g whole begun_ops begun_routines adds-body
-        (adds-quiet e g (begin_loop greedy body next) at whole begun (λ none. refl) (λ ranges. refl));
+        (adds-quiet e g (begin_loop greedy body next) at whole begun (λ none. refl) (λ ranges. refl) (refl, λ program. refl));
     tidies = record { tidies = begins };
   }
 
@@ -393,6 +410,8 @@ holds_no_mandatory a b f g next entry is =
     holds_less a b g (after_all f g) next entry
     (record {
       refers = (part-rest f g).refers;
+      captures = (part-rest f g).captures;
+      looks = (part-rest f g).looks;
       changes = among-right f.changes g.changes;
       tidy = λ set tidy. tidy.1 set (among-left set f.changes);
     })
@@ -423,6 +442,8 @@ holds_repeated a b f next entry is =
     holds_less a b (after_all f (in_iterations f)) (in_iterations f) next entry
     (record {
       refers = λ none. ap (λ b. b || f.refers) none ∙ none;
+      captures = λ none. ap (λ b. b || f.captures) none ∙ none;
+      looks = λ none. ap (λ b. b || f.looks) none ∙ none;
       changes = among-union f.changes f.changes f.changes (among-same f.changes) (among-same f.changes);
       tidy = λ set tidy. (
         tidy,
@@ -437,7 +458,7 @@ holds_repeated a b f next entry is =
 -- ---- parts that contain nothing
 
 pub nothing_more : (c : Contents) → HasNoMore nothing c
-nothing_more c = record { refers = λ none. refl; changes = λ id is. cc; tidy = λ set tidy. tt }
+nothing_more c = record { refers = λ none. refl; captures = λ none. refl; looks = λ none. refl; changes = λ id is. cc; tidy = λ set tidy. tt }
 
 pub holds_plain : (a b : Code) (c : Contents) (next entry : ℕ) → Holds a b nothing next entry → Holds a b c next entry
 holds_plain a b c next entry is = holds_less a b nothing c next entry (nothing_more c) is
@@ -446,7 +467,7 @@ pub holds_plain_then : (a b c : Code) (next middle entry : ℕ) → Grown a b �
     Holds a c nothing next entry
 holds_plain_then a b c next middle entry grown more second first =
     holds_less a c (in_sequence nothing nothing) nothing next entry
-    (record { refers = λ none. refl; changes = λ id is. is; tidy = λ set tidy. (tt, tt) })
+    (record { refers = λ none. refl; captures = λ none. refl; looks = λ none. refl; changes = λ id is. is; tidy = λ set tidy. (tt, tt) })
     (holds_then a b c nothing nothing next middle entry grown more second first)
 
 pub holds_plain_or : (a b c : Code) (next first second at : ℕ) → Longer a b → Adds a b nothing → Tidies a b nothing next first →
@@ -454,23 +475,31 @@ pub holds_plain_or : (a b c : Code) (next first second at : ℕ) → Longer a b 
 holds_plain_or a b c next first second at grown adds left right pushed = record {
   adds = adds-then a b c nothing (pushed-ops b c (split first second) at pushed) (pushed-routines b c (split first second) at pushed) adds (adds_split b c nothing first second at pushed);
   tidies = tidies_less a c (either_of nothing nothing) nothing next at
-      (record { refers = λ none. refl; changes = λ id is. is; tidy = λ set tidy. (tt, tt) })
+      (record { refers = λ none. refl; captures = λ none. refl; looks = λ none. refl; changes = λ id is. is; tidy = λ set tidy. (tt, tt) })
       (tidies_or a b c nothing nothing next first second at grown left right pushed);
 }
 
 -- ---- lookarounds
 
 pub holds_look : (a b c : Code) (f : Contents) (negate : Bool) (i next at : ℕ) → Grown a b → HoldsRoutine a b f i →
-    Pushed b c (look negate i next) at → Holds a c (in_lookaround f) next at
+    Pushed b c (look negate i next) at → Holds a c (in_lookaround negate f) next at
 holds_look a b c f negate i next at grown has pushed =
-    let whole = in_lookaround f in
+    let whole = in_lookaround negate f in
     let op = look negate i next in
+    let in_body : IsRoutinePart (alone f) whole =
+    record { refers = λ none. none; looks = λ none. (or_none (not negate && f.captures) f.looks none).1; tidy = λ set tidy. (set, tidy.0) } in
+    let added : Adds a b whole = record {
+      ops = λ k o low found. absurd (omega (arith, low, has.count, slice_get_within b.ops k o found));
+      routines = λ j r low found. is_routine-part b.routines b.routines (alone f) whole r (Extends-same b.routines) in_body (has.routines j r low found);
+    } in
     record {
-      adds = adds-then a b c whole more.ops more.routines (adds-part a b (alone f) whole (part-lookaround f) has.adds)
-          (adds-push b c op at whole pushed (record {
-            plain = λ none. refl;
-            within = λ program ext low high within. range negate program (Extends-then b.routines c.routines program more.routines ext) low high within;
-          }));
+      adds = adds-then a b c whole more.ops more.routines added (adds-push b c op at whole pushed (record {
+        plain = λ none. refl;
+        within = λ program ext low high within. range negate program (Extends-then b.routines c.routines program more.routines ext) low high within;
+        spares = λ none. refl;
+        looks = λ none program ext.
+            plain_look negate (or_none (not negate && f.captures) f.looks none).0 program (Extends-then b.routines c.routines program more.routines ext);
+      }));
       tidies = record { tidies = λ program ext ops agree set tidy n after. looks negate program ext ops (read-pushed a b c (look negate i next) at ops grown.ops pushed agree) set tidy.1 n after };
     }
   where
@@ -481,6 +510,11 @@ holds_look a b c f negate i next at grown has pushed =
         IsRangeWithin low high (changed_by (ranges_of program) (look negate i next))
     range true program ext low high within = λ id is. absurd (omega (arith, is.1))
     range false program ext low high within = has.within program ext low high within
+
+    plain_look : (negate : Bool) → (not negate && f.captures) ≡ false → (program : List Routine) → Extends b.routines program →
+        is_capturing_lookaround program (look negate i next) ≡ false
+    plain_look true none program ext = refl
+    plain_look false none program ext = has.spares none program ext
 
     looks : (negate : Bool) (program : List Routine) → Extends c.routines program → (ops : List Op) → slice_get ops at ≡ Some (look negate i next) →
         (set : Ids) → AreSeparate f.changes set → (n : ℕ) → IsTidyFrom (ranges_of program) ops n next (union set f.changes) →
@@ -504,6 +538,10 @@ holds_look a b c f negate i next at grown has pushed =
         (tidy-less ranges ops n next (union set own) (union set f.changes) (among-both set own set f.changes (among-same set) among) after)
 
 -- ---- routines
+
+none_from : {X : Type 0} (p : X → Bool) (xs : List X) → ((i : ℕ) (x : X) → slice_get xs i ≡ Some x → p x ≡ false) → list_any p xs ≡ false
+none_from p [] each = refl
+none_from p (x ∷ xs) each = ap₂ ◌||◌ (each 0 x refl) (none_from p xs (λ i y is. each (suc i) y is))
 
 -- A routine of its own: `empty` has no instructions, `begun` the one that accepts, and `body` the compiled body.
 module _ (a empty begun body c : Code) (f : Contents) (r : Routine) (at i : ℕ) (grown : Grown begun body)
@@ -529,7 +567,12 @@ module _ (a empty begun body c : Code) (f : Contents) (r : Routine) (at i : ℕ)
     | inl here ↦
         (let same : accept ≡ op = same_Some accept op (sym first_op ∙ ap (slice_get r.ops) (sym here) ∙ found) in
         subst (λ o. IsOf body.routines f o) same
-        (record { plain = λ none. refl; within = λ program ext low high within id is'. absurd (omega (arith, is'.1)) }))
+        (record {
+          plain = λ none. refl;
+          within = λ program ext low high within id is'. absurd (omega (arith, is'.1));
+          spares = λ none. refl;
+          looks = λ none program more'. refl;
+        }))
     | inr other ↦ is.adds.ops k op (omega (arith, other, begins_length)) (ap (λ os. slice_get os k) (sym own) ∙ found)
   ]
 
@@ -555,26 +598,28 @@ module _ (a empty begun body c : Code) (f : Contents) (r : Routine) (at i : ℕ)
 
   pub holds_routine : HoldsRoutine a c f i
   holds_routine = record {
-    adds = record {
-      ops = λ k op low found. absurd (omega (arith, low, ap length same_ops, slice_get_within c.ops k op found));
-      routines = λ k q low found. elim (cases_lt k (length body.routines)) [
-        | inl before ↦
-            is_routine-part body.routines c.routines f (alone f) q stored
-            (record { refers = λ none. none; changes = among-same f.changes; tidy = λ set tidy. (no_ids, tidy) })
-            (is.adds.routines k q (omega (arith, low, ap length old_routines)) (sym (stored.same k before) ∙ found))
-        | inr past ↦
-            (let long : length c.routines ≡ length body.routines + 1 = ap length routines ∙ length-push body.routines r in
-            let here : k ≡ i = omega (arith, past, index, long, slice_get_within c.routines k q found) in
-            let same : r ≡ q = same_Some r q (sym at_index ∙ ap (slice_get c.routines) (sym here) ∙ found) in
-            subst (λ x. IsRoutineOf c.routines (alone f) x) same (record {
-              plain = λ none j op found'. (each_op j op found').plain none;
-              tidy = λ set tidy program ext. tidy_routine tidy program ext;
-            }))
-      ];
-    };
+    count = ap length same_ops;
+    routines = λ k q low found. elim (cases_lt k (length body.routines)) [
+      | inl before ↦
+          is_routine-part body.routines c.routines f (alone f) q stored
+          (record { refers = λ none. none; looks = λ none. none; tidy = λ set tidy. (no_ids, tidy) })
+          (is.adds.routines k q (omega (arith, low, ap length old_routines)) (sym (stored.same k before) ∙ found))
+      | inr past ↦
+          (let long : length c.routines ≡ length body.routines + 1 = ap length routines ∙ length-push body.routines r in
+          let here : k ≡ i = omega (arith, past, index, long, slice_get_within c.routines k q found) in
+          let same : r ≡ q = same_Some r q (sym at_index ∙ ap (slice_get c.routines) (sym here) ∙ found) in
+          subst (λ x. IsRoutineOf c.routines (alone f) x) same (record {
+            plain = λ none j op found'. (each_op j op found').plain none;
+            tidy = λ set tidy program ext. tidy_routine tidy program ext;
+            looks = λ none program ext j op found'.
+                (each_op j op found').looks none program (Extends-then body.routines c.routines program stored ext);
+          }))
+    ];
     within = λ program ext low high within.
         range-within program body.routines i r (Extends-get c.routines program i r ext at_index) (omega (arith, index)) all_fit low high
         (λ pc op found. (each_op pc op found).within program (Extends-then body.routines c.routines program stored ext) low high within);
+    spares = λ none program ext.
+        ap is_capturing (Extends-get c.routines program i r ext at_index) ∙ none_from changes_captures r.ops (λ k op found. (each_op k op found).spares none);
   }
 
 -- ---- leaves and characters
@@ -622,7 +667,7 @@ holds_string a b c e t next entry first at grown plain rest text joined =
     let more = longer-push b c (part t next) first text in
     holds_plain_or a c e next first entry at
     (record { ops = Extends-then a.ops b.ops c.ops grown.ops more.ops; routines = Extends-then a.routines b.routines c.routines grown.routines more.routines })
-    (adds-then a b c nothing more.ops more.routines rest.adds (adds-quiet b c (part t next) first nothing text (λ none. plain) (λ ranges. refl)))
+    (adds-then a b c nothing more.ops more.routines rest.adds (adds-quiet b c (part t next) first nothing text (λ none. plain) (λ ranges. refl) (refl, λ program. refl)))
     (tidies_quiet a b c nothing (part t next) next first grown.ops text refl (λ ranges set. (tt, refl)))
     (tidies_later a b c nothing next entry more rest.tidies) joined
 
@@ -646,6 +691,8 @@ holds_counted a b c f next rest at grown more is characters =
     holds_less a c (in_sequence nothing (in_iterations f)) (in_iterations f) next at
     (record {
       refers = λ none. none;
+      captures = λ none. none;
+      looks = λ none. none;
       changes = λ id changed. changed;
       tidy = λ set tidy. (
         tt,
@@ -668,6 +715,8 @@ holds_sequence a b c parts i j x next entry entry' grown more at some within is 
 pub part-then : (a b c : Contents) → IsPartOf a b → IsPartOf b c → IsPartOf a c
 part-then a b c one two = record {
   refers = λ none. one.refers (two.refers none);
+  captures = λ none. one.captures (two.captures none);
+  looks = λ none. one.looks (two.looks none);
   changes = among-then a.changes b.changes c.changes one.changes two.changes;
   tidy = λ set tidy. let before = two.tidy set tidy in one.tidy before.0 before.1;
 }
@@ -680,12 +729,24 @@ all_from p (x ∷ xs) each = and_from (p x) (list_all p xs) (each 0 x refl) (all
 
 module _ (a b : Code) (c : Contents) (i : ℕ) (none : a.routines ≡ []) (has : HoldsRoutine a b c i) where
   each_routine : (j : ℕ) (r : Routine) → slice_get b.routines j ≡ Some r → IsRoutineOf b.routines (alone c) r
-  each_routine j r is = has.adds.routines j r (omega (arith, ap length none)) is
+  each_routine j r is = has.routines j r (omega (arith, ap length none)) is
 
   pub program_tidy : c.tidy no_ids → IsTidy b.routines
   program_tidy tidy j r is = (each_routine j r is).tidy no_ids tidy b.routines (Extends-same b.routines)
 
+  each_plain : c.refers ≡ false → (j : ℕ) (r : Routine) → slice_get b.routines j ≡ Some r → (k : ℕ) (op : Op) → slice_get r.ops k ≡ Some op →
+      not (is_back_reference op) ≡ true
+  each_plain plain j r is k op found = ap not ((each_routine j r is).plain plain k op found)
+
   pub program_plain : c.refers ≡ false → has_no_back_reference b.routines ≡ true
   program_plain plain =
       all_from (λ (r : Routine). list_all (λ op. not (is_back_reference op)) r.ops) b.routines
-      (λ j r is. all_from (λ op. not (is_back_reference op)) r.ops (λ k op found. ap not ((each_routine j r is).plain plain k op found)))
+      (λ j r is. all_from (λ op. not (is_back_reference op)) r.ops (each_plain plain j r is))
+
+  pub program_linear : c.refers ≡ false → c.looks ≡ false → is_linear b.routines ≡ true
+  program_linear plain spared =
+      all_from (λ (r : Routine). list_all (is_linear_op b.routines) r.ops) b.routines
+      (λ j r is. all_from (is_linear_op b.routines) r.ops
+      (λ k op found.
+      and_from (not (is_back_reference op)) (not (is_capturing_lookaround b.routines op)) (each_plain plain j r is k op found)
+      (ap not ((each_routine j r is).looks spared b.routines (Extends-same b.routines) k op found))))

@@ -3,7 +3,7 @@ use Rattle.std.specs.Prelude.{◌≡◌, ℕ, ◌≤◌, ◌<◌, false, List, l
 use Rattle.regress_program.specs.declared.ranges.GroupRange.{GroupRange}
 use Rattle.regress_program.specs.Compiled.{Extends, Code}
 use Rattle.regress_program.specs.Contents.{Ids, union, AreWithin, Contents, alone}
-use Rattle.regress_program.specs.Linear.{is_back_reference}
+use Rattle.regress_program.specs.Linear.{changes_captures, is_back_reference, is_capturing, is_capturing_lookaround}
 use Rattle.regress_program.specs.Program.{Op, Routine}
 use Rattle.regress_program.specs.Ranges.{IsIn, changed_by, ranges_of}
 use Rattle.regress_program.specs.TidyFrom.{range_at, IsTidyFrom, IsTidyRoutine}
@@ -21,11 +21,15 @@ pub record IsOf (routines : List Routine) (c : Contents) (op : Op) : Type 0 wher
   pub plain : c.refers ≡ false → is_back_reference op ≡ false
   pub within : (program : List Routine) → Extends routines program → (start end : ℕ) → AreWithin start end c.changes →
       IsRangeWithin start end (changed_by (ranges_of program) op)
+  pub spares : c.captures ≡ false → changes_captures op ≡ false
+  pub looks : c.looks ≡ false → (program : List Routine) → Extends routines program → is_capturing_lookaround program op ≡ false
 
 -- What holds of a routine: in every such program it is tidy if the part is.
 pub record IsRoutineOf (routines : List Routine) (c : Contents) (r : Routine) : Type 0 where
   pub plain : c.refers ≡ false → HasNoReference r.ops
   pub tidy : (set : Ids) → c.tidy set → (program : List Routine) → Extends routines program → IsTidyRoutine (ranges_of program) r
+  pub looks : c.looks ≡ false → (program : List Routine) → Extends routines program → (i : ℕ) (op : Op) → slice_get r.ops i ≡ Some op →
+      is_capturing_lookaround program op ≡ false
 
 -- The instructions and routines that have been added are of the part.
 pub record Adds (old new : Code) (c : Contents) : Type 0 where
@@ -50,6 +54,8 @@ pub record Holds (old new : Code) (c : Contents) (next entry : ℕ) : Type 0 whe
 
 -- The routine i has been added for the part: it changes only groups that the part changes.
 pub record HoldsRoutine (old new : Code) (c : Contents) (i : ℕ) : Type 0 where
-  pub adds : Adds old new (alone c)
+  pub count : length new.ops ≡ length old.ops
+  pub routines : (j : ℕ) (r : Routine) → length old.routines ≤ j → slice_get new.routines j ≡ Some r → IsRoutineOf new.routines (alone c) r
   pub within : (program : List Routine) → Extends new.routines program → (start end : ℕ) → AreWithin start end c.changes →
       IsRangeWithin start end (range_at (ranges_of program) i)
+  pub spares : c.captures ≡ false → (program : List Routine) → Extends new.routines program → is_capturing (slice_get program i) ≡ false

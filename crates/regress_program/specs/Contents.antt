@@ -37,15 +37,18 @@ pub record AreSeparate (a b : Ids) : Type 0 where
   pub whole : (id : ℕ) → start ≤ id → id < end → a id ≡ true
   pub free : (id : ℕ) → start ≤ id → id < end → b id ≡ false
 
--- What a part contains. `tidy` are the sets of groups of which some may be set when it begins: each lookaround in it that
+-- What a part contains: back references; whether it changes captures, other than in lookarounds; lookarounds that are not
+-- negated and do; and the groups that it changes. `tidy` are the sets of groups of which some may be set when it begins: each lookaround in it that
 -- captures then begins with its own groups unset.
 pub record Contents : Type 1 where
   pub refers : Bool
+  pub captures : Bool
+  pub looks : Bool
   pub changes : Ids
   pub tidy : Ids → Type 0
 
 abbrev pub nothing : Contents
-nothing = record { refers = false; changes = no_ids; tidy = λ set. Unit {0} }
+nothing = record { refers = false; captures = false; looks = false; changes = no_ids; tidy = λ set. Unit {0} }
 
 abbrev pub reference : Contents
 reference = record nothing { refers = true }
@@ -54,6 +57,8 @@ reference = record nothing { refers = true }
 abbrev pub in_sequence : Contents → Contents → Contents
 in_sequence a b = record {
   refers = a.refers || b.refers;
+  captures = a.captures || b.captures;
+  looks = a.looks || b.looks;
   changes = union a.changes b.changes;
   tidy = λ set. a.tidy set × b.tidy (union set a.changes);
 }
@@ -62,18 +67,22 @@ in_sequence a b = record {
 abbrev pub either_of : Contents → Contents → Contents
 either_of a b = record {
   refers = a.refers || b.refers;
+  captures = a.captures || b.captures;
+  looks = a.looks || b.looks;
   changes = union a.changes b.changes;
   tidy = λ set. a.tidy set × b.tidy set;
 }
 
 -- a capture group
 abbrev pub grouped : (id : ℕ) → Contents → Contents
-grouped id a = record a { changes = union a.changes (λ k. k == id) }
+grouped id a = record a { captures = true; changes = union a.changes (λ k. k == id) }
 
 -- an iteration, which unsets the groups start to end - 1
 abbrev pub in_iteration : (start end : ℕ) → Contents → Contents
 in_iteration start end a = record {
   refers = a.refers;
+  captures = nat_lt start end || a.captures;
+  looks = a.looks;
   changes = union (ids_in start end) a.changes;
   tidy = λ set. (before : Ids) → AreAmong before (without_ids start end set) → a.tidy before;
 }
@@ -82,6 +91,8 @@ in_iteration start end a = record {
 abbrev pub in_iterations : Contents → Contents
 in_iterations a = record {
   refers = a.refers;
+  captures = a.captures;
+  looks = a.looks;
   changes = a.changes;
   tidy = λ set. (before : Ids) → AreAmong before (union set a.changes) → a.tidy before;
 }
@@ -90,6 +101,8 @@ in_iterations a = record {
 abbrev pub after_all : Contents → Contents → Contents
 after_all a b = record {
   refers = a.refers || b.refers;
+  captures = a.captures || b.captures;
+  looks = a.looks || b.looks;
   changes = union a.changes b.changes;
   tidy = λ set. ((before : Ids) → AreAmong before (union set a.changes) → a.tidy before) × ((before : Ids) → AreAmong before (union set a.changes) → b.tidy before);
 }
@@ -98,14 +111,18 @@ after_all a b = record {
 abbrev pub alone : Contents → Contents
 alone a = record {
   refers = a.refers;
+  captures = a.captures;
+  looks = a.looks;
   changes = a.changes;
   tidy = λ set. a.tidy no_ids;
 }
 
 -- a lookaround
-abbrev pub in_lookaround : Contents → Contents
-in_lookaround a = record {
+abbrev pub in_lookaround : (negate : Bool) → Contents → Contents
+in_lookaround negate a = record {
   refers = a.refers;
+  captures = false;
+  looks = (not negate && a.captures) || a.looks;
   changes = a.changes;
   tidy = λ set. a.tidy no_ids × AreSeparate a.changes set;
 }
@@ -118,7 +135,7 @@ abbrev pub content_of_wrapper : Wrapper → Contents → Contents
 content_of_wrapper (capture_group id name) a = grouped id a
 content_of_wrapper (loop quantifier start end) a = in_iterations (in_iteration start end a)
 content_of_wrapper (loop_one quantifier) a = in_iterations (in_iteration 0 0 a)
-content_of_wrapper (lookaround negate backwards start end) a = in_lookaround a
+content_of_wrapper (lookaround negate backwards start end) a = in_lookaround negate a
 
 abbrev mutual
   pub content : Tree → Contents

@@ -1,8 +1,8 @@
 -- Linear programs: those without back references, and in which no lookaround that succeeds changes captures.
-use Rattle.std.specs.Prelude.{if◌then◌else◌, Bool, true, false, not, ◌&&◌, List, nat_lt, slice_get, Option, Some, None}
+use Rattle.std.specs.Prelude.{if◌then◌else◌, Bool, true, false, not, ◌&&◌, ◌||◌, List, nat_lt, slice_get, Option, Some, None}
 use Rattle.std.specs.List.{list_all, list_any}
 use Rattle.regress_tree.specs.Shapes.{some_node}
-use Rattle.regress_tree.specs.Tree.{Tree, leaf, back_ref}
+use Rattle.regress_tree.specs.Tree.{back_ref, capture_group, loop, loop_one, lookaround, Tree, Trees, leaf, cat, alt, wrapped, no_trees, more_trees}
 use Rattle.regress_program.specs.declared.nonlinear.Nonlinear.{Nonlinear}
 use Rattle.regress_program.specs.declared.nonlinear.Nonlinear.TheVariants.{BackReference, CapturingLookaround}
 use Rattle.regress_program.specs.Program.{Op, part, unsets, end_group, look, Routine}
@@ -15,6 +15,30 @@ is_back_ref t = false
 -- The tree has a back reference.
 abbrev pub has_back_reference : Tree → Bool
 has_back_reference = some_node is_back_ref
+
+-- The part has a capture group, or a loop around one, other than in a lookaround.
+abbrev mutual
+  pub changes_some : Tree → Bool
+  changes_some (leaf l) = false
+  changes_some (cat parts) = changes_some_of parts
+  changes_some (alt left right) = changes_some left || changes_some right
+  changes_some (wrapped (capture_group id name) body) = true
+  changes_some (wrapped (loop quantifier start end) body) = nat_lt start end || changes_some body
+  changes_some (wrapped (loop_one quantifier) body) = changes_some body
+  changes_some (wrapped (lookaround negate backwards start end) body) = false
+
+  pub changes_some_of : Trees → Bool
+  changes_some_of no_trees = false
+  changes_some_of (more_trees t ts) = changes_some t || changes_some_of ts
+
+-- the node is a lookaround that is not negated, and whose body does
+abbrev pub is_capturing_node : Tree → Bool
+is_capturing_node (wrapped (lookaround negate backwards start end) body) = not negate && changes_some body
+is_capturing_node t = false
+
+-- The tree has such a lookaround.
+abbrev pub has_capturing_lookaround : Tree → Bool
+has_capturing_lookaround = some_node is_capturing_node
 
 -- the instruction is a back reference
 abbrev pub is_back_reference : Op → Bool

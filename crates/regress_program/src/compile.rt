@@ -6,7 +6,7 @@ ghost use Rattle.regress_program.specs.CodeOf.{Emits, Spends};
 ghost use Rattle.regress_program.specs.Compiled.{matching, IsPattern, total};
 ghost use Rattle.regress_program.specs.Contents.{content, content_of_parts};
 ghost use Rattle.regress_program.specs.LeavesOf.{leaves_of, leaves_of_parts};
-ghost use Rattle.regress_program.specs.Linear.{has_back_reference};
+ghost use Rattle.regress_program.specs.Linear.{has_back_reference, has_capturing_lookaround, is_linear};
 ghost use Rattle.regress_program.specs.Search.{flags_of, groups_of, instructions_of, routines_of};
 ghost use Rattle.regress_program.specs.Shape.{IsForwards, IsProgram};
 ghost use Rattle.regress_program.specs.Size.{program_size, size, size_of_parts};
@@ -37,6 +37,7 @@ fn compile(
     ensures means { IfOk result (λ parts. IsPattern (program_in parts.0.items parts.1.items) (tree node.now)) }
     ensures forwards { IfOk result (λ parts. IsForwards (program_in parts.0.items parts.1.items)) }
     ensures plain { IfOk result (λ parts. has_back_reference (tree node.now) ≡ false → has_no_back_reference (program_in parts.0.items parts.1.items) ≡ true) }
+    ensures linear { IfOk result (λ parts. has_back_reference (tree node.now) ≡ false → has_capturing_lookaround (tree node.now) ≡ false → is_linear (program_in parts.0.items parts.1.items) ≡ true) }
     ensures tidy { IfOk result (λ parts. IsWellFormed (tree node.now) → IsTidy (program_in parts.0.items parts.1.items)) }
     ensures size { IfOk result (λ parts. total (program_in parts.0.items parts.1.items) ≡ program_size (tree node.now)) }
     ensures within { IfOk result (λ parts. total (program_in parts.0.items parts.1.items) ≤ limit) }
@@ -71,6 +72,7 @@ impl Program {
         ensures flags { IfOk result (λ p. flags_of p ≡ regex.now.flags) }
         ensures groups { IfOk result (λ p. groups_of p ≡ min (length (captures (tree regex.now.node))) usize.MAX) }
         ensures plain { IfOk result (λ p. has_back_reference (tree regex.now.node) ≡ false → has_no_back_reference (routines_of p) ≡ true) }
+        ensures linear { IfOk result (λ p. has_back_reference (tree regex.now.node) ≡ false → has_capturing_lookaround (tree regex.now.node) ≡ false → is_linear (routines_of p) ≡ true) }
         ensures tidy { IfOk result (λ p. IsWellFormed (tree regex.now.node) → IsTidy (routines_of p)) }
         ensures size { IfOk result (λ p. instructions_of p ≡ program_size (tree regex.now.node)) }
         ensures within { IfOk result (λ p. instructions_of p ≤ limit) }

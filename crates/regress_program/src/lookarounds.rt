@@ -27,7 +27,7 @@ impl Compiler {
     ) -> Result<usize, CompileFault>
         requires { next < length self.old.instructions.items }
         ensures emits { IfOk result (Emits self.old self.new self.old.next_leaf (leaves_of (tree contents.now))
-            (looking negate (direction_if backwards) (matching (tree contents.now))) (in_lookaround (content (tree contents.now))) next) }
+            (looking negate (direction_if backwards) (matching (tree contents.now))) (in_lookaround negate (content (tree contents.now))) next) }
         ensures spends { IfOk result (λ _. Spends self.old self.new (size (tree contents.now) + 2)) }
         ensures too_long { IfErr result (λ fault. fault ≡ TooLong → self.old.left < size (tree contents.now) + 2) }
     {

@@ -7,8 +7,8 @@ use Rattle.regress_program.specs.LeavesOf.{leaves_of}
 use Rattle.regress_program.specs.Program.{Routine}
 use Rattle.regress_program.specs.Views.{program_in}
 use Rattle.regress_program.proofs.LeavesLemmas.{has-all}
-use Rattle.regress_program.proofs.OnceLemmas.{refers-tree, well_formed-tidy}
-use Rattle.regress_program.proofs.PieceLemmas.{program_plain, program_tidy}
+use Rattle.regress_program.proofs.OnceLemmas.{looks-tree, refers-tree, well_formed-tidy}
+use Rattle.regress_program.proofs.PieceLemmas.{program_linear, program_plain, program_tidy}
 use Rattle.regress_program.proofs.ViewLemmas.{is_pattern, no_routines}
 use Rattle.regress_program.proofs.compile.compile.Goals as goal
 
@@ -62,3 +62,11 @@ returns-clause-tidy c = λ well.
     let has = has-all leaves (leaves_of (tree c.args.node.now)) (omega (arith, c.in_ok-leaves.leaves.ok)) c.in_ok-leaves.ensures in
     program_tidy _ (code_in leaves c.routine.new.self) (content (tree c.args.node.now)) c.in_ok-routine.field-0
     (ap (program_in leaves) c.new.ensures.items) (c.in_ok-routine.ensures.emits.means leaves has).holds (well_formed-tidy (tree c.args.node.now) well)
+
+pub returns-clause-linear : goal.returns-clause-linear
+returns-clause-linear c = λ none spared.
+    let leaves = c.in_ok-leaves.leaves.items in
+    let has = has-all leaves (leaves_of (tree c.args.node.now)) (omega (arith, c.in_ok-leaves.leaves.ok)) c.in_ok-leaves.ensures in
+    program_linear _ (code_in leaves c.routine.new.self) (content (tree c.args.node.now)) c.in_ok-routine.field-0
+    (ap (program_in leaves) c.new.ensures.items) (c.in_ok-routine.ensures.emits.means leaves has).holds (refers-tree (tree c.args.node.now) ∙ none)
+    (looks-tree (tree c.args.node.now) ∙ spared)
