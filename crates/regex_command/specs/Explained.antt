@@ -1,5 +1,5 @@
 -- What `explain` writes.
-use Rattle.std.specs.Prelude.{◌≡◌, ◌⊎◌, ⊤, ℕ, Bool, true, false, List, [], ◌++◌, map, Option, Some, None, codes}
+use Rattle.std.specs.Prelude.{◌≡◌, ◌⊎◌, ⊤, ℕ, Bool, true, false, List, [], ◌++◌, map, Some, None, codes}
 use Rattle.std.specs.declared.ops.Range.{Range}
 use Rattle.regress_explain.specs.Page.{IsPage}
 use Rattle.regress_found.specs.declared.found.Match.{Match}
