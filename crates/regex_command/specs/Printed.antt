@@ -121,7 +121,7 @@ PrintsSome input old new nothing (escape string) = nothing
 PrintsSome input old new nothing (apply request) =
     nothing ⊎ OfText request.pattern (λ pattern. Begins request.flags pattern request.action input old new)
 
--- A failure is due. Wrong usage never is.
+-- A failure is due.
 abbrev pub MayFail : Ask → Failure → Type 0
 MayFail (help options) failure = IsLate failure
 MayFail (escape string) failure = IsLate failure
