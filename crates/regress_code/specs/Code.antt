@@ -1,5 +1,5 @@
 -- Programs that are analyzed.
-use Rattle.std.specs.Prelude.{ℕ, ◌+◌, ◌-◌, List, length, sum_by}
+use Rattle.std.specs.Prelude.{ℕ, ◌+◌, ◌-◌, Bool, List, length, sum_by}
 use Rattle.std.specs.List.{range_with_len}
 use Rattle.regress_base.specs.declared.types.Flags.{Flags}
 use Rattle.regress_tree.specs.Matching.{steps}
@@ -12,7 +12,7 @@ use Rattle.regress_unicode.specs.TableOf.{table_of}
 use Rattle.regress_program.specs.Cost.{Cost, cost_of}
 use Rattle.regress_found.specs.Found.{initial_state}
 use Rattle.regress_program.specs.Program.{Out, Routine, matcher_of}
-use Rattle.regress_program.specs.Search.{flags_of, groups_of, routines_of}
+use Rattle.regress_program.specs.Search.{flags_of, groups_of, is_known_tidy, routines_of}
 use Rattle.regress_code.specs.declared.code.Code.{Code}
 
 -- the routines of a program
@@ -26,6 +26,10 @@ code_flags code = flags_of code.program
 -- the number of groups of its pattern
 abbrev pub code_groups : Code → ℕ
 code_groups code = groups_of code.program
+
+-- its lookarounds that capture are known to begin with their groups unset
+abbrev pub code_tidy : Code → Bool
+code_tidy code = is_known_tidy code.program
 
 -- its flags with these case mappings
 abbrev pub setting_with : Code → Tables → Setting

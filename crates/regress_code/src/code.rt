@@ -1,12 +1,12 @@
 //! Programs that are analyzed.
 ghost use Rattle.std.specs.Prelude.{◌≡◌, ◌≤◌, ◌<◌, Err, IfOk, false, length, min, true};
 ghost use Rattle.regress_tree.specs.Tree.{tree};
-ghost use Rattle.regress_tree.specs.WellFormed.{captures};
+ghost use Rattle.regress_tree.specs.WellFormed.{IsWellFormed, captures};
 ghost use Rattle.regress_program.specs.Compiled.{IsPattern, total};
 ghost use Rattle.regress_program.specs.Linear.{has_back_reference, has_capturing_lookaround, is_linear, reason};
-ghost use Rattle.regress_program.specs.Search.{flags_of, groups_of, routines_of};
+ghost use Rattle.regress_program.specs.Search.{flags_of, groups_of, is_known_tidy, routines_of};
 ghost use Rattle.regress_program.specs.Size.{program_size};
-ghost use Rattle.regress_program.specs.Tidy.{table_groups as groups_by_tables};
+ghost use Rattle.regress_program.specs.Tidy.{has_no_back_reference, table_groups as groups_by_tables};
 ghost use Rattle.regress_program.specs.declared.fault.CompileFault.TheVariants.{TooLong};
 ghost use Rattle.regress_code.specs.Candidates.{BeginsAt, BeginsAt-prop};
 ghost use Rattle.regress_code.specs.Fronts.{HaveFronts, HaveFronts-prop};
@@ -35,7 +35,7 @@ pub struct Code {
 }
 
 impl Code {
-    ghost use Rattle.regress_code.specs.Code.{code_flags, code_groups, code_routines};
+    ghost use Rattle.regress_code.specs.Code.{code_flags, code_groups, code_routines, code_tidy};
 
     /// Compiles a pattern into a program of at most `limit` instructions, and analyzes it.
     ///
@@ -50,6 +50,8 @@ impl Code {
         ensures flags { IfOk result (λ code. code_flags code ≡ regex.now.flags) }
         ensures groups { IfOk result (λ code. code_groups code ≡ min (length (captures (tree regex.now.node))) usize.MAX) }
         ensures linear { IfOk result (λ code. has_back_reference (tree regex.now.node) ≡ false → has_capturing_lookaround (tree regex.now.node) ≡ false → is_linear (code_routines code) ≡ true) }
+        ensures plain { IfOk result (λ code. has_back_reference (tree regex.now.node) ≡ false → has_no_back_reference (code_routines code) ≡ true) }
+        ensures tidy { IfOk result (λ code. IsWellFormed (tree regex.now.node) → code_tidy code ≡ true) }
         ensures size { IfOk result (λ code. total (code_routines code) ≡ program_size (tree regex.now.node)) }
         ensures within { IfOk result (λ code. total (code_routines code) ≤ limit) }
         ensures too_long { result ≡ Err TooLong → limit < program_size (tree regex.now.node) }
@@ -72,6 +74,7 @@ impl Code {
         ensures routines { IfOk result (λ code. code_routines code ≡ routines_of program) }
         ensures flags { IfOk result (λ code. code_flags code ≡ flags_of program) }
         ensures groups { IfOk result (λ code. code_groups code ≡ groups_of program) }
+        ensures tidy { IfOk result (λ code. code_tidy code ≡ is_known_tidy program) }
     {
         let folds = program.flags.icase;
         let analyses = analyze(alloc, &program, folds)?;
@@ -107,7 +110,7 @@ impl Code {
     /// Returns the number of groups that lookarounds may set, if the program is searched by tables, as
     /// [`Program::table_groups`].
     pub fn table_groups(&self) -> Option<usize>
-        ensures { result ≡ groups_by_tables (code_routines self.now) }
+        ensures { result ≡ groups_by_tables (code_tidy self.now) (code_routines self.now) }
     {
         self.program.table_groups()
     }

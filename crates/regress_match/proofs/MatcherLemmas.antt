@@ -217,8 +217,8 @@ bound_linear routines true some = by (is_linear routines) some
 bound_linear routines false some = absurd (cc)
 
 -- Tables lead to the matches of a linear program.
-pub linear_has_tables : (routines : List Routine) (within : Bool) → is_some (factor_with routines within) ≡ true → is_tabled routines ≡ false → ⊥
-linear_has_tables routines within some none = by (is_tabled routines) (linear-tabled routines (bound_linear routines within some).0) none
+pub linear_has_tables : (tidy : Bool) (routines : List Routine) (within : Bool) → is_some (factor_with routines within) ≡ true → is_tabled tidy routines ≡ false → ⊥
+linear_has_tables tidy routines within some none = by (is_tabled tidy routines) (linear-tabled tidy routines (bound_linear routines within some).0) none
   where
     by : (b : Bool) → (if b then Some (inner_groups routines) else None) ≡ Some 0 → b ≡ false → ⊥
     by true is none = cc

@@ -23,14 +23,14 @@ use Rattle.regress_match.proofs.MatcherLemmas.{bound_linear, code_of, table_find
 -- ---- which searches take linear time
 
 -- Where searches for all matches take linear time the bounds are the same.
-pub same_bound : (routines : List Routine) (within : Bool) → is_some (factor_with routines within) ≡ true →
-    find_factor_with routines within ≡ factor_with routines within
-same_bound routines true some =
+pub same_bound : (tidy : Bool) (routines : List Routine) (within : Bool) → is_some (factor_with routines within) ≡ true →
+    find_factor_with tidy routines within ≡ factor_with routines within
+same_bound tidy routines true some =
     let linear = bound_linear routines true some in
-    ap (option_map (find_factor (total routines))) (linear-tabled routines linear.0)
+    ap (option_map (find_factor (total routines))) (linear-tabled tidy routines linear.0)
     ∙ ap (λ n. Some n) (let h : find_factor (total routines) 0 ≡ factor (total routines) = omega arith in h)
     ∙ sym linear.1
-same_bound routines false some = refl
+same_bound tidy routines false some = refl
 
 -- Where no search takes linear time for one match alone, the bounds are the same.
 pub same_bounds : (all one : Option ℕ) → (is_some all ≡ true → one ≡ all) → (is_some one && not (is_some all)) ≡ false → one ≡ all
@@ -48,11 +48,11 @@ never_ends_early None = tt
 never_ends_early (Some m) = tt
 
 -- A search by tables leaves the steps of backtracking.
-pub searched_bounded : (routines : List Routine) (within : Bool) (c : Code) (text : List ℕ) (found : Option Match) (steps : ℕ) →
+pub searched_bounded : (tidy : Bool) (routines : List Routine) (within : Bool) (c : Code) (text : List ℕ) (found : Option Match) (steps : ℕ) →
     code_routines c ≡ routines → steps ≤ per_character c * (length text + 1) →
-    IfSome (find_factor_with routines within) (λ n. (steps + 64 * (length text + 1) ≤ n * (length text + 1)) × IfOutOfSteps (outcome_if found) ⊥)
-searched_bounded routines false c text found steps same few = tt
-searched_bounded routines true c text found steps same few = by (is_tabled routines)
+    IfSome (find_factor_with tidy routines within) (λ n. (steps + 64 * (length text + 1) ≤ n * (length text + 1)) × IfOutOfSteps (outcome_if found) ⊥)
+searched_bounded tidy routines false c text found steps same few = tt
+searched_bounded tidy routines true c text found steps same few = by (is_tabled tidy routines)
   where
     by : (b : Bool) → IfSome (option_map (find_factor (total routines)) (if b then Some (inner_groups routines) else None))
         (λ n. (steps + 64 * (length text + 1) ≤ n * (length text + 1)) × IfOutOfSteps (outcome_if found) ⊥)

@@ -1,16 +1,17 @@
 -- The costs of searches with a matcher.
-use Rattle.std.specs.Prelude.{◌≡◌, if◌then◌else◌, ℕ, ◌+◌, ◌*◌, ◌≤◌, Bool, ◌&&◌, nat_le, List, length, Option, Some, None, option_map}
+use Rattle.std.specs.Prelude.{◌≡◌, if◌then◌else◌, ℕ, ◌+◌, ◌*◌, ◌≤◌, Bool, false, true, ◌&&◌, nat_le, List, length, Option, Some, None, option_map}
 use Rattle.regress_tree.specs.Tree.{Tree}
+use Rattle.regress_tree.specs.WellFormed.{IsWellFormed}
 use Rattle.regress_program.specs.Compiled.{IsPattern, total}
-use Rattle.regress_program.specs.Linear.{is_linear, reason}
+use Rattle.regress_program.specs.Linear.{has_back_reference, has_capturing_lookaround, is_linear, reason}
 use Rattle.regress_program.specs.Program.{Routine}
 use Rattle.regress_tables.specs.Search.{capturing_steps}
 use Rattle.regress_program.specs.Size.{program_size}
-use Rattle.regress_program.specs.Tidy.{table_groups}
+use Rattle.regress_program.specs.Tidy.{has_no_back_reference, table_groups}
 use Rattle.regress_found.specs.declared.found.Match.{Match}
 use Rattle.regress_program.specs.declared.nonlinear.Nonlinear.{Nonlinear as Reason}
 use Rattle.regress_program.specs.declared.nonlinear.Nonlinear.TheVariants as reasons
-use Rattle.regress_code.specs.Code.{code_routines}
+use Rattle.regress_code.specs.Code.{code_routines, code_tidy}
 use Rattle.regress_found.specs.declared.outcome.Outcome.{Outcome}
 use Rattle.regress_found.specs.declared.outcome.Outcome.TheVariants as outcomes
 use Rattle.regress_found.specs.Results.{IfOutOfSteps}
@@ -34,24 +35,30 @@ find_factor instructions inner = factor instructions + capturing_steps instructi
 
 -- the bound for a program that is searched for one match in linear time: if tables lead to its matches, and it is within
 -- the limit on tables; else none
-abbrev pub find_factor_with : List Routine → (within : Bool) → Option ℕ
-find_factor_with routines within = if within then option_map (find_factor (total routines)) (table_groups routines) else None
+abbrev pub find_factor_with : (tidy : Bool) → List Routine → (within : Bool) → Option ℕ
+find_factor_with tidy routines within = if within then option_map (find_factor (total routines)) (table_groups tidy routines) else None
 
 -- The bound is that of a program that matches the tree, with as many instructions as the size of the tree. It is searched
--- in linear time exactly if it is linear and within the limit.
+-- in linear time exactly if it is linear and within the limit. It is linear if the tree has no back reference and no
+-- lookaround that captures.
 pub record IsFactorOf (limit : ℕ) (t : Tree) (bound : Option ℕ) : Type 0 where
   pub routines : List Routine
   pub pattern : IsPattern routines t
   pub size : total routines ≡ program_size t
+  pub linear : has_back_reference t ≡ false → has_capturing_lookaround t ≡ false → is_linear routines ≡ true
   pub is : bound ≡ factor_with routines (nat_le (total routines) limit)
 
 -- The same for a search for one match: it takes linear time exactly if tables lead to the matches of the program, and it
--- is within the limit.
+-- is within the limit. They do if the tree is well formed and has no back reference.
 pub record IsFindFactorOf (limit : ℕ) (t : Tree) (bound : Option ℕ) : Type 0 where
   pub routines : List Routine
   pub pattern : IsPattern routines t
   pub size : total routines ≡ program_size t
-  pub is : bound ≡ find_factor_with routines (nat_le (total routines) limit)
+  pub linear : has_back_reference t ≡ false → has_capturing_lookaround t ≡ false → is_linear routines ≡ true
+  pub plain : has_back_reference t ≡ false → has_no_back_reference routines ≡ true
+  pub tidy : Bool
+  pub tidy_if : IsWellFormed t → tidy ≡ true
+  pub is : bound ≡ find_factor_with tidy routines (nat_le (total routines) limit)
 
 -- why a program is not searched in linear time: by its instructions, or else because it is not within the limit on tables;
 -- none if it is searched in linear time
@@ -69,6 +76,7 @@ pub record IsNonlinearOf (limit : ℕ) (t : Tree) (why : Option Nonlinear) : Typ
   pub routines : List Routine
   pub pattern : IsPattern routines t
   pub size : total routines ≡ program_size t
+  pub linear : has_back_reference t ≡ false → has_capturing_lookaround t ≡ false → is_linear routines ≡ true
   pub is : why ≡ nonlinear_with routines (nat_le (total routines) limit)
 
 -- that of a matcher; none if its searches for all matches are not known to take linear time
@@ -77,7 +85,7 @@ factor_of m = factor_with (code_routines m.code) m.within
 
 -- the same for a search for one match
 abbrev pub find_factor_of : Matcher → Option ℕ
-find_factor_of m = find_factor_with (code_routines m.code) m.within
+find_factor_of m = find_factor_with (code_tidy m.code) (code_routines m.code) m.within
 
 -- why its searches are not known to take linear time
 abbrev pub nonlinear_of : Matcher → Option Nonlinear

@@ -1,14 +1,16 @@
 //! Compiling a pattern for searches.
-ghost use Rattle.std.specs.Prelude.{◌≡◌, ◌<◌, ◌≤◌, ℕ, Err, IfOk, List, is_some, length, min, option_map};
+ghost use Rattle.std.specs.Prelude.{◌≡◌, ◌<◌, ◌≤◌, ℕ, Err, IfOk, List, false, is_some, length, min, option_map, true};
 ghost use Rattle.std.specs.Arc.{arc_value};
 ghost use Rattle.regress_tree.specs.Tree.{tree};
-ghost use Rattle.regress_tree.specs.WellFormed.{captures};
+ghost use Rattle.regress_tree.specs.WellFormed.{IsWellFormed, captures};
 ghost use Rattle.regress_unicode.specs.TableOf.{table_of};
 ghost use Rattle.regress_unicode.specs.declared.Tables.{Tables};
 ghost use Rattle.regress_program.specs.Compiled.{IsPattern, total};
+ghost use Rattle.regress_program.specs.Linear.{has_back_reference, has_capturing_lookaround, is_linear};
 ghost use Rattle.regress_program.specs.Size.{program_size};
+ghost use Rattle.regress_program.specs.Tidy.{has_no_back_reference};
 ghost use Rattle.regress_program.specs.declared.fault.CompileFault.TheVariants.{TooLong};
-ghost use Rattle.regress_code.specs.Code.{code_routines};
+ghost use Rattle.regress_code.specs.Code.{code_routines, code_tidy};
 ghost use Rattle.regress_match.specs.Compiled.{IsCodeOf};
 ghost use Rattle.regress_match.specs.Costs.{HasCosts};
 ghost use Rattle.regress_match.specs.Matcher.{IsFactorOf, IsFindFactorOf, IsNonlinearOf, factor, factor_of, find_factor, find_factor_of, nonlinear_of};
@@ -126,6 +128,9 @@ fn compiled(alloc: Global, regex: &Regex, groups: usize, limit: usize) -> Result
     requires { groups ≡ min (length (captures (tree regex.now.node))) usize.MAX }
     ensures means { IfOk result (λ code. (tables : Tables) → IsCodeOf (record { flags = regex.now.flags; table = table_of tables }) (tree regex.now.node) tables code) }
     ensures pattern { IfOk result (λ code. IsPattern (code_routines code) (tree regex.now.node)) }
+    ensures linear { IfOk result (λ code. has_back_reference (tree regex.now.node) ≡ false → has_capturing_lookaround (tree regex.now.node) ≡ false → is_linear (code_routines code) ≡ true) }
+    ensures plain { IfOk result (λ code. has_back_reference (tree regex.now.node) ≡ false → has_no_back_reference (code_routines code) ≡ true) }
+    ensures tidy { IfOk result (λ code. IsWellFormed (tree regex.now.node) → code_tidy code ≡ true) }
     ensures size { IfOk result (λ code. total (code_routines code) ≡ program_size (tree regex.now.node)) }
     ensures within { IfOk result (λ code. total (code_routines code) ≤ limit) }
     ensures too_long { result ≡ Err TooLong → length (captures (tree regex.now.node)) < usize.MAX → limit < program_size (tree regex.now.node) }

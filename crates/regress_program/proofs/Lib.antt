@@ -22,6 +22,5 @@ mod RoutineLemmas
 mod RunLemmas
 mod SizeLemmas
 mod SolveLemmas
-mod TidyLemmas
 mod TurnLemmas
 mod ViewLemmas

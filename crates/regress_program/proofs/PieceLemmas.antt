@@ -1,5 +1,5 @@
 -- Each kind of node as instructions: what they contain, and that they are tidy where it is.
-use Rattle.std.proofs.Common.{Result, Ok, Err, IfOk, ◌≡◌, ◌≢◌, ℕ, zero, suc, ◌+◌, ◌-◌, ◌≤◌, ◌<◌, inl, inr, Bool, true, false, not, ◌&&◌, ◌||◌, ◌==◌, nat_le, nat_lt, List, [], ◌∷◌, ◌++◌, length, drop, get_or, slice_get, Some, if◌then◌else◌, refl, sym, ap, ap₂, subst, ◌∙◌, arith}
+use Rattle.std.proofs.Common.{◌≡◌, ◌≢◌, ℕ, zero, suc, ◌+◌, ◌-◌, ◌≤◌, ◌<◌, inl, inr, Bool, true, false, not, ◌&&◌, ◌||◌, ◌==◌, nat_le, nat_lt, List, [], ◌∷◌, ◌++◌, length, drop, get_or, slice_get, Some, if◌then◌else◌, refl, sym, ap, ap₂, subst, ◌∙◌, arith}
 use Rattle.std.specs.List.{list_all, list_any}
 use Rattle.std.proofs.lemmas.Bool.{and_from, cases_eq, cases_lt, eq-eqb, leb-true, le-leb, lt-ltb, ltb-true}
 use Rattle.std.proofs.lemmas.List.{length-set}
@@ -12,9 +12,9 @@ use Rattle.regress_program.specs.Linear.{changes_captures, is_back_ref, is_back_
 use Rattle.regress_program.specs.Program.{Op, accept, fail, part, split, begin_loop, repeat, end_loop, unsets, begin_group, end_group, look, Routine}
 use Rattle.regress_program.specs.Pushed.{Pushed, preferred}
 use Rattle.regress_program.specs.Ranges.{changed_by, no_groups, ranges_of}
-use Rattle.regress_program.specs.Tidy.{followers, has_no_back_reference}
-use Rattle.regress_program.specs.TidyFrom.{range_at, set_after, BeginsUnset, IsTidyFrom, IsTidyRoutine, IsTidy}
-use Rattle.regress_program.proofs.AddLemmas.{among-same, among-left, among-right, among-union, among-then, among-both, among-apart, among-twice, among-without, and_left, and_right, is_of-part, is_routine-part, IsRoutinePart, routine-part, or_none, tidy-fewer, tidy-less, tidy-one, tidy-turn, tidy-two, tidy-none, HasNoMore, IsPartOf, no_more-part, part-first, part-second, part-grouped, part-iteration, part-iterations, part-after, part-rest, adds-part, adds-none, adds-then, adds-push, adds-quiet, read-pushed, agree-first, agree-second, pushed-routines, pushed-ops, Longer, longer, longer-push}
+use Rattle.regress_program.specs.Tidy.{BeginsUnset, IsTidy, IsTidyFrom, IsTidyRoutine, followers, has_no_back_reference, range_at, set_after}
+use Rattle.regress_program.proofs.AddLemmas.{is_of-part, is_routine-part, IsRoutinePart, routine-part, HasNoMore, IsPartOf, no_more-part, part-first, part-second, part-grouped, part-iteration, part-iterations, part-after, part-rest, adds-part, adds-none, adds-then, adds-push, adds-quiet, read-pushed, agree-first, agree-second, pushed-routines, pushed-ops, Longer, longer, longer-push}
+use Rattle.regress_program.proofs.lemmas.Tidy.{among-same, among-left, among-right, among-union, among-then, among-both, among-apart, among-twice, among-without, and_left, and_right, or_none, tidy-fewer, tidy-less, tidy-one, tidy-turn, tidy-two, tidy-none}
 use Rattle.regress_program.proofs.ChangedLemmas.{range-within}
 use Rattle.regress_program.proofs.CodeLemmas.{get-append-last, length-push, Extends-same, Extends-then, Extends-push, Extends-get, get-set-same, get-set-other}
 use Rattle.regress_program.proofs.RepeatLemmas.{Written}

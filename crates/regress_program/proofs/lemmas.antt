@@ -8,5 +8,6 @@ pub mod Places
 pub mod Reasons
 pub mod Solutions
 pub mod Strict
+pub mod Tidy
 pub mod Totals
 pub mod Unset

@@ -6,7 +6,7 @@ use Rattle.regress_program.specs.Contents.{Ids, union, AreWithin, Contents, alon
 use Rattle.regress_program.specs.Linear.{changes_captures, is_back_reference, is_capturing, is_capturing_lookaround}
 use Rattle.regress_program.specs.Program.{Op, Routine}
 use Rattle.regress_program.specs.Ranges.{IsIn, changed_by, ranges_of}
-use Rattle.regress_program.specs.TidyFrom.{range_at, IsTidyFrom, IsTidyRoutine}
+use Rattle.regress_program.specs.Tidy.{range_at, IsTidyFrom, IsTidyRoutine}
 
 -- The ids of the range are start to end - 1, or some of them.
 abbrev pub IsRangeWithin : (start end : ℕ) → GroupRange → Type 0

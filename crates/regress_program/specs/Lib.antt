@@ -1,7 +1,6 @@
 pub mod Adds
 pub mod Alternatives
 pub mod Below
-pub mod Claims
 pub mod CodeOf
 pub mod Compiled
 pub mod Contents
@@ -18,6 +17,5 @@ pub mod Shape
 pub mod Size
 pub mod Stays
 pub mod Tidy
-pub mod TidyFrom
 pub mod Unique
 pub mod Views

@@ -1,5 +1,5 @@
 -- What a program is.
-use Rattle.std.specs.Prelude.{ℕ, List}
+use Rattle.std.specs.Prelude.{ℕ, Bool, List}
 use Rattle.regress_base.specs.declared.types.Flags.{Flags}
 use Rattle.regress_program.specs.declared.program.Program.{Program}
 use Rattle.regress_program.specs.Compiled.{total}
@@ -17,6 +17,10 @@ flags_of p = p.flags
 -- the number of groups of a program
 abbrev pub groups_of : Program → ℕ
 groups_of p = p.groups
+
+-- its lookarounds that capture are known to begin with their groups unset
+abbrev pub is_known_tidy : Program → Bool
+is_known_tidy p = p.tidy
 
 -- the number of instructions of a program
 abbrev pub instructions_of : Program → ℕ

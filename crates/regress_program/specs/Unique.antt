@@ -1,5 +1,5 @@
--- IsProgram and IsForwards have at most one proof, so a program can keep them.
-use Rattle.std.specs.Prelude.{◌≡◌, ℕ, Bool, true, false, List, [], ◌∷◌}
+-- IsProgram, IsForwards and IsTidy have at most one proof, so a program can keep them.
+use Rattle.std.specs.Prelude.{◌≡◌, ℕ, zero, suc, Bool, true, false, List, [], ◌∷◌}
 use Rattle.std.proofs.Common.{refl, sym, ap, ◌∙◌}
 use Rattle.std.proofs.Math.Bool.{Bool-set}
 use Rattle.std.proofs.Props.{props}
@@ -7,6 +7,9 @@ use mathlib.Core.HLevel.{collapsible→set}
 use Rattle.regress_tree.specs.Reading.{Direction, forwards, backwards}
 use Rattle.regress_tree.specs.Tree.{empty, goal, char, byte_sequence, byte_set, char_set, match_any, match_any_except_line_terminator, anchor, word_boundary, bracket, back_ref, string_set, capture_group, loop, loop_one, lookaround, Tree, leaf, cat, alt, wrapped}
 use Rattle.regress_program.specs.Program.{Op, accept, fail, part, split, begin_loop, repeat, end_loop, unsets, begin_group, end_group, look, Routine}
+use Rattle.regress_program.specs.Contents.{Ids}
+use Rattle.regress_program.specs.Tidy.{BeginsUnset, IsTidy, IsTidyFrom}
+use Rattle.regress_program.specs.declared.ranges.GroupRange.{GroupRange}
 use Rattle.regress_program.specs.Shape.{IsPart, Fits, IsForwards, IsRoutine, IsProgram}
 
 pub part-prop : (t : Tree) → IsProp (IsPart t)
@@ -72,3 +75,27 @@ Direction-set = collapsible→set (λ d e same. again d e (ap is_forwards same))
 
 pub forwards-prop : (program : List Routine) → IsProp (IsForwards program)
 forwards-prop program = hlevel (props, Direction-set)
+
+unset-prop : (ranges : List GroupRange) (op : Op) (set : Ids) → IsProp (BeginsUnset ranges op set)
+unset-prop ranges accept set = hlevel props
+unset-prop ranges fail set = hlevel props
+unset-prop ranges (part t next) set = hlevel props
+unset-prop ranges (split first second) set = hlevel props
+unset-prop ranges (begin_loop greedy body next) set = hlevel props
+unset-prop ranges (repeat greedy body next) set = hlevel props
+unset-prop ranges (end_loop next) set = hlevel props
+unset-prop ranges (unsets start end next) set = hlevel props
+unset-prop ranges (begin_group next) set = hlevel props
+unset-prop ranges (end_group id next) set = hlevel props
+unset-prop ranges (look true routine next) set = hlevel props
+unset-prop ranges (look false routine next) set = hlevel props
+
+from-prop : (ranges : List GroupRange) (ops : List Op) (n pc : ℕ) (set : Ids) → IsProp (IsTidyFrom ranges ops n pc set)
+from-prop ranges ops zero pc set = hlevel props
+from-prop ranges ops (suc n) pc set = hlevel (props, unset-prop, from-prop ranges ops n)
+
+pub tidy-prop : (program : List Routine) → IsProp (IsTidy program)
+tidy-prop program = hlevel (props, from-prop)
+
+pub tidy_if-prop : (tidy : Bool) (program : List Routine) → IsProp (tidy ≡ true → IsTidy program)
+tidy_if-prop tidy program = hlevel (props, tidy-prop)

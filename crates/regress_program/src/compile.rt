@@ -7,18 +7,16 @@ ghost use Rattle.regress_program.specs.Compiled.{matching, IsPattern, total};
 ghost use Rattle.regress_program.specs.Contents.{content, content_of_parts};
 ghost use Rattle.regress_program.specs.LeavesOf.{leaves_of, leaves_of_parts};
 ghost use Rattle.regress_program.specs.Linear.{has_back_reference, has_capturing_lookaround, is_linear};
-ghost use Rattle.regress_program.specs.Search.{flags_of, groups_of, instructions_of, routines_of};
+ghost use Rattle.regress_program.specs.Search.{flags_of, groups_of, instructions_of, is_known_tidy, routines_of};
 ghost use Rattle.regress_program.specs.Shape.{IsForwards, IsProgram};
 ghost use Rattle.regress_program.specs.Size.{program_size, size, size_of_parts};
-ghost use Rattle.regress_program.specs.Tidy.{has_no_back_reference};
-ghost use Rattle.regress_program.specs.TidyFrom.{IsTidy};
+ghost use Rattle.regress_program.specs.Tidy.{IsTidy, has_no_back_reference};
 ghost use Rattle.regress_program.specs.Views.{program_in};
 ghost use Rattle.regress_program.specs.declared.fault.CompileFault.TheVariants.{TooLong};
 
 use crate::collect::leaves_of;
 use crate::compiler::Compiler;
 use crate::fault::CompileFault;
-use crate::groups::group_count;
 use crate::instruction::{Instruction, Routine};
 use crate::loops::Iterations;
 use crate::program::Program;
@@ -74,13 +72,13 @@ impl Program {
         ensures plain { IfOk result (λ p. has_back_reference (tree regex.now.node) ≡ false → has_no_back_reference (routines_of p) ≡ true) }
         ensures linear { IfOk result (λ p. has_back_reference (tree regex.now.node) ≡ false → has_capturing_lookaround (tree regex.now.node) ≡ false → is_linear (routines_of p) ≡ true) }
         ensures tidy { IfOk result (λ p. IsWellFormed (tree regex.now.node) → IsTidy (routines_of p)) }
+        ensures known { IfOk result (λ p. IsWellFormed (tree regex.now.node) → is_known_tidy p ≡ true) }
         ensures size { IfOk result (λ p. instructions_of p ≡ program_size (tree regex.now.node)) }
         ensures within { IfOk result (λ p. instructions_of p ≤ limit) }
         ensures too_long { result ≡ Err TooLong → limit < program_size (tree regex.now.node) }
     {
         let (leaves, routines) = compile(alloc, &regex.node, limit)?;
-        let groups = group_count(&regex.node);
-        let program = Program::new(alloc, leaves, routines, regex.flags, groups)?;
+        let program = Program::new(alloc, leaves, routines, regex)?;
         Ok(program)
     }
 }

@@ -3,7 +3,7 @@ ghost use Rattle.std.specs.Prelude.{◌≡◌, ◌<◌, List, length, min};
 ghost use Rattle.regress_leaves.specs.declared.test.Test.{Test};
 ghost use Rattle.regress_program.specs.Compiled.{total};
 ghost use Rattle.regress_program.specs.Linear.{reason};
-ghost use Rattle.regress_program.specs.Search.{groups_of, instructions_of, routines_of};
+ghost use Rattle.regress_program.specs.Search.{groups_of, instructions_of, is_known_tidy, routines_of};
 ghost use Rattle.regress_program.specs.Tidy.{table_groups as groups_by_tables};
 ghost use Rattle.regress_program.specs.Views.{program_in};
 
@@ -38,10 +38,10 @@ impl Program {
     /// Returns an upper bound for the number of groups that lookarounds set, if the program is searched by tables;
     /// otherwise `None`.
     ///
-    /// Tables lead to the matches also of a program whose lookarounds capture, if each begins with its groups unset. A
-    /// back reference rules them out.
+    /// Tables lead to the matches also of a program whose lookarounds capture, if each begins with its groups unset, as
+    /// in the program of a well-formed tree. A back reference rules them out.
     pub fn table_groups(&self) -> Option<usize>
-        ensures { result ≡ groups_by_tables (routines_of self.now) }
+        ensures { result ≡ groups_by_tables (is_known_tidy self.now) (routines_of self.now) }
     {
         self.table_groups
     }

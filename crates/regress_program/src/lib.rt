@@ -3,7 +3,6 @@
 
 mod capturing;
 mod characters;
-mod claims;
 mod collect;
 mod compile;
 mod compiler;
@@ -20,7 +19,6 @@ mod program;
 pub mod ranges;
 mod strings;
 mod tabled;
-mod tidy;
 
 pub use fault::CompileFault;
 pub use nonlinear::Nonlinear;

@@ -1,20 +1,24 @@
 //! Programs.
-ghost use Rattle.std.specs.Prelude.{◌≡◌, ◌<◌, IfOk, length, min};
+ghost use Rattle.std.specs.Prelude.{◌≡◌, ◌<◌, IfOk, length, min, true};
+ghost use Rattle.regress_tree.specs.Tree.{tree};
+ghost use Rattle.regress_tree.specs.WellFormed.{IsWellFormed, captures};
 ghost use Rattle.regress_program.specs.Compiled.{total};
 ghost use Rattle.regress_program.specs.Linear.{reason};
 ghost use Rattle.regress_program.specs.Ranges.{GroupRanges-set, ranges_of};
 ghost use Rattle.regress_program.specs.Shape.{IsForwards, IsProgram};
-ghost use Rattle.regress_program.specs.Tidy.{table_groups as groups_by_tables};
-ghost use Rattle.regress_program.specs.Unique.{forwards-prop, program-prop};
+ghost use Rattle.regress_program.specs.Tidy.{IsTidy, table_groups as groups_by_tables};
+ghost use Rattle.regress_program.specs.Unique.{forwards-prop, program-prop, tidy_if-prop};
 ghost use Rattle.regress_program.specs.Views.{program_in};
 
 use crate::contents::instruction_count;
+use crate::groups::group_count;
 use crate::instruction::Routine;
 use crate::nonlinear::{Nonlinear, reason};
 use crate::ranges::{GroupRange, ranges_of};
 use crate::tabled::table_groups;
 use regress_base::types::Flags;
 use regress_leaves::test::Test;
+use regress_tree::ir::Regex;
 use std::alloc::{AllocError, Global};
 
 /// A pattern that is compiled into instructions. It refers neither to the tree nor to case mappings.
@@ -34,6 +38,9 @@ pub struct Program {
     pub(crate) nonlinear: Option<Nonlinear>,
     /// For each routine the least range of the groups that it changes.
     pub ranges: Vec<GroupRange>,
+    /// Whether each lookaround that captures is known to begin with its groups unset, as in a program of a well-formed
+    /// tree.
+    pub(crate) tidy: bool,
     /// The number of groups that lookarounds may set, if the program is searched by tables.
     pub(crate) table_groups: Option<usize>,
     ghost some: { 0 < length routines.items },
@@ -42,16 +49,17 @@ pub struct Program {
     ghost counted: { instructions ≡ min (total (program_in leaves.items routines.items)) 18446744073709551615 },
     ghost linear_unless: { nonlinear ≡ reason (program_in leaves.items routines.items) },
     ghost ranged: { ranges.items ≡ ranges_of (program_in leaves.items routines.items) } by { GroupRanges-set ranges.items (ranges_of (program_in leaves.items routines.items)) },
-    ghost tabled: { table_groups ≡ groups_by_tables (program_in leaves.items routines.items) },
+    ghost tidy_if: { tidy ≡ true → IsTidy (program_in leaves.items routines.items) } by { tidy_if-prop tidy (program_in leaves.items routines.items) },
+    ghost tabled: { table_groups ≡ groups_by_tables tidy (program_in leaves.items routines.items) },
 }
 
 impl Program {
-    ghost use Rattle.regress_program.specs.Search.{flags_of, groups_of, routines_of};
+    ghost use Rattle.regress_program.specs.Search.{flags_of, groups_of, is_known_tidy, routines_of};
 
-    /// Returns a program of these leaves and routines, for a pattern with these flags and this number of groups.
+    /// Returns a program of these leaves and routines, for a pattern.
     ///
     /// # Preconditions
-    /// The leaves and the routines are what compiling a pattern yields.
+    /// The leaves and the routines are what compiling the pattern yields.
     ///
     /// # Complexity
     /// Linear in the number of instructions.
@@ -62,28 +70,31 @@ impl Program {
         alloc: Global,
         leaves: Vec<Test>,
         routines: Vec<Routine>,
-        flags: Flags,
-        groups: usize,
+        regex: &Regex,
     ) -> Result<Program, AllocError>
         requires program { IsProgram (program_in leaves.items routines.items) }
         requires some { 0 < length routines.items }
         requires forwards { IsForwards (program_in leaves.items routines.items) }
+        requires tidy { IsWellFormed (tree regex.now.node) → IsTidy (program_in leaves.items routines.items) }
         ensures routines { IfOk result (λ p. routines_of p ≡ program_in leaves.items routines.items) }
-        ensures flags { IfOk result (λ p. flags_of p ≡ flags) }
-        ensures groups { IfOk result (λ p. groups_of p ≡ groups) }
+        ensures flags { IfOk result (λ p. flags_of p ≡ regex.now.flags) }
+        ensures groups { IfOk result (λ p. groups_of p ≡ min (length (captures (tree regex.now.node))) usize.MAX) }
+        ensures known { IfOk result (λ p. IsWellFormed (tree regex.now.node) → is_known_tidy p ≡ true) }
     {
         let instructions = instruction_count(&routines);
         let nonlinear = reason(&leaves, &routines);
         let ranges = ranges_of(alloc, &routines)?;
-        let table_groups = table_groups(alloc, &ranges, &routines, nonlinear)?;
+        let tidy = regex.is_well_formed();
+        let table_groups = table_groups(&ranges, &routines, nonlinear, tidy);
         Ok(Program {
             leaves,
             routines,
-            flags,
-            groups,
+            flags: regex.flags,
+            groups: group_count(&regex.node),
             instructions,
             nonlinear,
             ranges,
+            tidy,
             table_groups,
         })
     }

@@ -19,7 +19,11 @@ use Rattle.regress_tables.specs.declared.table.Table.{Table}
 use Rattle.regress_tables.specs.declared.walker.Walker.{Walker}
 use Rattle.regress_tables.specs.Evaluated.{CanFill}
 use Rattle.regress_tables.specs.Searchable.{IsFirst, IsSearchable, Solves, captures_in, outcomes_in, program_in, subject_of, width_at}
-use Rattle.regress_tables.specs.Slots.{AreInside, IsClean, capture_in, resolved}
+use Rattle.regress_tables.specs.Slots.{AreInside, IsClean, capture_in, is_set, resolved, set_groups}
+use Rattle.regress_program.specs.Contents.{no_ids}
+use Rattle.regress_program.specs.Ranges.{ranges_of}
+use Rattle.regress_program.specs.Tidy.{IsTidy}
+use Rattle.regress_program.proofs.lemmas.Tidy.{tidy-less}
 use Rattle.regress_tables.specs.Table.{IsFull, IsRight, IsTableOf, cell, has_outcome, index as index_of}
 use Rattle.regress_tables.specs.Walked.{at_of, Leads}
 use Rattle.regress_program.proofs.lemmas.Solutions.{solution}
@@ -157,10 +161,17 @@ none-inside zero id routine position is = cc
 none-inside (suc n) zero routine position is = cc
 none-inside (suc n) (suc id) routine position is = none-inside n id routine position is
 
--- Unset groups are clean at every instruction.
-pub clean-first : (program : List Routine) (r : Routine) (pc n : ℕ) (ss : List Slot) → ss ≡ replicate n slots.Unset → IsClean program r pc ss
-clean-first program r pc n ss is any id lt claimed =
-    ap (λ xs. slice_get xs id) is ∙ unset-at n id (omega (arith, lt, ap length is, length-replicate n slots.Unset))
+none-set : (n id : ℕ) → is_set (slice_get (replicate n slots.Unset) id) ≡ true → no_ids id ≡ true
+none-set zero id is = is
+none-set (suc n) zero is = is
+none-set (suc n) (suc id) is = none-set n id is
+
+-- A tidy routine is clean at its entry, where no group is set.
+pub clean-first : (program : List Routine) (i : ℕ) (r : Routine) (n : ℕ) (ss : List Slot) → IsTidy program → slice_get program i ≡ Some r →
+    ss ≡ replicate n slots.Unset → IsClean program r r.entry ss
+clean-first program i r n ss tidy found is k =
+    tidy-less (ranges_of program) r.ops k r.entry (set_groups ss) no_ids (λ id one. none-set n id (sym (ap (λ xs. is_set (slice_get xs id)) is) ∙ one))
+    (tidy i r found k)
 
 -- No lookaround has set them.
 pub inside-first : (routines m inner n : ℕ) (ss : List Slot) → ss ≡ replicate n slots.Unset → AreInside routines m inner ss

@@ -1,11 +1,10 @@
 -- At the instruction that follows, the groups that it claims are unset.
 use Rattle.std.proofs.Common.{◌≡◌, ℕ, Bool, true, false, List, [], ◌∷◌, length, slice_get, Option, Some, None, refl, sym, ap, ◌∙◌, subst, if◌then◌else◌}
-use Rattle.std.proofs.lemmas.Bool.{and_parts}
 use Rattle.std.proofs.lemmas.Option.{same_Some}
 use Rattle.regress_program.specs.Program.{At, Op, unsets, end_group, look, Routine, goto, enter, ended}
 use Rattle.regress_program.specs.Ranges.{changed_by, ranges_of}
-use Rattle.regress_program.specs.Tidy.{followers, has_no_back_reference, is_tabled, is_tidy}
-use Rattle.regress_code.specs.Code.{code_routines}
+use Rattle.regress_program.specs.Tidy.{followers, is_tabled}
+use Rattle.regress_code.specs.Code.{code_routines, code_tidy}
 use Rattle.regress_tables.specs.declared.evaluate.Input.{Input}
 use Rattle.regress_tables.specs.declared.table.Table.{Table}
 use Rattle.regress_tables.specs.declared.walker.Walker.{Walker}
@@ -33,13 +32,10 @@ chosen-pc t greedy body next a = by (iterates t greedy body next a)
 
 -- ---- the groups that it claims
 
-module _ (input : Input) (w v : Walker) (op : Op) (tabled : is_tabled (code_routines input.code.now) ≡ true) (at : StepsAt input op w)
+module _ (input : Input) (w v : Walker) (op : Op) (tabled : is_tabled (code_tidy input.code.now) (code_routines input.code.now) ≡ true) (at : StepsAt input op w)
     (r : Routine) (is : slice_get (code_routines input.code.now) (length input.tables.now) ≡ Some r) where
   abbrev pub IsCleanAt : (next : ℕ) → Type 0
   IsCleanAt next = IsClean (code_routines input.code.now) r next v.slots.items
-
-  tidy : is_tidy (code_routines input.code.now) ≡ true
-  tidy = (and_parts (has_no_back_reference (code_routines input.code.now)) (is_tidy (code_routines input.code.now)) tabled).1
 
   to_next : (next : ℕ) → v.pc ≡ next → IsClean (code_routines input.code.now) at.routine next v.slots.items → IsCleanAt v.pc
   to_next next pc clean =
@@ -51,7 +47,7 @@ module _ (input : Input) (w v : Walker) (op : Op) (tabled : is_tabled (code_rout
       IsCleanAt v.pc
   follow-one op' j next same follows quiet pc slots =
       to_next next pc
-      (clean-quiet (code_routines input.code.now) (length input.tables.now) at.routine w.pc w.slots.items v.slots.items tidy at.is at.clean op' j next
+      (clean-quiet (code_routines input.code.now) at.routine w.pc w.slots.items v.slots.items at.clean op' j next
       (at.here ∙ ap Some same) follows quiet slots)
 
   -- one with two that may follow
@@ -65,18 +61,18 @@ module _ (input : Input) (w v : Walker) (op : Op) (tabled : is_tabled (code_rout
   pub follow-unsets : (start end next : ℕ) → op ≡ unsets start end next → v.pc ≡ next → UnsetSlots start end w.slots.items v.slots.items → IsCleanAt v.pc
   follow-unsets start end next same pc set =
       to_next next pc
-      (clean-unsets (code_routines input.code.now) (length input.tables.now) at.routine w.pc w.slots.items v.slots.items tidy at.is at.clean start end next
+      (clean-unsets (code_routines input.code.now) at.routine w.pc w.slots.items v.slots.items at.clean start end next
       (at.here ∙ ap Some same) set)
 
   pub follow-ended : (id next : ℕ) → op ≡ end_group id next → v.pc ≡ next → OneSpan id w.slots.items v.slots.items → IsCleanAt v.pc
   follow-ended id next same pc one =
       to_next next pc
-      (clean-ended (code_routines input.code.now) (length input.tables.now) at.routine w.pc w.slots.items v.slots.items tidy at.is at.clean id next _
+      (clean-ended (code_routines input.code.now) at.routine w.pc w.slots.items v.slots.items at.clean id next _
       (at.here ∙ ap Some same) one.set)
 
   pub follow-look : (negate : Bool) (j next : ℕ) → op ≡ look negate j next → v.pc ≡ next →
       SetInside (changed_by (ranges_of (code_routines input.code.now)) (look negate j next)) j w.position w.slots.items v.slots.items → IsCleanAt v.pc
   follow-look negate j next same pc set =
       to_next next pc
-      (clean-look (code_routines input.code.now) (length input.tables.now) at.routine w.pc w.slots.items v.slots.items tidy at.is at.clean negate j next _
+      (clean-look (code_routines input.code.now) at.routine w.pc w.slots.items v.slots.items at.clean negate j next _
       (at.here ∙ ap Some same) set)

@@ -24,9 +24,9 @@ ok_map (Ok x) P Q f is = f x is
 ok_map (Err e) P Q f is = tt
 
 -- A program that tables lead through, and the groups that its lookarounds set.
-pub tabled_by : (program : List Routine) (inner : ℕ) → table_groups program ≡ Some inner →
-    (is_tabled program ≡ true) × (inner ≡ inner_groups program)
-tabled_by program inner is = by (is_tabled program) is
+pub tabled_by : (tidy : Bool) (program : List Routine) (inner : ℕ) → table_groups tidy program ≡ Some inner →
+    (is_tabled tidy program ≡ true) × (inner ≡ inner_groups program)
+tabled_by tidy program inner is = by (is_tabled tidy program) is
   where
     by : (b : Bool) → (if b then Some (inner_groups program) else None) ≡ Some inner → (b ≡ true) × (inner ≡ inner_groups program)
     by true same = (refl, let h : inner ≡ inner_groups program = cc in h)

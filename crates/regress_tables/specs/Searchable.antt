@@ -6,7 +6,7 @@ use Rattle.regress_found.specs.Found.{initial_state}
 use Rattle.regress_program.specs.Program.{Out, Routine, IsSolution, matcher_of}
 use Rattle.regress_program.specs.Ranges.{inner_groups}
 use Rattle.regress_program.specs.Tidy.{is_tabled}
-use Rattle.regress_code.specs.Code.{code_routines}
+use Rattle.regress_code.specs.Code.{code_routines, code_tidy}
 use Rattle.regress_tables.specs.declared.filled.Filled.{Filled}
 use Rattle.regress_tables.specs.declared.first.FirstOutcome.{FirstOutcome}
 use Rattle.regress_tables.specs.declared.slots.Slot.{Slot}
@@ -23,7 +23,7 @@ subject_of f = subject f.input.rules f.input.text.now
 
 -- The program is searched by tables, and these are its tables.
 pub record IsSearchable (f : Filled) : Type 0 where
-  pub tabled : is_tabled (program_in f) ≡ true
+  pub tabled : is_tabled (code_tidy f.input.code.now) (program_in f) ≡ true
   pub inner : f.inner ≡ inner_groups (program_in f)
   pub filled : AreFilled (subject_of f).setting f.input.text.now (program_in f) f.input.tables.now
 

@@ -1,12 +1,12 @@
 -- What a walk knows of captures.
-use Rattle.std.specs.Prelude.{◌≡◌, ℕ, ◌+◌, ◌≤◌, ◌<◌, true, List, [], ◌∷◌, length, slice_get, slice_index_or, Option, Some, None}
-use Rattle.std.specs.List.{list_any}
+use Rattle.std.specs.Prelude.{◌≡◌, ℕ, ◌+◌, ◌≤◌, ◌<◌, Bool, false, true, List, [], ◌∷◌, slice_get, Option, Some, None}
 use Rattle.regress_tree.specs.Setting.{Setting}
 use Rattle.regress_tree.specs.Steps.{CaptureSpan}
 use Rattle.regress_program.specs.Isolated.{Captures, capture_at, captures_from}
 use Rattle.regress_program.specs.Program.{Out, Routine}
 use Rattle.regress_program.specs.Ranges.{ranges_of}
-use Rattle.regress_program.specs.Tidy.{IsClaimed, claims_from, is_capturing_look}
+use Rattle.regress_program.specs.Contents.{Ids}
+use Rattle.regress_program.specs.Tidy.{IsTidyFrom}
 use Rattle.regress_tables.specs.declared.slots.Slot.{Slot}
 use Rattle.regress_tables.specs.declared.slots.Slot.TheVariants as slots
 
@@ -35,7 +35,17 @@ abbrev pub AreInside : (routines n inner : ℕ) → List Slot → Type 0
 AreInside routines n inner ss = (id routine position : ℕ) → slice_get ss id ≡ Some (slots.Inside routine position) →
     (routine < routines) × (position ≤ n) × (id < inner)
 
--- If a lookaround of the routine captures, the groups that the instruction claims are unset.
+-- The group is set.
+abbrev pub is_set : Option Slot → Bool
+is_set None = false
+is_set (Some slots.Unset) = false
+is_set (Some (slots.Span from to)) = true
+is_set (Some (slots.Inside routine position)) = true
+
+-- the groups that are set
+abbrev pub set_groups : List Slot → Ids
+set_groups ss id = is_set (slice_get ss id)
+
+-- From the instruction on the routine is tidy, where these groups are set.
 abbrev pub IsClean : (program : List Routine) → Routine → (pc : ℕ) → List Slot → Type 0
-IsClean program r pc ss = list_any (is_capturing_look (ranges_of program) r.direction) r.ops ≡ true → (id : ℕ) → id < length ss →
-    IsClaimed r.direction (slice_index_or (claims_from (ranges_of program) r.direction 0 r.ops) pc 0) id → slice_get ss id ≡ Some slots.Unset
+IsClean program r pc ss = (n : ℕ) → IsTidyFrom (ranges_of program) r.ops n pc (set_groups ss)

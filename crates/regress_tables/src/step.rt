@@ -6,7 +6,7 @@ ghost use Rattle.regress_program.specs.Below.{Below};
 ghost use Rattle.regress_program.specs.Program.{IsSolution, Out, Routine, accept, matcher_of, outcomes_by};
 ghost use Rattle.regress_program.specs.Ranges.{inner_groups};
 ghost use Rattle.regress_program.specs.Tidy.{is_tabled};
-ghost use Rattle.regress_code.specs.Code.{code_routines};
+ghost use Rattle.regress_code.specs.Code.{code_routines, code_tidy};
 ghost use Rattle.regress_program.specs.Views.{op_in};
 ghost use Rattle.regress_tables.specs.Slots.{AreInside, IsClean, capture_in};
 ghost use Rattle.regress_tables.specs.Table.{IsFull, IsRight, has_outcome};
@@ -30,7 +30,7 @@ pub(crate) fn step(
     instruction: Instruction,
     walker: &mut Walker,
 ) -> Result<bool, AllocError>
-    requires tabled { is_tabled (code_routines input.code.now) ≡ true }
+    requires tabled { is_tabled (code_tidy input.code.now) (code_routines input.code.now) ≡ true }
     requires can { CanWalk input table.now (op_in input.code.now.program.leaves.items instruction) (place_of walker.old) }
     requires at { StepsAt input (op_in input.code.now.program.leaves.items instruction) walker.old }
     ensures count { IfOk result (λ _. length walker.new.slots.items ≡ length walker.old.slots.items) }

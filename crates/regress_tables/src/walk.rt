@@ -5,7 +5,7 @@ ghost use Rattle.regress_tree.specs.Steps.{MatchState};
 ghost use Rattle.regress_program.specs.Program.{IsSolution, Out};
 ghost use Rattle.regress_program.specs.Ranges.{inner_groups};
 ghost use Rattle.regress_program.specs.Tidy.{is_tabled};
-ghost use Rattle.regress_code.specs.Code.{code_routines};
+ghost use Rattle.regress_code.specs.Code.{code_routines, code_tidy};
 ghost use Rattle.regress_program.specs.Views.{routine_in};
 ghost use Rattle.regress_tables.specs.Evaluated.{CanFill};
 ghost use Rattle.regress_tables.specs.Slots.{AreInside, IsClean, capture_in};
@@ -30,7 +30,7 @@ pub(crate) fn walk(
     walker: &mut Walker,
     steps: &mut u64,
 ) -> Result<bool, AllocError>
-    requires tabled { is_tabled (code_routines input.code.now) ≡ true }
+    requires tabled { is_tabled (code_tidy input.code.now) (code_routines input.code.now) ≡ true }
     requires can { CanFill input (routine_in input.code.now.program.leaves.items routine.now) table.now }
     requires pc { walker.old.pc < table.now.width }
     requires position { walker.old.position ≤ table.now.length }

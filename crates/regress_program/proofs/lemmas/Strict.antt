@@ -1,16 +1,18 @@
 -- In a linear program no lookaround sets a group, so its tables lead to its first outcome.
-use Rattle.std.proofs.Common.{◌≡◌, ℕ, zero, suc, ◌+◌, ◌<◌, Bool, true, false, not, ◌&&◌, ◌||◌, List, [], ◌∷◌, ◌++◌, length, get_or, slice_get, Some, None, max, refl, sym, ap, ap₂, ◌∙◌, arith}
+use Rattle.std.proofs.Common.{◌≡◌, ℕ, zero, suc, ◌+◌, ◌<◌, inl, inr, Bool, true, false, not, ◌&&◌, ◌||◌, List, [], ◌∷◌, ◌++◌, length, get_or, slice_get, Some, None, max, refl, sym, ap, ap₂, subst, ◌∙◌, arith}
 use Rattle.std.proofs.lemmas.List.{length-append}
 use Rattle.std.specs.Prelude.{if◌then◌else◌, is_none}
 use Rattle.std.specs.List.{list_all, list_any}
-use Rattle.regress_tree.specs.Reading.{Direction}
 use Rattle.regress_program.specs.declared.nonlinear.Nonlinear.TheVariants.{BackReference, CapturingLookaround}
 use Rattle.regress_program.specs.declared.ranges.GroupRange.{GroupRange}
 use Rattle.regress_program.specs.Linear.{changes_captures, has_reason, is_back_reference, is_capturing, is_capturing_lookaround, is_linear, is_linear_op, is_reason, reason}
 use Rattle.regress_program.specs.Program.{Op, accept, fail, part, split, begin_loop, repeat, end_loop, unsets, begin_group, end_group, look, Routine}
-use Rattle.regress_program.specs.Ranges.{captured_by, captured_by_all, captured_in, changed_by, changed_by_all, hull, inner_groups, is_empty, no_groups, ranges_after, ranges_of}
-use Rattle.regress_program.specs.Tidy.{all_kept, claims_from, has_no_back_reference, is_capturing_look, is_tidy, is_tidy_routine, table_groups}
+use Rattle.regress_program.specs.Ranges.{IsIn, captured_by, captured_by_all, captured_in, changed_by, changed_by_all, hull, inner_groups, no_groups, ranges_after, ranges_of}
+use Rattle.regress_program.specs.Tidy.{BeginsUnset, IsTidy, IsTidyFrom, has_no_back_reference, is_tabled, range_at, set_after, table_groups}
+use Rattle.regress_program.specs.Contents.{Ids, no_ids}
+use Rattle.regress_program.proofs.lemmas.Instructions.{list_all-get}
 use Rattle.regress_program.proofs.lemmas.Reasons.{linear-reason}
+use Rattle.regress_program.proofs.lemmas.Tidy.{or_cases}
 
 not_true : (b : Bool) → not b ≡ true → b ≡ false
 not_true true is = cc
@@ -102,21 +104,30 @@ module _ (program : List Routine) (ranges : List GroupRange) (quiet : AreQuiet p
       let here = and_true (list_all (is_linear_op program) r.ops) (list_all (λ (q : Routine). list_all (is_linear_op program) q.ops) rs) linear in
       ap₂ max (all-set-none r.ops here.0) (no-inner rs here.1)
 
-  captures-none : (d : Direction) (op : Op) → is_linear_op program op ≡ true → is_capturing_look ranges d op ≡ false
-  captures-none d (look false routine next) linear =
-      ap (λ (r : GroupRange). not (is_empty r)) (quiet routine (not_true (is_capturing (slice_get program routine)) linear))
-  captures-none d op linear = refl
+  -- A lookaround captures nothing, so it begins with its groups unset.
+  quiet-unset : (op : Op) (set : Ids) → is_linear_op program op ≡ true → BeginsUnset ranges op set
+  quiet-unset accept set linear = tt
+  quiet-unset fail set linear = tt
+  quiet-unset (part t next) set linear = tt
+  quiet-unset (split first second) set linear = tt
+  quiet-unset (begin_loop greedy body next) set linear = tt
+  quiet-unset (repeat greedy body next) set linear = tt
+  quiet-unset (end_loop next) set linear = tt
+  quiet-unset (unsets start end next) set linear = tt
+  quiet-unset (begin_group next) set linear = tt
+  quiet-unset (end_group id next) set linear = tt
+  quiet-unset (look true routine next) set linear = tt
+  quiet-unset (look false routine next) set linear = λ id within.
+      let none : range_at ranges routine ≡ no_groups = quiet routine (not_true (is_capturing (slice_get program routine)) linear) in
+      let empty : IsIn no_groups id = subst (λ r. IsIn r id) none within in
+      absurd (omega (arith, empty.1))
 
-  none-captures : (d : Direction) (ops : List Op) → list_all (is_linear_op program) ops ≡ true → list_any (is_capturing_look ranges d) ops ≡ false
-  none-captures d [] linear = refl
-  none-captures d (op ∷ ops) linear =
-      let here = and_true (is_linear_op program op) (list_all (is_linear_op program) ops) linear in
-      ap₂ (λ a b. a || b) (captures-none d op here.0) (none-captures d ops here.1)
-
-  quiet-tidy : (r : Routine) → list_all (is_linear_op program) r.ops ≡ true → is_tidy_routine ranges r ≡ true
-  quiet-tidy r linear =
-      ap (λ (b : Bool). not b || all_kept ranges r.direction (claims_from ranges r.direction 0 r.ops) r.ops (claims_from ranges r.direction 0 r.ops))
-      (none-captures r.direction r.ops linear)
+  quiet-from : (ops : List Op) → list_all (is_linear_op program) ops ≡ true → (n pc : ℕ) (set : Ids) → IsTidyFrom ranges ops n pc set
+  quiet-from ops linear zero pc set = tt
+  quiet-from ops linear (suc n) pc set = λ op here. (
+    quiet-unset op set (list_all-get (is_linear_op program) ops pc op linear here),
+    λ i next follows. quiet-from ops linear n next (set_after ranges op set),
+  )
 
 -- ---- tests of lists
 
@@ -141,10 +152,10 @@ no-back_reference program =
     all-not (λ (r : Routine). list_all (λ op. not (is_back_reference op)) r.ops) (λ (r : Routine). list_any (is_reason program BackReference) r.ops) program
     (λ r. all-not (λ op. not (is_back_reference op)) (is_reason program BackReference) r.ops (λ op. refl))
 
-pub linear-tidy : (program : List Routine) → is_linear program ≡ true → is_tidy program ≡ true
-linear-tidy program linear =
-    all-weaker (λ (r : Routine). list_all (is_linear_op program) r.ops) (is_tidy_routine (ranges_of program)) program
-    (quiet-tidy program (ranges_of program) (all-quiet program linear)) linear
+pub linear-tidy : (program : List Routine) → is_linear program ≡ true → IsTidy program
+linear-tidy program linear i r is n =
+    quiet-from program (ranges_of program) (all-quiet program linear) r.ops
+    (list_all-get (λ (q : Routine). list_all (is_linear_op program) q.ops) program i r linear is) n r.entry no_ids
 
 linear-references : (program : List Routine) → is_linear program ≡ true → has_no_back_reference program ≡ true
 linear-references program linear =
@@ -156,10 +167,17 @@ linear-references program linear =
 pub linear-inner : (program : List Routine) → is_linear program ≡ true → inner_groups program ≡ 0
 linear-inner program linear = no-inner program (ranges_of program) (all-quiet program linear) program linear
 
-pub linear-tabled : (program : List Routine) → is_linear program ≡ true → table_groups program ≡ Some 0
-linear-tabled program linear =
-    ap₂ (λ (a b : Bool). if a && b then Some (inner_groups program) else None) (linear-references program linear) (linear-tidy program linear)
+pub linear-tabled : (tidy : Bool) (program : List Routine) → is_linear program ≡ true → table_groups tidy program ≡ Some 0
+linear-tabled tidy program linear =
+    ap₂ (λ (a b : Bool). if a && (b || tidy) then Some (inner_groups program) else None) (linear-references program linear) linear
     ∙ ap (λ n. Some n) (linear-inner program linear)
+
+-- A program that tables lead through is tidy.
+pub tabled-tidy : (tidy : Bool) (program : List Routine) → (tidy ≡ true → IsTidy program) → is_tabled tidy program ≡ true → IsTidy program
+tabled-tidy tidy program if_tidy is = elim (or_cases (is_linear program) tidy (and_true (has_no_back_reference program) (is_linear program || tidy) is).1) [
+  | inl linear ↦ linear-tidy program linear
+  | inr known ↦ if_tidy known
+]
 
 -- ---- by the reason why a program is not linear
 
@@ -173,16 +191,17 @@ no-references : (a b : Bool) → (if a then Some BackReference else if b then So
 no-references true b is = cc
 no-references false b is = refl
 
-pub tabled-linear : (program : List Routine) → reason program ≡ None → table_groups program ≡ Some 0
-tabled-linear program is = linear-tabled program (linear-reason program ∙ ap is_none is)
+pub tabled-linear : (tidy : Bool) (program : List Routine) → reason program ≡ None → table_groups tidy program ≡ Some 0
+tabled-linear tidy program is = linear-tabled tidy program (linear-reason program ∙ ap is_none is)
 
-pub tabled-references : (program : List Routine) → reason program ≡ Some BackReference → table_groups program ≡ None
-tabled-references program is =
+pub tabled-references : (tidy : Bool) (program : List Routine) → reason program ≡ Some BackReference → table_groups tidy program ≡ None
+tabled-references tidy program is =
     let some = references (has_reason program BackReference) (has_reason program CapturingLookaround) is in
-    ap (λ (b : Bool). if b && is_tidy program then Some (inner_groups program) else None) (no-back_reference program ∙ ap not some)
+    ap (λ (b : Bool). if b && (is_linear program || tidy) then Some (inner_groups program) else None) (no-back_reference program ∙ ap not some)
 
-pub tabled-captures : (program : List Routine) → reason program ≡ Some CapturingLookaround →
-    table_groups program ≡ (if is_tidy program then Some (inner_groups program) else None)
-tabled-captures program is =
+pub tabled-captures : (tidy : Bool) (program : List Routine) → reason program ≡ Some CapturingLookaround →
+    table_groups tidy program ≡ (if tidy then Some (inner_groups program) else None)
+tabled-captures tidy program is =
     let none = no-references (has_reason program BackReference) (has_reason program CapturingLookaround) is in
-    ap (λ (b : Bool). if b && is_tidy program then Some (inner_groups program) else None) (no-back_reference program ∙ ap not none)
+    ap₂ (λ (a b : Bool). if a && (b || tidy) then Some (inner_groups program) else None) (no-back_reference program ∙ ap not none)
+    (linear-reason program ∙ ap is_none is)

@@ -1,4 +1,4 @@
-use Rattle.std.proofs.Common.{◌≡◌, slice_get, Some, option_map, refl, sym, ap, ◌∙◌}
+use Rattle.std.proofs.Common.{sym, ap, ◌∙◌}
 use Rattle.std.specs.List.{list_any}
 use Rattle.regress_program.specs.Linear.{changes_captures}
 use Rattle.regress_program.specs.Views.{op_in, ops_in}

@@ -1,4 +1,4 @@
-use Rattle.std.proofs.Common.{◌≡◌, ◌+◌, arith, max, refl, sym, ap, ◌∙◌}
+use Rattle.std.proofs.Common.{◌≡◌, ◌+◌, arith, max, refl, ap}
 use Rattle.regress_program.specs.Ranges.{captured_by_all}
 use Rattle.regress_program.specs.Views.{op_in, ops_in}
 use Rattle.regress_program.proofs.RangeLemmas.{captured-more, drop_map-all, drop_map-got}

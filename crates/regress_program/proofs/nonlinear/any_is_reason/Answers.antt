@@ -1,4 +1,4 @@
-use Rattle.std.proofs.Common.{◌≡◌, slice_get, Some, option_map, refl, sym, ap, ◌∙◌}
+use Rattle.std.proofs.Common.{sym, ◌∙◌}
 use Rattle.regress_program.specs.Linear.{is_reason}
 use Rattle.regress_program.specs.Views.{op_in, ops_in, program_in}
 use Rattle.regress_program.proofs.RangeLemmas.{get_map-got}

@@ -5,6 +5,8 @@ use Rattle.regress_tables.specs.declared.slots.Slot.TheVariants as slots
 use Rattle.regress_tables.specs.declared.walker.Walker.{Walker}
 use Rattle.regress_tables.specs.Searchable.{program_in}
 use Rattle.regress_tables.specs.Slots.{AreInside}
+use Rattle.regress_code.specs.Code.{code_tidy}
+use Rattle.regress_program.proofs.lemmas.Strict.{tabled-tidy}
 use Rattle.regress_tables.proofs.FirstLemmas.{clean-first, first-ends, first-forwards, first-none, first-some, first-steps, inside-first, same-way, table-at}
 use Rattle.regress_tables.proofs.first.first_outcome.Goals as goal
 
@@ -45,7 +47,11 @@ walk-requires-clause-position c =
 pub walk-requires-clause-clean : goal.walk-requires-clause-clean
 walk-requires-clause-clean c =
     let r = routine_in c.args.filled.input.code.now.program.leaves.items c.index-routine.result.now in
-    clean-first (program_in c.args.filled) r r.entry c.args.groups c.in_ok-unset_slots.field-0.items c.in_ok-unset_slots.ensures.items
+    let f = c.args.filled in
+    let at = table-at f c.args.index c.index-routine.result.now c.index-filled-index.result c.requires.searchable c.requires.index c.index-routine.ensures
+    c.index-filled-index.is in
+    clean-first (program_in f) c.args.index r c.args.groups c.in_ok-unset_slots.field-0.items
+    (tabled-tidy (code_tidy f.input.code.now) (program_in f) f.input.code.now.program.tidy_if c.requires.searchable.tabled) at.is c.in_ok-unset_slots.ensures.items
 
 pub returns-clause-first : goal.returns-clause-first
 returns-clause-first c = λ outs solves.

@@ -1,4 +1,4 @@
-use Rattle.std.proofs.Common.{◌≡◌, Bool, true, [], List, length, flat_map, Some, if◌then◌else◌, refl, sym, ap, ◌∙◌, subst, arith}
+use Rattle.std.proofs.Common.{◌||◌, ◌≡◌, Bool, true, [], List, length, flat_map, Some, if◌then◌else◌, refl, sym, ap, ◌∙◌, subst, arith}
 use Rattle.std.proofs.lemmas.Bool.{and_parts}
 use Rattle.regress_base.specs.declared.types.Quantifier.{Quantifier}
 use Rattle.regress_leaves.specs.Leaves.{exactly}
@@ -10,8 +10,9 @@ use Rattle.regress_program.specs.Below.{Below}
 use Rattle.regress_program.specs.Program.{At, Op, part, split, begin_loop, repeat, end_loop, begin_group, look, goto, enter, reach, either, matcher_of, outcomes_by}
 use Rattle.regress_program.specs.declared.instruction.Instruction.TheVariants as insts
 use Rattle.regress_program.specs.Shape.{Fits}
-use Rattle.regress_program.specs.Tidy.{has_no_back_reference, is_tidy}
-use Rattle.regress_code.specs.Code.{code_routines}
+use Rattle.regress_program.specs.Tidy.{has_no_back_reference}
+use Rattle.regress_program.specs.Linear.{is_linear}
+use Rattle.regress_code.specs.Code.{code_routines, code_tidy}
 use Rattle.regress_program.specs.Views.{op_in}
 use Rattle.regress_tables.specs.Slots.{capture_in}
 use Rattle.regress_tables.specs.Table.{cell, has_outcome}
@@ -307,13 +308,13 @@ returns-in-Look-clause-leads c = λ outs solution full right other some.
     let outcomes : Op → List MatchState = λ o. outcomes_by u.setting u.bytes u.direction body_of (outs i) o a in
     let range = look_range c.args.input.code.now _ c.in-Look.negate c.in-Look.routine c.in-Look.next _ c.deref.ensures.value c.changed_by_look-range.ensures in
     let here = c.requires.at.here ∙ ap (λ x. Some (op_in c.args.input.code.now.program.leaves.items x)) c.in-Look.is in
-    let tabled = and_parts (has_no_back_reference program) (is_tidy program) c.requires.tabled in (
+    let tabled = and_parts (has_no_back_reference program) (is_linear program || code_tidy c.args.input.code.now) c.requires.tabled in (
       refl,
       subst (λ o. Leads (outcomes (op_in c.args.input.code.now.program.leaves.items o)) (outs i) (at_of capture_of c.pass.new.self)) (sym c.in-Look.is)
           (look-goes (outs i) u.setting u.bytes program outs c.args.input.code.now.program.is_program tabled.0 solution u.direction i c.in-Look.negate c.in-Look.routine c.in-Look.next
           c.args.walker.now c.pass.new.self fits.0 (omega (arith, can.position, can.length))
-          (λ positive. look-unset program i c.requires.at.routine c.args.walker.now.pc c.args.walker.now.slots.items c.pass.new.self.slots.items tabled.1
-          c.requires.at.is c.requires.at.clean c.in-Look.routine c.in-Look.next
+          (λ positive. look-unset program c.requires.at.routine c.args.walker.now.pc c.args.walker.now.slots.items c.pass.new.self.slots.items
+          c.requires.at.clean c.in-Look.routine c.in-Look.next
           (here ∙ ap (λ b. Some (look b c.in-Look.routine c.in-Look.next)) positive) capture_of)
           (record {
             pc = c.pass.ensures.pc;

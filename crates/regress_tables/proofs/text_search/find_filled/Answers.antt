@@ -1,7 +1,7 @@
 use Rattle.std.proofs.Common.{◌+◌, ◌*◌, ◌≤◌, length, subst, IfOk}
 use Rattle.regress_program.specs.Compiled.{total}
 use Rattle.regress_found.specs.Found.{initial_state}
-use Rattle.regress_code.specs.Code.{code_groups, code_routines, outcomes_from, setting_with, tree_outcomes_from}
+use Rattle.regress_code.specs.Code.{code_groups, code_routines, code_tidy, outcomes_from, setting_with, tree_outcomes_from}
 use Rattle.regress_tables.specs.Search.{steps_up_to}
 use Rattle.regress_program.proofs.lemmas.Solutions.{finds_by}
 use Rattle.regress_tables.proofs.SearchLemmas.{ok_map, tabled_by}
@@ -10,7 +10,7 @@ use Rattle.regress_tables.proofs.text_search.find_filled.Goals as goal
 pub find_leftmost-requires : goal.find_leftmost-requires
 find_leftmost-requires c =
     let l = c.args.linear.now in
-    let by = tabled_by (code_routines l.code.now) l.inner l.tabled in
+    let by = tabled_by (code_tidy l.code.now) (code_routines l.code.now) l.inner l.tabled in
     record { searchable = record { tabled = by.0; inner = by.1; filled = c.requires.filled } }
 
 pub returns-clause-finds : goal.returns-clause-finds
@@ -31,4 +31,4 @@ returns-clause-steps c =
     let program = code_routines l.code.now in
     let text = c.args.text.now in
     subst (λ k. IfOk c.find_leftmost.result (λ search. search.steps ≤ steps_up_to (total program) text c.args.from search.found
-    + 2 * total program * k * (length text + 1))) (tabled_by program l.inner l.tabled).1 c.find_leftmost.ensures.steps
+    + 2 * total program * k * (length text + 1))) (tabled_by (code_tidy l.code.now) program l.inner l.tabled).1 c.find_leftmost.ensures.steps

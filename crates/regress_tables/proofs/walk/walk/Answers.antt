@@ -1,7 +1,8 @@
-use Rattle.std.proofs.Common.{◌≡◌, true, false, slice_get, Some, refl, sym, ap, ◌∙◌, arith}
+use Rattle.std.proofs.Common.{◌||◌, ◌≡◌, true, false, slice_get, Some, refl, sym, ap, ◌∙◌, arith}
 use Rattle.std.proofs.lemmas.Bool.{and_parts}
-use Rattle.regress_program.specs.Tidy.{has_no_back_reference, is_tidy}
-use Rattle.regress_code.specs.Code.{code_routines}
+use Rattle.regress_program.specs.Tidy.{has_no_back_reference}
+use Rattle.regress_program.specs.Linear.{is_linear}
+use Rattle.regress_code.specs.Code.{code_routines, code_tidy}
 use Rattle.regress_program.specs.Views.{op_in, routine_in}
 use Rattle.regress_tables.specs.Walked.{place_of}
 use Rattle.regress_tables.proofs.FirstLemmas.{op-here, way-ends, way-goes}
@@ -32,7 +33,7 @@ step-requires c =
     op-here c.args.input.code.now.program.leaves.items c.args.routine.now.instructions.items w.pc i (omega (arith, c.walk.invariant.pc, can.of.width)) c.index-instruction.ensures in
     record {
       tabled = c.requires.tabled;
-      can = can_walk c.args.input r c.args.table.now (op_in c.args.input.code.now.program.leaves.items i) (place_of w) (and_parts (has_no_back_reference program) (is_tidy program) c.requires.tabled).0 can c.walk.invariant.pc
+      can = can_walk c.args.input r c.args.table.now (op_in c.args.input.code.now.program.leaves.items i) (place_of w) (and_parts (has_no_back_reference program) (is_linear program || code_tidy c.args.input.code.now) c.requires.tabled).0 can c.walk.invariant.pc
           c.walk.invariant.position here;
       at = record { routine = r; is = can.is; here = here; clean = c.walk.invariant.clean };
     }

@@ -1,6 +1,7 @@
 use Rattle.std.proofs.Common.{ap, ◌∙◌}
 use Rattle.regress_tree.specs.Tree.{tree}
 use Rattle.regress_program.specs.Linear.{is_linear}
+use Rattle.regress_program.specs.Tidy.{has_no_back_reference}
 use Rattle.regress_program.specs.Search.{routines_of}
 use Rattle.regress_code.proofs.CandidateLemmas.{pattern_begins}
 use Rattle.regress_code.proofs.code.Code.compile.Goals as goal
@@ -12,3 +13,9 @@ new-requires c =
 
 pub returns-clause-linear : goal.returns-clause-linear
 returns-clause-linear c = λ none spared. ap is_linear c.in_ok-code.ensures.routines ∙ c.in_ok-program.ensures.linear none spared
+
+pub returns-clause-plain : goal.returns-clause-plain
+returns-clause-plain c = λ none. ap has_no_back_reference c.in_ok-code.ensures.routines ∙ c.in_ok-program.ensures.plain none
+
+pub returns-clause-tidy : goal.returns-clause-tidy
+returns-clause-tidy c = λ well. c.in_ok-code.ensures.tidy ∙ c.in_ok-program.ensures.known well
