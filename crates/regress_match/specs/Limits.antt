@@ -1,6 +1,6 @@
 -- The default limits.
 use Rattle.regress_match.specs.declared.limits.Limits.{Limits}
 
--- 250,000 instructions, and tables for a thousand
+-- 250,000 instructions, and linear searches up to a thousand
 abbrev pub default_limits : Limits
-default_limits = record { instructions = 250000; tables = 1000 }
+default_limits = record { instructions = 250000; linear_instructions = 1000 }
