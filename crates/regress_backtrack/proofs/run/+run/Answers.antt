@@ -273,8 +273,8 @@ run-loop-left-preserved t c =
           omega (arith, before, taken, back, less);
     }
 
-pub run-returns-in-None-clause-answers : goal.run-returns-in-None-clause-answers
-run-returns-in-None-clause-answers t c = λ outs solution.
+pub run-returns-in-None-clause-responds : goal.run-returns-in-None-clause-responds
+run-returns-in-None-clause-responds t c = λ outs solution.
     let input = c.args.input.now in
     let m = c.loop-left.machine in
     let m' = c.advance.new.machine in
@@ -297,8 +297,8 @@ run-returns-in-None-clause-none t c = λ is.
 pub run-returns-in-None-clause-left : goal.run-returns-in-None-clause-left
 run-returns-in-None-clause-left t c = omega (arith, c.in_ok-to.ensures.left, c.loop-left.invariant.left)
 
-pub run-returns-in-Accept-clause-answers : goal.run-returns-in-Accept-clause-answers
-run-returns-in-Accept-clause-answers t c = λ outs solution.
+pub run-returns-in-Accept-clause-responds : goal.run-returns-in-Accept-clause-responds
+run-returns-in-Accept-clause-responds t c = λ outs solution.
     let input = c.args.input.now in
     let m = c.loop-left.machine in
     let a = at c.loop-left.here (groups_of m) in
