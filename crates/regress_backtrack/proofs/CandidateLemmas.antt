@@ -11,34 +11,34 @@ use Rattle.regress_code.specs.Candidates.{IsCandidate}
 
 module _ (text : List ℕ) (from : ℕ) where
   -- a position that is skipped is no candidate
-  pub passes : (c : Candidates) (to : ℕ) → Skips c text from (Some to) → (k : ℕ) → from ≤ k → k < to → IsCandidate c text k → ⊥
-  passes candidates.Anywhere to skips k low high here = let same : to ≡ from = cc in omega (arith, same, low, high)
-  passes candidates.Start to skips k low high here =
+  pub skips : (c : Candidates) (to : ℕ) → Skips c text from (Some to) → (k : ℕ) → from ≤ k → k < to → IsCandidate c text k → ⊥
+  skips candidates.Anywhere to skips k low high here = let same : to ≡ from = cc in omega (arith, same, low, high)
+  skips candidates.Start to skips k low high here =
       let first : from ≡ 0 = omega (arith, low, here) in
       let is : Some to ≡ Some 0 = subst (λ f. Some to ≡ (if f == 0 then Some 0 else None)) first skips in
       let same : to ≡ 0 = cc in
       omega (arith, same, high)
-  passes (candidates.Bytes set) to skips k low high here = skips.2 k low high here
+  skips (candidates.Bytes set) to skips k low high here = skips.2 k low high here
 
-  pub passes_all : (c : Candidates) → Skips c text from None → (k : ℕ) → from ≤ k → IsCandidate c text k → ⊥
-  passes_all candidates.Anywhere skips k low here = let bad : ⊥ = cc in bad
-  passes_all candidates.Start skips k low here =
+  pub skips_all : (c : Candidates) → Skips c text from None → (k : ℕ) → from ≤ k → IsCandidate c text k → ⊥
+  skips_all candidates.Anywhere skips k low here = let bad : ⊥ = cc in bad
+  skips_all candidates.Start skips k low here =
       let first : from ≡ 0 = omega (arith, low, here) in
       let is : Skips candidates.Start text 0 None = subst (λ f. Skips candidates.Start text f None) first skips in
       let bad : ⊥ = cc in
       bad
-  passes_all (candidates.Bytes set) skips k low here = skips k low here
+  skips_all (candidates.Bytes set) skips k low here = skips k low here
 
 module _ (text : List ℕ) (at : ℕ → List MatchState) (origin from : ℕ) (none : NoneBefore text at origin from) where
   -- no position before the next start has an outcome
   pub none_before : (to : ℕ) → ((k : ℕ) → from ≤ k → k ≤ length text → k < to → at k ≡ []) → NoneBefore text at origin to
-  none_before to passed = λ k low high on. elim (cases_lt k from) [
+  none_before to skipped = λ k low high on. elim (cases_lt k from) [
     | inl before ↦ none k low before on
-    | inr after ↦ passed k after on.0 high
+    | inr after ↦ skipped k after on.0 high
   ]
 
   pub none_after : ((k : ℕ) → from ≤ k → k ≤ length text → at k ≡ []) → found.Finds text at origin None
-  none_after passed = λ k low on. elim (cases_lt k from) [
+  none_after skipped = λ k low on. elim (cases_lt k from) [
     | inl before ↦ none k low before on
-    | inr after ↦ passed k after on.0
+    | inr after ↦ skipped k after on.0
   ]

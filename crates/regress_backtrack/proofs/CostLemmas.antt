@@ -58,49 +58,49 @@ module _ (input : Input) (is : IsInput input) (outs : ℕ → Out) (costs : ℕ 
 -- ---- leaves
 
 -- a part that ends at a position
-module _ (input : Input) (outs : ℕ → Out) (costs : ℕ → Cost) (m : Machine) (p : Place) (next : ℕ) (n : Next) (left left1 left2 : ℕ) where
+module _ (input : Input) (outs : ℕ → Out) (costs : ℕ → Cost) (m : Machine) (p : Place) (next : ℕ) (n : Next) (remaining remaining1 remaining2 : ℕ) where
   pub leaf_cost : (o : Option Test) (t : Test) (to : Option ℕ) → o ≡ Some t →
       (let u = subject input.rules input.text.now in
       steps u.setting u.bytes u.direction (tree t.node) (state m.captures.items p.position) ≡ put (state m.captures.items p.position) to) →
-      Reaches next p n to → left ≤ left1 + compared (tree t.node) (state m.captures.items p.position) →
-      MatchOption to (left2 ≡ left1) (λ (q : ℕ). left1 ≤ left2 + abs_diff p.position q) →
-      left + cost_ahead (costs input.index) m n
-      ≤ left2 + (op_cost input outs costs (part_of o next) (at p (groups_of m)) + points_cost (costs input.index) m)
+      Reaches next p n to → remaining ≤ remaining1 + compared (tree t.node) (state m.captures.items p.position) →
+      MatchOption to (remaining2 ≡ remaining1) (λ (q : ℕ). remaining1 ≤ remaining2 + abs_diff p.position q) →
+      remaining + cost_ahead (costs input.index) m n
+      ≤ remaining2 + (op_cost input outs costs (part_of o next) (at p (groups_of m)) + points_cost (costs input.index) m)
   leaf_cost o t None some ends is taken moved =
-      subst (λ x. left + cost_ahead (costs input.index) m x
-      ≤ left2 + (op_cost input outs costs (part_of o next) (at p (groups_of m)) + points_cost (costs input.index) m)) (sym is)
-      (subst (λ x. left + points_cost (costs input.index) m
-      ≤ left2 + (op_cost input outs costs (part_of x next) (at p (groups_of m)) + points_cost (costs input.index) m)) (sym some)
+      subst (λ x. remaining + cost_ahead (costs input.index) m x
+      ≤ remaining2 + (op_cost input outs costs (part_of o next) (at p (groups_of m)) + points_cost (costs input.index) m)) (sym is)
+      (subst (λ x. remaining + points_cost (costs input.index) m
+      ≤ remaining2 + (op_cost input outs costs (part_of x next) (at p (groups_of m)) + points_cost (costs input.index) m)) (sym some)
       (omega (arith, taken, moved)))
   leaf_cost o t (Some q) some ends is taken moved =
       let cost = costs input.index in
       let a = at p (groups_of m) in
       let there = cost (at (record { pc = next; moved = p.moved || not (q == p.position); position = q }) (groups_of m)) in
       let on = ap (cost_after cost next a) ends in
-      subst (λ x. left + cost_ahead cost m x ≤ left2 + (op_cost input outs costs (part_of o next) a + points_cost cost m)) (sym is)
-      (subst (λ x. left + (there + points_cost cost m) ≤ left2 + (op_cost input outs costs (part_of x next) a + points_cost cost m)) (sym some)
+      subst (λ x. remaining + cost_ahead cost m x ≤ remaining2 + (op_cost input outs costs (part_of o next) a + points_cost cost m)) (sym is)
+      (subst (λ x. remaining + (there + points_cost cost m) ≤ remaining2 + (op_cost input outs costs (part_of x next) a + points_cost cost m)) (sym some)
       (omega (arith, taken, moved, on)))
 
   -- characters that end at a position
   pub characters_cost : (o : Option Test) (t : Test) (count : ℕ) (to : Option ℕ) → o ≡ Some t →
       (let u = subject input.rules input.text.now in
       steps u.setting u.bytes u.direction (exactly count (tree t.node)) (state m.captures.items p.position) ≡ put (state m.captures.items p.position) to) →
-      Reaches next p n to → MatchOption to (left2 ≡ left) (λ (q : ℕ). left ≤ left2 + abs_diff p.position q) →
-      left + cost_ahead (costs input.index) m n
-      ≤ left2 + (op_cost input outs costs (characters_of o count next) (at p (groups_of m)) + points_cost (costs input.index) m)
+      Reaches next p n to → MatchOption to (remaining2 ≡ remaining) (λ (q : ℕ). remaining ≤ remaining2 + abs_diff p.position q) →
+      remaining + cost_ahead (costs input.index) m n
+      ≤ remaining2 + (op_cost input outs costs (characters_of o count next) (at p (groups_of m)) + points_cost (costs input.index) m)
   characters_cost o t count None some ends is moved =
-      subst (λ x. left + cost_ahead (costs input.index) m x
-      ≤ left2 + (op_cost input outs costs (characters_of o count next) (at p (groups_of m)) + points_cost (costs input.index) m)) (sym is)
-      (subst (λ x. left + points_cost (costs input.index) m
-      ≤ left2 + (op_cost input outs costs (characters_of x count next) (at p (groups_of m)) + points_cost (costs input.index) m)) (sym some)
+      subst (λ x. remaining + cost_ahead (costs input.index) m x
+      ≤ remaining2 + (op_cost input outs costs (characters_of o count next) (at p (groups_of m)) + points_cost (costs input.index) m)) (sym is)
+      (subst (λ x. remaining + points_cost (costs input.index) m
+      ≤ remaining2 + (op_cost input outs costs (characters_of x count next) (at p (groups_of m)) + points_cost (costs input.index) m)) (sym some)
       (omega (arith, moved)))
   characters_cost o t count (Some q) some ends is moved =
       let cost = costs input.index in
       let a = at p (groups_of m) in
       let there = cost (at (record { pc = next; moved = p.moved || not (q == p.position); position = q }) (groups_of m)) in
       let on = ap (cost_after cost next a) ends in
-      subst (λ x. left + cost_ahead cost m x ≤ left2 + (op_cost input outs costs (characters_of o count next) a + points_cost cost m)) (sym is)
-      (subst (λ x. left + (there + points_cost cost m) ≤ left2 + (op_cost input outs costs (characters_of x count next) a + points_cost cost m)) (sym some)
+      subst (λ x. remaining + cost_ahead cost m x ≤ remaining2 + (op_cost input outs costs (characters_of o count next) a + points_cost cost m)) (sym is)
+      (subst (λ x. remaining + (there + points_cost cost m) ≤ remaining2 + (op_cost input outs costs (characters_of x count next) a + points_cost cost m)) (sym some)
       (omega (arith, moved, on)))
 
 -- ---- loops over one character
@@ -240,10 +240,10 @@ module _ (f : ℕ → ℕ) (from : ℕ) where
       let one = one_more (n + m) in
       omega (arith, before, here, one)
 
-  -- some byte offsets are passed over, and a run starts at the next one
+  -- some byte offsets are skipped, and a run starts at the next one
   pub tried_on : (here k : ℕ) → from ≤ here → here ≤ k → tried (here - from) + (((k - here) + 1) + f k) ≤ tried ((k + 1) - from)
   tried_on here k low le =
-      let passed = at_least (here - from) (k - here) in
+      let skipped = at_least (here - from) (k - here) in
       let all : (here - from) + (k - here) ≡ k - from = omega (arith, low, le) in
       let so_far = ap tried all in
       let one = one_more (k - from) in
@@ -251,7 +251,7 @@ module _ (f : ℕ → ℕ) (from : ℕ) where
       let run = ap f at in
       let last : (k + 1) - from ≡ (k - from) + 1 = omega (arith, low, le) in
       let end = ap tried last in
-      omega (arith, passed, so_far, one, run, end)
+      omega (arith, skipped, so_far, one, run, end)
 
   -- the cost of the first ones is at most that of more
   pub tried_part : (n m : ℕ) → n ≤ m → tried n ≤ tried m
@@ -262,9 +262,9 @@ module _ (f : ℕ → ℕ) (from : ℕ) where
       omega (arith, more, end)
 
   -- the cost of a search that ends with the run at k
-  pub searched : (here k end left left1 left2 left3 : ℕ) → from ≤ here → here ≤ k → k ≤ end → left ≤ left1 + tried (here - from) →
-      left2 ≡ left1 - ((k - here) + 1) → left2 ≤ left3 + f k → left ≤ left3 + tried (end + 1 - from)
-  searched here k end left left1 left2 left3 low le high before skipped taken =
+  pub searched : (here k end remaining remaining1 remaining2 remaining3 : ℕ) → from ≤ here → here ≤ k → k ≤ end → remaining ≤ remaining1 + tried (here - from) →
+      remaining2 ≡ remaining1 - ((k - here) + 1) → remaining2 ≤ remaining3 + f k → remaining ≤ remaining3 + tried (end + 1 - from)
+  searched here k end remaining remaining1 remaining2 remaining3 low le high before skipped taken =
       let on = tried_on here k low le in
       let all = tried_part ((k + 1) - from) (end + 1 - from) (omega (arith, high)) in
       omega (arith, before, skipped, taken, on, all)

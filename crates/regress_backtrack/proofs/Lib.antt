@@ -1,8 +1,8 @@
 pub mod CandidateLemmas
 pub mod CostLemmas
-pub mod FrontLemmas
+pub mod NextBytesLemmas
 pub mod MachineLemmas
-pub mod PassLemmas
+pub mod SkipLemmas
 pub mod StepLemmas
 pub mod RunLemmas
 pub mod SearchLemmas

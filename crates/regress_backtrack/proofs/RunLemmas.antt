@@ -133,10 +133,10 @@ begins-same input is m captures start' setting bytes outs clear none same =
     ∙ ap (λ ps. flat_map (outs input.index) (at (record { pc = input.first; moved = true; position = start' }) (groups_of m) ∷ ps)) (sym (points-none m clear))
 
 pub begins_cost : (input : Input) (is : IsInput input) (m : Machine) (captures : List (Option CaptureSpan)) (start' : ℕ) (setting : Setting) (bytes : List ℕ)
-    (costs : ℕ → Cost) (left : ℕ) → m.stack.entries.items ≡ [] → m.stack.begins.items ≡ [] → m.captures.items ≡ captures →
-    left + (costs input.index (at (record { pc = input.first; moved = true; position = start' }) (groups_of m)) + points_cost (costs input.index) m)
-    ≤ left + cost_of setting bytes (code_routines input.code.now) costs input.index (state captures start')
-begins_cost input is m captures start' setting bytes costs left clear none same =
+    (costs : ℕ → Cost) (remaining : ℕ) → m.stack.entries.items ≡ [] → m.stack.begins.items ≡ [] → m.captures.items ≡ captures →
+    remaining + (costs input.index (at (record { pc = input.first; moved = true; position = start' }) (groups_of m)) + points_cost (costs input.index) m)
+    ≤ remaining + cost_of setting bytes (code_routines input.code.now) costs input.index (state captures start')
+begins_cost input is m captures start' setting bytes costs remaining clear none same =
     let here = ap (costs input.index) (begins_at input is m captures start' setting bytes none same) in
     let rest = ap (sum_by (costs input.index)) (points-none m clear) in
     omega (arith, here, rest)
@@ -153,10 +153,10 @@ pub same_response : (m : Machine) (r : Response) (outs : ℕ → Out) (k : ℕ) 
     s' ≡ s → b' ≡ b → p' ≡ p → i' ≡ i → cs' ≡ cs → IsSolution s b p outs → IsResponseOf (matcher_of s b p outs i (state cs k)) m r
 same_response m r outs k = same_run (λ s b p i cs. IsSolution s b p outs → IsResponseOf (matcher_of s b p outs i (state cs k)) m r)
 
-pub same_cost : (left left' : ℕ) (outs : ℕ → Out) (costs : ℕ → Cost) (k : ℕ) (s s' : Setting) (b b' : List ℕ) (p p' : List Routine) (i i' : ℕ)
-    (cs cs' : List (Option CaptureSpan)) → (IsCost s' b' p' outs costs → left ≤ left' + cost_of s' b' p' costs i' (state cs' k)) →
-    s' ≡ s → b' ≡ b → p' ≡ p → i' ≡ i → cs' ≡ cs → IsCost s b p outs costs → left ≤ left' + cost_of s b p costs i (state cs k)
-same_cost left left' outs costs k = same_run (λ s b p i cs. IsCost s b p outs costs → left ≤ left' + cost_of s b p costs i (state cs k))
+pub same_cost : (remaining remaining' : ℕ) (outs : ℕ → Out) (costs : ℕ → Cost) (k : ℕ) (s s' : Setting) (b b' : List ℕ) (p p' : List Routine) (i i' : ℕ)
+    (cs cs' : List (Option CaptureSpan)) → (IsCost s' b' p' outs costs → remaining ≤ remaining' + cost_of s' b' p' costs i' (state cs' k)) →
+    s' ≡ s → b' ≡ b → p' ≡ p → i' ≡ i → cs' ≡ cs → IsCost s b p outs costs → remaining ≤ remaining' + cost_of s b p costs i (state cs k)
+same_cost remaining remaining' outs costs k = same_run (λ s b p i cs. IsCost s b p outs costs → remaining ≤ remaining' + cost_of s b p costs i (state cs k))
 
 -- a run that fails where it starts has no outcome
 pub fails_response : (input : Input) → IsInput input → (m : Machine) (captures : List (Option CaptureSpan)) (k : ℕ) (outs : ℕ → Out) →

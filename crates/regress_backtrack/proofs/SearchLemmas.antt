@@ -82,10 +82,10 @@ pub same_first : (a b : Backtracker) (P : List MatchState → Type 0) (k : ℕ) 
     P (tree_outcomes_at a t k)
 same_first a b P k = same_runs (λ c t x. (tree : Tree) → IsPattern (code_routines c) tree → P (tree_outcomes_from c t x tree k)) a b
 
-pub same_taken : (a b : Backtracker) (k left left' : ℕ) (outs : ℕ → Out) (costs : ℕ → Cost) → SameRuns a b →
-    (AreCosts b outs costs → left ≤ left' + cost_at b costs k) → AreCosts a outs costs → left ≤ left' + cost_at a costs k
-same_taken a b k left left' outs costs =
-    same_runs (λ c t x. IsCost (setting_with c t) x (code_routines c) outs costs → left ≤ left' + cost_from c t x costs k) a b
+pub same_taken : (a b : Backtracker) (k remaining remaining' : ℕ) (outs : ℕ → Out) (costs : ℕ → Cost) → SameRuns a b →
+    (AreCosts b outs costs → remaining ≤ remaining' + cost_at b costs k) → AreCosts a outs costs → remaining ≤ remaining' + cost_at a costs k
+same_taken a b k remaining remaining' outs costs =
+    same_runs (λ c t x. IsCost (setting_with c t) x (code_routines c) outs costs → remaining ≤ remaining' + cost_from c t x costs k) a b
 
 -- the result of a run, for its program, case mappings and text
 pub for_solution : (b : Backtracker) (code : Code) (tables : Tables) (text : List ℕ) (P : List ℕ → (ℕ → List MatchState) → Type 0) →
@@ -119,13 +119,13 @@ run_solved b input captures k m r is unset responds outs =
     (replicate (code_groups (run_code b)) None) _ (responds outs) is.setting is.same_text (ap code_routines is.code) is.index unset
 
 -- the cost of a run from the input for the pattern, with every group unset
-pub run_cost : (b : Backtracker) (input : Input) (captures : List (Option CaptureSpan)) (k left left' : ℕ) (outs : ℕ → Out) (costs : ℕ → Cost) →
+pub run_cost : (b : Backtracker) (input : Input) (captures : List (Option CaptureSpan)) (k remaining remaining' : ℕ) (outs : ℕ → Out) (costs : ℕ → Cost) →
     IsFor (run_code b) (run_tables b) (run_text b) input → captures ≡ replicate (code_groups (run_code b)) None →
     (IsCost (subject input.rules input.text.now).setting input.text.now (code_routines input.code.now) outs costs →
-    left ≤ left' + cost_of (subject input.rules input.text.now).setting input.text.now (code_routines input.code.now) costs input.index (state captures k)) →
-    AreCosts b outs costs → left ≤ left' + cost_at b costs k
-run_cost b input captures k left left' outs costs is unset taken =
-    same_cost left left' outs costs k (setting_with (run_code b) (run_tables b)) _ (run_text b) _ (code_routines (run_code b)) _
+    remaining ≤ remaining' + cost_of (subject input.rules input.text.now).setting input.text.now (code_routines input.code.now) costs input.index (state captures k)) →
+    AreCosts b outs costs → remaining ≤ remaining' + cost_at b costs k
+run_cost b input captures k remaining remaining' outs costs is unset taken =
+    same_cost remaining remaining' outs costs k (setting_with (run_code b) (run_tables b)) _ (run_text b) _ (code_routines (run_code b)) _
     (length (code_routines (run_code b)) - 1) _ (replicate (code_groups (run_code b)) None) _ taken is.setting is.same_text (ap code_routines is.code) is.index unset
 
 -- the match that is found at a position, if no earlier position has an outcome

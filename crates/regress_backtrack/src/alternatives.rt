@@ -5,15 +5,15 @@ ghost use Rattle.regress_program.specs.Program.{Out, either};
 ghost use Rattle.regress_backtrack.specs.Costs.{HasCost, cost_ahead, points_cost};
 ghost use Rattle.regress_backtrack.specs.Machine.{Groups, at, groups_of, points, rewound};
 ghost use Rattle.regress_backtrack.specs.Next.{Fails, Inside, IsInput, Leads, Solve, ahead};
-ghost use Rattle.regress_code.specs.Passes.{ArePassed, IsBeside};
+ghost use Rattle.regress_code.specs.Skips.{AreSkipped, IsBeside};
 ghost use Rattle.regress_tree.specs.Reading.{direction_if};
 ghost use Rattle.regress_backtrack.specs.declared.step.Next.TheVariants.{OutOfSteps};
 
-use crate::input::{Input, counts_at, front_at, instruction_at};
+use crate::input::{Input, counts_at, instruction_at, next_bytes_at};
 use crate::machine::{Machine, Place};
 use crate::step::Next;
 use crate::sweep::sweep;
-use regress_code::passes::count_at;
+use regress_code::skips::count_at;
 use regress_program::instruction::Instruction;
 use std::alloc::AllocError;
 
@@ -56,7 +56,7 @@ pub fn fork(
     ensures goes { IfOk result (λ next. next ≡ OutOfSteps → ⊥) }
 {
     if fails(input, first) {
-        return Ok(Next::On(pass_over(input, second)));
+        return Ok(Next::On(skip(input, second)));
     }
     if fails(input, second) {
         return Ok(Next::On(first));
@@ -71,7 +71,7 @@ pub fn fork(
 /// Both are inside the routine, and the position is inside the text.
 ///
 /// # Complexity
-/// It subtracts from the remaining steps `left` the number of bytes by which it moves the position.
+/// It subtracts from the remaining steps `remaining` the number of bytes by which it moves the position.
 ///
 /// # Errors
 /// Returns [`AllocError`] if an allocation fails.
@@ -81,7 +81,7 @@ pub fn iterate(
     looping: Looping,
     here: Place,
     machine: &mut Machine,
-    left: &mut u64,
+    remaining: &mut u64,
 ) -> Result<Next, AllocError>
     requires input { IsInput input.now }
     requires body { looping.body < length input.now.instructions.now }
@@ -94,12 +94,12 @@ pub fn iterate(
         out machine.new to)) }
     ensures inside { IfOk result (λ to. All (Inside input.now) (points machine.old) → All (Inside input.now) (ahead machine.new to)) }
     ensures rewound { IfOk result (λ _. rewound machine.new ≡ rewound machine.old) }
-    ensures left { IfOk result (λ _. left.new ≤ left.old) }
+    ensures remaining { IfOk result (λ _. remaining.new ≤ remaining.old) }
     ensures costs { IfOk result (λ to. (outs : ℕ → Out) (costs : ℕ → Cost) → HasCost input.now outs costs → (let cost = costs input.now.index in
         let again : Place = record { pc = looping.body; moved = false; position = here.position } in
         let after : Place = record here { pc = looping.next } in
-        left.old + cost_ahead cost machine.new to
-        ≤ left.new + ((cost (at again (groups_of machine.old)) + cost (at after (groups_of machine.old))) + points_cost cost machine.old))) }
+        remaining.old + cost_ahead cost machine.new to
+        ≤ remaining.new + ((cost (at again (groups_of machine.old)) + cost (at after (groups_of machine.old))) + points_cost cost machine.old))) }
     ensures goes { IfOk result (λ to. to ≡ OutOfSteps → ⊥) }
 {
     let again = Place {
@@ -112,7 +112,7 @@ pub fn iterate(
         ..here
     };
     if looping.greedy {
-        match sweep(input, looping, here, machine, left)? {
+        match sweep(input, looping, here, machine, remaining)? {
             Some(to) => Ok(Next::On(to)),
             None => fork(input, again, after, machine),
         }
@@ -121,12 +121,12 @@ pub fn iterate(
     }
 }
 
-/// Passes over the choices at a place whose preferred alternatives are known to fail.
+/// Skips the choices at a place whose preferred alternatives are known to fail.
 ///
 /// # Preconditions
 /// The place is inside the routine and the text.
 #[inline(always)]
-fn pass_over(input: &Input<'_, '_>, place: Place) -> Place
+fn skip(input: &Input<'_, '_>, place: Place) -> Place
     requires input { IsInput input.now }
     requires pc { place.pc < length input.now.instructions.now }
     requires position { place.position ≤ length input.now.text.now }
@@ -159,7 +159,7 @@ fn other_alternative(input: &Input<'_, '_>, place: Place) -> Option<usize>
     ensures costs { IfSome result (λ other. (outs : ℕ → Out) (costs : ℕ → Cost) (g : Groups) → HasCost input.now outs costs →
         costs input.now.index (at (record place { pc = other }) g) ≤ costs input.now.index (at place g)) }
 {
-    let Some(count) = passed_at(input, place) else {
+    let Some(count) = skipped_at(input, place) else {
         return next_alternative(input, place);
     };
     if count == 0 {
@@ -168,15 +168,15 @@ fn other_alternative(input: &Input<'_, '_>, place: Place) -> Option<usize>
     Some(place.pc - count)
 }
 
-/// Returns the number of choices from a place on that are passed over at once, or `None` if it is not known.
+/// Returns the number of choices from a place on that are skipped at once, or `None` if it is not known.
 ///
 /// # Preconditions
 /// The routines are a program.
 #[inline(always)]
-fn passed_at(input: &Input<'_, '_>, place: Place) -> Option<usize>
+fn skipped_at(input: &Input<'_, '_>, place: Place) -> Option<usize>
     requires input { IsInput input.now }
-    ensures passed { IfSome result (λ count. (b : ℕ) × IsBeside (direction_if input.now.rules.backwards) input.now.text.now place.position b
-        × ArePassed input.now.fronts.now input.now.instructions.now b place.pc count) }
+    ensures skipped { IfSome result (λ count. (b : ℕ) × IsBeside (direction_if input.now.rules.backwards) input.now.text.now place.position b
+        × AreSkipped input.now.next_bytes.now input.now.instructions.now b place.pc count) }
     ensures within { IfSome result (λ count. count ≤ place.pc) }
 {
     let counts = counts_at(input, place.pc);
@@ -235,8 +235,8 @@ pub fn fails(input: &Input<'_, '_>, place: Place) -> bool
     requires input { IsInput input.now }
     ensures { result ≡ true → Fails input.now place }
 {
-    match front_at(input, place.pc) {
-        Some(front) => front.excludes(input.text, input.rules.backwards, place.position),
+    match next_bytes_at(input, place.pc) {
+        Some(next_byte) => next_byte.excludes(input.text, input.rules.backwards, place.position),
         None => false,
     }
 }

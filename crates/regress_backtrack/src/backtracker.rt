@@ -69,7 +69,7 @@ impl<'c, 'x> Backtracker<'c, 'x> {
     }
 
     /// Matches at exactly the byte offset `position`, with every group unset at first, and subtracts the steps from
-    /// `left`.
+    /// `remaining`.
     ///
     /// # Complexity
     /// The steps are counted as in [`Backtracker::find`]. With no group and no lookaround it allocates only while the stack
@@ -84,21 +84,21 @@ impl<'c, 'x> Backtracker<'c, 'x> {
         &mut self,
         alloc: Global,
         position: usize,
-        left: &mut u64,
+        remaining: &mut u64,
     ) -> Result<Outcome, AllocError>
         requires { position ≤ length (run_text self.old) }
         ensures solved { IfOk result (λ outcome. (outs : ℕ → Out) → AreOutcomes self.old outs →
             IsMatchResult position (outcomes_at self.old outs position) outcome) }
         ensures first { IfOk result (λ outcome. (t : Tree) → IsPattern (code_routines (run_code self.old)) t →
             IsMatchResult position (tree_outcomes_at self.old t position) outcome) }
-        ensures left { IfOk result (λ _. left.new ≤ left.old) }
+        ensures remaining { IfOk result (λ _. remaining.new ≤ remaining.old) }
         ensures costs { IfOk result (λ _. (outs : ℕ → Out) (costs : ℕ → Cost) → AreCosts self.old outs costs →
-            left.old ≤ left.new + cost_at self.old costs position) }
-        ensures spent { IfOk result (λ outcome. outcome ≡ OutOfSteps → left.new ≡ 0) }
+            remaining.old ≤ remaining.new + cost_at self.old costs position) }
+        ensures spent { IfOk result (λ outcome. outcome ≡ OutOfSteps → remaining.new ≡ 0) }
         ensures same { SameRuns self.old self.new }
     {
         let input = input_of(self.code, self.known, self.text);
-        self.match_in(alloc, &input, position, left)
+        self.match_in(alloc, &input, position, remaining)
     }
 
     /// Matches at exactly the byte offset `position`, as [`Backtracker::match_at`].
@@ -114,7 +114,7 @@ impl<'c, 'x> Backtracker<'c, 'x> {
         alloc: Global,
         input: &Input<'_, '_>,
         position: usize,
-        left: &mut u64,
+        remaining: &mut u64,
     ) -> Result<Outcome, AllocError>
         requires input { IsFor (run_code self.old) (run_tables self.old) (run_text self.old) input.now }
         requires position { position ≤ length (run_text self.old) }
@@ -122,13 +122,13 @@ impl<'c, 'x> Backtracker<'c, 'x> {
             IsMatchResult position (outcomes_at self.old outs position) outcome) }
         ensures first { IfOk result (λ outcome. (t : Tree) → IsPattern (code_routines (run_code self.old)) t →
             IsMatchResult position (tree_outcomes_at self.old t position) outcome) }
-        ensures left { IfOk result (λ _. left.new ≤ left.old) }
+        ensures remaining { IfOk result (λ _. remaining.new ≤ remaining.old) }
         ensures costs { IfOk result (λ _. (outs : ℕ → Out) (costs : ℕ → Cost) → AreCosts self.old outs costs →
-            left.old ≤ left.new + cost_at self.old costs position) }
-        ensures spent { IfOk result (λ outcome. outcome ≡ OutOfSteps → left.new ≡ 0) }
+            remaining.old ≤ remaining.new + cost_at self.old costs position) }
+        ensures spent { IfOk result (λ outcome. outcome ≡ OutOfSteps → remaining.new ≡ 0) }
         ensures same { SameRuns self.old self.new }
     {
-        let response = self.run_at(alloc, input, position, left)?;
+        let response = self.run_at(alloc, input, position, remaining)?;
         Ok(self.outcome_of(alloc, response, position))
     }
 
@@ -159,7 +159,7 @@ impl<'c, 'x> Backtracker<'c, 'x> {
         alloc: Global,
         input: &Input<'_, '_>,
         position: usize,
-        left: &mut u64,
+        remaining: &mut u64,
     ) -> Result<Response, AllocError>
         requires input { IsFor (run_code self.old) (run_tables self.old) (run_text self.old) input.now }
         requires position { position ≤ length (run_text self.old) }
@@ -167,15 +167,15 @@ impl<'c, 'x> Backtracker<'c, 'x> {
             IsResponseOf (outcomes_at self.old outs position) self.new.machine response) }
         ensures first { IfOk result (λ response. (t : Tree) → IsPattern (code_routines (run_code self.old)) t →
             IsResponseOf (tree_outcomes_at self.old t position) self.new.machine response) }
-        ensures left { IfOk result (λ _. left.new ≤ left.old) }
+        ensures remaining { IfOk result (λ _. remaining.new ≤ remaining.old) }
         ensures costs { IfOk result (λ _. (outs : ℕ → Out) (costs : ℕ → Cost) → AreCosts self.old outs costs →
-            left.old ≤ left.new + cost_at self.old costs position) }
-        ensures spent { IfOk result (λ response. response ≡ responses.OutOfSteps → left.new ≡ 0) }
+            remaining.old ≤ remaining.new + cost_at self.old costs position) }
+        ensures spent { IfOk result (λ response. response ≡ responses.OutOfSteps → remaining.new ≡ 0) }
         ensures same { SameRuns self.old self.new }
     {
         self.unset_all(alloc)?;
         self.unset = false;
-        let response = run(alloc, input, position, &mut self.machine, left)?;
+        let response = run(alloc, input, position, &mut self.machine, remaining)?;
         self.unset = matches!(response, Response::NoMatch);
         Ok(response)
     }

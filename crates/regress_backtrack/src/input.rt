@@ -3,14 +3,14 @@ ghost use Rattle.std.specs.Prelude.{◌≡◌, ◌<◌, IfSome, MatchOption, Non
 ghost use Rattle.regress_leaves.specs.Subject.{subject};
 ghost use Rattle.regress_unicode.specs.TableOf.{table_of};
 ghost use Rattle.regress_code.specs.Code.{code_routines};
-ghost use Rattle.regress_code.specs.Fronts.{FoldsIf};
+ghost use Rattle.regress_code.specs.NextBytes.{FoldsIf};
 ghost use Rattle.regress_backtrack.specs.Next.{IsInput};
-ghost use Rattle.regress_code.specs.Passes.{AreCounts};
+ghost use Rattle.regress_code.specs.Skips.{AreCounts};
 
 use regress_code::Code;
 use regress_code::analysis::Analysis;
-use regress_code::front::Front;
-use regress_code::passes::Pass;
+use regress_code::next_bytes::NextBytes;
+use regress_code::skips::Skip;
 use regress_leaves::rules::MatchContext;
 use regress_leaves::test::Test;
 use regress_program::instruction::Instruction;
@@ -28,10 +28,10 @@ pub struct Input<'c, 'x> {
     pub index: usize,
     /// The instructions of the routine.
     pub instructions: &'c [Instruction],
-    /// The fronts of the instructions.
-    pub fronts: &'c [Front],
-    /// The passes of the instructions.
-    pub passes: &'c [Pass],
+    /// The next bytes of the instructions.
+    pub next_bytes: &'c [NextBytes],
+    /// The skips of the instructions.
+    pub skips: &'c [Skip],
     /// The index of the instruction at which a match starts.
     pub first: usize,
 }
@@ -63,14 +63,14 @@ pub fn input_for<'c, 'x>(
         code,
         index,
         instructions: &routine.instructions,
-        fronts: &[],
-        passes: &[],
+        next_bytes: &[],
+        skips: &[],
         first: routine.entry,
     };
     match analysis_of(code, rules, index) {
         Some(analysis) => Input {
-            fronts: &analysis.fronts,
-            passes: &analysis.passes,
+            next_bytes: &analysis.next_bytes,
+            skips: &analysis.skips,
             ..input
         },
         None => input,
@@ -83,16 +83,16 @@ fn analysis_of<'c>(code: &'c Code, rules: MatchContext<'_>, index: usize) -> Opt
     ensures analysis { IfSome result (λ a. slice_get code.now.analyses.items index ≡ Some a.now) }
     ensures folds { IfSome result (λ a. FoldsIf code.now.folds (record { flags = rules.entry.flags; table = table_of rules.entry.known.tables.now })) }
 {
-    if has_fronts(code, rules) && index < code.analyses.len() {
+    if uses_next_bytes(code, rules) && index < code.analyses.len() {
         Some(&code.analyses[index])
     } else {
         None
     }
 }
 
-/// Returns whether the fronts of a program hold under these flags and case mappings.
+/// Returns whether the next bytes of a program hold under these flags and case mappings.
 #[inline(always)]
-fn has_fronts(code: &Code, rules: MatchContext<'_>) -> bool
+fn uses_next_bytes(code: &Code, rules: MatchContext<'_>) -> bool
     ensures { result ≡ true → FoldsIf code.now.folds (record { flags = rules.entry.flags; table = table_of rules.entry.known.tables.now }) }
 {
     !code.folds || rules.known.has_ascii_case(rules.flags)
@@ -124,19 +124,19 @@ pub fn test_at<'c>(input: &Input<'c, '_>, leaf: usize) -> Option<&'c Test>
     }
 }
 
-/// Returns the front of an instruction of the routine, or `None` if there is none with this index.
+/// Returns the next bytes of an instruction of the routine, or `None` if there is none with this index.
 #[inline(always)]
-pub fn front_at<'c>(input: &Input<'c, '_>, pc: usize) -> Option<&'c Front>
-    ensures { IfSome result (λ front. slice_get input.now.fronts.now pc ≡ Some front.now) }
+pub fn next_bytes_at<'c>(input: &Input<'c, '_>, pc: usize) -> Option<&'c NextBytes>
+    ensures { IfSome result (λ next_byte. slice_get input.now.next_bytes.now pc ≡ Some next_byte.now) }
 {
-    if pc < input.fronts.len() {
-        Some(&input.fronts[pc])
+    if pc < input.next_bytes.len() {
+        Some(&input.next_bytes[pc])
     } else {
         None
     }
 }
 
-/// Returns the number of choices that are passed over from an instruction of the routine on, for each byte. It is empty
+/// Returns the number of choices that are skipped from an instruction of the routine on, for each byte. It is empty
 /// if there is no instruction with this index.
 ///
 /// # Preconditions
@@ -144,10 +144,10 @@ pub fn front_at<'c>(input: &Input<'c, '_>, pc: usize) -> Option<&'c Front>
 #[inline(always)]
 pub fn counts_at<'c>(input: &Input<'c, '_>, pc: usize) -> &'c [u8]
     requires { IsInput input.now }
-    ensures { AreCounts input.now.fronts.now input.now.instructions.now pc result.now }
+    ensures { AreCounts input.now.next_bytes.now input.now.instructions.now pc result.now }
 {
-    if pc < input.passes.len() {
-        &input.passes[pc].counts
+    if pc < input.skips.len() {
+        &input.skips[pc].counts
     } else {
         &[]
     }

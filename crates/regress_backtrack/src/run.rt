@@ -42,7 +42,7 @@ pub struct Looking {
     pub next: usize,
 }
 
-/// Runs a routine from the byte offset `start` to its first outcome, and subtracts the steps from `left`.
+/// Runs a routine from the byte offset `start` to its first outcome, and subtracts the steps from `remaining`.
 ///
 /// The stack of the machine may have any content, which is removed. After an outcome the captures are those of the
 /// outcome, and the stack has their changes.
@@ -62,7 +62,7 @@ pub fn run(
     input: &Input<'_, '_>,
     start: usize,
     machine: &mut Machine,
-    left: &mut u64,
+    remaining: &mut u64,
 ) -> Result<Response, AllocError>
     requires program { IsProgram (code_routines input.now.code.now) }
     requires input { IsInput input.now }
@@ -73,12 +73,12 @@ pub fn run(
         IsResponseOf (matcher_of u.setting u.bytes program outs input.now.index (state machine.old.captures.items start)) machine.new response)) }
     ensures undo { IfOk result (λ _. (rewound machine.new).captures ≡ machine.old.captures.items) }
     ensures none { IfOk result (λ response. response ≡ NoMatch → machine.new.captures.items ≡ machine.old.captures.items) }
-    ensures left { IfOk result (λ _. left.new ≤ left.old) }
+    ensures remaining { IfOk result (λ _. remaining.new ≤ remaining.old) }
     ensures costs { IfOk result (λ _. (outs : ℕ → Out) (costs : ℕ → Cost) → (let u = subject input.now.rules input.now.text.now in
         let program = code_routines input.now.code.now in
         IsCost u.setting u.bytes program outs costs →
-        left.old ≤ left.new + cost_of u.setting u.bytes program costs input.now.index (state machine.old.captures.items start))) }
-    ensures spent { IfOk result (λ response. response ≡ OutOfSteps → left.new ≡ 0) }
+        remaining.old ≤ remaining.new + cost_of u.setting u.bytes program costs input.now.index (state machine.old.captures.items start))) }
+    ensures spent { IfOk result (λ response. response ≡ OutOfSteps → remaining.new ≡ 0) }
 {
     machine.stack.clear();
     let mut here = Place {
@@ -86,9 +86,9 @@ pub fn run(
         moved: true,
         position: start,
     };
-    while *left > 0 {
-        *left -= 1;
-        match advance(alloc, input, here, machine, left)? {
+    while *remaining > 0 {
+        *remaining -= 1;
+        match advance(alloc, input, here, machine, remaining)? {
             Next::On(to) => here = to,
             Next::Back => match resume(input, machine)? {
                 Some(to) => here = to,
@@ -133,7 +133,7 @@ fn advance(
     input: &Input<'_, '_>,
     here: Place,
     machine: &mut Machine,
-    left: &mut u64,
+    remaining: &mut u64,
 ) -> Result<Next, AllocError>
     requires program { IsProgram (code_routines input.now.code.now) }
     requires input { IsInput input.now }
@@ -144,10 +144,10 @@ fn advance(
         Leads (flat_map out (at here (groups_of machine.old) ∷ points machine.old)) out machine.new next)) }
     ensures inside { IfOk result (λ next. All (Inside input.now) (points machine.old) → All (Inside input.now) (ahead machine.new next)) }
     ensures rewound { IfOk result (λ _. rewound machine.new ≡ rewound machine.old) }
-    ensures left { IfOk result (λ _. left.new ≤ left.old) }
+    ensures remaining { IfOk result (λ _. remaining.new ≤ remaining.old) }
     ensures costs { IfOk result (λ next. (outs : ℕ → Out) (costs : ℕ → Cost) → HasCost input.now outs costs → (let cost = costs input.now.index in
-        left.old + 1 + cost_ahead cost machine.new next ≤ left.new + (cost (at here (groups_of machine.old)) + points_cost cost machine.old))) }
-    ensures spent { IfOk result (λ next. next ≡ nexts.OutOfSteps → left.new ≡ 0) }
+        remaining.old + 1 + cost_ahead cost machine.new next ≤ remaining.new + (cost (at here (groups_of machine.old)) + points_cost cost machine.old))) }
+    ensures spent { IfOk result (λ next. next ≡ nexts.OutOfSteps → remaining.new ≡ 0) }
 {
     let instruction = instruction_at(input, here.pc);
     match instruction {
@@ -161,9 +161,9 @@ fn advance(
                 routine,
                 next,
             };
-            look(alloc, input, looking, here, machine, left)
+            look(alloc, input, looking, here, machine, remaining)
         }
-        _ => step(input, instruction, here, machine, left),
+        _ => step(input, instruction, here, machine, remaining),
     }
 }
 
@@ -175,7 +175,7 @@ fn look(
     looking: Looking,
     here: Place,
     machine: &mut Machine,
-    left: &mut u64,
+    remaining: &mut u64,
 ) -> Result<Next, AllocError>
     requires program { IsProgram (code_routines input.now.code.now) }
     requires input { IsInput input.now }
@@ -190,11 +190,11 @@ fn look(
     ensures inside { IfOk result (λ next. looking.next < length input.now.instructions.now →
         All (Inside input.now) (points machine.old) → All (Inside input.now) (ahead machine.new next)) }
     ensures rewound { IfOk result (λ _. rewound machine.new ≡ rewound machine.old) }
-    ensures left { IfOk result (λ _. left.new ≤ left.old) }
+    ensures remaining { IfOk result (λ _. remaining.new ≤ remaining.old) }
     ensures costs { IfOk result (λ next. (outs : ℕ → Out) (costs : ℕ → Cost) → HasCost input.now outs costs → (let cost = costs input.now.index in
-        left.old + cost_ahead cost machine.new next ≤ left.new + (op_cost input.now outs costs
+        remaining.old + cost_ahead cost machine.new next ≤ remaining.new + (op_cost input.now outs costs
         (look looking.negate looking.routine looking.next) (at here (groups_of machine.old)) + points_cost cost machine.old))) }
-    ensures spent { IfOk result (λ next. next ≡ nexts.OutOfSteps → left.new ≡ 0) }
+    ensures spent { IfOk result (λ next. next ≡ nexts.OutOfSteps → remaining.new ≡ 0) }
 {
     let after = Place {
         pc: looking.next,
@@ -210,7 +210,7 @@ fn look(
         return Ok(on_if(looking.negate, after));
     }
     let outer = machine.enter(alloc);
-    let response = run(alloc, &inside, here.position, machine, left)?;
+    let response = run(alloc, &inside, here.position, machine, remaining)?;
     machine.leave(outer)?;
     Ok(next_after(response, looking.negate, after))
 }

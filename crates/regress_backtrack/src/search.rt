@@ -13,7 +13,7 @@ ghost use Rattle.regress_code.specs.declared.code.Code.{Code};
 ghost use Rattle.regress_found.specs.declared.outcome.Outcome.TheVariants.{OutOfSteps};
 
 use crate::backtracker::{Backtracker, input_of};
-use crate::input::{Input, front_at};
+use crate::input::{Input, next_bytes_at};
 use regress_code::Code;
 use regress_found::{Found, Outcome};
 use regress_leaves::known::Known;
@@ -50,31 +50,31 @@ pub fn match_at(
         found.steps ≤ cost_from code.now known.entry.tables.now text.now costs position) }
     ensures out_of_steps { IfOk result (λ found. found.outcome ≡ OutOfSteps → found.steps ≡ steps) }
 {
-    let mut left = steps;
+    let mut remaining = steps;
     let mut backtracker = Backtracker::new(alloc, code, known, text)?;
-    let outcome = backtracker.match_at(alloc, position, &mut left)?;
+    let outcome = backtracker.match_at(alloc, position, &mut remaining)?;
     Ok(Found {
         outcome,
-        steps: steps - left,
+        steps: steps - remaining,
     })
 }
 
 impl Backtracker<'_, '_> {
     /// Returns the leftmost match that starts at the byte offset `from` or later, on a character boundary, and subtracts
-    /// the steps from `left`.
+    /// the steps from `remaining`.
     ///
     /// # Complexity
     /// A step is an instruction. It counts 1, and also 1 for each byte by which it moves the position, and for each byte
     /// of the capture that a back reference is compared with. Each byte offset up to the match counts 1 more, also where
-    /// the first byte shows that no match begins. The result is [`Outcome::OutOfSteps`] as soon as `left` is used up,
+    /// the first byte shows that no match begins. The result is [`Outcome::OutOfSteps`] as soon as `remaining` is used up,
     /// and with 0 for each `from` in the text. A step that is begun is completed, even if it counts more than remains. If
     /// the first bytes show that no match begins in the rest of the text, that rest counts nothing.
     ///
     /// A search takes at most its cost: the steps that following every outcome from every byte offset takes. Every program
     /// has a cost in every text, and with more steps than that the result is not [`Outcome::OutOfSteps`].
     ///
-    /// So the limit bounds the time: it is at most `left` and the length of the text together, times a factor that depends
-    /// only on the program. The memory is at most `left` times such a factor, and is kept for the next search. Recursion is
+    /// So the limit bounds the time: it is at most `remaining` and the length of the text together, times a factor that depends
+    /// only on the program. The memory is at most `remaining` times such a factor, and is kept for the next search. Recursion is
     /// as deep as lookarounds are nested.
     ///
     /// # Errors
@@ -83,16 +83,16 @@ impl Backtracker<'_, '_> {
         &mut self,
         alloc: Global,
         from: usize,
-        left: &mut u64,
+        remaining: &mut u64,
     ) -> Result<Outcome, AllocError>
         ensures solved { IfOk result (λ outcome. (outs : ℕ → Out) → AreOutcomes self.old outs →
             IsSearchResult (run_text self.old) (outcomes_at self.old outs) from outcome) }
         ensures finds { IfOk result (λ outcome. (t : Tree) → IsPattern (code_routines (run_code self.old)) t →
             IsSearchResult (run_text self.old) (tree_outcomes_at self.old t) from outcome) }
-        ensures left { IfOk result (λ _. left.new ≤ left.old) }
+        ensures remaining { IfOk result (λ _. remaining.new ≤ remaining.old) }
         ensures costs { IfOk result (λ _. (outs : ℕ → Out) (costs : ℕ → Cost) → AreCosts self.old outs costs →
-            left.old ≤ left.new + search_cost_at self.old costs from) }
-        ensures spent { IfOk result (λ outcome. outcome ≡ OutOfSteps → left.new ≡ 0) }
+            remaining.old ≤ remaining.new + search_cost_at self.old costs from) }
+        ensures spent { IfOk result (λ outcome. outcome ≡ OutOfSteps → remaining.new ≡ 0) }
         ensures same { SameRuns self.old self.new }
     {
         let code = self.code;
@@ -100,16 +100,16 @@ impl Backtracker<'_, '_> {
         let input = input_of(code, self.known, text);
         let mut from = from;
         while from <= text.len() {
-            if *left == 0 {
+            if *remaining == 0 {
                 return Ok(Outcome::OutOfSteps);
             }
             let Some(position) = next_start(code, &input, text, from) else {
                 return Ok(Outcome::NoMatch);
             };
             // the bytes that are skipped, and the position that is tried
-            *left = left.saturating_sub((position - from) as u64 + 1);
+            *remaining = remaining.saturating_sub((position - from) as u64 + 1);
             if text.is_char_boundary(position) {
-                match self.match_in(alloc, &input, position, left)? {
+                match self.match_in(alloc, &input, position, remaining)? {
                     Outcome::Matched(found) => return Ok(Outcome::Matched(found)),
                     Outcome::NoMatch => {}
                     Outcome::OutOfSteps => return Ok(Outcome::OutOfSteps),
@@ -129,29 +129,29 @@ impl Backtracker<'_, '_> {
 fn next_start(code: &Code, input: &Input<'_, '_>, text: &str, from: usize) -> Option<usize>
     requires { from ≤ length text.now }
     ensures within { IfSome result (λ position. (from ≤ position) × (position ≤ length text.now)) }
-    ensures passed { (tables : Tables) → IsFor code.now tables text.now input.now →
+    ensures skipped { (tables : Tables) → IsFor code.now tables text.now input.now →
         (outs : ℕ → Out) → IsSolution (setting_with code.now tables) text.now (code_routines code.now) outs →
         (k : ℕ) → from ≤ k → k ≤ length text.now → MatchOption result Unit (λ position. k < position) →
         outcomes_from code.now tables text.now outs k ≡ [] }
 {
     match next_candidate_from(&code.candidates, text, from) {
-        Some(position) => Some(next_by_front(input, text, position)),
+        Some(position) => Some(next_by_first_bytes(input, text, position)),
         None => None,
     }
 }
 
-/// Returns the same by the front of the first instruction alone.
+/// Returns the same by the next bytes of the first instruction alone.
 #[inline(always)]
-fn next_by_front(input: &Input<'_, '_>, text: &str, from: usize) -> usize
+fn next_by_first_bytes(input: &Input<'_, '_>, text: &str, from: usize) -> usize
     requires { from ≤ length text.now }
     ensures low { from ≤ result }
     ensures high { result ≤ length text.now }
-    ensures passed { (code : Code) (tables : Tables) → IsFor code tables text.now input.now →
+    ensures skipped { (code : Code) (tables : Tables) → IsFor code tables text.now input.now →
         (outs : ℕ → Out) → IsSolution (setting_with code tables) text.now (code_routines code) outs →
         (k : ℕ) → from ≤ k → k < result → outcomes_from code tables text.now outs k ≡ [] }
 {
-    match front_at(input, input.first) {
-        Some(front) => front.next_from(text, from),
+    match next_bytes_at(input, input.first) {
+        Some(next_byte) => next_byte.next_from(text, from),
         None => from,
     }
 }

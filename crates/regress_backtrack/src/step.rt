@@ -46,7 +46,7 @@ pub enum Next {
 /// The instruction is that of `here` in the routine of the input, and no lookaround.
 ///
 /// # Complexity
-/// It subtracts from the remaining steps `left` the number of bytes by which it moves the position, and the length of
+/// It subtracts from the remaining steps `remaining` the number of bytes by which it moves the position, and the length of
 /// the capture that a back reference is compared with.
 ///
 /// # Errors
@@ -57,7 +57,7 @@ pub fn step(
     instruction: Instruction,
     here: Place,
     machine: &mut Machine,
-    left: &mut u64,
+    remaining: &mut u64,
 ) -> Result<Next, AllocError>
     requires can { CanStep input.now (op_in input.now.code.now.program.leaves.items instruction) here }
     requires input { IsInput input.now }
@@ -69,9 +69,9 @@ pub fn step(
         out machine.new next)) }
     ensures inside { IfOk result (λ next. All (Inside input.now) (points machine.old) → All (Inside input.now) (ahead machine.new next)) }
     ensures rewound { IfOk result (λ _. rewound machine.new ≡ rewound machine.old) }
-    ensures left { IfOk result (λ _. left.new ≤ left.old) }
+    ensures remaining { IfOk result (λ _. remaining.new ≤ remaining.old) }
     ensures costs { IfOk result (λ next. (outs : ℕ → Out) (costs : ℕ → Cost) → HasCost input.now outs costs → (let cost = costs input.now.index in
-        left.old + cost_ahead cost machine.new next ≤ left.new + (op_cost input.now outs costs
+        remaining.old + cost_ahead cost machine.new next ≤ remaining.new + (op_cost input.now outs costs
         (op_in input.now.code.now.program.leaves.items instruction) (at here (groups_of machine.old)) + points_cost cost machine.old))) }
     ensures goes { IfOk result (λ next. next ≡ OutOfSteps → ⊥) }
 {
@@ -79,20 +79,32 @@ pub fn step(
         Instruction::Accept => Ok(Next::Accept(here.position)),
         Instruction::Fail => Ok(Next::Back),
         Instruction::Leaf { leaf, next } => {
-            Ok(match_leaf(input, leaf, next, here, machine, left))
+            Ok(match_leaf(input, leaf, next, here, machine, remaining))
         }
         Instruction::Characters { leaf, count, next } => {
-            Ok(match_characters(input, leaf, count, next, here, left))
+            Ok(match_characters(input, leaf, count, next, here, remaining))
         }
         Instruction::Split { first, second } => {
             fork(input, goto(first, here), goto(second, here), machine)
         }
         Instruction::BeginLoop { greedy, body, next } => {
-            iterate(input, Looping { greedy, body, next }, here, machine, left)
+            iterate(
+                input,
+                Looping { greedy, body, next },
+                here,
+                machine,
+                remaining,
+            )
         }
         Instruction::Repeat { greedy, body, next } => {
             if here.moved {
-                iterate(input, Looping { greedy, body, next }, here, machine, left)
+                iterate(
+                    input,
+                    Looping { greedy, body, next },
+                    here,
+                    machine,
+                    remaining,
+                )
             } else {
                 Ok(Next::Back)
             }
@@ -132,24 +144,24 @@ fn match_leaf(
     next: usize,
     here: Place,
     machine: &Machine,
-    left: &mut u64,
+    remaining: &mut u64,
 ) -> Next
     requires { CanStep input.now (part_of (slice_get input.now.code.now.program.leaves.items leaf) next) here }
     ensures leads { (body_of : ℕ → Matcher) (out : Out) → (let u = subject input.now.rules input.now.text.now in
         Leads (outcomes_by u.setting u.bytes u.direction body_of out (part_of (slice_get input.now.code.now.program.leaves.items leaf) next)
         (at here (groups_of machine.now)) ++ flat_map out (points machine.now)) out machine.now result) }
     ensures inside { All (Inside input.now) (points machine.now) → All (Inside input.now) (ahead machine.now result) }
-    ensures left { left.new ≤ left.old }
+    ensures remaining { remaining.new ≤ remaining.old }
     ensures costs { (outs : ℕ → Out) (costs : ℕ → Cost) → (let cost = costs input.now.index in
-        left.old + cost_ahead cost machine.now result ≤ left.new + (op_cost input.now outs costs
+        remaining.old + cost_ahead cost machine.now result ≤ remaining.new + (op_cost input.now outs costs
         (part_of (slice_get input.now.code.now.program.leaves.items leaf) next) (at here (groups_of machine.now)) + points_cost cost machine.now)) }
     ensures goes { result ≡ OutOfSteps → ⊥ }
 {
     let Some(test) = test_at(input, leaf) else {
         return Next::Back;
     };
-    let to = test_end(input, test, here.position, &machine.captures, left);
-    reach(here, next, to, left)
+    let to = test_end(input, test, here.position, &machine.captures, remaining);
+    reach(here, next, to, remaining)
 }
 
 /// Returns the position at which a leaf ends, or `None` if it fails, as [`leaf_end`], which decides unless the next
@@ -163,13 +175,13 @@ fn test_end(
     test: &Test,
     position: usize,
     captures: &[Option<(usize, usize)>],
-    left: &mut u64,
+    remaining: &mut u64,
 ) -> Option<usize>
     requires { IsPart (tree test.now.node) }
     ensures to { let u = subject input.now.rules input.now.text.now in
         steps u.setting u.bytes u.direction (tree test.now.node) (state captures.now position) ≡ put (state captures.now position) result }
-    ensures left { left.new ≤ left.old }
-    ensures costs { left.old ≤ left.new + compared (tree test.now.node) (state captures.now position) }
+    ensures remaining { remaining.new ≤ remaining.old }
+    ensures costs { remaining.old ≤ remaining.new + compared (tree test.now.node) (state captures.now position) }
 {
     match test
         .start
@@ -182,7 +194,7 @@ fn test_end(
             &test.node,
             position,
             captures,
-            left,
+            remaining,
         ),
     }
 }
@@ -198,16 +210,16 @@ fn match_characters(
     count: usize,
     next: usize,
     here: Place,
-    left: &mut u64,
+    remaining: &mut u64,
 ) -> Next
     requires { CanStep input.now (characters_of (slice_get input.now.code.now.program.leaves.items leaf) count next) here }
     ensures leads { (machine : Machine) (body_of : ℕ → Matcher) (out : Out) → (let u = subject input.now.rules input.now.text.now in
         Leads (outcomes_by u.setting u.bytes u.direction body_of out (characters_of (slice_get input.now.code.now.program.leaves.items leaf) count next)
         (at here (groups_of machine)) ++ flat_map out (points machine)) out machine result) }
     ensures inside { (machine : Machine) → All (Inside input.now) (points machine) → All (Inside input.now) (ahead machine result) }
-    ensures left { left.new ≤ left.old }
+    ensures remaining { remaining.new ≤ remaining.old }
     ensures costs { (machine : Machine) (outs : ℕ → Out) (costs : ℕ → Cost) → (let cost = costs input.now.index in
-        left.old + cost_ahead cost machine result ≤ left.new + (op_cost input.now outs costs
+        remaining.old + cost_ahead cost machine result ≤ remaining.new + (op_cost input.now outs costs
         (characters_of (slice_get input.now.code.now.program.leaves.items leaf) count next) (at here (groups_of machine)) + points_cost cost machine)) }
     ensures goes { result ≡ OutOfSteps → ⊥ }
 {
@@ -215,7 +227,7 @@ fn match_characters(
         return Next::Back;
     };
     let to = characters_end(input, test, count, here.position);
-    reach(here, next, to, left)
+    reach(here, next, to, remaining)
 }
 
 /// Returns the position after exactly `count` characters, each of which matches a leaf, or `None` if there are fewer.
@@ -268,16 +280,16 @@ fn goto(pc: usize, here: Place) -> Place
 /// Goes on from where a part ends, and subtracts from the remaining steps the bytes that it has matched. Backtracks if
 /// it fails.
 #[inline(always)]
-fn reach(here: Place, next: usize, to: Option<usize>, left: &mut u64) -> Next
+fn reach(here: Place, next: usize, to: Option<usize>, remaining: &mut u64) -> Next
     ensures next { MatchOption to (result ≡ Back)
         (λ q. result ≡ On (record { pc = next; moved = here.moved || not (q == here.position); position = q })) }
-    ensures left { left.new ≤ left.old }
-    ensures costs { MatchOption to (left.new ≡ left.old) (λ q. left.old ≤ left.new + abs_diff here.position q) }
+    ensures remaining { remaining.new ≤ remaining.old }
+    ensures costs { MatchOption to (remaining.new ≡ remaining.old) (λ q. remaining.old ≤ remaining.new + abs_diff here.position q) }
 {
     match to {
         None => Next::Back,
         Some(position) => {
-            *left = left.saturating_sub(position.abs_diff(here.position) as u64);
+            *remaining = remaining.saturating_sub(position.abs_diff(here.position) as u64);
             Next::On(Place {
                 pc: next,
                 moved: here.moved | (position != here.position),

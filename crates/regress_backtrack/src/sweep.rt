@@ -33,7 +33,7 @@ struct Swept<'c> {
 /// The loop is greedy, its body and what follows are inside the routine, and the position is inside the text.
 ///
 /// # Complexity
-/// It subtracts from the remaining steps `left` the number of characters that it consumes.
+/// It subtracts from the remaining steps `remaining` the number of characters that it consumes.
 ///
 /// # Errors
 /// Returns [`AllocError`] if an allocation fails.
@@ -43,7 +43,7 @@ pub fn sweep(
     looping: Looping,
     here: Place,
     machine: &mut Machine,
-    left: &mut u64,
+    remaining: &mut u64,
 ) -> Result<Option<Place>, AllocError>
     requires input { IsInput input.now }
     requires body { looping.body < length input.now.instructions.now }
@@ -59,13 +59,13 @@ pub fn sweep(
     ensures inside { IfOk result (λ found. IfSome found (λ to.
         All (Inside input.now) (points machine.old) → All (Inside input.now) (at to (groups_of machine.new) ∷ points machine.new))) }
     ensures rewound { IfOk result (λ _. rewound machine.new ≡ rewound machine.old) }
-    ensures left { IfOk result (λ _. left.new ≤ left.old) }
-    ensures costs { IfOk result (λ found. MatchOption found (left.new ≡ left.old)
+    ensures remaining { IfOk result (λ _. remaining.new ≤ remaining.old) }
+    ensures costs { IfOk result (λ found. MatchOption found (remaining.new ≡ remaining.old)
         (λ to. (outs : ℕ → Out) (costs : ℕ → Cost) → HasCost input.now outs costs → (let cost = costs input.now.index in
         let again : Place = record { pc = looping.body; moved = false; position = here.position } in
         let after : Place = record here { pc = looping.next } in
-        left.old + (cost (at to (groups_of machine.new)) + points_cost cost machine.new)
-        ≤ left.new + ((cost (at again (groups_of machine.old)) + cost (at after (groups_of machine.old))) + points_cost cost machine.old)))) }
+        remaining.old + (cost (at to (groups_of machine.new)) + points_cost cost machine.new)
+        ≤ remaining.new + ((cost (at again (groups_of machine.old)) + cost (at after (groups_of machine.old))) + points_cost cost machine.old)))) }
 {
     let Some(swept) = sole_leaf(input, looping) else {
         return Ok(None);
@@ -79,7 +79,7 @@ pub fn sweep(
         ..here
     };
     machine.choose_range(after, count - 1)?;
-    *left = left.saturating_sub(count as u64);
+    *remaining = remaining.saturating_sub(count as u64);
     Ok(Some(Place {
         pc: swept.repeat_pc,
         moved: true,

@@ -1,5 +1,5 @@
 pub mod lemmas
 mod CandidateLemmas
-mod FrontLemmas
+mod NextBytesLemmas
 mod ListLemmas
-mod PassLemmas
+mod SkipLemmas

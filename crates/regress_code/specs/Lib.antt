@@ -1,4 +1,4 @@
 pub mod Candidates
 pub mod Code
-pub mod Fronts
-pub mod Passes
+pub mod NextBytes
+pub mod Skips

@@ -2,11 +2,11 @@
 ghost use Rattle.std.specs.Prelude.{IfOk};
 ghost use Rattle.regress_program.specs.Views.{ops_in};
 ghost use Rattle.regress_tree.specs.Reading.{direction_if};
-ghost use Rattle.regress_code.specs.Fronts.{AreFrontsOf, HaveFronts};
-ghost use Rattle.regress_code.specs.Passes.{ArePasses, HavePasses};
+ghost use Rattle.regress_code.specs.NextBytes.{AreNextBytesOf, HaveNextBytes};
+ghost use Rattle.regress_code.specs.Skips.{AreSkips, HaveSkips};
 
-use crate::front::{Front, fronts_of};
-use crate::passes::{Pass, passes_of};
+use crate::next_bytes::{NextBytes, next_bytes_of};
+use crate::skips::{Skip, skips_of};
 use regress_leaves::test::Test;
 use regress_program::Program;
 use regress_program::instruction::Routine;
@@ -15,10 +15,10 @@ use std::alloc::{AllocError, Global};
 /// What is known of what follows the instructions of a routine.
 #[derive(Drop)]
 pub struct Analysis {
-    /// The fronts of the instructions.
-    pub fronts: Vec<Front>,
-    /// The passes of the instructions.
-    pub passes: Vec<Pass>,
+    /// The next bytes of the instructions.
+    pub next_bytes: Vec<NextBytes>,
+    /// The skips of the instructions.
+    pub skips: Vec<Skip>,
 }
 
 /// Returns the analysis of each routine of a program.
@@ -30,8 +30,8 @@ pub(crate) fn analyze(
     program: &Program,
     folds: bool,
 ) -> Result<Vec<Analysis>, AllocError>
-    ensures fronts { IfOk result (λ analyses. HaveFronts folds program.now.leaves.items program.now.routines.items analyses.items) }
-    ensures passes { IfOk result (λ analyses. HavePasses program.now.routines.items analyses.items) }
+    ensures next_bytes { IfOk result (λ analyses. HaveNextBytes folds program.now.leaves.items program.now.routines.items analyses.items) }
+    ensures skips { IfOk result (λ analyses. HaveSkips program.now.routines.items analyses.items) }
 {
     let mut analyses = Vec::with_capacity(alloc, program.routines.len())?;
     for routine in &program.routines {
@@ -51,16 +51,16 @@ fn analyze_routine(
     routine: &Routine,
     folds: bool,
 ) -> Result<Analysis, AllocError>
-    ensures fronts { IfOk result (λ a. AreFrontsOf folds a.fronts.items (direction_if routine.now.backwards) (ops_in leaves.now routine.now.instructions.items)) }
-    ensures passes { IfOk result (λ a. ArePasses a.passes.items a.fronts.items routine.now.instructions.items) }
+    ensures next_bytes { IfOk result (λ a. AreNextBytesOf folds a.next_bytes.items (direction_if routine.now.backwards) (ops_in leaves.now routine.now.instructions.items)) }
+    ensures skips { IfOk result (λ a. AreSkips a.skips.items a.next_bytes.items routine.now.instructions.items) }
 {
-    let fronts = fronts_of(
+    let next_bytes = next_bytes_of(
         alloc,
         leaves,
         &routine.instructions,
         routine.backwards,
         folds,
     )?;
-    let passes = passes_of(alloc, &fronts, &routine.instructions)?;
-    Ok(Analysis { fronts, passes })
+    let skips = skips_of(alloc, &next_bytes, &routine.instructions)?;
+    Ok(Analysis { next_bytes, skips })
 }

@@ -9,8 +9,8 @@ ghost use Rattle.regress_program.specs.Size.{program_size};
 ghost use Rattle.regress_program.specs.Tidy.{has_no_back_reference, table_groups as groups_by_tables};
 ghost use Rattle.regress_program.specs.declared.fault.CompileFault.TheVariants.{TooLong};
 ghost use Rattle.regress_code.specs.Candidates.{BeginsAt, BeginsAt-prop};
-ghost use Rattle.regress_code.specs.Fronts.{HaveFronts, HaveFronts-prop};
-ghost use Rattle.regress_code.specs.Passes.{HavePasses, HavePasses-prop};
+ghost use Rattle.regress_code.specs.NextBytes.{HaveNextBytes, HaveNextBytes-prop};
+ghost use Rattle.regress_code.specs.Skips.{HaveSkips, HaveSkips-prop};
 
 use crate::analysis::{Analysis, analyze};
 use regress_prefilter::candidates::{Candidates, candidates_of};
@@ -27,11 +27,11 @@ pub struct Code {
     pub analyses: Vec<Analysis>,
     /// Where matches can begin.
     pub candidates: Candidates,
-    /// Whether the fronts hold only where canonical forms of ASCII characters are those of ASCII.
+    /// Whether the next bytes hold only where canonical forms of ASCII characters are those of ASCII.
     pub folds: bool,
     ghost begins: { BeginsAt candidates (routines_of program) } by { BeginsAt-prop candidates (routines_of program) },
-    ghost fronted: { HaveFronts folds program.leaves.items program.routines.items analyses.items } by { HaveFronts-prop folds program.leaves.items program.routines.items analyses.items },
-    ghost passing: { HavePasses program.routines.items analyses.items } by { HavePasses-prop program.routines.items analyses.items },
+    ghost bounded: { HaveNextBytes folds program.leaves.items program.routines.items analyses.items } by { HaveNextBytes-prop folds program.leaves.items program.routines.items analyses.items },
+    ghost counted: { HaveSkips program.routines.items analyses.items } by { HaveSkips-prop program.routines.items analyses.items },
 }
 
 impl Code {

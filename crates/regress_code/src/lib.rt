@@ -3,7 +3,7 @@
 
 pub mod analysis;
 mod code;
-pub mod front;
-pub mod passes;
+pub mod next_bytes;
+pub mod skips;
 
 pub use code::Code;

@@ -12,7 +12,7 @@ use Rattle.regress_unicode.specs.declared.Tables.{Tables}
 use Rattle.regress_code.specs.declared.code.Code.{Code}
 use Rattle.regress_match.specs.Compiled.{IsCodeOf}
 use Rattle.regress_match.specs.Costs.{AreCosts, IsWithinFindCost, find_cost}
-use Rattle.regress_match.specs.Iterated.{IsSameIteration, iterated_from, iterated_matcher, iterated_text, step_limit, steps_left}
+use Rattle.regress_match.specs.Iterated.{IsSameIteration, iterated_from, iterated_matcher, iterated_text, step_limit, steps_remaining}
 use Rattle.regress_match.specs.Kept.{IsRunOf}
 use Rattle.regress_match.specs.Matcher.{factor_of}
 use Rattle.regress_match.specs.Pattern.{matcher_setting, matcher_tree}
@@ -70,10 +70,10 @@ runs_on m text b new is same = record {
 
 -- A search that first looks for a byte that each match contains.
 pub within_both : (old mid : MatcherMatches) (after : ℕ) → IsSameIteration old mid → iterated_from mid ≡ iterated_from old →
-    steps_left old ≤ steps_left mid + (length (iterated_text old) + 1) →
+    steps_remaining old ≤ steps_remaining mid + (length (iterated_text old) + 1) →
     ((outs : ℕ → Out) (costs : ℕ → Cost) → AreCosts (iterated_matcher mid) (iterated_text mid) outs costs →
-    steps_left mid ≤ after + find_cost (iterated_matcher mid) (iterated_text mid) costs (iterated_from mid)) →
-    IsWithinFindCost (iterated_matcher old) (iterated_text old) (iterated_from old) (steps_left old - after)
+    steps_remaining mid ≤ after + find_cost (iterated_matcher mid) (iterated_text mid) costs (iterated_from mid)) →
+    IsWithinFindCost (iterated_matcher old) (iterated_text old) (iterated_from old) (steps_remaining old - after)
 within_both old mid after same stays looked ran outs costs are =
     let there : AreCosts (iterated_matcher mid) (iterated_text mid) outs costs =
     subst (λ m. AreCosts m (iterated_text mid) outs costs) (sym same.matcher)
@@ -87,19 +87,19 @@ within_both old mid after same stays looked ran outs costs are =
 
 -- The steps that a first search with a step limit counts.
 pub first_within : (m : Matcher) (text : List ℕ) (from : ℕ) (first next : MatcherMatches) (steps : ℕ) → iterated_matcher first ≡ m →
-    iterated_text first ≡ text → iterated_from first ≡ from → steps_left first ≡ step_limit first → IsSameIteration first next →
-    IfNone (factor_of (iterated_matcher next)) (steps + steps_left next ≡ step_limit next) →
-    IsWithinFindCost (iterated_matcher first) (iterated_text first) (iterated_from first) (steps_left first - steps_left next) →
+    iterated_text first ≡ text → iterated_from first ≡ from → steps_remaining first ≡ step_limit first → IsSameIteration first next →
+    IfNone (factor_of (iterated_matcher next)) (steps + steps_remaining next ≡ step_limit next) →
+    IsWithinFindCost (iterated_matcher first) (iterated_text first) (iterated_from first) (steps_remaining first - steps_remaining next) →
     IfNone (factor_of m) (IsWithinFindCost m text from steps)
 first_within m text from first next steps matcher same_text origin all same counted within =
-    by (factor_of m) (subst (λ m. IfNone (factor_of m) (steps + steps_left next ≡ step_limit next)) (same.matcher ∙ matcher) counted)
+    by (factor_of m) (subst (λ m. IfNone (factor_of m) (steps + steps_remaining next ≡ step_limit next)) (same.matcher ∙ matcher) counted)
   where
-    there : IsWithinFindCost m text from (steps_left first - steps_left next)
+    there : IsWithinFindCost m text from (steps_remaining first - steps_remaining next)
     there =
-        subst (λ m. IsWithinFindCost m text from (steps_left first - steps_left next)) matcher
-        (subst (λ t. IsWithinFindCost (iterated_matcher first) t from (steps_left first - steps_left next)) same_text
-        (subst (λ k. IsWithinFindCost (iterated_matcher first) (iterated_text first) k (steps_left first - steps_left next)) origin within))
+        subst (λ m. IsWithinFindCost m text from (steps_remaining first - steps_remaining next)) matcher
+        (subst (λ t. IsWithinFindCost (iterated_matcher first) t from (steps_remaining first - steps_remaining next)) same_text
+        (subst (λ k. IsWithinFindCost (iterated_matcher first) (iterated_text first) k (steps_remaining first - steps_remaining next)) origin within))
 
-    by : (o : Option ℕ) → IfNone o (steps + steps_left next ≡ step_limit next) → IfNone o (IsWithinFindCost m text from steps)
+    by : (o : Option ℕ) → IfNone o (steps + steps_remaining next ≡ step_limit next) → IfNone o (IsWithinFindCost m text from steps)
     by None is = λ outs costs are. (let le = there outs costs are in omega (arith, is, same.limit, all, le))
     by (Some n) is = tt

@@ -190,10 +190,10 @@ more_steps instructions text from s t s' at (Some m) before more sum is inside =
     (min (max end (start + 1)) (n + 1)) (end + 1 - from) before more sum (omega (arith, low, high, inside)) (omega (arith, low, high, inside))
 
 -- all steps of a repeated search
-pub all_steps : (instructions n limit left searched from steps : ℕ) → limit ≤ 64 * (n + 1) →
-    searched ≤ 2 * instructions * (n + 1) + 2 * (2 * instructions + 1) * min from (n + 1) → steps ≤ (limit - left) + searched →
+pub all_steps : (instructions n limit remaining searched from steps : ℕ) → limit ≤ 64 * (n + 1) →
+    searched ≤ 2 * instructions * (n + 1) + 2 * (2 * instructions + 1) * min from (n + 1) → steps ≤ (limit - remaining) + searched →
     steps ≤ (64 + 2 * instructions + 2 * (2 * instructions + 1)) * (n + 1)
-all_steps instructions n limit left searched from steps budget kept sum =
+all_steps instructions n limit remaining searched from steps budget kept sum =
     let most = mul-le-mul_left (2 * (2 * instructions + 1)) (let h : min from (n + 1) ≤ n + 1 = omega arith in h) in
     omega (arith, most, budget, kept, sum)
 
@@ -238,8 +238,8 @@ linear-unless routines within =
     by (Some reasons.CapturingLookaround) false = refl
 
 -- the steps of a matcher
-module _ (m : Matcher) (text : List ℕ) (limit left from taken : ℕ) (search : Option TextSearch) (kept : IfKept m text from taken search) where
-  pub linear_steps : (steps : ℕ) → IfSome (factor_of m) (λ _. limit ≤ 64 * (length text + 1)) → steps ≤ (limit - left) + taken →
+module _ (m : Matcher) (text : List ℕ) (limit remaining from taken : ℕ) (search : Option TextSearch) (kept : IfKept m text from taken search) where
+  pub linear_steps : (steps : ℕ) → IfSome (factor_of m) (λ _. limit ≤ 64 * (length text + 1)) → steps ≤ (limit - remaining) + taken →
       IfSome (factor_of m) (λ n. steps ≤ n * (length text + 1))
   linear_steps steps short sum = by (factor_of m) refl short
     where
@@ -250,7 +250,7 @@ module _ (m : Matcher) (text : List ℕ) (limit left from taken : ℕ) (search :
           subst (λ k. steps ≤ k * (length text + 1)) (sym form.1) (let h : steps ≤ factor form.0 * (length text + 1) = omega (arith, none, small, sum) in h)
       in_tables n (Some s) k is small =
           let same : factor (searched_size s) ≡ n = let e : Some (factor (searched_size s)) ≡ Some n = sym k.size ∙ is in cc in
-          let all = all_steps (searched_size s) (length text) limit left taken from steps small k.steps sum in
+          let all = all_steps (searched_size s) (length text) limit remaining taken from steps small k.steps sum in
           subst (λ k. steps ≤ k * (length text + 1)) same all
 
       by : (o : Option ℕ) → factor_of m ≡ o → IfSome o (λ _. limit ≤ 64 * (length text + 1)) → IfSome o (λ n. steps ≤ n * (length text + 1))

@@ -21,12 +21,12 @@ iterated_from m = m.from
 abbrev pub iterated_outcomes : MatcherMatches → (position : ℕ) → List MatchState
 iterated_outcomes m = matcher_outcomes (iterated_matcher m) (iterated_text m)
 
--- the step limit of backtracking, and the number of steps that are left
+-- the step limit of backtracking, and the number of remaining steps
 abbrev pub step_limit : MatcherMatches → ℕ
 step_limit m = m.limit
 
-abbrev pub steps_left : MatcherMatches → ℕ
-steps_left m = m.left
+abbrev pub steps_remaining : MatcherMatches → ℕ
+steps_remaining m = m.remaining
 
 -- the matcher, the text and the step limit of a repeated search are unchanged
 pub record IsSameIteration (old new : MatcherMatches) : Type 0 where

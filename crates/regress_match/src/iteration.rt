@@ -4,7 +4,7 @@ ghost use Rattle.regress_tree.specs.WellFormed.{IsWellFormed};
 ghost use Rattle.regress_program.specs.Cost.{Cost};
 ghost use Rattle.regress_program.specs.Program.{Out};
 ghost use Rattle.regress_match.specs.Costs.{AreCosts, IsWithinFindCost, find_cost};
-ghost use Rattle.regress_match.specs.Iterated.{IsSameIteration, iterated_from, iterated_matcher, iterated_text, step_limit, steps_left};
+ghost use Rattle.regress_match.specs.Iterated.{IsSameIteration, iterated_from, iterated_matcher, iterated_text, step_limit, steps_remaining};
 ghost use Rattle.regress_match.specs.Kept.{IsRunOf};
 ghost use Rattle.regress_found.specs.Results.{IsSearchResult, IfMatched, IfOutOfSteps};
 ghost use Rattle.regress_found.specs.Found.{IsInside, start_of};
@@ -62,8 +62,8 @@ impl<'m> MatcherMatches<'m> {
         ensures stays { OnErr result (iterated_from self.new ≡ iterated_from self.old) }
         ensures same { IsSameIteration self.old self.new }
         ensures linear { IfOk result (λ outcome. IfSome (factor_of (iterated_matcher self.old)) (λ _. IfOutOfSteps outcome ⊥)) }
-        ensures limited { IfOk result (λ outcome. IfNone (factor_of (iterated_matcher self.old)) (IfOutOfSteps outcome (steps_left self.new ≡ 0))) }
-        ensures costs { IfOk result (λ _. IsWithinFindCost (iterated_matcher self.old) (iterated_text self.old) (iterated_from self.old) (steps_left self.old - steps_left self.new)) }
+        ensures limited { IfOk result (λ outcome. IfNone (factor_of (iterated_matcher self.old)) (IfOutOfSteps outcome (steps_remaining self.new ≡ 0))) }
+        ensures costs { IfOk result (λ _. IsWithinFindCost (iterated_matcher self.old) (iterated_text self.old) (iterated_from self.old) (steps_remaining self.old - steps_remaining self.new)) }
     {
         if self.search.is_some() {
             return self.find_in_tables(alloc);
@@ -91,9 +91,9 @@ impl<'m> MatcherMatches<'m> {
     /// error some are not counted.
     pub fn steps(&self) -> u64
         ensures linear { IfSome (factor_of (iterated_matcher self.now)) (λ n. result ≤ n * (length (iterated_text self.now) + 1)) }
-        ensures limited { IfNone (factor_of (iterated_matcher self.now)) (result + steps_left self.now ≡ step_limit self.now) }
+        ensures limited { IfNone (factor_of (iterated_matcher self.now)) (result + steps_remaining self.now ≡ step_limit self.now) }
     {
-        (self.limit - self.left).saturating_add(self.searched)
+        (self.limit - self.remaining).saturating_add(self.searched)
     }
 
     /// Moves the search past the text if a byte that each match contains does not follow, and returns whether it did.
@@ -106,11 +106,11 @@ impl<'m> MatcherMatches<'m> {
         ensures ends { result ≡ true → EndsHere (iterated_text self.old) (matcher_outcomes (iterated_matcher self.old) (iterated_text self.old)) (iterated_from self.old) (iterated_from self.new) }
         ensures stays { result ≡ false → iterated_from self.new ≡ iterated_from self.old }
         ensures same { IsSameIteration self.old self.new }
-        ensures costs { steps_left self.old ≤ steps_left self.new + (length (iterated_text self.old) + 1) }
+        ensures costs { steps_remaining self.old ≤ steps_remaining self.new + (length (iterated_text self.old) + 1) }
         ensures search { IsNone self.new.search }
     {
         let len = self.text.len();
-        if self.backtracker.is_some() || len < LONG_TEXT || len as u64 > self.left {
+        if self.backtracker.is_some() || len < LONG_TEXT || len as u64 > self.remaining {
             return false;
         }
         let Some(byte) = self.matcher.required_byte_within(len) else {
@@ -118,11 +118,11 @@ impl<'m> MatcherMatches<'m> {
         };
         match offset_of(byte, self.text, self.from) {
             Some(ahead) => {
-                self.left -= ahead as u64 + 1;
+                self.remaining -= ahead as u64 + 1;
                 false
             }
             None => {
-                self.left -= len.saturating_sub(self.from) as u64;
+                self.remaining -= len.saturating_sub(self.from) as u64;
                 self.from = len + 1;
                 true
             }
@@ -137,19 +137,19 @@ impl<'m> MatcherMatches<'m> {
         ensures goes_on { IfOk result (λ outcome. iterated_from self.new ≡ offset_after (iterated_text self.old) (iterated_from self.old) outcome) }
         ensures stays { OnErr result (iterated_from self.new ≡ iterated_from self.old) }
         ensures same { IsSameIteration self.old self.new }
-        ensures spent { IfOk result (λ outcome. IfOutOfSteps outcome (steps_left self.new ≡ 0)) }
+        ensures spent { IfOk result (λ outcome. IfOutOfSteps outcome (steps_remaining self.new ≡ 0)) }
         ensures costs { IfOk result (λ _. (outs : ℕ → Out) (costs : ℕ → Cost) → AreCosts (iterated_matcher self.old) (iterated_text self.old) outs costs →
-            steps_left self.old ≤ steps_left self.new + find_cost (iterated_matcher self.old) (iterated_text self.old) costs (iterated_from self.old)) }
+            steps_remaining self.old ≤ steps_remaining self.new + find_cost (iterated_matcher self.old) (iterated_text self.old) costs (iterated_from self.old)) }
         ensures search { IsNone self.new.search }
     {
         let text = self.text();
         let kept = self.backtracker.take();
         let mut backtracker = runs_of(alloc, self.matcher, self.text, kept)?;
-        let mut left = self.left;
-        let outcome = backtracker.find(alloc, self.from, &mut left)?;
+        let mut remaining = self.remaining;
+        let outcome = backtracker.find(alloc, self.from, &mut remaining)?;
         let from = offset_after(text, self.from, &outcome);
         self.backtracker = Some(backtracker);
-        self.left = left;
+        self.remaining = remaining;
         self.from = from;
         Ok(outcome)
     }
@@ -159,7 +159,7 @@ impl<'m> MatcherMatches<'m> {
         requires { IsNone self.old.search }
         ensures from { iterated_from self.new ≡ iterated_from self.old }
         ensures same { IsSameIteration self.old self.new }
-        ensures left { steps_left self.new ≡ steps_left self.old }
+        ensures remaining { steps_remaining self.new ≡ steps_remaining self.old }
         ensures made { IfOk result (λ _. IfSome (factor_of (iterated_matcher self.old)) (λ _. IsSome self.new.search)) }
     {
         let matcher = self.matcher;
@@ -180,7 +180,7 @@ impl<'m> MatcherMatches<'m> {
         ensures goes_on { IfOk result (λ outcome. iterated_from self.new ≡ offset_after (iterated_text self.old) (iterated_from self.old) outcome) }
         ensures stays { OnErr result (iterated_from self.new ≡ iterated_from self.old) }
         ensures same { IsSameIteration self.old self.new }
-        ensures left { steps_left self.new ≡ steps_left self.old }
+        ensures remaining { steps_remaining self.new ≡ steps_remaining self.old }
         ensures made { IfOk result (λ outcome. IsSome self.old.search → IfOutOfSteps outcome ⊥) }
     {
         let text = self.text();

@@ -17,15 +17,15 @@ pub struct MatcherMatches<'m> {
     pub(crate) from: usize,
     /// The largest number of steps of backtracking.
     pub(crate) limit: u64,
-    /// How many of them are left.
-    pub(crate) left: u64,
+    /// How many of them remain.
+    pub(crate) remaining: u64,
     /// The number of steps of making the tables, and of searches in them.
     pub(crate) searched: u64,
     /// The runs of the program, after the first call of `next`.
     pub(crate) backtracker: Option<Backtracker<'m, 'm>>,
     /// The tables, once backtracking has used up its steps.
     pub(crate) search: Option<TextSearch<'m>>,
-    ghost within: { left ≤ limit },
+    ghost within: { remaining ≤ limit },
     ghost short: { IfSome (factor_of matcher.now) (λ _. limit ≤ 64 * (length text.now + 1)) } by { Prim.hlevel props },
     ghost runs: { IfSome backtracker (IsRunOf matcher.now text.now) } by { IfRunOf-prop matcher.now text.now backtracker },
     ghost kept: { IfKept matcher.now text.now from searched search } by { IfKept-prop matcher.now text.now from searched search },

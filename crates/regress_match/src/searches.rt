@@ -2,7 +2,7 @@
 ghost use Rattle.std.specs.Prelude.{◌≡◌, ◌+◌, ◌*◌, ◌≤◌, Ok, IfNone, IfOk, IfSome, IsSome, length, true};
 ghost use Rattle.regress_tree.specs.WellFormed.{IsWellFormed};
 ghost use Rattle.regress_match.specs.Costs.{IsWithinFindCost, IsWithinMatchCost};
-ghost use Rattle.regress_match.specs.Iterated.{iterated_from, iterated_matcher, iterated_text, step_limit, steps_left};
+ghost use Rattle.regress_match.specs.Iterated.{iterated_from, iterated_matcher, iterated_text, step_limit, steps_remaining};
 ghost use Rattle.regress_found.specs.Results.{IsSearchResult, IfMatched, IsMatchResult};
 ghost use Rattle.regress_found.specs.Found.{IsInside};
 ghost use Rattle.regress_match.specs.Matcher.{IsLimited, IsLinear, factor_of, find_factor_of};
@@ -147,7 +147,7 @@ impl Matcher {
         ensures text { iterated_text result ≡ text.now }
         ensures from { iterated_from result ≡ from }
         ensures limit { IfNone (factor_of self.now) (step_limit result ≡ steps) }
-        ensures left { steps_left result ≡ step_limit result }
+        ensures remaining { steps_remaining result ≡ step_limit result }
     {
         let limit = self.backtracking_steps(text, steps);
         MatcherMatches {
@@ -155,7 +155,7 @@ impl Matcher {
             text,
             from,
             limit,
-            left: limit,
+            remaining: limit,
             searched: 0,
             backtracker: None,
             search: None,

@@ -10,14 +10,14 @@ returns-then-fails-clause-leads c = λ outs solve.
     let m = c.args.machine.now in
     let g = groups_of m in
     only_second _ _ _ (c.fails.ensures c.if-fails.true outs g solve)
-    ∙ ap (λ xs. xs ++ flat_map out (points m)) (sym (c.pass_over.ensures.same outs g solve))
+    ∙ ap (λ xs. xs ++ flat_map out (points m)) (sym (c.skip.ensures.same outs g solve))
 
 pub returns-then-fails-2-clause-leads : goal.returns-then-fails-2-clause-leads
 returns-then-fails-2-clause-leads c = λ outs solve. only_first _ _ _ (c.fails-2.ensures c.if-fails-2.true outs (groups_of c.args.machine.now) solve)
 
 pub returns-then-fails-clause-costs : goal.returns-then-fails-clause-costs
 returns-then-fails-clause-costs c = λ outs costs has.
-    let le = c.pass_over.ensures.costs outs costs (groups_of c.args.machine.now) has in
+    let le = c.skip.ensures.costs outs costs (groups_of c.args.machine.now) has in
     omega (arith, le)
 
 pub returns-clause-costs : goal.returns-clause-costs

@@ -45,8 +45,8 @@ returns-in-Some-clause-costs c = λ outs costs has.
     let cost = costs input.index in
     let again : Place = record { pc = c.args.looping.body; moved = false; position = c.args.here.position } in
     let after : Place = record { pc = c.args.looping.next; moved = c.args.here.moved; position = c.args.here.position } in
-    let taken : c.args.left.now + (cost (at c.in-Some.to (groups_of m')) + points_cost cost m')
-    ≤ c.sweep.new.left + ((cost (at again g) + cost (at after g)) + points_cost cost m) =
+    let taken : c.args.remaining.now + (cost (at c.in-Some.to (groups_of m')) + points_cost cost m')
+    ≤ c.sweep.new.remaining + ((cost (at again g) + cost (at after g)) + points_cost cost m) =
     (rw c.in-Some.is at c.in_ok-to.ensures.costs) outs costs has in
     taken
 
@@ -57,7 +57,7 @@ returns-in-None-clause-costs c =
     let again : Place = record { pc = c.args.looping.body; moved = false; position = c.args.here.position } in
     let after : Place = record { pc = c.args.looping.next; moved = c.args.here.moved; position = c.args.here.position } in
     let same : c.sweep.new.machine ≡ m = search rules in
-    let kept : c.sweep.new.left ≡ c.args.left.now = search rules in
+    let kept : c.sweep.new.remaining ≡ c.args.remaining.now = search rules in
     ok_map c.fork.result _ _
     (λ to less. λ outs costs has.
     let cost = costs input.index in

@@ -4,8 +4,8 @@ use Rattle.std.proofs.lemmas.Option.{slice_get-map, slice_get_read}
 use Rattle.regress_tree.specs.Reading.{direction_if}
 use Rattle.regress_tree.specs.Setting.{Setting}
 use Rattle.regress_unicode.specs.TableOf.{table_of}
-use Rattle.regress_code.specs.Fronts.{AreFrontsIn}
-use Rattle.regress_code.specs.Passes.{ArePasses}
+use Rattle.regress_code.specs.NextBytes.{AreNextBytesIn}
+use Rattle.regress_code.specs.Skips.{AreSkips}
 use Rattle.regress_program.specs.Views.{ops_in, routine_in}
 use Rattle.regress_backtrack.proofs.input.input_for.Goals as goal
 
@@ -31,11 +31,11 @@ returns-in-Some-clause-input c =
       ops = ap (ops_in leaves) c.deref.ensures.value;
       direction = refl;
       first = refl;
-      fronts = subst (λ fs. AreFrontsIn setting fs (direction_if r.backwards) (ops_in leaves r.instructions.items)) (sym c.deref-in-Some.ensures.value)
-          (code.fronted i a known r here setting c.in-Some.ensures.folds);
-      passes = subst (λ ps. ArePasses ps c.deref-in-Some.result.now c.deref.result.now) (sym c.deref-in-Some-2.ensures.value)
-          (subst (λ fs. ArePasses a.passes.items fs c.deref.result.now) (sym c.deref-in-Some.ensures.value)
-          (subst (ArePasses a.passes.items a.fronts.items) (sym c.deref.ensures.value) (code.passing i a known r here)));
+      next_bytes = subst (λ fs. AreNextBytesIn setting fs (direction_if r.backwards) (ops_in leaves r.instructions.items)) (sym c.deref-in-Some.ensures.value)
+          (code.bounded i a known r here setting c.in-Some.ensures.folds);
+      skips = subst (λ ps. AreSkips ps c.deref-in-Some.result.now c.deref.result.now) (sym c.deref-in-Some-2.ensures.value)
+          (subst (λ fs. AreSkips a.skips.items fs c.deref.result.now) (sym c.deref-in-Some.ensures.value)
+          (subst (AreSkips a.skips.items a.next_bytes.items) (sym c.deref.ensures.value) (code.counted i a known r here)));
     }
 
 pub returns-in-None-clause-input : goal.returns-in-None-clause-input
@@ -53,6 +53,6 @@ returns-in-None-clause-input c =
       ops = ap (ops_in leaves) c.deref.ensures.value;
       direction = refl;
       first = refl;
-      fronts = λ text body_of out solves pc front is. let bad : ⊥ = cc in absurd bad;
-      passes = λ pc p is. let bad : ⊥ = cc in absurd bad;
+      next_bytes = λ text body_of out solves pc next_byte is. let bad : ⊥ = cc in absurd bad;
+      skips = λ pc p is. let bad : ⊥ = cc in absurd bad;
     }

@@ -84,7 +84,7 @@ advance-returns-in_default t c =
           c.step.ensures.leads;
       inside = c.step.ensures.inside;
       rewound = c.step.ensures.rewound;
-      left = c.step.ensures.left;
+      remaining = c.step.ensures.remaining;
       costs = ok_map c.step.result _ _
           (λ next taken. λ outs costs has.
           let here = costed input c.requires.input outs costs has (groups_of m) c.args.here i c.requires.inside.pc read c.requires.inside.position in
@@ -187,10 +187,10 @@ look-returns-clause-rewound t c =
 captures-same : (g h : Groups) → g ≡ h → g.captures ≡ h.captures
 captures-same g h is = ap (λ (x : Groups). x.captures) is
 
-pub run-loop-left-init : goal.run-loop-left-init
-run-loop-left-init t c =
+pub run-loop-remaining-init : goal.run-loop-remaining-init
+run-loop-remaining-init t c =
     record {
-      left = omega arith;
+      remaining = omega arith;
       undo = captures-same _ _ (rewound-none _ c.clear.ensures.entries);
       inside = begins-inside c.args.input.now c.requires.input _ c.args.start c.requires.program c.clear.ensures.entries c.requires.start;
       same = λ outs solution.
@@ -198,7 +198,7 @@ run-loop-left-init t c =
           (subject c.args.input.now.rules c.args.input.now.text.now).setting c.args.input.now.text.now outs c.clear.ensures.entries c.clear.ensures.begins refl;
       costs = λ outs costs has.
           begins_cost c.args.input.now c.requires.input _ c.args.machine.now.captures.items c.args.start
-          (subject c.args.input.now.rules c.args.input.now.text.now).setting c.args.input.now.text.now costs c.args.left.now c.clear.ensures.entries
+          (subject c.args.input.now.rules c.args.input.now.text.now).setting c.args.input.now.text.now costs c.args.remaining.now c.clear.ensures.entries
           c.clear.ensures.begins refl;
     }
 
@@ -209,21 +209,21 @@ run-advance-requires t c = (
     c.requires.program,
     (
       c.requires.input,
-      All-head (Inside c.args.input.now) (at c.loop-left.here (groups_of c.loop-left.machine)) (points c.loop-left.machine) c.loop-left.invariant.inside,
+      All-head (Inside c.args.input.now) (at c.loop-remaining.here (groups_of c.loop-remaining.machine)) (points c.loop-remaining.machine) c.loop-remaining.invariant.inside,
     ),
   ),
 )
 
-pub run-loop-left-preserved-in-On : goal.run-loop-left-preserved-in-On
-run-loop-left-preserved-in-On t c =
-    let so_far = c.loop-left.invariant in
+pub run-loop-remaining-preserved-in-On : goal.run-loop-remaining-preserved-in-On
+run-loop-remaining-preserved-in-On t c =
+    let so_far = c.loop-remaining.invariant in
     let input = c.args.input.now in
-    let m = c.loop-left.machine in
+    let m = c.loop-remaining.machine in
     let m' = c.advance.new.machine in
-    let a = at c.loop-left.here (groups_of m) in
+    let a = at c.loop-remaining.here (groups_of m) in
     let n = c.in_ok-to.field-0 in
     record {
-      left = omega (arith, c.in_ok-to.ensures.left, so_far.left);
+      remaining = omega (arith, c.in_ok-to.ensures.remaining, so_far.remaining);
       undo = captures-same _ _ c.in_ok-to.ensures.rewound ∙ so_far.undo;
       inside = on_all input m' n c.in-On.to c.in-On.is (c.in_ok-to.ensures.inside (All-tail (Inside input) a (points m) so_far.inside));
       same = λ outs solution.
@@ -236,24 +236,24 @@ run-loop-left-preserved-in-On t c =
           omega (arith, before, taken, on);
     }
 
-pub run-loop-left-smaller-in-On : goal.run-loop-left-smaller-in-On
-run-loop-left-smaller-in-On t c = omega (arith, c.in_ok-to.ensures.left, c.loop-left-test.true)
+pub run-loop-remaining-smaller-in-On : goal.run-loop-remaining-smaller-in-On
+run-loop-remaining-smaller-in-On t c = omega (arith, c.in_ok-to.ensures.remaining, c.loop-remaining-test.true)
 
-pub run-loop-left-smaller : goal.run-loop-left-smaller
-run-loop-left-smaller t c = omega (arith, c.in_ok-to.ensures.left, c.loop-left-test.true)
+pub run-loop-remaining-smaller : goal.run-loop-remaining-smaller
+run-loop-remaining-smaller t c = omega (arith, c.in_ok-to.ensures.remaining, c.loop-remaining-test.true)
 
-pub run-loop-left-preserved : goal.run-loop-left-preserved
-run-loop-left-preserved t c =
-    let so_far = c.loop-left.invariant in
+pub run-loop-remaining-preserved : goal.run-loop-remaining-preserved
+run-loop-remaining-preserved t c =
+    let so_far = c.loop-remaining.invariant in
     let input = c.args.input.now in
-    let m = c.loop-left.machine in
+    let m = c.loop-remaining.machine in
     let m' = c.advance.new.machine in
-    let a = at c.loop-left.here (groups_of m) in
+    let a = at c.loop-remaining.here (groups_of m) in
     let n = c.in_ok-to.field-0 in
     let to = c.in-Some.to in
     let m'' = c.resume.new.machine in
     record {
-      left = omega (arith, c.in_ok-to.ensures.left, so_far.left);
+      remaining = omega (arith, c.in_ok-to.ensures.remaining, so_far.remaining);
       undo = captures-same _ _ (c.in_ok-to-in-Back.ensures.rewound ∙ c.in_ok-to.ensures.rewound) ∙ so_far.undo;
       inside = subst (λ o. IfSome o (λ p. All (Inside input) (points m') → All (Inside input) (at p (groups_of m'') ∷ points m''))) c.in-Some.is
           c.in_ok-to-in-Back.ensures.inside
@@ -276,10 +276,10 @@ run-loop-left-preserved t c =
 pub run-returns-in-None-clause-responds : goal.run-returns-in-None-clause-responds
 run-returns-in-None-clause-responds t c = λ outs solution.
     let input = c.args.input.now in
-    let m = c.loop-left.machine in
+    let m = c.loop-remaining.machine in
     let m' = c.advance.new.machine in
-    let a = at c.loop-left.here (groups_of m) in
-    c.loop-left.invariant.same outs solution
+    let a = at c.loop-remaining.here (groups_of m) in
+    c.loop-remaining.invariant.same outs solution
     ∙ back_same (flat_map (outs input.index) (a ∷ points m)) (outs input.index) m' c.in_ok-to.field-0 c.in-Back.is (c.in_ok-to.ensures.leads outs solution)
     ∙ subst (λ o. MatchOption o (flat_map (outs input.index) (points m') ≡ []) (λ p. flat_map (outs input.index) (points m')
     ≡ flat_map (outs input.index) (at p (groups_of c.resume.new.machine) ∷ points c.resume.new.machine))) c.in-None.is
@@ -287,37 +287,37 @@ run-returns-in-None-clause-responds t c = λ outs solution.
 
 pub run-returns-in-None-clause-undo : goal.run-returns-in-None-clause-undo
 run-returns-in-None-clause-undo t c =
-    captures-same _ _ (c.in_ok-to-in-Back.ensures.rewound ∙ c.in_ok-to.ensures.rewound) ∙ c.loop-left.invariant.undo
+    captures-same _ _ (c.in_ok-to-in-Back.ensures.rewound ∙ c.in_ok-to.ensures.rewound) ∙ c.loop-remaining.invariant.undo
 
 pub run-returns-in-None-clause-none : goal.run-returns-in-None-clause-none
 run-returns-in-None-clause-none t c = λ is.
     let all : groups_of c.resume.new.machine ≡ rewound c.advance.new.machine = rw c.in-None.is at c.in_ok-to-in-Back.ensures.all in
-    captures-same _ _ (all ∙ c.in_ok-to.ensures.rewound) ∙ c.loop-left.invariant.undo
+    captures-same _ _ (all ∙ c.in_ok-to.ensures.rewound) ∙ c.loop-remaining.invariant.undo
 
-pub run-returns-in-None-clause-left : goal.run-returns-in-None-clause-left
-run-returns-in-None-clause-left t c = omega (arith, c.in_ok-to.ensures.left, c.loop-left.invariant.left)
+pub run-returns-in-None-clause-remaining : goal.run-returns-in-None-clause-remaining
+run-returns-in-None-clause-remaining t c = omega (arith, c.in_ok-to.ensures.remaining, c.loop-remaining.invariant.remaining)
 
 pub run-returns-in-Accept-clause-responds : goal.run-returns-in-Accept-clause-responds
 run-returns-in-Accept-clause-responds t c = λ outs solution.
     let input = c.args.input.now in
-    let m = c.loop-left.machine in
-    let a = at c.loop-left.here (groups_of m) in
+    let m = c.loop-remaining.machine in
+    let a = at c.loop-remaining.here (groups_of m) in
     let found = accept_same (flat_map (outs input.index) (a ∷ points m)) (outs input.index) c.advance.new.machine c.in_ok-to.field-0 c.in-Accept.end
     c.in-Accept.is
     (c.in_ok-to.ensures.leads outs solution) in
-    (found.0, c.loop-left.invariant.same outs solution ∙ found.1)
+    (found.0, c.loop-remaining.invariant.same outs solution ∙ found.1)
 
 pub run-returns-in-Accept-clause-undo : goal.run-returns-in-Accept-clause-undo
-run-returns-in-Accept-clause-undo t c = captures-same _ _ c.in_ok-to.ensures.rewound ∙ c.loop-left.invariant.undo
+run-returns-in-Accept-clause-undo t c = captures-same _ _ c.in_ok-to.ensures.rewound ∙ c.loop-remaining.invariant.undo
 
-pub run-returns-in-Accept-clause-left : goal.run-returns-in-Accept-clause-left
-run-returns-in-Accept-clause-left t c = omega (arith, c.in_ok-to.ensures.left, c.loop-left.invariant.left)
+pub run-returns-in-Accept-clause-remaining : goal.run-returns-in-Accept-clause-remaining
+run-returns-in-Accept-clause-remaining t c = omega (arith, c.in_ok-to.ensures.remaining, c.loop-remaining.invariant.remaining)
 
 pub run-returns-in-OutOfSteps-clause-undo : goal.run-returns-in-OutOfSteps-clause-undo
-run-returns-in-OutOfSteps-clause-undo t c = captures-same _ _ c.in_ok-to.ensures.rewound ∙ c.loop-left.invariant.undo
+run-returns-in-OutOfSteps-clause-undo t c = captures-same _ _ c.in_ok-to.ensures.rewound ∙ c.loop-remaining.invariant.undo
 
 pub run-returns-clause-undo : goal.run-returns-clause-undo
-run-returns-clause-undo t c = c.loop-left.invariant.undo
+run-returns-clause-undo t c = c.loop-remaining.invariant.undo
 
 -- ---- the cost
 
@@ -374,7 +374,7 @@ look-returns-clause-costs t c = λ outs costs has.
     c.args.here c.args.looking.next (costs input.index) c.args.looking.negate body inner c.in_ok-response.response
     c.next_after.result responds c.in_ok-leave.ensures.captures (λ none. c.in_ok-response.ensures.none none ∙ c.enter-outer.ensures.captures)
     c.next_after.ensures in
-    let taken = same_cost c.args.left.now c.run.new.left outs costs c.args.here.position _ _ _ _ _ _ _ _ _ _ (c.in_ok-response.ensures.costs outs costs)
+    let taken = same_cost c.args.remaining.now c.run.new.remaining outs costs c.args.here.position _ _ _ _ _ _ _ _ _ _ (c.in_ok-response.ensures.costs outs costs)
     inside.setting inside.text (ap code_routines inside.code) inside.index c.enter-outer.ensures.captures has in
     omega (arith, ahead, taken)
 
@@ -382,23 +382,23 @@ look-returns-clause-costs t c = λ outs costs has.
 
 pub run-returns-in-None-clause-costs : goal.run-returns-in-None-clause-costs
 run-returns-in-None-clause-costs t c = λ outs costs has.
-    let before = c.loop-left.invariant.costs outs costs has in
+    let before = c.loop-remaining.invariant.costs outs costs has in
     let taken = c.in_ok-to.ensures.costs outs costs has in
     omega (arith, before, taken)
 
 pub run-returns-in-Accept-clause-costs : goal.run-returns-in-Accept-clause-costs
 run-returns-in-Accept-clause-costs t c = λ outs costs has.
-    let before = c.loop-left.invariant.costs outs costs has in
+    let before = c.loop-remaining.invariant.costs outs costs has in
     let taken = c.in_ok-to.ensures.costs outs costs has in
     omega (arith, before, taken)
 
 pub run-returns-in-OutOfSteps-clause-costs : goal.run-returns-in-OutOfSteps-clause-costs
 run-returns-in-OutOfSteps-clause-costs t c = λ outs costs has.
-    let before = c.loop-left.invariant.costs outs costs has in
+    let before = c.loop-remaining.invariant.costs outs costs has in
     let taken = c.in_ok-to.ensures.costs outs costs has in
     omega (arith, before, taken)
 
 pub run-returns-clause-costs : goal.run-returns-clause-costs
 run-returns-clause-costs t c = λ outs costs has.
-    let before = c.loop-left.invariant.costs outs costs has in
+    let before = c.loop-remaining.invariant.costs outs costs has in
     omega (arith, before)

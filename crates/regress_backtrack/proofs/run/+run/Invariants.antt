@@ -20,9 +20,9 @@ decreases-advance l = 3 * l.input.now.index + 1
 abbrev pub decreases-look : goal.decreases-look
 decreases-look l = 3 * l.looking.routine + 3
 
-abbrev pub invariant-run-loop-left : goal.invariant-run-loop-left
-invariant-run-loop-left l = record {
-  left : l.left ≤ l.fn.left;
+abbrev pub invariant-run-loop-remaining : goal.invariant-run-loop-remaining
+invariant-run-loop-remaining l = record {
+  remaining : l.remaining ≤ l.fn.remaining;
   undo : (rewound l.machine).captures ≡ l.fn.machine.captures.items;
   inside : All (Inside l.input) (at l.here (groups_of l.machine) ∷ points l.machine);
   same : (outs : ℕ → Out) → IsSolution (subject l.input.rules l.input.text.now).setting l.input.text.now (code_routines l.input.code.now) outs →
@@ -30,10 +30,10 @@ invariant-run-loop-left l = record {
       (state l.fn.machine.captures.items l.start)
       ≡ flat_map (outs l.input.index) (at l.here (groups_of l.machine) ∷ points l.machine);
   costs : (outs : ℕ → Out) (costs : ℕ → Cost) → HasCost l.input outs costs →
-      l.fn.left + (costs l.input.index (at l.here (groups_of l.machine)) + points_cost (costs l.input.index) l.machine)
-      ≤ l.left + cost_of (subject l.input.rules l.input.text.now).setting l.input.text.now (code_routines l.input.code.now) costs l.input.index
+      l.fn.remaining + (costs l.input.index (at l.here (groups_of l.machine)) + points_cost (costs l.input.index) l.machine)
+      ≤ l.remaining + cost_of (subject l.input.rules l.input.text.now).setting l.input.text.now (code_routines l.input.code.now) costs l.input.index
       (state l.fn.machine.captures.items l.start);
 }
 
-abbrev pub decreases-run-loop-left : goal.decreases-run-loop-left
-decreases-run-loop-left l = l.left
+abbrev pub decreases-run-loop-remaining : goal.decreases-run-loop-remaining
+decreases-run-loop-remaining l = l.remaining

@@ -21,8 +21,8 @@ pub returns-clause-costs : goal.returns-clause-costs
 returns-clause-costs c = λ outs costs has.
     let made = c.in_ok-backtracker.ensures in
     let steps = c.args.steps in
-    let left = c.match_at.new.left in
-    let taken : steps ≤ left + cost_from c.args.code.now c.args.known.tables.now c.args.text.now costs c.args.position =
+    let remaining = c.match_at.new.remaining in
+    let taken : steps ≤ remaining + cost_from c.args.code.now c.args.known.tables.now c.args.text.now costs c.args.position =
     same_parts (λ code tables text. IsCost (setting_with code tables) text (code_routines code) outs costs →
-    steps ≤ left + cost_from code tables text costs c.args.position) _ _ _ _ _ _ made.code made.tables made.text (c.in_ok-outcome.ensures.costs outs costs) has in
+    steps ≤ remaining + cost_from code tables text costs c.args.position) _ _ _ _ _ _ made.code made.tables made.text (c.in_ok-outcome.ensures.costs outs costs) has in
     omega (arith, taken)

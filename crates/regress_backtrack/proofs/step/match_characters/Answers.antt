@@ -28,6 +28,6 @@ pub returns-clause-costs : goal.returns-clause-costs
 returns-clause-costs c = λ m outs costs.
     let input = c.args.input.now in
     let here = c.args.here in
-    characters_cost input outs costs m here c.args.next c.reach.result c.args.left.now c.args.left.now c.reach.new.left
+    characters_cost input outs costs m here c.args.next c.reach.result c.args.remaining.now c.args.remaining.now c.reach.new.remaining
     (slice_get input.code.now.program.leaves.items c.args.leaf) c.in-Some.test.now c.args.count c.characters_end-to.result c.in-Some.ensures
     (c.characters_end-to.ensures (state m.captures.items here.position) refl) c.reach.ensures.next c.reach.ensures.costs

@@ -34,9 +34,9 @@ returns-clause-costs c = λ outs costs.
     let m = c.args.machine.now in
     let t = c.in-Some.test.now in
     let p = c.args.here in
-    leaf_cost input outs costs m p c.args.next c.reach.result c.args.left.now c.test_end-to.new.left c.reach.new.left
+    leaf_cost input outs costs m p c.args.next c.reach.result c.args.remaining.now c.test_end-to.new.remaining c.reach.new.remaining
     (slice_get input.code.now.program.leaves.items c.args.leaf) t c.test_end-to.result c.in-Some.ensures
     (subst (λ cs. steps u.setting u.bytes u.direction (tree t.node) (state cs p.position) ≡ put (state cs p.position) c.test_end-to.result)
     c.deref.ensures.value c.test_end-to.ensures.to) c.reach.ensures.next
-    (subst (λ cs. c.args.left.now ≤ c.test_end-to.new.left + compared (tree t.node) (state cs p.position)) c.deref.ensures.value c.test_end-to.ensures.costs)
+    (subst (λ cs. c.args.remaining.now ≤ c.test_end-to.new.remaining + compared (tree t.node) (state cs p.position)) c.deref.ensures.value c.test_end-to.ensures.costs)
     c.reach.ensures.costs

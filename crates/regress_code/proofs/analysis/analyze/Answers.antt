@@ -5,8 +5,8 @@ use Rattle.regress_tree.specs.Reading.{direction_if}
 use Rattle.regress_program.specs.Views.{ops_in}
 use Rattle.regress_program.specs.declared.instruction.Routine as declared
 use Rattle.regress_code.specs.declared.analysis.Analysis.{Analysis}
-use Rattle.regress_code.specs.Fronts.{AreFrontsOf, HaveFronts}
-use Rattle.regress_code.specs.Passes.{ArePasses, HavePasses}
+use Rattle.regress_code.specs.NextBytes.{AreNextBytesOf, HaveNextBytes}
+use Rattle.regress_code.specs.Skips.{AreSkips, HaveSkips}
 use Rattle.regress_code.proofs.ListLemmas.{pushed}
 use Rattle.regress_code.proofs.analysis.analyze.Goals as goal
 
@@ -25,20 +25,20 @@ loop-routine-preserved c =
     ∙ slice_get_read c.deref-routine-items.result.now _ c.loop-routine.routine-index r refl c.loop-routine-test.true c.routine-item.is) in
     record {
       count = omega (arith, ap length c.in_ok-push.ensures.items, length_push known one, so_far.count);
-      fronts =
-          subst (HaveFronts c.args.folds leaves routines) (sym c.in_ok-push.ensures.items)
+      next_bytes =
+          subst (HaveNextBytes c.args.folds leaves routines) (sym c.in_ok-push.ensures.items)
           (pushed (λ i (a : Analysis). (q : declared.Routine) → slice_get routines i ≡ Some q →
-          AreFrontsOf c.args.folds a.fronts.items (direction_if q.backwards) (ops_in leaves q.instructions.items)) known one so_far.fronts
+          AreNextBytesOf c.args.folds a.next_bytes.items (direction_if q.backwards) (ops_in leaves q.instructions.items)) known one so_far.next_bytes
           (λ q is.
-          subst (λ (x : declared.Routine). AreFrontsOf c.args.folds one.fronts.items (direction_if x.backwards) (ops_in leaves x.instructions.items))
+          subst (λ (x : declared.Routine). AreNextBytesOf c.args.folds one.next_bytes.items (direction_if x.backwards) (ops_in leaves x.instructions.items))
           (same_Some r q (sym here ∙ is))
-          (subst (λ xs. AreFrontsOf c.args.folds one.fronts.items (direction_if r.backwards) (ops_in xs r.instructions.items)) c.deref.ensures.value
-          c.in_ok-analysis.ensures.fronts)));
-      passes =
-          subst (HavePasses routines) (sym c.in_ok-push.ensures.items)
-          (pushed (λ i (a : Analysis). (q : declared.Routine) → slice_get routines i ≡ Some q → ArePasses a.passes.items a.fronts.items q.instructions.items)
-          known one so_far.passes
+          (subst (λ xs. AreNextBytesOf c.args.folds one.next_bytes.items (direction_if r.backwards) (ops_in xs r.instructions.items)) c.deref.ensures.value
+          c.in_ok-analysis.ensures.next_bytes)));
+      skips =
+          subst (HaveSkips routines) (sym c.in_ok-push.ensures.items)
+          (pushed (λ i (a : Analysis). (q : declared.Routine) → slice_get routines i ≡ Some q → AreSkips a.skips.items a.next_bytes.items q.instructions.items)
+          known one so_far.skips
           (λ q is.
-          subst (λ (x : declared.Routine). ArePasses one.passes.items one.fronts.items x.instructions.items) (same_Some r q (sym here ∙ is))
-          c.in_ok-analysis.ensures.passes));
+          subst (λ (x : declared.Routine). AreSkips one.skips.items one.next_bytes.items x.instructions.items) (same_Some r q (sym here ∙ is))
+          c.in_ok-analysis.ensures.skips));
     }

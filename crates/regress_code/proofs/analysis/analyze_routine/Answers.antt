@@ -1,17 +1,17 @@
 use Rattle.std.proofs.Common.{subst}
 use Rattle.regress_tree.specs.Reading.{direction_if}
 use Rattle.regress_program.specs.Views.{ops_in}
-use Rattle.regress_code.specs.Fronts.{AreFrontsOf}
-use Rattle.regress_code.specs.Passes.{ArePasses}
+use Rattle.regress_code.specs.NextBytes.{AreNextBytesOf}
+use Rattle.regress_code.specs.Skips.{AreSkips}
 use Rattle.regress_code.proofs.analysis.analyze_routine.Goals as goal
 
-pub returns-clause-fronts : goal.returns-clause-fronts
-returns-clause-fronts c =
-    subst (λ xs. AreFrontsOf c.args.folds c.in_ok-fronts.fronts.items (direction_if c.args.routine.now.backwards) (ops_in c.args.leaves.now xs))
-    c.deref.ensures.value c.in_ok-fronts.ensures
+pub returns-clause-next_bytes : goal.returns-clause-next_bytes
+returns-clause-next_bytes c =
+    subst (λ xs. AreNextBytesOf c.args.folds c.in_ok-next_bytes.next_bytes.items (direction_if c.args.routine.now.backwards) (ops_in c.args.leaves.now xs))
+    c.deref.ensures.value c.in_ok-next_bytes.ensures
 
-pub returns-clause-passes : goal.returns-clause-passes
-returns-clause-passes c =
+pub returns-clause-skips : goal.returns-clause-skips
+returns-clause-skips c =
     let instructions = c.args.routine.now.instructions.items in
-    subst (λ fs. ArePasses c.in_ok-passes.passes.items fs instructions) c.deref-2.ensures.value
-    (subst (ArePasses c.in_ok-passes.passes.items c.deref-2.result.now) c.deref-3.ensures.value c.in_ok-passes.ensures)
+    subst (λ fs. AreSkips c.in_ok-skips.skips.items fs instructions) c.deref-2.ensures.value
+    (subst (AreSkips c.in_ok-skips.skips.items c.deref-2.result.now) c.deref-3.ensures.value c.in_ok-skips.ensures)

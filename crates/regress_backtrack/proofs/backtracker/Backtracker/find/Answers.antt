@@ -29,7 +29,7 @@ pub returns-in_default-clause-solved : goal.returns-in_default-clause-solved
 returns-in_default-clause-solved c = λ outs are.
     let a = c.args.self.now in
     none_after (run_text a) (outcomes_at a outs) c.args.from c.loop-from.from (c.loop-from.invariant.solved outs are)
-    (λ k low le. c.next_start.ensures.passed (run_tables a) c.input_of-input.ensures outs are k low le (subst (λ r. MatchOption r Unit (λ p. k < p)) (sym c.in_default.is) tt))
+    (λ k low le. c.next_start.ensures.skipped (run_tables a) c.input_of-input.ensures outs are k low le (subst (λ r. MatchOption r Unit (λ p. k < p)) (sym c.in_default.is) tt))
 
 pub returns-in_default-clause-finds : goal.returns-in_default-clause-finds
 returns-in_default-clause-finds c = tree_finds c.args.self.now c.args.from outcomes.NoMatch (returns-in_default-clause-solved c)
@@ -45,7 +45,7 @@ returns-in-Matched-clause-solved c = λ outs are.
     (subst (IsMatchResult k (outcomes_at a outs k)) c.in-Matched.is
     (same_solved a b (λ states. IsMatchResult k states c.in_ok-found.field-0) k c.loop-from.invariant.same c.in_ok-found.ensures.solved outs are))
     (none_before (run_text a) (outcomes_at a outs) c.args.from c.loop-from.from (c.loop-from.invariant.solved outs are) k
-    (λ p low le lt. c.next_start.ensures.passed (run_tables a) c.input_of-input.ensures outs are p low le (subst (λ r. MatchOption r Unit (λ q. p < q)) (sym c.in-Some.is) lt)))
+    (λ p low le lt. c.next_start.ensures.skipped (run_tables a) c.input_of-input.ensures outs are p low le (subst (λ r. MatchOption r Unit (λ q. p < q)) (sym c.in-Some.is) lt)))
 
 pub returns-in-Matched-clause-finds : goal.returns-in-Matched-clause-finds
 returns-in-Matched-clause-finds c =
@@ -61,42 +61,42 @@ loop-from-preserved c =
     let within = subst (λ r. IfSome r (λ (p : ℕ). (c.loop-from.from ≤ p) × (p ≤ length text))) c.in-Some.is c.next_start.ensures.within in
     let none : (outs : ℕ → Out) → AreOutcomes a outs → NoneBefore text (outcomes_at a outs) c.args.from k = λ outs are.
     none_before text (outcomes_at a outs) c.args.from c.loop-from.from (so_far.solved outs are) k
-    (λ p low le lt. c.next_start.ensures.passed (run_tables a) c.input_of-input.ensures outs are p low le (subst (λ r. MatchOption r Unit (λ q. p < q)) (sym c.in-Some.is) lt)) in
+    (λ p low le lt. c.next_start.ensures.skipped (run_tables a) c.input_of-input.ensures outs are p low le (subst (λ r. MatchOption r Unit (λ q. p < q)) (sym c.in-Some.is) lt)) in
     elim c.if-is_char_boundary.branch [
       | then-is_char_boundary+in_ok-found+in-NoMatch w ↦ record {
         same = rw w.self-is (SameRuns-trans a b w.match_in.new.self so_far.same w.match_in.ensures.same);
         from = omega (arith, so_far.from, within.0);
-        left = omega (arith, w.left-is, w.in_ok-found.ensures.left, c.saturating_sub.ensures, so_far.left);
+        remaining = omega (arith, w.remaining-is, w.in_ok-found.ensures.remaining, c.saturating_sub.ensures, so_far.remaining);
         solved = λ outs are.
             none_more text (outcomes_at a outs) c.args.from k (none outs are)
             (λ on. subst (IsMatchResult k (outcomes_at a outs k)) w.in-NoMatch.is
             (same_solved a b (λ states. IsMatchResult k states w.in_ok-found.field-0) k so_far.same w.in_ok-found.ensures.solved outs are));
         costs = λ outs costs are.
             let before = so_far.costs outs costs are in
-            let taken = same_taken a b k c.saturating_sub.result w.match_in.new.left outs costs so_far.same (w.in_ok-found.ensures.costs outs costs) are in
+            let taken = same_taken a b k c.saturating_sub.result w.match_in.new.remaining outs costs so_far.same (w.in_ok-found.ensures.costs outs costs) are in
             let on = tried_on (cost_at a costs) c.args.from c.loop-from.from k so_far.from within.0 in
-            omega (arith, before, taken, on, w.left-is, c.saturating_sub.ensures);
+            omega (arith, before, taken, on, w.remaining-is, c.saturating_sub.ensures);
         enough = λ outs costs are.
-            let taken = same_taken a b k c.saturating_sub.result w.match_in.new.left outs costs so_far.same (w.in_ok-found.ensures.costs outs costs) are in
-            let all = searched (cost_at a costs) c.args.from c.loop-from.from k (length text) c.args.left.now c.loop-from.left c.saturating_sub.result
-            w.match_in.new.left so_far.from within.0 within.1 (so_far.costs outs costs are) (omega (arith, c.saturating_sub.ensures)) taken in
-            omega (arith, all, w.left-is);
+            let taken = same_taken a b k c.saturating_sub.result w.match_in.new.remaining outs costs so_far.same (w.in_ok-found.ensures.costs outs costs) are in
+            let all = searched (cost_at a costs) c.args.from c.loop-from.from k (length text) c.args.remaining.now c.loop-from.remaining c.saturating_sub.result
+            w.match_in.new.remaining so_far.from within.0 within.1 (so_far.costs outs costs are) (omega (arith, c.saturating_sub.ensures)) taken in
+            omega (arith, all, w.remaining-is);
       }
       | else-is_char_boundary w ↦ record {
         same = rw w.self-is so_far.same;
         from = omega (arith, so_far.from, within.0);
-        left = omega (arith, w.left-is, c.saturating_sub.ensures, so_far.left);
+        remaining = omega (arith, w.remaining-is, c.saturating_sub.ensures, so_far.remaining);
         solved = λ outs are.
             none_more text (outcomes_at a outs) c.args.from k (none outs are)
             (λ on. absurd (not_true c.is_char_boundary.result w.if-is_char_boundary.false (c.is_char_boundary.ensures.test.1 on)));
         costs = λ outs costs are.
             let before = so_far.costs outs costs are in
             let on = tried_on (cost_at a costs) c.args.from c.loop-from.from k so_far.from within.0 in
-            omega (arith, before, on, w.left-is, c.saturating_sub.ensures);
+            omega (arith, before, on, w.remaining-is, c.saturating_sub.ensures);
         enough = λ outs costs are.
-            let all = searched (cost_at a costs) c.args.from c.loop-from.from k (length text) c.args.left.now c.loop-from.left c.saturating_sub.result
+            let all = searched (cost_at a costs) c.args.from c.loop-from.from k (length text) c.args.remaining.now c.loop-from.remaining c.saturating_sub.result
             c.saturating_sub.result so_far.from within.0 within.1 (so_far.costs outs costs are) (omega (arith, c.saturating_sub.ensures)) (omega arith) in
-            omega (arith, all, w.left-is);
+            omega (arith, all, w.remaining-is);
       }
     ]
 
@@ -108,9 +108,9 @@ returns-in-Matched-clause-costs c = λ outs costs are.
     let k = c.in-Some.position in
     let within = subst (λ r. IfSome r (λ (p : ℕ). (c.loop-from.from ≤ p) × (p ≤ length (run_text a)))) c.in-Some.is c.next_start.ensures.within in
     let so_far = c.loop-from.invariant in
-    searched (cost_at a costs) c.args.from c.loop-from.from k (length (run_text a)) c.args.left.now c.loop-from.left c.saturating_sub.result
-    c.match_in.new.left so_far.from within.0 within.1 (so_far.costs outs costs are) (omega (arith, c.saturating_sub.ensures))
-    (same_taken a c.loop-from.self k c.saturating_sub.result c.match_in.new.left outs costs so_far.same (c.in_ok-found.ensures.costs outs costs) are)
+    searched (cost_at a costs) c.args.from c.loop-from.from k (length (run_text a)) c.args.remaining.now c.loop-from.remaining c.saturating_sub.result
+    c.match_in.new.remaining so_far.from within.0 within.1 (so_far.costs outs costs are) (omega (arith, c.saturating_sub.ensures))
+    (same_taken a c.loop-from.self k c.saturating_sub.result c.match_in.new.remaining outs costs so_far.same (c.in_ok-found.ensures.costs outs costs) are)
 
 pub returns-in-OutOfSteps-clause-costs : goal.returns-in-OutOfSteps-clause-costs
 returns-in-OutOfSteps-clause-costs c = λ outs costs are.
@@ -118,6 +118,6 @@ returns-in-OutOfSteps-clause-costs c = λ outs costs are.
     let k = c.in-Some.position in
     let within = subst (λ r. IfSome r (λ (p : ℕ). (c.loop-from.from ≤ p) × (p ≤ length (run_text a)))) c.in-Some.is c.next_start.ensures.within in
     let so_far = c.loop-from.invariant in
-    searched (cost_at a costs) c.args.from c.loop-from.from k (length (run_text a)) c.args.left.now c.loop-from.left c.saturating_sub.result
-    c.match_in.new.left so_far.from within.0 within.1 (so_far.costs outs costs are) (omega (arith, c.saturating_sub.ensures))
-    (same_taken a c.loop-from.self k c.saturating_sub.result c.match_in.new.left outs costs so_far.same (c.in_ok-found.ensures.costs outs costs) are)
+    searched (cost_at a costs) c.args.from c.loop-from.from k (length (run_text a)) c.args.remaining.now c.loop-from.remaining c.saturating_sub.result
+    c.match_in.new.remaining so_far.from within.0 within.1 (so_far.costs outs costs are) (omega (arith, c.saturating_sub.ensures))
+    (same_taken a c.loop-from.self k c.saturating_sub.result c.match_in.new.remaining outs costs so_far.same (c.in_ok-found.ensures.costs outs costs) are)

@@ -11,11 +11,11 @@ abbrev pub invariant-loop-from : goal.invariant-loop-from
 invariant-loop-from l = record {
   same : SameRuns l.fn.self l.self;
   from : l.fn.from ≤ l.from;
-  left : l.left ≤ l.fn.left;
+  remaining : l.remaining ≤ l.fn.remaining;
   solved : (outs : ℕ → Out) → AreOutcomes l.fn.self outs → NoneBefore (run_text l.fn.self) (outcomes_at l.fn.self outs) l.fn.from l.from;
   costs : (outs : ℕ → Out) (costs : ℕ → Cost) → AreCosts l.fn.self outs costs →
-      l.fn.left ≤ l.left + tried (cost_at l.fn.self costs) l.fn.from (l.from - l.fn.from);
-  enough : (outs : ℕ → Out) (costs : ℕ → Cost) → AreCosts l.fn.self outs costs → l.fn.left ≤ l.left + search_cost_at l.fn.self costs l.fn.from;
+      l.fn.remaining ≤ l.remaining + tried (cost_at l.fn.self costs) l.fn.from (l.from - l.fn.from);
+  enough : (outs : ℕ → Out) (costs : ℕ → Cost) → AreCosts l.fn.self outs costs → l.fn.remaining ≤ l.remaining + search_cost_at l.fn.self costs l.fn.from;
 }
 
 abbrev pub decreases-loop-from : goal.decreases-loop-from

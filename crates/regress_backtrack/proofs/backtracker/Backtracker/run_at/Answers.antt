@@ -43,6 +43,6 @@ returns-clause-costs c = λ outs costs.
     let b = c.unset_all.new.self in
     let unset : b.machine.captures.items ≡ replicate (code_groups (run_code b)) None =
     c.in_ok-unset_all.ensures.unset ∙ ap (λ code. replicate (code_groups code) None) (sym c.unset_all.ensures.same.code) in
-    same_taken c.args.self.now b c.args.position c.args.left.now c.run.new.left outs costs c.unset_all.ensures.same
-    (run_cost b c.args.input.now b.machine.captures.items c.args.position c.args.left.now c.run.new.left outs costs (same_input c.args.self.now b c.unset_all.ensures.same c.args.input.now c.requires.input) unset
+    same_taken c.args.self.now b c.args.position c.args.remaining.now c.run.new.remaining outs costs c.unset_all.ensures.same
+    (run_cost b c.args.input.now b.machine.captures.items c.args.position c.args.remaining.now c.run.new.remaining outs costs (same_input c.args.self.now b c.unset_all.ensures.same c.args.input.now c.requires.input) unset
     (c.in_ok-response.ensures.costs outs costs))

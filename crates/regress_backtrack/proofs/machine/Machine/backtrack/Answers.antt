@@ -75,8 +75,8 @@ returns-clause-points c = sym c.loop-entry.invariant.points ∙ points-none c.lo
 pub returns-clause-rewound : goal.returns-clause-rewound
 returns-clause-rewound c =
     let none : c.loop-entry.self.stack.entries.items ≡ [] = search rules in
-    let left : c.pop.new.self.items ≡ [] = search rules in
-    rewound-none _ left ∙ sym (rewound-none c.loop-entry.self none) ∙ c.loop-entry.invariant.rewound
+    let remaining : c.pop.new.self.items ≡ [] = search rules in
+    rewound-none _ remaining ∙ sym (rewound-none c.loop-entry.self none) ∙ c.loop-entry.invariant.rewound
 
 pub returns-clause-all : goal.returns-clause-all
 returns-clause-all c = sym (rewound-none c.loop-entry.self (search rules)) ∙ c.loop-entry.invariant.rewound

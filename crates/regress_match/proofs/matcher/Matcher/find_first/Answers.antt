@@ -6,4 +6,4 @@ returns-clause-costs c =
     let first = c.find_iter-matches.ensures in
     let next = c.in_ok-outcome.ensures in
     first_within c.args.self.now c.args.text.now c.args.from c.find_iter-matches.result c.next.new.self c.steps.result first.matcher first.text first.from
-    first.left next.same c.steps.ensures.limited next.costs
+    first.remaining next.same c.steps.ensures.limited next.costs

@@ -38,7 +38,7 @@ pub invariant_of-self-2 : goal.invariant_of-self-2
 invariant_of-self-2 c =
     let s = c.args.self.now in
     record {
-      within = omega (arith, c.in_ok-outcome.ensures.left, s.within);
+      within = omega (arith, c.in_ok-outcome.ensures.remaining, s.within);
       short = s.short;
       runs = runs_on s.matcher.now s.text.now c.in_ok-backtracker.backtracker c.find.new.self c.in_ok-backtracker.ensures c.in_ok-outcome.ensures.same;
       kept = kept_none s.matcher.now s.text.now s.from c.offset_after-from.result s.searched s.search c.requires s.kept;

@@ -1,0 +1,145 @@
+-- Choices that are skipped.
+use Rattle.std.proofs.Common.{◌≡◌, ℕ, zero, suc, ◌+◌, ◌-◌, ◌≤◌, ◌<◌, ◌==◌, ◌&&◌, Bool, true, false, not, List, ◌++◌, length, get_or, slice_get, Option, Some, None, refl, sym, ap, ◌∙◌, subst, arith}
+use Rattle.std.proofs.lemmas.Option.{slice_get_within}
+use Rattle.regress_base.specs.ByteBitmap.{contains}
+use Rattle.regress_base.specs.declared.bytesearch.bitmap.ByteBitmap.{ByteBitmap}
+use Rattle.regress_leaves.specs.Subject.{subject}
+use Rattle.regress_program.specs.Cost.{Cost}
+use Rattle.regress_program.specs.Program.{Out, goto, matcher_of}
+use Rattle.regress_tree.specs.Reading.{direction_if}
+use Rattle.regress_tree.specs.Steps.{MatchState}
+use Rattle.regress_code.specs.Code.{code_routines}
+use Rattle.regress_backtrack.specs.Costs.{HasCost}
+use Rattle.regress_code.specs.declared.next_bytes.NextBytes.{NextBytes}
+use Rattle.regress_code.specs.declared.next_bytes.NextBytes.TheVariants as kinds
+use Rattle.regress_backtrack.specs.declared.input.Input.{Input}
+use Rattle.regress_program.specs.declared.instruction.Instruction.{Instruction}
+use Rattle.regress_program.specs.declared.instruction.Instruction.TheVariants as insts
+use Rattle.regress_backtrack.specs.declared.machine.Place.{Place}
+use Rattle.regress_code.specs.NextBytes.{IsOutside, next_to}
+use Rattle.regress_backtrack.specs.Machine.{Groups, at}
+use Rattle.regress_backtrack.specs.Next.{IsInput, Solve}
+use Rattle.regress_code.specs.Skips.{AreSkipped, IsBeside, is_excluded, is_skipped}
+use Rattle.regress_backtrack.proofs.CostLemmas.{second_cost}
+use Rattle.regress_backtrack.proofs.RunLemmas.{solved}
+
+-- an instruction that is skipped, with what it names
+record Skipped (next_bytes : List NextBytes) (instructions : List Instruction) (b pc : ℕ) : Type 0 where
+  first : ℕ
+  set : ByteBitmap
+  after : 0 < pc
+  is : slice_get instructions pc ≡ Some (insts.Split first (pc - 1))
+  next_byte : slice_get next_bytes first ≡ Some (kinds.Bytes set)
+  out : contains set b ≡ false
+
+both_left : (a b : Bool) → (a && b) ≡ true → a ≡ true
+both_left true b is = refl
+both_left false b is = let bad : ⊥ = cc in absurd bad
+
+both_right : (a b : Bool) → (a && b) ≡ true → b ≡ true
+both_right true b is = is
+both_right false b is = let bad : ⊥ = cc in absurd bad
+
+not_true : (b : Bool) → not b ≡ true → b ≡ false
+not_true true is = let bad : ⊥ = cc in absurd bad
+not_true false is = refl
+
+same_number : (a b : ℕ) → (a == b) ≡ true → a ≡ b
+same_number a b is = grind arith
+
+excluded_set : (o : Option NextBytes) (b : ℕ) → is_excluded o b ≡ true → (set : ByteBitmap) × (o ≡ Some (kinds.Bytes set)) × (contains set b ≡ false)
+excluded_set None b is = let bad : ⊥ = cc in absurd bad
+excluded_set (Some kinds.Any) b is = let bad : ⊥ = cc in absurd bad
+excluded_set (Some (kinds.Bytes set)) b is = (set, refl, not_true _ is)
+
+skipped_by : (next_bytes : List NextBytes) (instructions : List Instruction) (b pc : ℕ) (o : Option Instruction) → slice_get instructions pc ≡ o →
+    is_skipped next_bytes b pc o ≡ true → Skipped next_bytes instructions b pc
+skipped_by next_bytes instructions b pc (Some (insts.Split first second)) here is =
+    let number : second + 1 ≡ pc = same_number (second + 1) pc (both_left (second + 1 == pc) _ is) in
+    let found : (set : ByteBitmap) × (slice_get next_bytes first ≡ Some (kinds.Bytes set)) × (contains set b ≡ false) =
+    excluded_set (slice_get next_bytes first) b (both_right (second + 1 == pc) _ is) in
+    record {
+      first = first;
+      set = found.0;
+      after = omega (arith, number);
+      is = here ∙ ap (λ k. Some (insts.Split first k)) (omega (arith, number));
+      next_byte = found.1;
+      out = found.2;
+    }
+skipped_by next_bytes instructions b pc None here is = let bad : ⊥ = cc in absurd bad
+skipped_by next_bytes instructions b pc (Some insts.Accept) here is = let bad : ⊥ = cc in absurd bad
+skipped_by next_bytes instructions b pc (Some insts.Fail) here is = let bad : ⊥ = cc in absurd bad
+skipped_by next_bytes instructions b pc (Some (insts.Leaf leaf next)) here is = let bad : ⊥ = cc in absurd bad
+skipped_by next_bytes instructions b pc (Some (insts.Characters leaf count next)) here is = let bad : ⊥ = cc in absurd bad
+skipped_by next_bytes instructions b pc (Some (insts.BeginLoop greedy body next)) here is = let bad : ⊥ = cc in absurd bad
+skipped_by next_bytes instructions b pc (Some (insts.Repeat greedy body next)) here is = let bad : ⊥ = cc in absurd bad
+skipped_by next_bytes instructions b pc (Some (insts.EndLoop next)) here is = let bad : ⊥ = cc in absurd bad
+skipped_by next_bytes instructions b pc (Some (insts.Unset start end next)) here is = let bad : ⊥ = cc in absurd bad
+skipped_by next_bytes instructions b pc (Some (insts.BeginGroup next)) here is = let bad : ⊥ = cc in absurd bad
+skipped_by next_bytes instructions b pc (Some (insts.EndGroup id next)) here is = let bad : ⊥ = cc in absurd bad
+skipped_by next_bytes instructions b pc (Some (insts.Look negate routine next)) here is = let bad : ⊥ = cc in absurd bad
+
+-- there are as many instructions as are skipped
+pub skipped_within : (next_bytes : List NextBytes) (instructions : List Instruction) (b pc count : ℕ) → AreSkipped next_bytes instructions b pc count → count ≤ pc
+skipped_within next_bytes instructions b pc zero all = omega arith
+skipped_within next_bytes instructions b pc (suc n) all =
+    let last = skipped_by next_bytes instructions b (pc - n) (slice_get instructions (pc - n)) refl (all n (omega arith)) in
+    let after : 0 < pc - n = last.after in
+    omega (arith, after)
+
+-- ---- the outcomes stay the same
+
+module _ (input : Input) (is : IsInput input) (p : Place) (b : ℕ)
+    (beside : IsBeside (direction_if input.rules.backwards) input.text.now p.position b) (outs : ℕ → Out) (g : Groups) (solve : Solve input outs) where
+  abbrev pub outs_from : ℕ → List MatchState
+  outs_from pc = outs input.index (at (record p { pc = pc }) g)
+
+  outside : (set : ByteBitmap) → contains set b ≡ false → IsOutside is.routine.direction set input.text.now p.position
+  outside set out =
+      let same : get_or input.text.now (next_to is.routine.direction p.position) 0 ≡ b =
+      ap (λ d. get_or input.text.now (next_to d p.position) 0) (sym is.direction) ∙ beside.is in
+      record {
+        after = beside.after;
+        before = beside.before;
+        byte = subst (λ k. k < 256) (sym same) beside.small;
+        out = ap (contains set) same ∙ out;
+      }
+
+  one_skipped : (pc : ℕ) → Skipped input.next_bytes.now input.instructions.now b pc → outs_from (pc - 1) ≡ outs_from pc
+  one_skipped pc skipped =
+      let u = subject input.rules input.text.now in
+      let here : Place = record p { pc = pc } in
+      let i = insts.Split skipped.first (pc - 1) in
+      let fails = is.next_bytes input.text.now (matcher_of u.setting input.text.now (code_routines input.code.now) outs) (outs input.index)
+      (solve input.index is.routine is.is) skipped.first (kinds.Bytes skipped.set) skipped.next_byte (goto skipped.first (at here g)) refl
+      (outside skipped.set skipped.out) in
+      let before : p.position < length input.text.now = beside.before in
+      sym
+      (solved input is here i (slice_get_within input.instructions.now pc i skipped.is) skipped.is u.setting u.bytes outs u.direction g solve is.direction
+      (omega (arith, before))
+      ∙ ap (λ xs. xs ++ outs input.index (goto (pc - 1) (at here g))) fails)
+
+  pub all_skipped : (pc count : ℕ) → AreSkipped input.next_bytes.now input.instructions.now b pc count → outs_from (pc - count) ≡ outs_from pc
+  all_skipped pc zero all = ap outs_from (omega arith)
+  all_skipped pc (suc n) all =
+      let last = skipped_by input.next_bytes.now input.instructions.now b (pc - n) (slice_get input.instructions.now (pc - n)) refl (all n (omega arith)) in
+      let number : pc - suc n ≡ (pc - n) - 1 = omega arith in
+      ap outs_from number ∙ one_skipped (pc - n) last ∙ all_skipped pc n (λ j lt. all j (omega (arith, lt)))
+
+-- the cost of a place is at least that of one that is reached by skipping choices
+pub skipped_cost : (input : Input) → IsInput input → (p : Place) (b : ℕ) (outs : ℕ → Out) (costs : ℕ → Cost) → HasCost input outs costs → (g : Groups) →
+    p.position ≤ length input.text.now → (pc count : ℕ) → AreSkipped input.next_bytes.now input.instructions.now b pc count →
+    costs input.index (at (record p { pc = pc - count }) g) ≤ costs input.index (at (record p { pc = pc }) g)
+skipped_cost input is p b outs costs has g le pc zero all =
+    let same : pc - zero ≡ pc = omega arith in
+    let here = ap (λ k. costs input.index (at (record p { pc = k }) g)) same in
+    omega (arith, here)
+skipped_cost input is p b outs costs has g le pc (suc n) all =
+    let last = skipped_by input.next_bytes.now input.instructions.now b (pc - n) (slice_get input.instructions.now (pc - n)) refl (all n (omega arith)) in
+    let i = insts.Split last.first ((pc - n) - 1) in
+    let one = second_cost input is outs costs has g (record p { pc = pc - n }) last.first ((pc - n) - 1)
+    (slice_get_within input.instructions.now (pc - n) i last.is) last.is le in
+    let more = skipped_cost input is p b outs costs has g le pc n (λ j lt. all j (omega (arith, lt))) in
+    let number : pc - suc n ≡ (pc - n) - 1 = omega arith in
+    let here = ap (λ k. costs input.index (at (record p { pc = k }) g)) number in
+    omega (arith, one, more, here)

@@ -1,0 +1,58 @@
+-- The choices that a run skips, by the byte next to its position.
+use Rattle.std.specs.Prelude.{◌≡◌, ℕ, ◌+◌, ◌-◌, ◌<◌, ◌==◌, ◌&&◌, Bool, true, false, not, List, length, slice_get, get_or, Option, Some, None}
+use Rattle.std.proofs.Props.{props}
+use Rattle.regress_base.specs.ByteBitmap.{contains}
+use Rattle.regress_base.specs.declared.bytesearch.bitmap.ByteBitmap.{ByteBitmap}
+use Rattle.regress_tree.specs.Reading.{Direction}
+use Rattle.regress_code.specs.declared.analysis.Analysis.{Analysis}
+use Rattle.regress_code.specs.declared.next_bytes.NextBytes.{NextBytes}
+use Rattle.regress_code.specs.declared.next_bytes.NextBytes.TheVariants as kinds
+use Rattle.regress_program.specs.declared.instruction.Instruction.{Instruction}
+use Rattle.regress_program.specs.declared.instruction.Instruction.TheVariants as insts
+use Rattle.regress_program.specs.declared.instruction.Routine as declared
+use Rattle.regress_code.specs.declared.skips.Skip.{Skip}
+use Rattle.regress_code.specs.NextBytes.{next_to}
+
+-- There are next bytes, and they exclude the byte.
+abbrev pub is_excluded : Option NextBytes → (b : ℕ) → Bool
+is_excluded (Some (kinds.Bytes set)) b = not (contains set b)
+is_excluded (Some kinds.Any) b = false
+is_excluded None b = false
+
+-- The instruction with the index `pc` is a choice whose preferred alternative excludes the byte, and whose other one is
+-- the instruction before it.
+abbrev pub is_skipped : List NextBytes → (b pc : ℕ) → Option Instruction → Bool
+is_skipped next_bytes b pc (Some (insts.Split first second)) = (second + 1 == pc) && is_excluded (slice_get next_bytes first) b
+is_skipped next_bytes b pc i = false
+
+-- This holds of each byte outside the set.
+abbrev pub IsPreferred : List NextBytes → (pc : ℕ) → Option Instruction → ByteBitmap → Type 0
+IsPreferred next_bytes pc i set = (b : ℕ) → contains set b ≡ false → is_skipped next_bytes b pc i ≡ true
+
+-- this holds of `count` instructions from `pc` downwards
+abbrev pub AreSkipped : List NextBytes → List Instruction → (b pc count : ℕ) → Type 0
+AreSkipped next_bytes instructions b pc count = (j : ℕ) → j < count → is_skipped next_bytes b (pc - j) (slice_get instructions (pc - j)) ≡ true
+
+-- For each byte the list has a number of instructions that are skipped from `pc` on.
+abbrev pub AreCounts : List NextBytes → List Instruction → (pc : ℕ) → List ℕ → Type 0
+AreCounts next_bytes instructions pc counts = (b n : ℕ) → slice_get counts b ≡ Some n → AreSkipped next_bytes instructions b pc n
+
+-- These are the skips of the instructions.
+abbrev pub AreSkips : List Skip → List NextBytes → List Instruction → Type 0
+AreSkips skips next_bytes instructions = (pc : ℕ) (p : Skip) → slice_get skips pc ≡ Some p → AreCounts next_bytes instructions pc p.counts.items
+
+-- Each routine has its skips.
+abbrev pub HaveSkips : List declared.Routine → List Analysis → Type 0
+HaveSkips routines analyses = (i : ℕ) (a : Analysis) → slice_get analyses i ≡ Some a → (r : declared.Routine) → slice_get routines i ≡ Some r →
+    AreSkips a.skips.items a.next_bytes.items r.instructions.items
+
+-- The byte is next to the position, which is neither the start nor the end of the text.
+pub record IsBeside (d : Direction) (text : List ℕ) (position b : ℕ) : Type 0 where
+  pub after : 0 < position
+  pub before : position < length text
+  pub is : get_or text (next_to d position) 0 ≡ b
+  pub small : b < 256
+
+-- The property has at most one proof.
+pub HaveSkips-prop : (routines : List declared.Routine) (analyses : List Analysis) → IsProp (HaveSkips routines analyses)
+HaveSkips-prop routines analyses = hlevel props
