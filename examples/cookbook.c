@@ -1,7 +1,6 @@
 /* The samples of docs/cookbook.md, and what they return: cookbook. */
 
 #include <assert.h>
-#include <inttypes.h>
 #include <regress.h>
 #include <stdio.h>
 #include <stdlib.h>
