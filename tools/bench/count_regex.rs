@@ -1,7 +1,8 @@
-//! count_regex FILE PATTERN all|first: prints the number of matches, and the CPU seconds of the search, by the crate
-//! `regex`. The status is 1 if the pattern is rejected.
+//! count_regex FILE PATTERN all|first: prints the number of matches, and the CPU seconds and the seconds of the search,
+//! by the crate `regex`. The status is 1 if the pattern is rejected.
 use std::ffi::c_long;
 use std::process::ExitCode;
+use std::time::Instant;
 use std::{env, fs};
 
 unsafe extern "C" {
@@ -24,11 +25,12 @@ fn main() -> ExitCode {
     let Ok(regex) = regex::Regex::new(pattern) else {
         return ExitCode::from(1);
     };
+    let started = Instant::now();
     let before = used();
     let count = match mode.as_str() {
         "all" => regex.find_iter(&text).count(),
         _ => regex.find(&text).iter().count(),
     };
-    println!("{count} {}", used() - before);
+    println!("{count} {} {}", used() - before, started.elapsed().as_secs_f64());
     ExitCode::SUCCESS
 }

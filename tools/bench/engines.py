@@ -1,7 +1,8 @@
 """The engines that bench_matcher and bench_hostile compare, each with a way to measure a search.
 
-A measurement gives the number of matches and the CPU seconds, or a word: REJECTED if the engine does not accept the
-pattern, LIMIT if it stopped at a limit of its own, LATE if it took longer than the limit of time."""
+A measurement gives the number of matches and the CPU seconds, for short times the seconds, or a word: REJECTED if the
+engine does not accept the pattern, LIMIT if it stopped at a limit of its own, LATE if it took longer than the limit of
+time."""
 import os
 import re
 import resource
@@ -30,6 +31,8 @@ directory = "{}"
 """
 REJECTED, LIMIT, LATE = "-", "limit", ">"
 RUST = "Rust's regex"
+# The clock of CPU seconds may tick only every 4 milliseconds, so of shorter times those of the wall clock are taken.
+SHORT = 0.02
 
 
 def run(command, seconds, text=None):
@@ -47,7 +50,8 @@ def run(command, seconds, text=None):
 
 
 class Timed:
-    """An engine that prints the number of matches and the CPU seconds of the search, without its start."""
+    """An engine that prints the number of matches, and the CPU seconds and the seconds of the search, without its
+    start."""
 
     def __init__(self, command, written):
         self.command = command
@@ -60,8 +64,8 @@ class Timed:
         ran, _ = answer
         if ran.returncode:
             return LIMIT if ran.returncode == 2 else REJECTED
-        count, used = ran.stdout.split()
-        return int(count), float(used)
+        count, used, taken = ran.stdout.split()
+        return int(count), float(taken if float(taken) < SHORT else used)
 
 
 class Kit:
