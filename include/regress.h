@@ -100,13 +100,13 @@ uint32_t regress_is_linear(regress_regex *handle);
    is the one with the least number. */
 uint32_t regress_nonlinear(regress_regex *handle);
 
-/* Returns an upper bound for the steps of a search for each byte of a text, and once more; at most UINT64_MAX. The
-   result is 0 if searches are not linear. */
+/* Returns a number, at most UINT64_MAX: a search takes at most that times (length + 1) steps, where the length of the
+   text is in bytes. The result is 0 if searches are not linear. */
 uint64_t regress_steps_per_character(regress_regex *handle);
 
-/* Returns an upper bound for the steps of regress_find and regress_is_match for each byte of a text, and once more; at
-   most UINT64_MAX. Then they take linear time, and limits.steps does not apply to them. The result is 0 if that is not
-   known: if the pattern has a back reference, or more than limits.linear_instructions instructions. */
+/* Returns a number, at most UINT64_MAX: regress_find and regress_is_match take at most that times (length + 1) steps,
+   where the length of the text is in bytes. Then they take linear time, and limits.steps does not apply to them. The
+   result is 0 if the pattern has a back reference, or more than limits.linear_instructions instructions. */
 uint64_t regress_find_steps_per_character(regress_regex *handle);
 
 /* Searches for the leftmost match that starts at the byte offset `from` or later.

@@ -194,8 +194,8 @@ class Pattern:
         is_linear: whether searches take linear time, so that the limit of steps does not apply to them
         nonlinear: why they do not, 'back-reference', 'capturing-lookaround' or 'too-many-instructions', the first of
             these that holds; None if they do
-        steps_per_character: an upper bound for the steps of a search for each byte of the text in UTF-8, and once more,
-            or None if searches are not linear
+        steps_per_character: a search takes at most that times (length + 1) steps, where the length of the text is in
+            bytes of UTF-8; None if searches are not linear
         is_find_linear: whether a search for one match takes linear time: also where a lookaround has a group
         groups: the number of its groups
         groupindex: a dict from the names of groups to their numbers; if groups share a name, that of the first

@@ -177,7 +177,8 @@ impl Regex {
         }
     }
 
-    /// Returns the leftmost match in `text`, and of those at its position the preferred one; `None` if there is none.
+    /// Returns the leftmost match in `text`, or `None` if there is none. If several matches begin there, it is the one that
+    /// backtracking finds first.
     ///
     /// # Errors
     /// As for [`Regex::find_at`].
@@ -351,8 +352,8 @@ impl Regex {
         self.compiled.nonlinear
     }
 
-    /// Returns an upper bound for the steps of a search for each byte of a text, and once more; at most `u64::MAX`. The
-    /// result is `None` if searches are not linear.
+    /// Returns a number, at most `u64::MAX`: a search takes at most that times (length + 1) steps, where the length of
+    /// the text is in bytes. The result is `None` if searches are not linear.
     pub fn steps_per_character(&self) -> Option<u64> {
         Some(self.compiled.steps_per_character).filter(|_| self.is_linear())
     }
@@ -373,8 +374,8 @@ impl Regex {
         self.find_steps_per_character().is_some()
     }
 
-    /// Returns an upper bound for the steps of a search for one match for each byte of a text, and once more; at most
-    /// `u64::MAX`. The result is `None` if such a search is not known to take linear time.
+    /// Returns a number, at most `u64::MAX`: a search for one match takes at most that times (length + 1) steps, where the
+    /// length of the text is in bytes. The result is `None` if such a search does not take linear time.
     pub fn find_steps_per_character(&self) -> Option<u64> {
         Some(self.compiled.find_steps_per_character).filter(|&steps| steps > 0)
     }

@@ -1,0 +1,124 @@
+/* The samples of docs/cookbook.md, and what they return: cookbook. */
+
+#include <assert.h>
+#include <regress.h>
+#include <stdio.h>
+#include <stdlib.h>
+#include <string.h>
+
+/* Compiles a pattern, and returns a status of regress.h. */
+static uint32_t compile(const char *pattern, uint32_t flags, regress_limits limits, regress_regex *regex) {
+    uint32_t kind;
+    size_t position;
+    return regress_compile((const uint8_t *)pattern, strlen(pattern), flags, &limits, regex, &kind, &position);
+}
+
+static const regress_limits defaults = {0, 0, 0, 0};
+
+static int is_email(const char *text) {
+    regress_regex email;
+    if (compile("^[a-zA-Z0-9.!#$%&'*+\\/=?^_`{|}~-]+@[a-zA-Z0-9](?:[a-zA-Z0-9-]{0,61}[a-zA-Z0-9])?"
+                "(?:\\.[a-zA-Z0-9](?:[a-zA-Z0-9-]{0,61}[a-zA-Z0-9])?)*$",
+                0, defaults, &email)
+        != REGRESS_OK) {
+        return 0;
+    }
+    uint32_t status = regress_is_match(&email, (const uint8_t *)text, strlen(text));
+    regress_free(&email);
+    return status == REGRESS_OK;
+}
+
+static int month_of(const char *text) {
+    regress_regex date;
+    if (compile("^(\\d{4})-(0[1-9]|1[0-2])-(0[1-9]|[12]\\d|3[01])$", 0, defaults, &date) != REGRESS_OK) {
+        return 0;
+    }
+    size_t spans[8], needed;
+    uint32_t status = regress_find(&date, (const uint8_t *)text, strlen(text), 0, spans, 8, &needed);
+    regress_free(&date);
+    return status == REGRESS_OK ? atoi(text + spans[4]) : 0;
+}
+
+static void print_links(const char *text) {
+    regress_regex link;
+    size_t *spans = NULL, length = strlen(text), needed = 0;
+    if (compile("https?:\\/\\/[^\\s<>\"()]*[^\\s<>\"().,;:!?]", 0, defaults, &link) != REGRESS_OK) {
+        return;
+    }
+    /* Each match is two numbers. No match is shorter than this, so the buffer is large enough. */
+    size_t room = 2 * (length / strlen("http://a") + 1);
+    spans = malloc(room * sizeof *spans);
+    if (spans && regress_find_all(&link, (const uint8_t *)text, length, 0, spans, room, &needed) == REGRESS_OK) {
+        for (size_t at = 0; at < needed; at += 2) {
+            printf("%.*s\n", (int)(spans[at + 1] - spans[at]), text + spans[at]);
+        }
+    }
+    free(spans);
+    regress_free(&link);
+}
+
+static uint32_t redact(const char *line, char *out, size_t room) {
+    regress_regex secret;
+    size_t length = 0;
+    uint32_t status = compile("\\b(token|password|secret)=[^\\s&,]+", REGRESS_ICASE, defaults, &secret);
+    if (status == REGRESS_OK) {
+        status = regress_replace_all(&secret, (const uint8_t *)line, strlen(line), (const uint8_t *)"$1=***", 6,
+                                     (uint8_t *)out, room - 1, &length);
+        regress_free(&secret);
+    }
+    out[status == REGRESS_OK ? length : 0] = 0;
+    return status;
+}
+
+static int contains(const char *text, const char *search) {
+    regress_regex regex;
+    char pattern[256];
+    size_t length;
+    if (regress_escape((const uint8_t *)search, strlen(search), (uint8_t *)pattern, sizeof pattern - 1, &length)
+        != REGRESS_OK) {
+        return 0;
+    }
+    pattern[length] = 0;
+    if (compile(pattern, REGRESS_ICASE, defaults, &regex) != REGRESS_OK) {
+        return 0;
+    }
+    uint32_t status = regress_is_match(&regex, (const uint8_t *)text, strlen(text));
+    regress_free(&regex);
+    return status == REGRESS_OK;
+}
+
+static const char *search_for_a_user(const char *pattern, const char *text) {
+    regress_limits limits = {.steps = 1000000, .nodes = 10000, .instructions = 10000};
+    regress_regex regex;
+    uint32_t status = compile(pattern, REGRESS_UNICODE, limits, &regex);
+    if (status == REGRESS_OK) {
+        status = regress_is_match(&regex, (const uint8_t *)text, strlen(text));
+        regress_free(&regex);
+    }
+    switch (status) {
+    case REGRESS_OK: return "a match";
+    case REGRESS_NO_MATCH: return "no match";
+    case REGRESS_SYNTAX: return "the pattern is wrong";
+    case REGRESS_TOO_LARGE: return "the pattern is too large";
+    case REGRESS_OUT_OF_STEPS: return "the search takes too long";
+    default: return "no result";
+    }
+}
+
+int main(void) {
+    char out[64];
+    assert(is_email("ann@example.org") && !is_email("ann@-example.org") && !is_email("@example.org"));
+    assert(month_of("2024-05-17") == 5 && month_of("2024-13-17") == 0);
+    assert(redact("GET /a?user=ann&Token=s3cr3t HTTP/1.1", out, sizeof out) == REGRESS_OK);
+    assert(strcmp(out, "GET /a?user=ann&Token=*** HTTP/1.1") == 0);
+    assert(contains("Is 1+1 = 2?", "1+1") && !contains("Is 11 = 2?", "1+1"));
+    assert(strcmp(search_for_a_user("\\d+", "on 17"), "a match") == 0);
+    assert(strcmp(search_for_a_user("a)", ""), "the pattern is wrong") == 0);
+    assert(strcmp(search_for_a_user("(?:ab){20000}", ""), "the pattern is too large") == 0);
+    assert(strcmp(search_for_a_user("(a|a)*\\1b", "aaaaaaaaaaaaaaaaaaaaaaaaaaaaaaaaaaaaaaaa"),
+                  "the search takes too long")
+           == 0);
+    print_links("see https://example.org/a?b=c, or (http://example.com/x).");
+    printf("the samples of the cookbook in C return what they should\n");
+    return 0;
+}
