@@ -1,6 +1,5 @@
 /* The samples of docs/cookbook.md, and what they return: cookbook. */
 
-#include <assert.h>
 #include <regress.h>
 #include <stdio.h>
 #include <stdlib.h>
@@ -87,6 +86,18 @@ static int contains(const char *text, const char *search) {
     return status == REGRESS_OK;
 }
 
+/* Prints the capture of the group with this name that is set. */
+static void print_capture(regress_regex *regex, const char *wanted, const char *text, const size_t *spans) {
+    for (size_t group = 1; group <= regress_group_count(regex); group++) {
+        uint8_t name[64];
+        size_t length;
+        if (regress_group_name(regex, group, name, sizeof name, &length) == REGRESS_OK && length == strlen(wanted)
+            && memcmp(name, wanted, length) == 0 && spans[2 * group] != REGRESS_UNSET) {
+            printf("%.*s\n", (int)(spans[2 * group + 1] - spans[2 * group]), text + spans[2 * group]);
+        }
+    }
+}
+
 static const char *search_for_a_user(const char *pattern, const char *text) {
     regress_limits limits = {.steps = 1000000, .nodes = 10000, .instructions = 10000};
     regress_regex regex;
@@ -105,20 +116,35 @@ static const char *search_for_a_user(const char *pattern, const char *text) {
     }
 }
 
+/* Ends the program if something does not hold. */
+static void check(int holds) {
+    if (!holds) {
+        fprintf(stderr, "a sample of the cookbook in C returns something else\n");
+        exit(1);
+    }
+}
+
 int main(void) {
     char out[64];
-    assert(is_email("ann@example.org") && !is_email("ann@-example.org") && !is_email("@example.org"));
-    assert(month_of("2024-05-17") == 5 && month_of("2024-13-17") == 0);
-    assert(redact("GET /a?user=ann&Token=s3cr3t HTTP/1.1", out, sizeof out) == REGRESS_OK);
-    assert(strcmp(out, "GET /a?user=ann&Token=*** HTTP/1.1") == 0);
-    assert(contains("Is 1+1 = 2?", "1+1") && !contains("Is 11 = 2?", "1+1"));
-    assert(strcmp(search_for_a_user("\\d+", "on 17"), "a match") == 0);
-    assert(strcmp(search_for_a_user("a)", ""), "the pattern is wrong") == 0);
-    assert(strcmp(search_for_a_user("(?:ab){20000}", ""), "the pattern is too large") == 0);
-    assert(strcmp(search_for_a_user("(a|a)*\\1b", "aaaaaaaaaaaaaaaaaaaaaaaaaaaaaaaaaaaaaaaa"),
+    check(is_email("ann@example.org") && !is_email("ann@-example.org") && !is_email("@example.org"));
+    check(month_of("2024-05-17") == 5 && month_of("2024-13-17") == 0);
+    check(redact("GET /a?user=ann&Token=s3cr3t HTTP/1.1", out, sizeof out) == REGRESS_OK);
+    check(strcmp(out, "GET /a?user=ann&Token=*** HTTP/1.1") == 0);
+    check(contains("Is 1+1 = 2?", "1+1") && !contains("Is 11 = 2?", "1+1"));
+    check(strcmp(search_for_a_user("\\d+", "on 17"), "a match") == 0);
+    check(strcmp(search_for_a_user("a)", ""), "the pattern is wrong") == 0);
+    check(strcmp(search_for_a_user("(?:ab){20000}", ""), "the pattern is too large") == 0);
+    check(strcmp(search_for_a_user("(a|a)*\\1b", "aaaaaaaaaaaaaaaaaaaaaaaaaaaaaaaaaaaaaaaa"),
                   "the search takes too long")
            == 0);
     print_links("see https://example.org/a?b=c, or (http://example.com/x).");
+    const char *text = "in 5/2024";
+    regress_regex date;
+    size_t spans[8], needed;
+    check(compile("(?<year>\\d{4})-(\\d)|\\d/(?<year>\\d{4})", 0, defaults, &date) == REGRESS_OK);
+    check(regress_find(&date, (const uint8_t *)text, strlen(text), 0, spans, 8, &needed) == REGRESS_OK);
+    print_capture(&date, "year", text, spans);
+    regress_free(&date);
     printf("the samples of the cookbook in C return what they should\n");
     return 0;
 }

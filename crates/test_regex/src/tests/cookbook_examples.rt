@@ -58,11 +58,8 @@ fn an_untrusted_pattern_has_limits(rt: HostRuntime) -> Result<(), Fail> {
     };
     let tables = Arc::new(alloc, Tables::small(alloc)?)?;
     match Regex::with_options(alloc, "(?:ab){20000}", Flags::default(), options, &tables) {
-        Err(Error::Syntax { text, position, .. }) => println!(rt; "{text} at {position}")?,
-        Err(Error::TooLarge) => return Ok(()),
-        Err(_) => println!(rt; "out of memory")?,
-        Ok(regex) => println!(rt; "{}", regex.is_match(alloc, "ab")?)?,
+        Err(Error::TooLarge) => {}
+        _ => assert!(rt; false, "it is too large"),
     }
-    assert!(rt; false, "it is too large");
     Ok(())
 }
