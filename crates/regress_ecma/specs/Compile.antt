@@ -1,4 +1,5 @@
--- ECMA-262, 22.2.2.2 CompilePattern, 22.2.2.3 CompileSubpattern and 22.2.2.5 CompileQuantifier.
+-- ECMA-262, 22.2.2.2 CompilePattern, 22.2.2.3 CompileSubpattern and 22.2.2.5 CompileQuantifier. Numbers in comments are
+-- those of the clause's steps.
 use Rattle.std.specs.Prelude.{ℕ, ◌+◌, List, length, Option, Some, None, slice_set}
 use Rattle.std.proofs.Math.ListN.{replicate}
 use Rattle.regress_base.specs.Table.{Table}
@@ -15,10 +16,12 @@ use Rattle.regress_ecma.specs.Atoms.{compile_atom}
 -- 22.2.2.3 CompileSubpattern, Term with a Quantifier, by the matcher of its atom
 abbrev pub quantified : (fuel : ℕ) → (paren_index paren_count : ℕ) → Option Quantifier → Matcher → Matcher
 quantified fuel paren_index paren_count None m x c = m x c
+-- 4 to 6 of Atom Quantifier
 quantified fuel paren_index paren_count (Some q) m x c =
     repeat_matcher (q.min + fuel) m q.min q.max q.greedy x c paren_index paren_count
 
--- the range between two indices, the first of which was reached earlier
+-- steps 3.c.vi and 3.c.vii of a capture group in 22.2.2.7 CompileAtom: the range between two indices, the first of which
+-- was reached earlier
 abbrev pub range_between : Direction → (xe ye : ℕ) → CaptureRange
 range_between forwards xe ye = (xe, ye)
 range_between backwards xe ye = (ye, xe)
@@ -26,7 +29,9 @@ range_between backwards xe ye = (ye, xe)
 -- 22.2.2.7 CompileAtom, a capture group, by the matcher of what is inside. Its number is paren_index + 1.
 abbrev pub compile_capture : (paren_index : ℕ) → Direction → Matcher → Matcher
 compile_capture paren_index d m x c =
+    -- 3.d
     m x (λ y.
+    -- 3.c.viii to 3.c.x
     c (record y { captures = slice_set y.captures paren_index (Some (range_between d x.end_index y.end_index)) }))
 
 -- 22.2.2.7 CompileAtom and 22.2.2.4 CompileAssertion: a group or lookaround, by the matcher of what is inside
@@ -56,11 +61,14 @@ module _ (table : Table) (names : List (Option Name)) (fuel : ℕ) where
   abbrev mutual
     pub compile_disjunction : Flags → Direction → (paren_index : ℕ) → Pattern → Matcher
     compile_disjunction rer d n (one ts) = compile_alternative rer d n ts
+    -- 1 to 3 of Alternative | Disjunction
     compile_disjunction rer d n (either ts p) =
         match_two_alternatives (compile_alternative rer d n ts) (compile_disjunction rer d (n + (counts_of_terms ts).groups) p)
 
     pub compile_alternative : Flags → Direction → (paren_index : ℕ) → Terms → Matcher
+    -- 1 of the empty Alternative
     compile_alternative rer d n no_terms = empty_matcher
+    -- 1 to 3 of Alternative Term; 1 of Term, and 1 to 6 of Atom Quantifier
     compile_alternative rer d n (more_terms x q ts) =
         match_sequence (quantified fuel n (counts_of_item x).groups q (compile_term rer d n x))
         (compile_alternative rer d (n + (counts_of_term x q).groups) ts) d
@@ -73,6 +81,7 @@ module _ (table : Table) (names : List (Option Name)) (fuel : ℕ) where
 
 -- 22.2.2.2 CompilePattern: the match at an index
 abbrev pub compile_pattern : (fuel : ℕ) → Table → Flags → Pattern → (input : List ℕ) → (index : ℕ) → MatchResult
+-- 1, and 2.c to 2.f
 compile_pattern fuel table rer p input index =
     compile_disjunction table (names p) fuel rer forwards 0 p
     (record { input = input; end_index = index; captures = replicate (length (names p)) None }) accept
