@@ -33,7 +33,7 @@ fn a_pattern_is_explained_and_drawn_part_by_part(rt: HostRuntime) -> Result<(), 
     let parsed = try_parse_with_spans(alloc, &points, Flags::default(), &tables)?;
     let text = explain(alloc, &points, &parsed)?;
     let lines =
-        "0..6  \\d{4}-  one after the other:\n0..5    \\d{4}  exactly 4 times:\n0..2      \\d  a digit, 0 to 9\n5..6    -  the character \"-\"\n";
+        "Matches 5 characters, with \"-\" in them.\n0..5  \\d{4}  exactly 4 times: a digit (0-9)\n5..6  -  a hyphen (-)\n";
     assert_eq!(rt; text.as_str(), lines);
     let picture = svg_with_marks(alloc, &parsed.regex, &points, &parsed.spans)?;
     for class in ["s0-2", "s0-5", "s5-6"] {
@@ -58,10 +58,10 @@ fn a_page_shows_a_pattern_its_diagram_its_explanation_and_the_matches(
     assert!(rt; page.starts_with("<!DOCTYPE html><html lang=\"en\">"));
     assert!(rt; page.ends_with("</main></body></html>"));
     for text in [
-        "<span class=\"m s8-10\">\\d</span>",
+        "<span class=\"m s8-10\" id=\"p8-10\">\\d</span>",
         "<svg xmlns=\"http://www.w3.org/2000/svg\"",
         "<g class=\"m s8-10\">",
-        "exactly 4 times:",
+        "exactly 4 times: a digit (0-9)",
         "from <mark>2024-05</mark> to <mark>2025-01</mark></p>",
     ] {
         assert!(rt; page.contains(text));
