@@ -9,17 +9,20 @@ use crate::outline::{Part, outline};
 use crate::source::write_pattern;
 use crate::style::write_style;
 use crate::summary::summary;
+use regress_labels::group_names;
 use regress_parse::SpannedRegex;
 use regress_railroad::svg_with_marks;
 use std::alloc::{AllocError, Global};
 
 /// Returns a page about a parsed pattern, as one HTML document that refers to no other file and needs no script: the
-/// pattern, its railroad diagram, its explanation as nested lists, and a text with its matches, if one is given.
+/// pattern, its railroad diagram, its explanation as nested lists, and a text with its matches and a table of what
+/// their groups have captured, if one is given.
 ///
 /// Pointing at a part of the pattern or of the diagram, or at a line of the explanation, marks that part everywhere; so
-/// does focusing a line, or following its link to the pattern. Colours fit the light or dark scheme that the reader prefers. What the pattern and the text
-/// contain is escaped. Invisible characters of the pattern are shown by their numbers, as `U+000A`, and so are, of the
-/// text, controls other than tabs and line feeds, and format characters such as those that change its direction.
+/// does focusing a line, or following its link to the pattern. Colours fit the light or dark scheme that the reader
+/// prefers. What the pattern and the text contain is escaped. Invisible characters of the pattern are shown by their
+/// numbers, as `U+000A`, and so are, of the text, controls other than tabs and line feeds, and format characters such
+/// as those that change its direction.
 ///
 /// The arguments are those of [`explain`]. A range that is not in the rest of the text after the range before it, or
 /// does not begin and end between two characters, is not marked.
@@ -45,7 +48,8 @@ pub fn page(
     write_diagram(pattern, parsed, &mut page)?;
     write_explanation(&parts, pattern, parsed, &mut page)?;
     if let Some(matched) = matched {
-        write_text(matched, &mut page)?;
+        let names = group_names(alloc, &parsed.regex.node)?;
+        write_text(matched, &names, &mut page)?;
     }
     page.element(Element::Footer, MADE)?;
     page.tag(Tag::End)?;

@@ -14,6 +14,7 @@ mod source;
 mod style;
 mod subjects;
 mod summary;
+mod table;
 mod text;
 
 pub use html::page;

@@ -10,7 +10,7 @@ use regress_parse::Span;
 use regress_tree::ir::Node;
 use std::alloc::AllocError;
 
-/// Returns the character that a node stands for, if it stands for one.
+/// Returns the character that a node is written as, if it is written as one.
 ///
 /// # Errors
 /// Returns [`AllocError`] if an allocation fails.

@@ -7,7 +7,7 @@ pub(crate) struct Decoded {
     pub(crate) end: usize,
 }
 
-/// Returns the character that begins at an index: itself, or what an escape stands for. `None` for an escape that is no
+/// Returns the character that begins at an index: itself, or that of an escape. `None` for an escape that is no
 /// character, such as `\d`, or that depends on the rest of the pattern, such as `\1`.
 pub(crate) fn character_at(text: &[u32], at: usize) -> Option<Decoded> {
     let c = *text.get(at)?;

@@ -2,7 +2,7 @@
 
 use std::alloc::{AllocError, Global};
 
-/// What a property stands for: one character that has it, and several.
+/// The words of a property: one character that has it, and several.
 #[derive(Drop)]
 pub(crate) struct Nouns {
     pub(crate) one: String,

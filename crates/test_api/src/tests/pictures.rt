@@ -53,6 +53,7 @@ fn a_page_shows_a_pattern_its_diagram_its_explanation_and_the_matches(
     let matched = Matched {
         text: "from 2024-05 to 2025-01",
         ranges: &[5..12, 16..23],
+        captures: &[Some(5..9), Some(10..12), None, Some(21..23)],
     };
     let page = page(alloc, &points, &parsed, Some(matched))?;
     assert!(rt; page.starts_with("<!DOCTYPE html><html lang=\"en\">"));
@@ -63,6 +64,9 @@ fn a_page_shows_a_pattern_its_diagram_its_explanation_and_the_matches(
         "<g class=\"m s8-10\">",
         "exactly 4 times: a digit (0-9)",
         "from <mark>2024-05</mark> to <mark>2025-01</mark></p>",
+        "<tr><th>match</th><th>group 1 &quot;year&quot;</th><th>group 2</th></tr>",
+        "<tr><td>2024-05</td><td>2024</td><td>05</td></tr>",
+        "<tr><td>2025-01</td><td><small>unset</small></td><td>01</td></tr>",
     ] {
         assert!(rt; page.contains(text));
     }
@@ -91,6 +95,7 @@ fn no_part_of_a_pattern_or_text_is_markup_in_a_page(rt: HostRuntime) -> Result<(
     let matched = Matched {
         text: "</style>é",
         ranges: &[0..9, 8..10, 8..10],
+        captures: &[],
     };
     let page = page(alloc, &points, &parsed, Some(matched))?;
     assert!(rt; page.contains("&lt;script&gt;"));
