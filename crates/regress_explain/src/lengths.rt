@@ -69,30 +69,11 @@ pub(crate) fn matched_length(alloc: Global, root: &Node) -> Result<Option<Length
     length_of(root, &mut groups)
 }
 
-/// Returns the length of a node. It iterates over the right sides of alternatives.
+/// Returns the length of a node.
 #[cycle(length_of)]
 fn length_of(node: &Node, groups: &mut Groups) -> Result<Option<Length>, AllocError> {
-    let mut node = node;
-    let mut sum = None;
-    while let Node::Alt(left, right) = node {
-        sum = either(sum, length_of(left, groups)?);
-        node = right;
-    }
-    Ok(either(sum, length_of_other(node, groups)?))
-}
-
-/// Returns the length of one of two nodes, each of which may never match.
-fn either(first: Option<Length>, second: Option<Length>) -> Option<Length> {
-    match (first, second) {
-        (Some(first), Some(second)) => Some(first.or(second)),
-        _ => first.or(second),
-    }
-}
-
-/// Returns the length of a node that is no alternation.
-#[cycle(length_of)]
-fn length_of_other(node: &Node, groups: &mut Groups) -> Result<Option<Length>, AllocError> {
     match node {
+        Node::Alt(..) => length_of_alternatives(node, groups),
         Node::Cat(parts) => length_of_all(parts, groups),
         Node::LookaroundAssertion { .. } => Ok(Some(Length::exactly(0))),
         _ => {
@@ -102,6 +83,29 @@ fn length_of_other(node: &Node, groups: &mut Groups) -> Result<Option<Length>, A
             let inside = length_of(body, groups)?;
             length_around(node, inside, groups)
         }
+    }
+}
+
+/// Returns the length of one of alternatives. It iterates over right sides.
+#[cycle(length_of)]
+fn length_of_alternatives(node: &Node, groups: &mut Groups) -> Result<Option<Length>, AllocError> {
+    let Node::Alt(left, right) = node else {
+        return Ok(None);
+    };
+    let mut sum = length_of(left, groups)?;
+    let mut rest: &Node = right;
+    while let Node::Alt(left, right) = rest {
+        sum = either(sum, length_of(left, groups)?);
+        rest = right;
+    }
+    Ok(either(sum, length_of(rest, groups)?))
+}
+
+/// Returns the length of one of two nodes, each of which may never match.
+fn either(first: Option<Length>, second: Option<Length>) -> Option<Length> {
+    match (first, second) {
+        (Some(first), Some(second)) => Some(first.or(second)),
+        _ => first.or(second),
     }
 }
 

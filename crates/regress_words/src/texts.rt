@@ -11,6 +11,8 @@ const TEXT_LENGTH: usize = 60;
 #[derive(Clone, Copy)]
 pub struct TextEnd {
     last: Option<Character>,
+    /// Whether the last character is shown as itself.
+    shown: bool,
     /// The last character that may have another one in the other case.
     cased: Option<Character>,
 }
@@ -20,6 +22,7 @@ impl TextEnd {
     pub fn new() -> TextEnd {
         TextEnd {
             last: None,
+            shown: false,
             cased: None,
         }
     }
@@ -28,6 +31,7 @@ impl TextEnd {
     pub fn with(self, next: Character) -> TextEnd {
         TextEnd {
             last: Some(next),
+            shown: is_shown_in_text(next.c) || self.joins_emoji(next),
             cased: if is_cased(next.c) {
                 Some(next)
             } else {
@@ -39,13 +43,10 @@ impl TextEnd {
     /// Returns whether a character is shown as part of the text, which is matched in either case if that is said. A
     /// character that is no letter may follow any text; an invisible one is on its own, unless it joins emoji.
     pub fn joins(self, next: Character) -> bool {
-        let Some(last) = self.last else {
-            return false;
-        };
-        if joins_emoji(last.c, next.c) {
+        if self.joins_emoji(next) {
             return true;
         }
-        if !is_shown_in_text(next.c) || !is_shown_in_text(last.c) && !is_joiner(last.c) {
+        if !self.shown || !is_shown_in_text(next.c) {
             return false;
         }
         match self.cased {
@@ -53,10 +54,10 @@ impl TextEnd {
             None => true,
         }
     }
-}
 
-fn is_joiner(c: u32) -> bool {
-    matches!(c, 0x200D | 0xFE0F)
+    fn joins_emoji(self, next: Character) -> bool {
+        self.last.is_some_and(|last| joins_emoji(last.c, next.c))
+    }
 }
 
 fn is_shown_in_text(c: u32) -> bool {
