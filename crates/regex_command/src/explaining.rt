@@ -64,11 +64,11 @@ fn explanation<'f>(
         Form::Lines => Ok(explain(alloc, points, parsed)?),
         Form::Page(None) => Ok(page_line(alloc, points, parsed, None)?),
         Form::Page(Some(text)) => {
-            let found = match_ranges(alloc, pattern, text)?;
+            let ranges = match_ranges(alloc, pattern, text)?;
             let matched = Matched {
                 text,
-                ranges: &found.ranges,
-                captures: &found.captures,
+                ranges: &ranges,
+                captures: &[],
             };
             Ok(page_line(alloc, points, parsed, Some(matched))?)
         }
@@ -89,24 +89,19 @@ fn page_line(
     Ok(html)
 }
 
-/// The ranges of matches, and those of their groups, match by match.
-#[derive(Drop)]
-struct Ranges {
-    ranges: Vec<Range<usize>>,
-    captures: Vec<Option<Range<usize>>>,
-}
-
-/// Returns the ranges of all matches of an accepted pattern in a text, and of their groups.
-fn match_ranges<'f>(alloc: Global, pattern: Pattern<'_>, text: &str) -> Result<Ranges, Failure<'f>>
+/// Returns the ranges of all matches of an accepted pattern in a text.
+fn match_ranges<'f>(
+    alloc: Global,
+    pattern: Pattern<'_>,
+    text: &str,
+) -> Result<Vec<Range<usize>>, Failure<'f>>
     requires { IsAcceptedPattern (unicode_setting pattern.flags) (chars pattern.text.now) }
-    ensures ranges { IfOk result (λ found. AreMatchRanges (unicode_setting pattern.entry.flags) pattern.entry.text.now text.now found.ranges.items) }
+    ensures ranges { IfOk result (λ ranges. AreMatchRanges (unicode_setting pattern.entry.flags) pattern.entry.text.now text.now ranges.items) }
     ensures due { IfErr result MayFailToFind }
 {
     let regex = compiled(alloc, pattern)?;
     let matches = regex.find_all(alloc, text)?;
-    let ranges = ranges_of(alloc, &matches)?;
-    let captures = captures_of(alloc, &matches)?;
-    Ok(Ranges { ranges, captures })
+    Ok(ranges_of(alloc, &matches)?)
 }
 
 fn ranges_of(alloc: Global, matches: &[Match<'_>]) -> Result<Vec<Range<usize>>, AllocError>
@@ -117,18 +112,4 @@ fn ranges_of(alloc: Global, matches: &[Match<'_>]) -> Result<Vec<Range<usize>>, 
         ranges.push(found.range())?;
     }
     Ok(ranges)
-}
-
-/// Returns the ranges of the groups of each match.
-fn captures_of(
-    alloc: Global,
-    matches: &[Match<'_>],
-) -> Result<Vec<Option<Range<usize>>>, AllocError> {
-    let mut captures = Vec::new(alloc);
-    for found in matches {
-        for capture in found.groups().skip(1) {
-            captures.push(capture)?;
-        }
-    }
-    Ok(captures)
 }
