@@ -4,11 +4,12 @@ ghost use Rattle.regress.specs.Costs.{factor_of, find_factor_of, nonlinear_of};
 ghost use Rattle.regress.specs.Compiled.{groups_of, outcomes_of};
 ghost use Rattle.regress.specs.Searched.{MatchesSomewhere};
 ghost use Rattle.regress_capi.specs.CompileResults.{CompileResult, limits_of};
+ghost use Rattle.regress_capi.specs.Fault.{HasKind, IsTextOf};
 ghost use Rattle.regress_capi.specs.Reasons.{reason_number};
 ghost use Rattle.regress_capi.specs.Request.{setting_by, IsTextRequest};
 ghost use Rattle.regress_capi.specs.SearchResults.{SearchResult, TestResult};
 ghost use Rattle.regress_capi.specs.Spans.{AreEndsOfAll, AreEndsOfFirst};
-ghost use Rattle.regress_capi.specs.TextResults.{HasGroup, HasKind, IsMessage, IsNameOf, TextResult};
+ghost use Rattle.regress_capi.specs.TextResults.{HasGroup, IsNameOf, TextResult};
 ghost use Rattle.regress_found.specs.Found.{Finds};
 
 use regress_capi::compiling::write_handle;
@@ -251,7 +252,7 @@ pub extern "C" fn regress_group_name(
 /// 0, and `needed` is 0 unless the status is 0 or 3.
 #[unsafe(no_mangle)]
 pub extern "C" fn regress_error_message(kind: u32, out: &mut [u8], needed: &mut usize) -> u32
-    ensures status { TextResult (HasKind kind) (IsMessage kind) out.old result needed.new out.new }
+    ensures status { TextResult (HasKind kind) (IsTextOf kind) out.old result needed.new out.new }
 {
     texts::write_message(kind, out, needed)
 }

@@ -137,7 +137,7 @@ fn first_ends(
     match regex.find_at(alloc, text, from)? {
         Some(found) => {
             let mut ends = Vec::new(alloc);
-            push_ends(&found, &mut ends)?;
+            push_spans(&found, &mut ends)?;
             Ok(Some(ends))
         }
         None => Ok(None),
@@ -155,13 +155,13 @@ fn all_ends(
     let mut ends = Vec::new(alloc);
     for found in regex.find_from(alloc, text, from) {
         let found = found?;
-        push_ends(&found, &mut ends)?;
+        push_spans(&found, &mut ends)?;
     }
     Ok(Some(ends))
 }
 
 /// Appends the ends of a match, and then those of each group.
-fn push_ends(found: &Match<'_>, ends: &mut Vec<usize>) -> Result<(), AllocError>
+fn push_spans(found: &Match<'_>, ends: &mut Vec<usize>) -> Result<(), AllocError>
     ensures { IfOk result (λ _. ends.new.items ≡ ends.old.items ++ match_ends (match_of found.now)) }
 {
     for span in found.groups() {

@@ -7,7 +7,7 @@ use Rattle.regress_base.specs.Intervals.{code_point_max, is_member, intervals_of
 use Rattle.regress_base.specs.Table.{Table}
 use Rattle.regress_base.specs.declared.types.Flags.{Flags}
 use Rattle.regress_tree.specs.Reading.{Direction}
-use Rattle.regress_syntax.specs.Syntax.{Name, is_named, by_number, by_name, Atom, literal, dot, anchor, boundary, class_escape, class, class_set, string_property, back_reference}
+use Rattle.regress_syntax.specs.Syntax.{Name, by_number, by_name, Atom, literal, dot, anchor, boundary, class_escape, class, class_set, string_property, back_reference, groups_named}
 use Rattle.regress_ecma.specs.Notation.{CharSet, Matcher}
 use Rattle.regress_ecma.specs.Characters.{all_characters, character_class_escape, character_complement}
 use Rattle.regress_ecma.specs.Repetition.{empty_matcher, match_two_alternatives, match_sequence}
@@ -17,11 +17,6 @@ use Rattle.regress_ecma.specs.Assertions.{compile_anchor, compile_boundary}
 -- the set of one character
 abbrev pub one_character : ℕ → CharSet
 one_character ch = record { first = ch; last = ch } ∷ []
-
--- the numbers, from n on, of the groups with this name (22.2.1 GroupSpecifiersThatMatch): 1 to 3 of `\k`
-abbrev pub numbers_of : Name → ℕ → List (Option Name) → List ℕ
-numbers_of name n [] = []
-numbers_of name n (other ∷ names) = if is_named name other then n ∷ numbers_of name (n + 1) names else numbers_of name (n + 1) names
 
 -- the set without the flag s: no line terminator is in it
 abbrev pub without_line_terminators : CharSet
@@ -96,4 +91,4 @@ module _ (table : Table) where
   -- DecimalEscape, 1 to 3
   compile_atom names rer d (back_reference flags (by_number n)) = backreference_matcher table rer (n ∷ []) d
   -- `\k`, 1 to 4
-  compile_atom names rer d (back_reference flags (by_name name)) = backreference_matcher table rer (numbers_of name 1 names) d
+  compile_atom names rer d (back_reference flags (by_name name)) = backreference_matcher table rer (groups_named name 1 names) d

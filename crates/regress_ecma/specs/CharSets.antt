@@ -1,12 +1,11 @@
 -- ECMA-262, 22.2.2.8 CompileCharacterClass, 22.2.2.9 CompileToCharSet and 22.2.2.10 CompileClassSetString. With the flag v
 -- the elements of a CharSet are sequences of characters. Numbers in comments are those of the clause's steps.
 use Rattle.std.specs.Prelude.{ℕ, Bool, false, true, not, ◌&&◌, ◌||◌, List, [], ◌∷◌, ◌++◌, map, filter, Option, Some, None, if◌then◌else◌}
-use Rattle.std.specs.List.{list_any}
-use Rattle.std.specs.Str.{bytes_eq}
 use Rattle.regress_base.specs.Intervals.{is_member, intervals_of}
 use Rattle.regress_base.specs.Table.{Table}
 use Rattle.regress_base.specs.declared.types.Flags.{Flags}
 use Rattle.regress_lexer.specs.Source.{char}
+use Rattle.regress_classes.specs.ClassSets.{is_among}
 use Rattle.regress_syntax.specs.Syntax.{Atom, class, class_set}
 use Rattle.regress_ecma.specs.Notation.{CharSet}
 use Rattle.regress_ecma.specs.Characters.{maybe_simple_case_folding as fold_characters, character_complement, character_class_escape}
@@ -32,10 +31,6 @@ union a b = record {
   strings = a.strings ++ b.strings;
   has_empty = a.has_empty || b.has_empty;
 }
-
--- the string is one of the strings
-abbrev pub is_among : List (List ℕ) → List ℕ → Bool
-is_among strings s = list_any (λ other. bytes_eq other s) strings
 
 -- the elements that both have
 abbrev pub in_both : Elements → Elements → Elements

@@ -6,7 +6,7 @@ use Rattle.regress_base.specs.Table.{Table}
 use Rattle.regress_base.specs.declared.types.Flags.{Flags}
 use Rattle.regress_base.specs.declared.types.Quantifier.{Quantifier}
 use Rattle.regress_tree.specs.Reading.{Direction, forwards, backwards}
-use Rattle.regress_syntax.specs.Syntax.{Name, Group, grouping, modified, capture, look, Pattern, Terms, Item, one, either, no_terms, more_terms, atom, group, opened_by, counts_of_item, counts_of_terms, counts_of_term, names}
+use Rattle.regress_syntax.specs.Syntax.{Name, Group, grouping, modified, capture, look, Pattern, Terms, Item, one, either, no_terms, more_terms, atom, group, opened_by, counts_of_item, counts_of_terms, counts_of_term, names, direction_of_group}
 use Rattle.regress_ecma.specs.Notation.{CaptureRange, MatchResult, Matcher}
 use Rattle.regress_ecma.specs.Characters.{update_modifiers}
 use Rattle.regress_ecma.specs.Repetition.{repeat_matcher, empty_matcher, match_two_alternatives, match_sequence}
@@ -48,13 +48,6 @@ flags_inside (modified change) rer = update_modifiers rer change
 flags_inside (capture name) rer = rer
 flags_inside (look negate direction) rer = rer
 
--- the direction inside a group
-abbrev pub direction_inside : Group → Direction → Direction
-direction_inside grouping d = d
-direction_inside (modified change) d = d
-direction_inside (capture name) d = d
-direction_inside (look negate direction) d = direction
-
 module _ (table : Table) (names : List (Option Name)) (fuel : ℕ) where
   -- 22.2.2.3 CompileSubpattern. The number is that of the groups to the left (22.2.1.2 CountLeftCapturingParensBefore). The
   -- terms of an alternative nest to the right.
@@ -77,7 +70,7 @@ module _ (table : Table) (names : List (Option Name)) (fuel : ℕ) where
     compile_term rer d n (atom a) = compile_atom table names rer d a
     compile_term rer d n (group kind p) =
         compile_group n d kind
-        (compile_disjunction (flags_inside kind rer) (direction_inside kind d) (n + opened_by kind) p)
+        (compile_disjunction (flags_inside kind rer) (direction_of_group kind d) (n + opened_by kind) p)
 
 -- 22.2.2.2 CompilePattern: the match at an index
 abbrev pub compile_pattern : (fuel : ℕ) → Table → Flags → Pattern → (input : List ℕ) → (index : ℕ) → MatchResult

@@ -8,9 +8,8 @@ use Rattle.regress_base.specs.declared.charclasses.CharacterClassType.TheVariant
 use Rattle.regress_base.specs.declared.types.Flags.{Flags}
 use Rattle.regress_base.specs.declared.types.Quantifier.{Quantifier}
 use Rattle.regress_classes.specs.ClassSets.{has_strings}
-use Rattle.regress_syntax.specs.Syntax.{Name, by_number, by_name, Atom, literal, dot, anchor, boundary, class_escape, class, class_set, string_property, back_reference, Pattern, Terms, Item, one, either, no_terms, more_terms, atom, group}
+use Rattle.regress_syntax.specs.Syntax.{Name, by_number, by_name, Atom, literal, dot, anchor, boundary, class_escape, class, class_set, string_property, back_reference, Pattern, Terms, Item, one, either, no_terms, more_terms, atom, group, groups_named}
 use Rattle.regress_ecma.specs.Characters.{has_some}
-use Rattle.regress_ecma.specs.Atoms.{numbers_of}
 use Rattle.regress_ecma.specs.Compile.{flags_inside}
 
 -- The 78 characters whose case variants are not the same with and without u: of ASCII K and S, which have a variant
@@ -113,7 +112,7 @@ module _ (names : List (Option Name)) where
   differs_at_atom rer (string_property flags written) = true
   differs_at_atom rer (back_reference flags (by_number n)) = false
   -- a reference to several groups of one name
-  differs_at_atom rer (back_reference flags (by_name name)) = not (length (numbers_of name 1 names) == 1)
+  differs_at_atom rer (back_reference flags (by_name name)) = not (length (groups_named name 1 names) == 1)
 
   abbrev mutual
     pub differs : Flags → Pattern → Bool

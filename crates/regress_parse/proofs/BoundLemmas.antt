@@ -5,8 +5,7 @@ use Rattle.regress_tree.specs.Reading.{forwards}
 use Rattle.regress_tree.specs.Visits.{nodes}
 use Rattle.regress_tree.specs.Setting.{Setting}
 use Rattle.regress_lexer.specs.Source.{Source, bar, is_at}
-use Rattle.regress_syntax.specs.Syntax.{Name, Pattern, names}
-use Rattle.regress_syntax.specs.Meaning.{groups_named}
+use Rattle.regress_syntax.specs.Syntax.{Name, Pattern, names, groups_named}
 use Rattle.regress_parse.specs.TreeOf.{tree_of}
 use Rattle.regress_parse.specs.Accepted.{own_context, IsDerived}
 use Rattle.regress_parse.specs.Bound.{total, positions, opens_name, is_reference, nodes_at, node_bound, HasAtMost}

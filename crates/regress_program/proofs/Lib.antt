@@ -22,5 +22,5 @@ mod RoutineLemmas
 mod RunLemmas
 mod SizeLemmas
 mod SolveLemmas
-mod TurnLemmas
+mod IterationLemmas
 mod ViewLemmas

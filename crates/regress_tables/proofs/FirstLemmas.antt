@@ -151,11 +151,6 @@ width-of program index r is = ap width is
 
 -- ---- slots that are unset
 
-unset-at : (n id : ℕ) → id < n → slice_get (replicate n slots.Unset) id ≡ Some slots.Unset
-unset-at zero id lt = absurd (omega (arith, lt))
-unset-at (suc n) zero lt = refl
-unset-at (suc n) (suc id) lt = unset-at n id (omega (arith, lt))
-
 none-inside : (n id routine position : ℕ) → slice_get (replicate n slots.Unset) id ≡ Some (slots.Inside routine position) → ⊥
 none-inside zero id routine position is = cc
 none-inside (suc n) zero routine position is = cc

@@ -19,8 +19,8 @@ loop-found-preserved c =
     let at = outcomes_of c.args.regex.now text in
     let now = c.loop-found.found-iterator in
     let new = c.next.new.self in
-    more-ends text at c.args.from now c.loop-found.ends.items c.loop-found.invariant new c.in_ok-found.found c.push_ends.new.ends.items
-    (subst (λ r. Advances now (Some r) new) c.in_ok-found.was c.in-Some.ensures.steps) c.in_ok-push_ends.ensures
+    more-ends text at c.args.from now c.loop-found.ends.items c.loop-found.invariant new c.in_ok-found.found c.push_spans.new.ends.items
+    (subst (λ r. Advances now (Some r) new) c.in_ok-found.was c.in-Some.ensures.steps) c.in_ok-push_spans.ensures
 
 pub returns : goal.returns
 returns c =

@@ -8,7 +8,7 @@ use Rattle.regress_tree.specs.Repetition.{moving, up_to}
 use Rattle.regress_tree.specs.Steps.{MatchState, Matcher, ◌then_◌}
 use Rattle.regress_tree.proofs.lemmas.Outcomes.{flat_map-then}
 use Rattle.regress_program.specs.Compiled.{Goes}
-use Rattle.regress_program.specs.Iterates.{left, Turns}
+use Rattle.regress_program.specs.Iterates.{left, Continues}
 use Rattle.regress_program.specs.Program.{At, Out, goto, enter, reach, either}
 use Rattle.regress_program.specs.Stays.{IsReached, Stays}
 use Rattle.regress_program.proofs.FlowLemmas.{flag-moves, onward-moves, flat_map-agree, reach-same}
@@ -62,22 +62,22 @@ either-both out false H body next more s is is' = ap₂ ◌++◌ is' is
 -- ---- iterations
 
 module _ (bytes : List ℕ) (d : Direction) (out : Out) where
-  pub Turns-less : (greedy : Bool) (F : Matcher) (next turn n m m' : ℕ) → m' ≤ m → Turns bytes d out greedy F next turn n m →
-      Turns bytes d out greedy F next turn n m'
-  Turns-less greedy F next turn n m m' le is =
-      record { stuck = is.stuck; turns = λ a in' moved less. is.turns a in' moved (omega (arith, le, less)) }
+  pub Continues-less : (greedy : Bool) (F : Matcher) (next last n m m' : ℕ) → m' ≤ m → Continues bytes d out greedy F next last n m →
+      Continues bytes d out greedy F next last n m'
+  Continues-less greedy F next last n m m' le is =
+      record { stuck = is.stuck; continues = λ a in' moved less. is.continues a in' moved (omega (arith, le, less)) }
 
-  module _ (greedy : Bool) (F : Matcher) (stays : Stays bytes d F) (next turn body n m : ℕ) (after : Turns bytes d out greedy F next turn n m)
-      (is : Goes bytes out turn body F) where
+  module _ (greedy : Bool) (F : Matcher) (stays : Stays bytes d F) (next last body n m : ℕ) (after : Continues bytes d out greedy F next last n m)
+      (is : Goes bytes out last body F) where
     -- where one outcome of an iteration leads
-    one_turn : (a : At) (t : MatchState) (b : Bool) → left d bytes a.state.position ≤ m → IsReached bytes d a.state t → (t.position == a.state.position) ≡ b →
-        out (reach turn (enter body a) t) ≡ (if b then [] else flat_map (λ u. out (reach next a u)) (up_to greedy n F t))
-    one_turn a t true le r e = after.stuck (reach turn (enter body a) t) r.inside (ap not e)
-    one_turn a t false le r e =
+    one_iteration : (a : At) (t : MatchState) (b : Bool) → left d bytes a.state.position ≤ m → IsReached bytes d a.state t → (t.position == a.state.position) ≡ b →
+        out (reach last (enter body a) t) ≡ (if b then [] else flat_map (λ u. out (reach next a u)) (up_to greedy n F t))
+    one_iteration a t true le r e = after.stuck (reach last (enter body a) t) r.inside (ap not e)
+    one_iteration a t false le r e =
         let ne = not-equal t.position a.state.position e in
-        let here : At = reach turn (enter body a) t in
+        let here : At = reach last (enter body a) t in
         let less = left-less d bytes a.state t r ne in
-        after.turns here r.inside (ap not e) (omega (arith, less, le))
+        after.continues here r.inside (ap not e) (omega (arith, less, le))
         ∙ flat_map-agree (IsReached bytes d t) (λ u. out (reach next here u)) (λ u. out (reach next a u))
         (λ u r'.
         let other = onward-moves d a.state.position t.position u.position r.onward r'.onward ne in
@@ -87,15 +87,15 @@ module _ (bytes : List ℕ) (d : Direction) (out : Out) where
         (up_to greedy n F t) ((Stays-up_to bytes d F stays greedy n).reached t r.inside)
 
     -- where an iteration leads
-    all_turns : (a : At) → a.state.position ≤ length bytes → left d bytes a.state.position ≤ m →
+    all_iterations : (a : At) → a.state.position ≤ length bytes → left d bytes a.state.position ≤ m →
         out (enter body a) ≡ flat_map (λ u. out (reach next a u)) (flat_map (up_to greedy n F) (moving F a.state))
-    all_turns a in' le =
+    all_iterations a in' le =
         let s = a.state in
         let H : Matcher = λ u. out (reach next a u) in
         let U : Matcher = up_to greedy n F in
         is.goes (enter body a) in'
-        ∙ flat_map-agree (IsReached bytes d s) (λ t. out (reach turn (enter body a) t)) (λ t. if t.position == s.position then [] else (U then_ H) t)
-        (λ t r. one_turn a t (t.position == s.position) le r refl) (F s) (stays.reached s in')
+        ∙ flat_map-agree (IsReached bytes d s) (λ t. out (reach last (enter body a) t)) (λ t. if t.position == s.position then [] else (U then_ H) t)
+        (λ t r. one_iteration a t (t.position == s.position) le r refl) (F s) (stays.reached s in')
         ∙ sym (moving-later (U then_ H) s.position (F s))
         ∙ flat_map-then U H (moving F s)
 
@@ -103,7 +103,7 @@ module _ (bytes : List ℕ) (d : Direction) (out : Out) where
     one_more : (a : At) → a.state.position ≤ length bytes → left d bytes a.state.position ≤ m →
         either out greedy (enter body a) (goto next a) ≡ flat_map (λ u. out (reach next a u)) (up_to greedy (suc n) F a.state)
     one_more a in' le =
-        either-both out greedy (λ u. out (reach next a u)) (enter body a) (goto next a) _ a.state (all_turns a in' le) (sym (reach-same out next a))
+        either-both out greedy (λ u. out (reach next a u)) (enter body a) (goto next a) _ a.state (all_iterations a in' le) (sym (reach-same out next a))
         ∙ ap (flat_map (λ u. out (reach next a u))) (sym (up_to-more greedy n F a.state))
 
     -- the beginning of the loop
@@ -116,39 +116,39 @@ module _ (bytes : List ℕ) (d : Direction) (out : Out) where
     }
 
     -- the end of an iteration after which one more is allowed than after the next
-    pub Turns-more : (turn' : ℕ) → ((a : At) → a.state.position ≤ length bytes →
-        out (goto turn' a) ≡ (if a.moved then either out greedy (enter body a) (goto next a) else [])) →
-        Turns bytes d out greedy F next turn' (suc n) (m + 1)
-    Turns-more turn' repeats = record {
+    pub Continues-more : (last' : ℕ) → ((a : At) → a.state.position ≤ length bytes →
+        out (goto last' a) ≡ (if a.moved then either out greedy (enter body a) (goto next a) else [])) →
+        Continues bytes d out greedy F next last' (suc n) (m + 1)
+    Continues-more last' repeats = record {
       stuck = λ a in' not_moved. repeats a in' ∙ ap (λ (b : Bool). if b then either out greedy (enter body a) (goto next a) else []) not_moved;
-      turns = λ a in' has_moved less.
+      continues = λ a in' has_moved less.
           repeats a in' ∙ ap (λ (b : Bool). if b then either out greedy (enter body a) (goto next a) else []) has_moved
           ∙ one_more a in' (omega (arith, less));
     }
 
   -- the end of the last iteration
-  pub Turns-last : (greedy : Bool) (F : Matcher) (next turn m : ℕ) → ((a : At) → a.state.position ≤ length bytes →
-      out (goto turn a) ≡ (if a.moved then out (goto next a) else [])) → Turns bytes d out greedy F next turn 0 m
-  Turns-last greedy F next turn m ends = record {
+  pub Continues-last : (greedy : Bool) (F : Matcher) (next last m : ℕ) → ((a : At) → a.state.position ≤ length bytes →
+      out (goto last a) ≡ (if a.moved then out (goto next a) else [])) → Continues bytes d out greedy F next last 0 m
+  Continues-last greedy F next last m ends = record {
     stuck = λ a in' not_moved. ends a in' ∙ ap (λ (b : Bool). if b then out (goto next a) else []) not_moved;
-    turns = λ a in' has_moved less.
+    continues = λ a in' has_moved less.
         ends a in' ∙ ap (λ (b : Bool). if b then out (goto next a) else []) has_moved
         ∙ sym (append-nil _ ∙ reach-same out next a);
   }
 
   -- the end of an iteration after which the same iteration may follow
-  pub Turns-all : (greedy : Bool) (F : Matcher) → Stays bytes d F → (next turn body : ℕ) → Goes bytes out turn body F →
+  pub Continues-all : (greedy : Bool) (F : Matcher) → Stays bytes d F → (next last body : ℕ) → Goes bytes out last body F →
       ((a : At) → a.state.position ≤ length bytes →
-      out (goto turn a) ≡ (if a.moved then either out greedy (enter body a) (goto next a) else [])) →
-      (n : ℕ) → Turns bytes d out greedy F next turn n n
-  Turns-all greedy F stays next turn body is repeats zero = record {
+      out (goto last a) ≡ (if a.moved then either out greedy (enter body a) (goto next a) else [])) →
+      (n : ℕ) → Continues bytes d out greedy F next last n n
+  Continues-all greedy F stays next last body is repeats zero = record {
     stuck = λ a in' not_moved. repeats a in' ∙ ap (λ (b : Bool). if b then either out greedy (enter body a) (goto next a) else []) not_moved;
-    turns = λ a in' has_moved less. absurd (omega (arith, less));
+    continues = λ a in' has_moved less. absurd (omega (arith, less));
   }
-  Turns-all greedy F stays next turn body is repeats (suc n) =
-      let more : Turns bytes d out greedy F next turn (suc n) (n + 1) =
-      Turns-more greedy F stays next turn body n n (Turns-all greedy F stays next turn body is repeats n) is turn repeats in
-      Turns-less greedy F next turn (suc n) (n + 1) (suc n) (omega arith) more
+  Continues-all greedy F stays next last body is repeats (suc n) =
+      let more : Continues bytes d out greedy F next last (suc n) (n + 1) =
+      Continues-more greedy F stays next last body n n (Continues-all greedy F stays next last body is repeats n) is last repeats in
+      Continues-less greedy F next last (suc n) (n + 1) (suc n) (omega arith) more
 
 -- ---- a bound that exceeds the remaining text
 

@@ -1,6 +1,6 @@
 -- What is kept before the last operand.
-use Rattle.regress_classes.proofs.class_sets.chain.Chain.close.Goals as goal
-use Rattle.regress_classes.proofs.class_sets.chain.Chain.close.Goals.{in-Some+in_ok-first-in-Some, in-None}
+use Rattle.regress_classes.proofs.class_sets.chain.Chain.finish.Goals as goal
+use Rattle.regress_classes.proofs.class_sets.chain.Chain.finish.Goals.{in-Some+in_ok-first-in-Some, in-None}
 
 pub returns : goal.returns
 returns c = λ v b h k.
