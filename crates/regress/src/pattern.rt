@@ -52,7 +52,7 @@ pub struct Regex {
 }
 
 impl Regex {
-    ghost use Rattle.std.specs.Prelude.{◌≡◌, ◌<◌, ◌≤◌, ◌↔◌, false, All, IsTrue, IfOk, IfErr, IfNone, IfSome, None, chars, is_none, is_some, length, map, min, option_map};
+    ghost use Rattle.std.specs.Prelude.{◌≡◌, ◌<◌, ◌≤◌, ◌↔◌, false, All, IsTrue, IfOk, IfErr, IfNone, IfSome, None, chars, is_none, is_some, length, map, min, option_map, string_bytes};
     ghost use Rattle.std.specs.Arc.{arc_value};
     ghost use Rattle.regress_front.specs.Bound.{HasAtMost};
     ghost use Rattle.regress_front.specs.SettingOf.{setting_of as setting_under};
@@ -142,7 +142,8 @@ impl Regex {
         ensures nonlinear { IfOk result (λ regex. IsNonlinearOf options.linear_instructions (tree_of regex) (nonlinear_of regex)) }
     {
         let points = code_points(alloc, pattern)?;
-        Regex::from_unicode(alloc, &points, flags, options, tables)
+        let source = String::from_str(alloc, pattern)?;
+        Regex::with_source(alloc, source, &points, flags, options, tables)
     }
 
     /// Compiles a pattern of code points, which may be surrogates, as [`Regex::with_options`] does.
@@ -173,13 +174,43 @@ impl Regex {
         ensures find_linear { IfOk result (λ regex. IsFindFactorOf options.linear_instructions (tree_of regex) (find_factor_of regex)) }
         ensures nonlinear { IfOk result (λ regex. IsNonlinearOf options.linear_instructions (tree_of regex) (nonlinear_of regex)) }
     {
+        let source = text_of(alloc, pattern)?;
+        Regex::with_source(alloc, source, pattern, flags, options, tables)
+    }
+
+    /// Compiles a pattern of code points whose text is `source`.
+    ///
+    /// # Preconditions
+    /// As for [`Regex::from_unicode`], and `source` has U+FFFD in place of each surrogate.
+    ///
+    /// # Errors
+    /// As for [`Regex::with_options`].
+    fn with_source(
+        alloc: Global,
+        source: String,
+        pattern: &[u32],
+        flags: Flags,
+        options: Options,
+        tables: &Arc<Tables>,
+    ) -> Result<Regex, Error>
+        requires points { All IsCodePoint pattern.now }
+        requires text { string_bytes source ≡ text_of pattern.now }
+        ensures compiled { IfOk result (IsCompiledFrom (setting_under flags (arc_value tables.now)) pattern.now) }
+        ensures source { IfOk result (λ regex. source_of regex ≡ text_of pattern.now) }
+        ensures failed { IfErr result (IsDue (setting_under flags (arc_value tables.now)) pattern.now options) }
+        ensures small { IfOk result (λ _. options.nodes < usize.MAX → HasAtMost flags pattern.now options.nodes) }
+        ensures within { IfOk result (λ regex. program_size (tree_of regex) ≤ options.instructions) }
+        ensures limit { IfOk result (λ regex. limit_of regex ≡ options.steps) }
+        ensures linear { IfOk result (λ regex. IsFactorOf options.linear_instructions (tree_of regex) (factor_of regex)) }
+        ensures find_linear { IfOk result (λ regex. IsFindFactorOf options.linear_instructions (tree_of regex) (find_factor_of regex)) }
+        ensures nonlinear { IfOk result (λ regex. IsNonlinearOf options.linear_instructions (tree_of regex) (nonlinear_of regex)) }
+    {
         let bound = node_bound(pattern, flags);
         if bound > options.nodes {
             return Err(Error::TooLarge);
         }
         let compiled = optimized(alloc, pattern, flags, tables)?;
         let groups = groups(alloc, &compiled)?;
-        let source = text_of(alloc, pattern)?;
         let limits = Limits {
             instructions: options.instructions,
             linear_instructions: options.linear_instructions,

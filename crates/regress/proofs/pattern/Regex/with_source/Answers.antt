@@ -6,7 +6,7 @@ use Rattle.regress_front.specs.Tree.{tree}
 use Rattle.regress.specs.Compiled.{IsTreeOf}
 use Rattle.regress.specs.Failures.{IsDue}
 use Rattle.regress.proofs.CompiledLemmas.{compiled, passed_on, too_long_is_due, with_tables}
-use Rattle.regress.proofs.pattern.Regex.from_unicode.Goals as goal
+use Rattle.regress.proofs.pattern.Regex.with_source.Goals as goal
 
 pub returns-in_err-compiled-clause-failed : goal.returns-in_err-compiled-clause-failed
 returns-in_err-compiled-clause-failed c =
