@@ -58,7 +58,7 @@ impl Regex {
     ghost use Rattle.regress_front.specs.SettingOf.{setting_of as setting_under};
     ghost use Rattle.regress_front.specs.Source.{IsCodePoint};
     ghost use Rattle.regress_found.specs.Found.{IsInside, Finds};
-    ghost use Rattle.regress_match.specs.Matcher.{IsFactorOf, IsFindFactorOf, IsNonlinearOf};
+    ghost use Rattle.regress_match.specs.Matcher.{IsFactorOf, IsFindFactorOf, IsNonlinearOf, is_find_linear_tree};
     ghost use Rattle.regress_found.specs.Repeated.{AreAllMatches};
     ghost use Rattle.regress_program.specs.Size.{program_size};
     ghost use Rattle.regress_replace.specs.Order.{AreInOrder};
@@ -139,6 +139,7 @@ impl Regex {
         ensures limit { IfOk result (λ regex. limit_of regex ≡ options.steps) }
         ensures linear { IfOk result (λ regex. IsFactorOf options.linear_instructions (tree_of regex) (factor_of regex)) }
         ensures find_linear { IfOk result (λ regex. IsFindFactorOf options.linear_instructions (tree_of regex) (find_factor_of regex)) }
+        ensures find_linear_tree { IfOk result (λ regex. is_some (find_factor_of regex) ≡ is_find_linear_tree options.linear_instructions (tree_of regex)) }
         ensures nonlinear { IfOk result (λ regex. IsNonlinearOf options.linear_instructions (tree_of regex) (nonlinear_of regex)) }
     {
         let points = code_points(alloc, pattern)?;
@@ -172,6 +173,7 @@ impl Regex {
         ensures limit { IfOk result (λ regex. limit_of regex ≡ options.steps) }
         ensures linear { IfOk result (λ regex. IsFactorOf options.linear_instructions (tree_of regex) (factor_of regex)) }
         ensures find_linear { IfOk result (λ regex. IsFindFactorOf options.linear_instructions (tree_of regex) (find_factor_of regex)) }
+        ensures find_linear_tree { IfOk result (λ regex. is_some (find_factor_of regex) ≡ is_find_linear_tree options.linear_instructions (tree_of regex)) }
         ensures nonlinear { IfOk result (λ regex. IsNonlinearOf options.linear_instructions (tree_of regex) (nonlinear_of regex)) }
     {
         let source = text_of(alloc, pattern)?;
@@ -203,6 +205,7 @@ impl Regex {
         ensures limit { IfOk result (λ regex. limit_of regex ≡ options.steps) }
         ensures linear { IfOk result (λ regex. IsFactorOf options.linear_instructions (tree_of regex) (factor_of regex)) }
         ensures find_linear { IfOk result (λ regex. IsFindFactorOf options.linear_instructions (tree_of regex) (find_factor_of regex)) }
+        ensures find_linear_tree { IfOk result (λ regex. is_some (find_factor_of regex) ≡ is_find_linear_tree options.linear_instructions (tree_of regex)) }
         ensures nonlinear { IfOk result (λ regex. IsNonlinearOf options.linear_instructions (tree_of regex) (nonlinear_of regex)) }
     {
         let bound = node_bound(pattern, flags);
@@ -410,8 +413,9 @@ impl Regex {
 
     /// Returns whether a search for all matches is known to take time linear in the length of the text.
     ///
-    /// It is if the pattern has neither a back reference nor a capture group in a lookaround that is not negated, and
-    /// if its program has at most `linear_instructions` of [`Options`] instructions.
+    /// It is exactly if the pattern has neither a back reference nor a capture group in a lookaround that is not negated,
+    /// and its program at most `linear_instructions` of [`Options`] instructions. What is in a loop without iterations,
+    /// as in `(?:(a)\1){0}`, does not count.
     ///
     /// # Examples
     /// ```
@@ -426,7 +430,8 @@ impl Regex {
     /// Returns whether a search for one match is known to take time linear in the length of the text: also where
     /// lookarounds contain capture groups. It is if [`Regex::is_linear`].
     ///
-    /// A back reference rules it out, and so does a program of more than `linear_instructions` of [`Options`] instructions.
+    /// It is exactly if the pattern has no back reference, other than in a loop without iterations, and its program at
+    /// most `linear_instructions` of [`Options`] instructions.
     ///
     /// # Examples
     /// ```

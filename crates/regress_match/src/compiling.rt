@@ -30,8 +30,9 @@ use std::sync::Arc;
 impl Matcher {
     /// Compiles a pattern into a program of at most `limits.instructions` instructions.
     ///
-    /// Searches take linear time if the program is linear and has at most `limits.linear_instructions` instructions; searches for one
-    /// match also where lookarounds capture.
+    /// Searches for all matches take linear time exactly if the program has at most `limits.linear_instructions` instructions,
+    /// and the tree has no back reference, and no capture group in a lookaround that is not negated; of a well-formed tree
+    /// searches for one match also where lookarounds capture. What is in a loop without iterations does not count.
     ///
     /// # Errors
     /// - [`CompileFault::TooLong`] if the program would have more instructions than the limit.

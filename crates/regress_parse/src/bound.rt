@@ -36,6 +36,7 @@ pub fn node_bound(pattern: &[u32], flags: Flags) -> usize
 }
 
 /// What bounds the number of nodes of a pattern.
+#[derive(Clone, Copy)]
 struct Counts {
     /// The number of nodes where no group has a name, at most `usize::MAX`.
     nodes: usize,

@@ -11,8 +11,7 @@ use Rattle.regress_tree.specs.declared.ir.node.Node.{Node}
 use Rattle.regress_program.specs.Adds.{OpsLack, RoutinesLack, CodeLacks, Covers, CoversRoutine}
 use Rattle.regress_program.specs.Compiled.{Extends, Code, Grown}
 use Rattle.regress_program.specs.Contents.{Contents, nothing, in_sequence, either_of, grouped, in_iteration, in_iterations, in_loop, after_all, in_lookaround, content, content_of_parts}
-use Rattle.regress_program.specs.LeavesOf.{is_never}
-use Rattle.regress_program.specs.Linear.{changes_captures, is_back_ref, is_back_reference, is_capturing, is_capturing_lookaround, is_linear, is_linear_op}
+use Rattle.regress_program.specs.Linear.{changes_captures, is_back_ref, is_back_reference, is_capturing, is_capturing_lookaround, is_linear, is_linear_op, is_never}
 use Rattle.regress_program.specs.Program.{Op, accept, part, begin_group, end_group, unsets, look, Routine}
 use Rattle.regress_program.specs.Pushed.{Pushed}
 use Rattle.regress_program.specs.Tidy.{has_no_back_reference}
@@ -158,8 +157,8 @@ covers_leaf a b t next at is pushed =
     let has = has-leaf t is in
     record {
       refers = λ lack. has.0 ∙ pushed-lacks is_back_reference a a b (part t next) at (Extends-same a.ops) pushed lack.ops;
-      captures = λ lack. has.1.0;
-      looks = λ program ext lack. has.1.1;
+      captures = λ lack. has.1;
+      looks = λ program ext lack. has.2;
     }
 
 -- ---- groups and iterations
@@ -194,7 +193,7 @@ no_groups start' end' none = by (nat_lt start' end') refl
   where
     by : (b : Bool) → nat_lt start' end' ≡ b → b ≡ false
     by true some = absurd (omega (arith, none, ltb-true start' end' some))
-    by false no = refl
+    by false without = refl
 
 -- an iteration that unsets no group
 pub covers_without_groups : (a b : Code) (f : Contents) (start' end' : ℕ) → end' ≤ start' → Covers a b f → Covers a b (in_iteration start' end' f)
@@ -246,9 +245,6 @@ covers_repeated a b f is = record {
   looks = λ program ext lack. (or_none f.looks f.looks (is.looks program ext lack)).0;
 }
 
-pub runs : (q : Quantifier) (f : Contents) → is_never q ≡ false → in_loop q f ≡ f
-runs q f some = ap (λ (b : Bool). record f { refers = not b && f.refers; captures = not b && f.captures; looks = not b && f.looks }) some
-
 pub never_has : (q : Quantifier) (f : Contents) → is_never q ≡ true → HasNone (in_loop q f)
 never_has q f never = record {
   refers = ap (λ (b : Bool). not b && f.refers) never;
@@ -256,16 +252,27 @@ never_has q f never = record {
   looks = ap (λ (b : Bool). not b && f.looks) never;
 }
 
-none_in_loop : (q : Quantifier) (f : Contents) → HasNone f → HasNone (in_loop q f)
-none_in_loop q f none = record {
-  refers = ap (λ (b : Bool). not (is_never q) && b) none.refers ∙ no (not (is_never q));
-  captures = ap (λ (b : Bool). not (is_never q) && b) none.captures ∙ no (not (is_never q));
-  looks = ap (λ (b : Bool). not (is_never q) && b) none.looks ∙ no (not (is_never q));
+-- A loop contains no kind of thing that its iterations do not.
+pub fewer_in_loop : (q : Quantifier) (f : Contents) → HasFewer f (in_loop q f)
+fewer_in_loop q f = record {
+  refers = λ none. ap (λ (b : Bool). not (is_never q) && b) none ∙ and_false (not (is_never q));
+  captures = λ none. ap (λ (b : Bool). not (is_never q) && b) none ∙ and_false (not (is_never q));
+  looks = λ none. ap (λ (b : Bool). not (is_never q) && b) none ∙ and_false (not (is_never q));
 }
   where
-    no : (b : Bool) → (b && false) ≡ false
-    no true = refl
-    no false = refl
+    and_false : (b : Bool) → (b && false) ≡ false
+    and_false true = refl
+    and_false false = refl
+
+-- A loop with iterations contains all that they do.
+pub no_more_runs : (q : Quantifier) (f : Contents) → is_never q ≡ false → HasNoMore f (in_loop q f)
+no_more_runs q f some = record {
+  refers = λ none. sym (ap (λ (b : Bool). not b && f.refers) some) ∙ none;
+  captures = λ none. sym (ap (λ (b : Bool). not b && f.captures) some) ∙ none;
+  looks = λ none. sym (ap (λ (b : Bool). not b && f.looks) some) ∙ none;
+  changes = λ id is. is;
+  tidy = λ set tidy. tidy;
+}
 
 pub none_one : (t : Tree) → takes_one t ≡ true → HasNone (content t)
 none_one (leaf empty) is = cc
@@ -289,9 +296,9 @@ none_one (wrapped w body) is = cc
 pub none_characters : (q : Quantifier) (t : Tree) → takes_one t ≡ true → HasNone (content (wrapped (loop_one q) t))
 none_characters q t one =
     let none = none_one t one in
-    none_in_loop q (in_iterations (in_iteration 0 0 (content t))) (record { refers = none.refers; captures = none.captures; looks = none.looks })
+    let fewer = fewer_in_loop q (in_iterations (in_iteration 0 0 (content t))) in
+    record { refers = fewer.refers none.refers; captures = fewer.captures none.captures; looks = fewer.looks none.looks }
 
--- what a loop without contents may hold
 pub no_more_none : (q : Quantifier) (f : Contents) → HasNone f → HasNoMore f (in_loop q f)
 no_more_none q f none = record {
   refers = λ h. none.refers;

@@ -6,8 +6,7 @@ use Rattle.regress_tree.specs.Tree.{Leaf, back_ref, Wrapper, capture_group, loop
 use Rattle.regress_tree.specs.Tree as trees
 use Rattle.regress_tree.specs.WellFormed.{Capture, captures, captures_of_trees, Position, one_character, inside, root, last_of, HasGroups, IsAllowed, PartsAllowed, IsWellFormed}
 use Rattle.regress_program.specs.Contents.{Ids, no_ids, union, ids_in, content, content_of_parts}
-use Rattle.regress_program.specs.LeavesOf.{is_never}
-use Rattle.regress_program.specs.Linear.{changes_some, changes_some_of, has_back_reference, has_capturing_lookaround, is_back_ref, is_capturing_node, some_compiled_of}
+use Rattle.regress_program.specs.Linear.{changes_some, changes_some_of, has_back_reference, has_capturing_lookaround, is_back_ref, is_capturing_node, is_never, some_compiled_of}
 use Rattle.regress_program.proofs.lemmas.Tidy.{and_left, and_right, or_cases, or_left, or_right}
 
 -- how often a group occurs

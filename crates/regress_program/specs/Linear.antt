@@ -1,13 +1,18 @@
 -- Linear programs: those without back references, and in which no lookaround that succeeds changes captures.
-use Rattle.std.specs.Prelude.{if◌then◌else◌, Bool, true, false, not, ◌&&◌, ◌||◌, List, nat_lt, slice_get, Option, Some, None}
+use Rattle.std.specs.Prelude.{◌==◌, if◌then◌else◌, Bool, true, false, not, ◌&&◌, ◌||◌, List, nat_lt, slice_get, Option, Some, None}
 use Rattle.std.specs.List.{list_all, list_any}
+use Rattle.regress_base.specs.declared.types.Quantifier.{Quantifier}
+use Rattle.regress_tree.specs.Shapes.{is_zero}
 use Rattle.regress_tree.specs.Tree.{back_ref, Wrapper, capture_group, loop, loop_one, lookaround, Tree, Trees, leaf, cat, alt, wrapped, no_trees, more_trees}
-use Rattle.regress_program.specs.LeavesOf.{is_never}
 use Rattle.regress_program.specs.declared.nonlinear.Nonlinear.{Nonlinear}
 use Rattle.regress_program.specs.declared.nonlinear.Nonlinear.TheVariants.{BackReference, CapturingLookaround}
 use Rattle.regress_program.specs.Program.{Op, part, unsets, end_group, look, Routine}
 
--- the node is a loop without iterations, whose body is not compiled
+-- The loop has no iterations, so it has no instructions.
+abbrev pub is_never : Quantifier → Bool
+is_never q = (q.min == 0) && is_zero q.max
+
+-- the node is such a loop
 abbrev pub never_runs : Wrapper → Bool
 never_runs (loop quantifier start end) = is_never quantifier
 never_runs (loop_one quantifier) = is_never quantifier

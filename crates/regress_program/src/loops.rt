@@ -5,7 +5,8 @@ ghost use Rattle.regress_tree.specs.Tree.{loop_one, tree, wrapped};
 ghost use Rattle.regress_program.specs.CodeOf.{iterating, iteration_of, looping, loop_of, iteration_size, Emits, EmitsCopies, Spends};
 ghost use Rattle.regress_program.specs.Compiled.{matching, optional, any_number};
 ghost use Rattle.regress_program.specs.Contents.{content, in_loop};
-ghost use Rattle.regress_program.specs.LeavesOf.{is_never, leaves_of, leaves_of_loop};
+ghost use Rattle.regress_program.specs.LeavesOf.{leaves_of, leaves_of_loop};
+ghost use Rattle.regress_program.specs.Linear.{is_never};
 ghost use Rattle.regress_program.specs.Size.{size, size_of_characters, size_of_optional, size_of_extra, size_of_loop};
 ghost use Rattle.regress_program.specs.declared.fault.CompileFault.TheVariants.{TooLong};
 

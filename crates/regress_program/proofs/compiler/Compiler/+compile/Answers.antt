@@ -27,7 +27,7 @@ use Rattle.regress_program.proofs.AlternativeLemmas.{waiting_none, waiting_push,
 use Rattle.regress_program.proofs.CodeLemmas.{Grown-same, Grown-then, Grown-push}
 use Rattle.regress_program.proofs.CompileLemmas.{compiled_nothing, compiled_part, compiled_group, compiled_unset, compiled_without_groups, compiled_earlier, compiled_later}
 use Rattle.regress_program.proofs.CountLemmas.{compiled_counted, compiled_plain}
-use Rattle.regress_program.proofs.CoverLemmas.{HasNone, covers_either, covers_earlier, covers_group, covers_iterations, covers_later, covers_leaf, covers_look, covers_mandatory, covers_no_mandatory, covers_none, covers_repeated, covers_routine, covers_sequence, covers_unset, covers_without_groups, covers_written, longer-then, never_has, no_more_none, none_characters, none_nothing, none_one, pushed-below, runs}
+use Rattle.regress_program.proofs.CoverLemmas.{HasNone, covers_either, covers_earlier, covers_fewer, covers_group, covers_iterations, covers_later, covers_leaf, covers_look, covers_mandatory, covers_no_mandatory, covers_none, covers_repeated, covers_routine, covers_sequence, covers_unset, covers_without_groups, covers_written, fewer_in_loop, longer-then, never_has, no_more_none, no_more_runs, none_characters, none_nothing, none_one, pushed-below}
 use Rattle.regress_program.proofs.LeavesLemmas.{copies-bounded, has-at, has-first, has-leaf, has-room, has-same, has-second, loop-leaves, many-wrapped, never-bounds, never-leaves, one-leaf, one-wrapped, optional_copies, parts-leaves, some-copies}
 use Rattle.regress_program.proofs.PieceLemmas.{part-then, tidies_later, tidies_earlier, tidies_or, holds_less, holds_nothing, holds_part, holds_group, holds_unset, less_without_groups, holds_last, holds_more, holds_optional, holds_any_number, holds_no_mandatory, holds_mandatory, holds_repeated, holds_plain, holds_look, holds_routine, holds_counted, holds_sequence, adds_split, plain_leaf}
 use Rattle.regress_program.proofs.RepeatLemmas.{Written, iterates_last, iterates_more, compiled_optional, compiled_any_number, compiled_mandatory, compiled_never, compiled_no_mandatory, compiled_unbounded, compiled_bounded, compiled_repeated}
@@ -377,7 +377,7 @@ repeat-returns-clause-emits t c =
     let some = sym c.is_never.ensures ∙ c.if-is_never.false in
     let all : l._i ≡ q.min = omega (arith, l.auto._i-end, c.loop-i-test.false) in
     let is = loop-leaves q ts some in
-    let whole = sym (runs q (loop_of c.args.iterations (content (tree c.args.body.now))) some) in
+    let body = iteration_of c.args.iterations (content (tree c.args.body.now)) in
     record {
       begins = l.invariant.begins;
       grown = l.invariant.grown;
@@ -391,13 +391,13 @@ repeat-returns-clause-emits t c =
                 (subst (λ k. Compiled (code_in leaves c.args.self.now) (code_in leaves l.self) (after_iterations k f (extra q f)) c.args.next l.entry) all
                 copies.compiled);
             holds =
-                subst (λ i. Holds (code_in leaves c.args.self.now) (code_in leaves l.self) i c.args.next l.entry) whole
-                (holds_repeated (code_in leaves c.args.self.now) (code_in leaves l.self) (iteration_of c.args.iterations (content (tree c.args.body.now)))
-                c.args.next l.entry copies.holds);
+                holds_less (code_in leaves c.args.self.now) (code_in leaves l.self) (in_iterations body) (in_loop q (in_iterations body)) c.args.next l.entry
+                (no_more_runs q (in_iterations body) some)
+                (holds_repeated (code_in leaves c.args.self.now) (code_in leaves l.self) body c.args.next l.entry copies.holds);
             covers =
-                subst (Covers (code_in leaves c.args.self.now) (code_in leaves l.self)) whole
-                (covers_repeated (code_in leaves c.args.self.now) (code_in leaves l.self) (iteration_of c.args.iterations (content (tree c.args.body.now)))
-                (copies.covers (omega (arith, all, some-copies q some))));
+                covers_fewer (code_in leaves c.args.self.now) (code_in leaves l.self) (in_iterations body) (in_loop q (in_iterations body))
+                (fewer_in_loop q (in_iterations body))
+                (covers_repeated (code_in leaves c.args.self.now) (code_in leaves l.self) body (copies.covers (omega (arith, all, some-copies q some))));
           };
     }
 
