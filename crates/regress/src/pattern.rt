@@ -52,13 +52,13 @@ pub struct Regex {
 }
 
 impl Regex {
-    ghost use Rattle.std.specs.Prelude.{◌≡◌, ◌<◌, ◌≤◌, ◌↔◌, false, All, IsTrue, IfOk, IfErr, IfNone, IfSome, None, chars, is_none, is_some, length, map, min, option_map};
+    ghost use Rattle.std.specs.Prelude.{◌≡◌, ◌<◌, ◌≤◌, ◌↔◌, false, All, IsTrue, IfOk, IfErr, IfNone, IfSome, None, chars, is_none, is_some, length, map, min, option_map, string_bytes};
     ghost use Rattle.std.specs.Arc.{arc_value};
     ghost use Rattle.regress_front.specs.Bound.{HasAtMost};
     ghost use Rattle.regress_front.specs.SettingOf.{setting_of as setting_under};
     ghost use Rattle.regress_front.specs.Source.{IsCodePoint};
     ghost use Rattle.regress_found.specs.Found.{IsInside, Finds};
-    ghost use Rattle.regress_match.specs.Matcher.{IsFactorOf, IsFindFactorOf, IsNonlinearOf};
+    ghost use Rattle.regress_match.specs.Matcher.{IsFactorOf, IsFindFactorOf, IsNonlinearOf, is_find_linear_tree};
     ghost use Rattle.regress_found.specs.Repeated.{AreAllMatches};
     ghost use Rattle.regress_program.specs.Size.{program_size};
     ghost use Rattle.regress_replace.specs.Order.{AreInOrder};
@@ -139,10 +139,12 @@ impl Regex {
         ensures limit { IfOk result (λ regex. limit_of regex ≡ options.steps) }
         ensures linear { IfOk result (λ regex. IsFactorOf options.linear_instructions (tree_of regex) (factor_of regex)) }
         ensures find_linear { IfOk result (λ regex. IsFindFactorOf options.linear_instructions (tree_of regex) (find_factor_of regex)) }
+        ensures find_linear_tree { IfOk result (λ regex. is_some (find_factor_of regex) ≡ is_find_linear_tree options.linear_instructions (tree_of regex)) }
         ensures nonlinear { IfOk result (λ regex. IsNonlinearOf options.linear_instructions (tree_of regex) (nonlinear_of regex)) }
     {
         let points = code_points(alloc, pattern)?;
-        Regex::from_unicode(alloc, &points, flags, options, tables)
+        let source = String::from_str(alloc, pattern)?;
+        Regex::with_source(alloc, source, &points, flags, options, tables)
     }
 
     /// Compiles a pattern of code points, which may be surrogates, as [`Regex::with_options`] does.
@@ -171,6 +173,39 @@ impl Regex {
         ensures limit { IfOk result (λ regex. limit_of regex ≡ options.steps) }
         ensures linear { IfOk result (λ regex. IsFactorOf options.linear_instructions (tree_of regex) (factor_of regex)) }
         ensures find_linear { IfOk result (λ regex. IsFindFactorOf options.linear_instructions (tree_of regex) (find_factor_of regex)) }
+        ensures find_linear_tree { IfOk result (λ regex. is_some (find_factor_of regex) ≡ is_find_linear_tree options.linear_instructions (tree_of regex)) }
+        ensures nonlinear { IfOk result (λ regex. IsNonlinearOf options.linear_instructions (tree_of regex) (nonlinear_of regex)) }
+    {
+        let source = text_of(alloc, pattern)?;
+        Regex::with_source(alloc, source, pattern, flags, options, tables)
+    }
+
+    /// Compiles a pattern of code points whose text is `source`.
+    ///
+    /// # Preconditions
+    /// As for [`Regex::from_unicode`], and `source` has U+FFFD in place of each surrogate.
+    ///
+    /// # Errors
+    /// As for [`Regex::with_options`].
+    fn with_source(
+        alloc: Global,
+        source: String,
+        pattern: &[u32],
+        flags: Flags,
+        options: Options,
+        tables: &Arc<Tables>,
+    ) -> Result<Regex, Error>
+        requires points { All IsCodePoint pattern.now }
+        requires text { string_bytes source ≡ text_of pattern.now }
+        ensures compiled { IfOk result (IsCompiledFrom (setting_under flags (arc_value tables.now)) pattern.now) }
+        ensures source { IfOk result (λ regex. source_of regex ≡ text_of pattern.now) }
+        ensures failed { IfErr result (IsDue (setting_under flags (arc_value tables.now)) pattern.now options) }
+        ensures small { IfOk result (λ _. options.nodes < usize.MAX → HasAtMost flags pattern.now options.nodes) }
+        ensures within { IfOk result (λ regex. program_size (tree_of regex) ≤ options.instructions) }
+        ensures limit { IfOk result (λ regex. limit_of regex ≡ options.steps) }
+        ensures linear { IfOk result (λ regex. IsFactorOf options.linear_instructions (tree_of regex) (factor_of regex)) }
+        ensures find_linear { IfOk result (λ regex. IsFindFactorOf options.linear_instructions (tree_of regex) (find_factor_of regex)) }
+        ensures find_linear_tree { IfOk result (λ regex. is_some (find_factor_of regex) ≡ is_find_linear_tree options.linear_instructions (tree_of regex)) }
         ensures nonlinear { IfOk result (λ regex. IsNonlinearOf options.linear_instructions (tree_of regex) (nonlinear_of regex)) }
     {
         let bound = node_bound(pattern, flags);
@@ -179,7 +214,6 @@ impl Regex {
         }
         let compiled = optimized(alloc, pattern, flags, tables)?;
         let groups = groups(alloc, &compiled)?;
-        let source = text_of(alloc, pattern)?;
         let limits = Limits {
             instructions: options.instructions,
             linear_instructions: options.linear_instructions,
@@ -379,8 +413,9 @@ impl Regex {
 
     /// Returns whether a search for all matches is known to take time linear in the length of the text.
     ///
-    /// It is if the pattern has neither a back reference nor a capture group in a lookaround that is not negated, and
-    /// if its program has at most `linear_instructions` of [`Options`] instructions.
+    /// It is exactly if the pattern has neither a back reference nor a capture group in a lookaround that is not negated,
+    /// and its program at most `linear_instructions` of [`Options`] instructions. What is in a loop without iterations,
+    /// as in `(?:(a)\1){0}`, does not count.
     ///
     /// # Examples
     /// ```
@@ -395,7 +430,8 @@ impl Regex {
     /// Returns whether a search for one match is known to take time linear in the length of the text: also where
     /// lookarounds contain capture groups. It is if [`Regex::is_linear`].
     ///
-    /// A back reference rules it out, and so does a program of more than `linear_instructions` of [`Options`] instructions.
+    /// It is exactly if the pattern has no back reference, other than in a loop without iterations, and its program at
+    /// most `linear_instructions` of [`Options`] instructions.
     ///
     /// # Examples
     /// ```

@@ -1,8 +1,8 @@
 -- The result of a call that compiles a pattern.
-use Rattle.std.specs.Prelude.{◌≡◌, ◌==◌, ℕ, List, Option, Some, chars, if◌then◌else◌}
+use Rattle.std.specs.Prelude.{◌≡◌, ◌==◌, ℕ, List, Option, Some, chars, if◌then◌else◌, is_some}
 use Rattle.regress_front.specs.Setting.{Setting}
 use Rattle.regress_parse.specs.Accepted.{NoneIsAccepted}
-use Rattle.regress_match.specs.Matcher.{IsFactorOf, IsFindFactorOf, IsNonlinearOf}
+use Rattle.regress_match.specs.Matcher.{IsFactorOf, IsFindFactorOf, IsNonlinearOf, is_find_linear_tree}
 use Rattle.regress.specs.Compiled.{IsCompiled, tree_of}
 use Rattle.regress.specs.Costs.{factor_of, find_factor_of, limit_of, nonlinear_of}
 use Rattle.regress.specs.Failures.{IsTooLarge}
@@ -31,6 +31,7 @@ pub record IsCompiledWithin (setting : Setting) (text : List ℕ) (options : Opt
   pub limit : limit_of regex ≡ options.steps
   pub linear : IsFactorOf options.linear_instructions (tree_of regex) (factor_of regex)
   pub find_linear : IsFindFactorOf options.linear_instructions (tree_of regex) (find_factor_of regex)
+  pub find_linear_tree : is_some (find_factor_of regex) ≡ is_find_linear_tree options.linear_instructions (tree_of regex)
   pub nonlinear : IsNonlinearOf options.linear_instructions (tree_of regex) (nonlinear_of regex)
 
 -- The status, `kind`, `position`, and the handle before and after. `Asked` states that the arguments are valid.

@@ -11,7 +11,8 @@ use Rattle.regress_prefilter.specs.OneCharacter.{takes_one}
 use Rattle.regress_tree.specs.Shapes.{is_zero}
 use Rattle.regress_tree.specs.Tree.{empty, goal, char, byte_sequence, byte_set, char_set, match_any, match_any_except_line_terminator, anchor, word_boundary, bracket, back_ref, string_set, loop_one, Tree, leaf, cat, alt, wrapped, tree, trees}
 use Rattle.regress_tree.specs.declared.ir.node.Node.{Node}
-use Rattle.regress_program.specs.LeavesOf.{HasLeaves, is_never, leaves_of, leaves_of_loop, leaves_of_parts, leaves_of_strings, leaves_of_wrapper, tree_of}
+use Rattle.regress_program.specs.LeavesOf.{HasLeaves, leaves_of, leaves_of_loop, leaves_of_parts, leaves_of_strings, leaves_of_wrapper, tree_of}
+use Rattle.regress_program.specs.Linear.{is_never}
 use Rattle.regress_program.specs.Views.{leaf_in}
 use Rattle.regress_program.proofs.ViewLemmas.{from_index}
 

@@ -7,6 +7,7 @@ mod CodeLemmas
 mod CompileLemmas
 mod CostLemmas
 mod CountLemmas
+mod CoverLemmas
 mod FlowLemmas
 mod KeepLemmas
 mod LeafLemmas

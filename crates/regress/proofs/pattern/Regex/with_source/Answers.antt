@@ -1,12 +1,13 @@
-use Rattle.std.proofs.Common.{◌∙◌, ap}
+use Rattle.std.proofs.Common.{◌∙◌, sym, ap}
 use Rattle.std.specs.Arc.{arc_value}
 use Rattle.std.specs.Prelude.{IfErr}
 use Rattle.regress_front.specs.SettingOf.{setting_of}
 use Rattle.regress_front.specs.Tree.{tree}
+use Rattle.regress_match.specs.Matcher.{is_find_linear_tree}
 use Rattle.regress.specs.Compiled.{IsTreeOf}
 use Rattle.regress.specs.Failures.{IsDue}
 use Rattle.regress.proofs.CompiledLemmas.{compiled, passed_on, too_long_is_due, with_tables}
-use Rattle.regress.proofs.pattern.Regex.from_unicode.Goals as goal
+use Rattle.regress.proofs.pattern.Regex.with_source.Goals as goal
 
 pub returns-in_err-compiled-clause-failed : goal.returns-in_err-compiled-clause-failed
 returns-in_err-compiled-clause-failed c =
@@ -37,3 +38,12 @@ returns-in_err-matcher-clause-failed c =
     with_tables (λ ts. IsTreeOf (setting_of c.args.flags ts) points t) c.deref.result.now tables c.deref.ensures c.in_ok-compiled.ensures.tree in
     too_long_is_due (setting_of c.args.flags tables) points c.args.options t is c.new.result c.in_err-matcher.field-0.0
     c.from_residual-in_err-matcher.result c.from_residual-in_err-matcher.ensures c.in_err-matcher.was c.new.ensures.too_long
+
+pub returns-clause-find_linear_tree : goal.returns-clause-find_linear_tree
+returns-clause-find_linear_tree c =
+    let tables = arc_value c.args.tables.now in
+    let t = tree c.in_ok-compiled.compiled.node in
+    let made = c.in_ok-matcher.ensures in
+    let is : IsTreeOf (setting_of c.args.flags tables) c.args.pattern.now t =
+    with_tables (λ ts. IsTreeOf (setting_of c.args.flags ts) c.args.pattern.now t) c.deref.result.now tables c.deref.ensures c.in_ok-compiled.ensures.tree in
+    made.find_linear.exactly is.well_formed ∙ ap (is_find_linear_tree c.args.options.linear_instructions) (sym made.tree)
