@@ -5,7 +5,7 @@ use Rattle.std.specs.Option.{option_or}
 use Rattle.regress_tree.specs.Steps.{CaptureSpan}
 use Rattle.regress_tree.specs.WellFormed.{Capture}
 use Rattle.regress_found.specs.Found.{state_of}
-use Rattle.regress_match.specs.Listing.{Lists, Finds}
+use Rattle.regress_match.specs.Listing.{Lists, FindsNamed}
 use Rattle.regress_match.specs.Names.{capture_of, is_named, named_span}
 use Rattle.regress_match.specs.declared.names.Finder.{Finder}
 use Rattle.regress_match.specs.declared.names.Listing.{Listing}
@@ -25,10 +25,10 @@ named_span-append name spans (c ∷ cs) ds =
     ap (option_or (if is_named name c.name then slice_index_or spans c.id None else None)) (named_span-append name spans cs ds)
     ∙ sym (or-assoc (if is_named name c.name then slice_index_or spans c.id None else None) (named_span name spans cs) (named_span name spans ds))
 
-pub finds_none : (a : Finder) → Finds a a []
+pub finds_none : (a : Finder) → FindsNamed a a []
 finds_none a = record { name = refl; found = refl; span = sym (or-none a.span) }
 
-pub finds_both : (a b c : Finder) (xs ys : List Capture) → Finds a b xs → Finds b c ys → Finds a c (xs ++ ys)
+pub finds_both : (a b c : Finder) (xs ys : List Capture) → FindsNamed a b xs → FindsNamed b c ys → FindsNamed a c (xs ++ ys)
 finds_both a b c xs ys first second = record {
   name = second.name ∙ first.name;
   found = second.found ∙ first.found;

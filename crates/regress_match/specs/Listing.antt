@@ -13,7 +13,7 @@ Lists old new groups = is_ok new.done ≡ true →
     (is_ok old.done ≡ true) × (map capture_of new.groups.items ≡ map capture_of old.groups.items ++ groups)
 
 -- the search for a named group has visited these groups
-pub record Finds (old new : Finder) (groups : List Capture) : Type 0 where
+pub record FindsNamed (old new : Finder) (groups : List Capture) : Type 0 where
   pub name : new.name ≡ old.name
   pub found : new.found ≡ old.found
   pub span : new.span ≡ option_or old.span (named_span old.name.now (state_of old.found.now).captures groups)

@@ -5,7 +5,7 @@ ghost use Rattle.regress_tree.specs.Gathered.{own_group};
 ghost use Rattle.regress_tree.specs.Tree.{tree};
 ghost use Rattle.regress_tree.specs.WellFormed.{captures};
 ghost use Rattle.regress_found.specs.Found.{state_of};
-ghost use Rattle.regress_match.specs.Listing.{Lists, Finds};
+ghost use Rattle.regress_match.specs.Listing.{Lists, FindsNamed};
 ghost use Rattle.regress_match.specs.Names.{capture_of, is_named, named_span};
 
 use regress_base::types::{CaptureGroupID, CaptureGroupName};
@@ -128,7 +128,7 @@ struct Finder<'a> {
 impl Finder<'_> {
     /// Takes the capture of the node if it is a group with the name, unless one was found.
     fn visit(&mut self, node: &Node)
-        ensures { Finds self.old self.new (own_group (tree node.now)) }
+        ensures { FindsNamed self.old self.new (own_group (tree node.now)) }
     {
         if self.span.is_some() {
             return;
