@@ -1,6 +1,6 @@
 //! The functions that C calls to compile a pattern, and to search for it. include/regress.h documents them.
 ghost use Rattle.std.specs.Prelude.{◌≡◌, if◌then◌else◌, IfSome, IsUtf8, None, is_some, length, min, option_map, unwrap_or};
-ghost use Rattle.regress.specs.Costs.{factor_of, find_factor_of, nonlinear_of};
+ghost use Rattle.regress.specs.Costs.{AllAreTooCostly, IsTooCostly, factor_of, find_factor_of, nonlinear_of};
 ghost use Rattle.regress.specs.Compiled.{groups_of, outcomes_of};
 ghost use Rattle.regress.specs.Searched.{MatchesSomewhere};
 ghost use Rattle.regress_capi.specs.CompileResults.{CompileResult, limits_of};
@@ -77,7 +77,7 @@ pub extern "C" fn regress_find(
     ensures same { handle.new.value ≡ handle.old.value }
     ensures status { IfSome handle.old.value (λ regex. SearchResult (IsUtf8 text.now)
         (AreEndsOfFirst text.now (outcomes_of regex text.now) from) (Finds text.now (outcomes_of regex text.now) from None)
-        spans.old result needed.new spans.new) }
+        (IsTooCostly regex text.now from) spans.old result needed.new spans.new) }
 {
     let regex = handle.take(alloc);
     let status = searches::write_first(alloc, &regex, Searched { text, from }, spans, needed);
@@ -105,7 +105,7 @@ pub extern "C" fn regress_find_all(
     requires { handle.old.value ≡ None → ⊥ }
     ensures same { handle.new.value ≡ handle.old.value }
     ensures status { IfSome handle.old.value (λ regex. SearchResult (IsUtf8 text.now)
-        (AreEndsOfAll text.now (outcomes_of regex text.now) from) ⊥ spans.old result needed.new spans.new) }
+        (AreEndsOfAll text.now (outcomes_of regex text.now) from) ⊥ (AllAreTooCostly regex text.now from) spans.old result needed.new spans.new) }
 {
     let regex = handle.take(alloc);
     let status = searches::write_all(alloc, &regex, Searched { text, from }, spans, needed);
@@ -126,7 +126,8 @@ pub extern "C" fn regress_is_match(alloc: Global, handle: &mut Handle, text: &[u
     requires { handle.old.value ≡ None → ⊥ }
     ensures same { handle.new.value ≡ handle.old.value }
     ensures status { IfSome handle.old.value (λ regex. TestResult (IsUtf8 text.now)
-        (MatchesSomewhere text.now (outcomes_of regex text.now)) (MatchesSomewhere text.now (outcomes_of regex text.now) → ⊥) result) }
+        (MatchesSomewhere text.now (outcomes_of regex text.now)) (MatchesSomewhere text.now (outcomes_of regex text.now) → ⊥)
+        (IsTooCostly regex text.now 0) result) }
 {
     let regex = handle.take(alloc);
     let status = searches::test(alloc, &regex, text);
