@@ -9,10 +9,8 @@ use Rattle.std.proofs.lemmas.List.{get_or-map, length-map, take_more}
 use Rattle.regress_arguments.proofs.lemmas.Output.{appends_both}
 use Rattle.regex_command.proofs.FoldLemmas.{stays}
 use Rattle.regress.specs.declared.pattern.Regex.{Regex}
-use Rattle.regex_command.specs.Inputs.{Input, IsInputStep, Result, WritesInput, WritesInputs, WritesSomeOf, has_ended, inputs_of, named_files}
-use Rattle.regex_options.specs.Job.{Job}
-use Rattle.regex_command.specs.Place.{Named}
-use Rattle.regex_command.specs.Searched.{SearchesFirst}
+use Rattle.regex_command.specs.Searched.{Input, IsInputStep, Result, WritesInput, WritesInputs, WritesSomeOf, has_ended, inputs_of, named_files, Named, SearchesFirst}
+use Rattle.regex_options.specs.Plain.{Job}
 
 appends_nothing : (known : Option (List ℕ)) → Appends known known []
 appends_nothing None = tt

@@ -10,8 +10,7 @@ use Rattle.regress.specs.declared.found.Match.{Match}
 use Rattle.regress.specs.declared.pattern.Regex.{Regex}
 use Rattle.std.specs.Fmt.{decimal}
 use Rattle.regress_display.specs.Fault.{json_text}
-use Rattle.regex_command.specs.Json.{group_json, groups_json, json_prefix, located_json, match_json, name_json, part_json}
-use Rattle.regex_command.specs.Runs.{Run}
+use Rattle.regex_command.specs.Reply.{group_json, groups_json, json_prefix, located_json, match_json, name_json, part_json, Run}
 
 -- the objects of the first i matches
 abbrev pub json_so_far : Regex → (prefix : List ℕ) → Run → List Match → ℕ → List ℕ

@@ -1,6 +1,7 @@
 pub mod BufferedLemmas
 pub mod ExplainLemmas
 pub mod FoldLemmas
+pub mod FoundLemmas
 pub mod InputLemmas
 pub mod JsonLemmas
 pub mod LineLemmas
@@ -11,4 +12,5 @@ pub mod RunLemmas
 pub mod SearchLemmas
 pub mod SearcherLemmas
 pub mod SettingLemmas
+pub mod SomewhereLemmas
 pub mod TreeLemmas

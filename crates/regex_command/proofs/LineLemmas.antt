@@ -7,9 +7,8 @@ use Rattle.std.specs.List.{onto_first}
 use Rattle.std.proofs.lemmas.Bool.{cases_lt, eqb-true}
 use Rattle.std.proofs.lemmas.List.{get_or-take, length-take}
 use Rattle.std.proofs.lemmas.List.Elements.{All-head, All-tail}
-use Rattle.regex_command.specs.Lines.{AreLinesOf, lines_of, one_line, split_text}
+use Rattle.regex_command.specs.Searched.{AreLinesOf, lines_of, one_line, split_text, without_line_feed}
 use Rattle.regex_command.specs.Reading.{IsRead}
-use Rattle.regex_command.specs.Source.{without_line_feed}
 use Rattle.regex_command.specs.declared.reading.Next.TheVariants.{Line, LastLine}
 
 -- no line feed is taken

@@ -16,7 +16,7 @@ use Rattle.regress_ucd.specs.UnicodeTable.{unicode_table}
 use Rattle.regress_parse.specs.declared.fault.PlacedFault.{PlacedFault}
 use Rattle.regress_parse.specs.declared.fault.PlacedFault.TheVariants as placed
 use Rattle.regex_command.specs.Ending.{unaccepted}
-use Rattle.regex_command.specs.Linted.{HasDifferences, IsListed, IsListedNext, IsReport, difference_line, is_nothing}
+use Rattle.regex_command.specs.Patterns.{HasDifferences, IsListed, IsListedNext, IsReport, difference_line, none_differs}
 use Rattle.regress.specs.Unicode.{unicode_setting}
 use Rattle.regex_command.specs.declared.failure.Failure.{Failure}
 use Rattle.regex_command.proofs.SettingLemmas.{OnSyntax, under_unicode}
@@ -62,7 +62,7 @@ all_listed found i bytes all steps = subst (λ (some : List Difference). FoldsTo
 module _ (flags : Flags) (points source : List ℕ) (table : Table) (characters : points ≡ source) (same : table ≡ unicode_table) where
   -- the differences of the pattern
   pub reports : (found : List Difference) (r : Result Bool Failure) (old new : Option (List ℕ)) → HasDifferences (record { flags = flags; table = table }) points found →
-      IfOk r (λ _. Took old new (IsListed found)) → IfOk r (λ clean. clean ≡ is_nothing found) →
+      IfOk r (λ _. Took old new (IsListed found)) → IfOk r (λ clean. clean ≡ none_differs found) →
       IfOk r (λ clean. Took old new (IsReport clean (unicode_setting flags) source))
   reports found (Ok clean) old new differ (bytes, listed, appends) is_clean = (
     bytes,

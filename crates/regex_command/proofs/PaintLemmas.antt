@@ -1,19 +1,16 @@
--- Loops over matches and chunks that are added in color.
-use Rattle.std.proofs.Common.{◌≡◌, ◌∙◌, ℕ, zero, suc, ◌+◌, ◌≤◌, ◌<◌, All, List, [], ◌∷◌, ◌++◌, drop, get_or, length, map, slice_range, take, refl, sym, ap, subst, append_assoc, append-nil, arith}
-use Rattle.std.specs.List.{FoldsTo}
-use Rattle.std.specs.Str.Lossy.{utf8_invalid_len, utf8_valid_len}
-use Rattle.std.proofs.lemmas.Fn.{FoldsTo-push}
+-- Loops over texts and matches that are added in color.
+use Rattle.std.proofs.Common.{◌≡◌, ◌∙◌, ℕ, suc, ◌+◌, ◌≤◌, ◌<◌, All, List, [], ◌∷◌, ◌++◌, add-one, drop, drop-cons, get_or, length, map, slice_range, sym, ap, subst, append_assoc, arith}
 use Rattle.std.proofs.lemmas.List.Elements.{All-map}
-use Rattle.std.proofs.lemmas.List.{drop_at, get_or-map, length-append, length-map, take_at}
+use Rattle.std.proofs.lemmas.List.{drop_all, get_or-map, length-map}
 use Rattle.regress_found.specs.Found.{IsInside, start_of}
 use Rattle.regress_replace.specs.Expansion.{end_of, matched_text}
 use Rattle.regress_replace.specs.Replaced.{replaced}
 use Rattle.regress_replace.proofs.lemmas.Order.{IsBefore, before_first, before_next, next_match}
 use Rattle.regress.specs.Found.{match_of}
 use Rattle.regress.specs.declared.found.Match.{Match}
-use Rattle.regress.specs.declared.pattern.Regex.{Regex}
-use Rattle.regex_command.specs.Painted.{AddsPainted, Chunk, PaintsLine, chunks_of, chunks_within, painted}
-use Rattle.regex_command.specs.Runs.{chunk_len}
+use Rattle.regex_command.specs.InLine.{AreInLine}
+use Rattle.regex_command.specs.Reply.{painted, painted_line, painted_text, Run, matches_of}
+use Rattle.regex_command.specs.declared.runs.TextMatches as code
 
 -- the text from an offset on, with these matches in color
 abbrev pub painted_from : (text : List ℕ) → ℕ → List Match → ℕ → List ℕ
@@ -46,56 +43,60 @@ module _ (text : List ℕ) (ms : List Match) (from i : ℕ) (m : Match) (below :
       IsBefore text (end_of (match_of m)) (drop (i + 1) (map match_of ms))
   next_end inside before = before_next text from (map match_of ms) i (match_of m) below_all here (All-map (IsInside text) match_of ms inside) before
 
-module _ (r : Regex) (line before : List ℕ) where
-  -- These chunks were added, and with those of the bytes that are left they are the chunks of the line.
-  pub record SoFar (left done : List ℕ) : Type 0 where
-    pub bound : ℕ
-    pub enough : length left ≤ bound
-    pub chunks : List Chunk
-    pub steps : FoldsTo (AddsPainted r) before chunks done
-    pub parts : chunks ++ chunks_within bound left ≡ chunks_of line
+-- No match is left.
+pub none_left : (text : List ℕ) (ms : List Match) (from i : ℕ) (done all : List ℕ) → length ms ≤ i → done ++ painted_from text from ms i ≡ all →
+    done ++ drop from text ≡ all
+none_left text ms from i done all over so_far =
+    ap (λ zs. done ++ replaced text (λ m. painted (matched_text text m)) from zs)
+    (sym (drop_all i (map match_of ms) (subst (λ n. n ≤ i) (sym (length-map ms match_of)) over)))
+    ∙ so_far
 
-  chunks_step : (bound : ℕ) (left text invalid rest : List ℕ) → 0 < length left → left ≡ text ++ (invalid ++ rest) → length text ≡ utf8_valid_len left →
-      length invalid ≡ utf8_invalid_len (drop (utf8_valid_len left) left) →
-      chunks_within (suc bound) left ≡ record { text = text; invalid = invalid } ∷ chunks_within bound rest
-  chunks_step bound [] text invalid rest some parts text_len invalid_len = absurd (omega (arith, some))
-  chunks_step bound (b ∷ bs) text invalid rest some parts text_len invalid_len =
-      let left = b ∷ bs in
-      let chunk : chunk_len left ≡ length text + length invalid = λ i. sym text_len i + sym invalid_len i in
-      let prefix : take (utf8_valid_len left) left ≡ text = ap (take (utf8_valid_len left)) parts ∙ take_at text (invalid ++ rest) _ text_len in
-      let after : drop (utf8_valid_len left) left ≡ invalid ++ rest = ap (drop (utf8_valid_len left)) parts ∙ drop_at text (invalid ++ rest) _ text_len in
-      let middle : take (utf8_invalid_len (drop (utf8_valid_len left) left)) (drop (utf8_valid_len left) left) ≡ invalid =
-      ap (take (utf8_invalid_len (drop (utf8_valid_len left) left))) after ∙ take_at invalid rest _ invalid_len in
-      let back : drop (chunk_len left) left ≡ rest =
-      ap (drop (chunk_len left)) (parts ∙ sym (append_assoc text invalid rest))
-      ∙ drop_at (text ++ invalid) rest _ (length-append text invalid ∙ sym chunk) in
-      λ i. record { text = prefix i; invalid = middle i } ∷ chunks_within bound (back i)
+-- the texts of a line, with their matches in color
+module _ (line all : List ℕ) where
+  -- What was added, and the line from an offset on with the matches of these texts in color, are together what is wanted.
+  pub record Painting (from : ℕ) (left : List code.TextMatches) (done : List ℕ) : Type 0 where
+    pub so_far : done ++ painted_line line from (map matches_of left) ≡ all
+    pub order : AreInLine (length line) from (map (λ f. f.run) (map matches_of left))
 
-  pub next : (left done text invalid rest after : List ℕ) → SoFar left done → left ≡ text ++ (invalid ++ rest) → length rest < length left →
-      length text ≡ utf8_valid_len left → length invalid ≡ utf8_invalid_len (drop (utf8_valid_len left) left) →
-      AddsPainted r done (record { text = text; invalid = invalid }) after → SoFar rest after
-  next left done text invalid rest after sofar parts less text_len invalid_len added = by sofar.bound sofar.enough sofar.parts
-    where
-      by : (bound : ℕ) → length left ≤ bound → sofar.chunks ++ chunks_within bound left ≡ chunks_of line → SoFar rest after
-      by zero enough are = absurd (omega (arith, enough, less))
-      by (suc bound) enough are =
-          let chunk : Chunk = record { text = text; invalid = invalid } in
-          record {
-            bound = bound;
-            enough = omega (arith, enough, less);
-            chunks = sofar.chunks ++ chunk ∷ [];
-            steps = FoldsTo-push (AddsPainted r) before sofar.chunks done chunk after sofar.steps added;
-            parts = append_assoc sofar.chunks (chunk ∷ []) (chunks_within bound rest)
-                ∙ ap (λ zs. sofar.chunks ++ zs) (sym (chunks_step bound left text invalid rest (omega (arith, less)) parts text_len invalid_len))
-                ∙ are;
-          }
+  ends : (from : ℕ) (runs : List Run) → AreInLine (length line) from runs → from ≤ length line
+  ends from [] within = within
+  ends from (run ∷ runs) within = omega (arith, within.0, ends (run.start + length run.text) runs within.1)
 
-  nothing_left : (bound : ℕ) (left : List ℕ) → length left ≡ 0 → chunks_within bound left ≡ []
-  nothing_left zero left none = refl
-  nothing_left (suc bound) [] none = refl
-  nothing_left (suc bound) (b ∷ bs) none = absurd (omega (arith, none))
+  module _ (found : List code.TextMatches) (i : ℕ) (f : code.TextMatches) (below : i < length found) (is : f ≡ get_or found i f) (from : ℕ) (done : List ℕ)
+      (painting : Painting from (drop i found) done) where
+    first : drop i found ≡ f ∷ drop (i + 1) found
+    first = rw add-one (drop-cons found i f below ∙ ap (λ (x : code.TextMatches). x ∷ drop (suc i) found) (sym is))
 
-  pub last : (left done : List ℕ) → SoFar left done → length left ≡ 0 → PaintsLine r line before done
-  last left done sofar none =
-      subst (λ chunks. FoldsTo (AddsPainted r) before chunks done)
-      (sym (append-nil sofar.chunks) ∙ ap (λ zs. sofar.chunks ++ zs) (sym (nothing_left sofar.bound left none)) ∙ sofar.parts) sofar.steps
+    order : AreInLine (length line) from (map (λ f. f.run) (map matches_of (f ∷ drop (i + 1) found)))
+    order = subst (λ (left : List code.TextMatches). AreInLine (length line) from (map (λ f. f.run) (map matches_of left))) first painting.order
+
+    pub starts_after : from ≤ f.run.start
+    starts_after = order.0
+
+    pub ends_before : f.run.start + length f.run.text.now ≤ length line
+    ends_before = ends (f.run.start + length f.run.text.now) (map (λ f. f.run) (map matches_of (drop (i + 1) found))) order.1
+
+    pub next_painted : (after : List ℕ) → after ≡ (done ++ slice_range line from f.run.start) ++ painted_text (matches_of f) →
+        Painting (f.run.start + length f.run.text.now) (drop (i + 1) found) after
+    next_painted after is =
+        let piece = slice_range line from f.run.start in
+        let color = painted_text (matches_of f) in
+        let rest = painted_line line (f.run.start + length f.run.text.now) (map matches_of (drop (i + 1) found)) in
+        record {
+          so_far = ap (λ zs. zs ++ rest) is
+              ∙ append_assoc (done ++ piece) color rest
+              ∙ append_assoc done piece (color ++ rest)
+              ∙ ap (λ (left : List code.TextMatches). done ++ painted_line line from (map matches_of left)) (sym first)
+              ∙ painting.so_far;
+          order = order.1;
+        }
+
+  module _ (found : List code.TextMatches) (i : ℕ) (over : length found ≤ i) (from : ℕ) (done : List ℕ) (painting : Painting from (drop i found) done) where
+    nothing : drop i found ≡ []
+    nothing = drop_all i found over
+
+    pub last_painted : done ++ drop from line ≡ all
+    last_painted = ap (λ (left : List code.TextMatches). done ++ painted_line line from (map matches_of left)) (sym nothing) ∙ painting.so_far
+
+    pub last_within : from ≤ length line
+    last_within = subst (λ (left : List code.TextMatches). AreInLine (length line) from (map (λ f. f.run) (map matches_of left))) nothing painting.order

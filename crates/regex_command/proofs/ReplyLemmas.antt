@@ -6,9 +6,8 @@ use Rattle.std.specs.Str.{IsUtf8}
 use Rattle.regress.specs.Found.{match_of}
 use Rattle.regress.specs.declared.found.Match.{Match}
 use Rattle.regress.specs.declared.pattern.Regex.{Regex}
-use Rattle.regex_options.specs.Job.{Job, matching}
-use Rattle.regex_command.specs.Reply.{IsReply, IsSelected, ShowsIf, ended, shown_match}
-use Rattle.regex_command.specs.Runs.{Run, texts_of, utf8_runs, whole}
+use Rattle.regex_options.specs.Plain.{Job, matching}
+use Rattle.regex_command.specs.Reply.{IsReply, IsSelected, ShowsIf, ended, shown_match, Run, texts_of, utf8_runs, whole}
 use Rattle.regex_command.specs.declared.reply.Reply.{Reply}
 use Rattle.regex_options.specs.declared.task.Selection.{Selection}
 use Rattle.regex_command.proofs.RunLemmas.{many_texts, one_text}

@@ -1,13 +1,13 @@
 -- The runs of UTF-8 in a line are found one after another.
-use Rattle.std.proofs.Common.{◌≡◌, ◌∙◌, ℕ, zero, suc, ◌+◌, ◌≤◌, ◌<◌, All, Bool, true, false, cond, not, List, [], ◌∷◌, ◌++◌, length, map, take, drop, get_or, ap, refl, sym, subst, append-nil, append_assoc, arith}
+use Rattle.std.proofs.Common.{◌≡◌, ◌∙◌, ℕ, zero, suc, ◌+◌, ◌≤◌, ◌<◌, All, Bool, true, false, cond, eqb, not, List, [], ◌∷◌, ◌++◌, length, map, take, drop, get_or, ap, refl, sym, subst, append-nil, append_assoc, arith}
 use Rattle.std.specs.Str.{IsUtf8, is_utf8}
 use Rattle.std.specs.Str.Lossy.{utf8_invalid_len, utf8_valid_len}
 use Rattle.std.specs.List.{Any}
 use Rattle.std.proofs.lemmas.List.{drop_at, get_or-map, length-append, length-map, map-append, take_all, take_at, take_more}
 use Rattle.std.proofs.lemmas.List.Elements.{All-push, All-same}
 use Rattle.std.proofs.lemmas.Str.{IsUtf8-from_is_utf8, is_utf8-from_IsUtf8}
-use Rattle.regex_command.specs.declared.runs.Run as code
-use Rattle.regex_command.specs.Runs.{Run, chunk_len, run_of, runs_within, texts_of, unless_empty, utf8_runs, whole}
+use Rattle.regex_command.specs.InLine.{AreInLine}
+use Rattle.regex_command.specs.Reply.{Run, chunk_len, runs_within, texts_of, unless_empty, utf8_runs, whole}
 
 -- What is found, with the runs in the bytes that are left, are the runs of the line.
 pub record SoFar (line : List ℕ) (found : List Run) (start : ℕ) (left : List ℕ) : Type 0 where
@@ -15,6 +15,17 @@ pub record SoFar (line : List ℕ) (found : List Run) (start : ℕ) (left : List
   pub enough : length left ≤ bound
   pub runs : found ++ runs_within bound start left ≡ utf8_runs line
   pub counted : start + length left ≡ length line
+  pub order : AreInLine start 0 found
+
+-- another text
+in_line_push : (start more from : ℕ) (runs : List Run) (text : List ℕ) → start + length text ≤ more → AreInLine start from runs →
+    AreInLine more from (runs ++ unless_empty start text)
+in_line_push start more from [] text within is = by (eqb (length text) 0)
+  where
+    by : (b : Bool) → AreInLine more from (cond b [] (record { start = start; text = text } ∷ []))
+    by true = omega (arith, within, is)
+    by false = (is, within)
+in_line_push start more from (run ∷ runs) text within is = (is.0, in_line_push start more (run.start + length run.text) runs text within is.1)
 
 -- one chunk further
 runs_step : (bound start : ℕ) (left text invalid rest : List ℕ) → length left ≤ suc bound → 0 < length left → left ≡ text ++ (invalid ++ rest) →
@@ -46,6 +57,8 @@ next line found more start left text invalid rest sofar parts less text_len inva
           ∙ ap (λ xs. found ++ xs) (sym (runs_step bound start left text invalid rest enough (omega (arith, less)) parts text_len invalid_len))
           ∙ runs;
       counted = omega (arith, sofar.counted, ap length parts, length-append text (invalid ++ rest), length-append invalid rest);
+      order = subst (AreInLine (start + (length text + length invalid)) 0) (sym is)
+          (in_line_push start (start + (length text + length invalid)) 0 found text (omega arith) sofar.order);
     }
 
 nothing_left : (bound start : ℕ) (left : List ℕ) → length left ≡ 0 → runs_within bound start left ≡ []
@@ -57,22 +70,26 @@ pub last : (line : List ℕ) (found : List Run) (start : ℕ) (left : List ℕ) 
 last line found start left sofar none =
     sym (append-nil found) ∙ ap (λ xs. found ++ xs) (sym (nothing_left sofar.bound start left none)) ∙ sofar.runs
 
+pub last_order : (line : List ℕ) (found : List Run) (start : ℕ) (left : List ℕ) → SoFar line found start left → length left ≡ 0 → AreInLine (length line) 0 found
+last_order line found start left sofar none = subst (λ (len : ℕ). AreInLine len 0 found) (let at : start ≡ length line = omega (arith, sofar.counted, none) in at) sofar.order
+
 -- texts that are found to match, or not
-module _ (P : Run → Type 0) (found : List code.Run) (i : ℕ) (r : code.Run) where
+module _ {A B : Type 0} (f : A → B) (P : B → Type 0) (found : List A) (i : ℕ) (r : A) where
   -- another text without a match
-  pub none_further : All (λ run. ¬ (P run)) (map run_of (take i found)) → i < length found → ¬ (P (run_of (get_or found i r))) →
-      All (λ run. ¬ (P run)) (map run_of (take (i + 1) found))
+  pub none_further : All (λ x. ¬ (P x)) (map f (take i found)) → i < length found → ¬ (P (f (get_or found i r))) →
+      All (λ x. ¬ (P x)) (map f (take (i + 1) found))
   none_further none within here =
-      All-same (λ run. ¬ (P run)) _ _ (ap (map run_of) (take_more found i r within) ∙ map-append run_of (take i found) (get_or found i r ∷ []))
-      (All-push (λ run. ¬ (P run)) (map run_of (take i found)) (run_of (get_or found i r)) none here)
+      All-same (λ x. ¬ (P x)) _ _ (ap (map f) (take_more found i r within) ∙ map-append f (take i found) (get_or found i r ∷ []))
+      (All-push (λ x. ¬ (P x)) (map f (take i found)) (f (get_or found i r)) none here)
 
-  pub one_matches : i < length found → P (run_of (get_or found i r)) → Any P (map run_of found)
+  pub one_matches : i < length found → P (f (get_or found i r)) → Any P (map f found)
   one_matches within here =
-      (i, run_of (get_or found i r), omega (arith, within, length-map found run_of), get_or-map run_of found i r _ within, here)
+      (i, f (get_or found i r), omega (arith, within, length-map found f), get_or-map f found i r _ within, here)
 
-pub none_matches : (P : Run → Type 0) (found : List code.Run) (i : ℕ) → All (λ run. ¬ (P run)) (map run_of (take i found)) → length found ≤ i → ¬ (Any P (map run_of found))
-none_matches P found i none all some =
-    let every = subst (λ these. All (λ run. ¬ (P run)) (map run_of these)) (take_all i found all) none in
+pub none_matches : {A B : Type 0} (f : A → B) (P : B → Type 0) (found : List A) (i : ℕ) → All (λ x. ¬ (P x)) (map f (take i found)) → length found ≤ i →
+    ¬ (Any P (map f found))
+none_matches f P found i none all some =
+    let every = subst (λ these. All (λ x. ¬ (P x)) (map f these)) (take_all i found all) none in
     every some.0 some.1 some.2 (subst P (sym some.3) some.4)
 
 -- a line that is UTF-8

@@ -10,13 +10,10 @@ use Rattle.regress_arguments.proofs.lemmas.Output.{appends_both}
 use Rattle.regress_arguments.specs.Output.{Took}
 use Rattle.regress.specs.declared.pattern.Regex.{Regex}
 use Rattle.regex_command.specs.Ending.{OrOutput}
-use Rattle.regex_command.specs.Inputs.{WritesInput}
-use Rattle.regex_options.specs.Job.{Job}
-use Rattle.regex_command.specs.Place.{Named}
-use Rattle.regex_command.specs.Lines.{AreLinesOf}
+use Rattle.regex_command.specs.Searched.{WritesInput, Named, AreLinesOf, IsSearchedLine, IsStep, Progress, SearchesAll, SearchesFirst, at_start, prefix_of, is_enough, one_if, written_at_end}
+use Rattle.regex_options.specs.Plain.{Job}
 use Rattle.regex_command.specs.Reading.{IsRead}
 use Rattle.regex_command.specs.Reply.{IsReply}
-use Rattle.regex_command.specs.Searched.{IsSearchedLine, IsStep, Progress, SearchesAll, SearchesFirst, at_start, prefix_of, is_enough, one_if, written_at_end}
 use Rattle.regex_command.specs.declared.failure.Failure.{Failure}
 use Rattle.regex_command.specs.declared.reading.Next.{Next}
 use Rattle.regex_command.specs.declared.reading.Next.TheVariants.{Line, LastLine, End}

@@ -2,13 +2,12 @@
 use Rattle.std.proofs.Common.{◌≡◌, ◌⊎◌, ℕ, Bool, false, List, [], Option, inl, inr, refl, sym, subst}
 use Rattle.std.specs.Prelude.{Result, Ok, Err, IfOk, IfErr}
 use Rattle.regress_arguments.specs.Output.{Took}
-use Rattle.regress_display.specs.Accepted.{NoneIsAccepted}
+use Rattle.regress_display.specs.Request.{NoneIsAccepted, Request}
 use Rattle.regress_display.specs.Fault.{IsFaultOutput}
-use Rattle.regress_display.specs.Request.{Request}
 use Rattle.regress_display.specs.declared.request.Format.{Format}
 use Rattle.regress_display.specs.declared.request.Format.TheVariants.{Text, Json, Svg}
 use Rattle.regex_command.specs.Ending.{OrOutput}
-use Rattle.regex_command.specs.Trees.{HasFaultOutput, IsTreeOutput, IsFaultWritten, IsQuietFor, IsShowFailure}
+use Rattle.regex_command.specs.Patterns.{HasFaultOutput, IsTreeOutput, IsFaultWritten, IsQuietFor, IsShowFailure}
 use Rattle.regex_command.specs.declared.failure.Failure.{Failure}
 use Rattle.regex_command.specs.declared.failure.Failure.TheVariants.{Output}
 use Rattle.regex_command.proofs.LintLemmas.{appends_nothing}

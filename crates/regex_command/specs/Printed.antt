@@ -1,29 +1,53 @@
--- What the program writes for a request.
-use Rattle.std.specs.Prelude.{◌≡◌, ℕ, Bool, true, false, ◌⊎◌, ◌||◌, List, ◌++◌, Option, ⊤, chars, codes}
+-- What the program writes for a request, and where its pattern is.
+use Rattle.std.specs.Prelude.{◌≡◌, ⊤, ℕ, List, Bool, true, false, ◌⊎◌, ◌||◌, ◌++◌, Option, chars, codes}
 use Rattle.std.specs.Io.KnownBytes.{Appends}
-use Rattle.regress_arguments.specs.Output.{Took}
-use Rattle.regress_base.specs.declared.types.Flags.{Flags}
-use Rattle.regress_escape.specs.Escape.{escaped}
-use Rattle.regress_front.specs.Accepted.{NoneIsAccepted}
-use Rattle.regress_tree.specs.Setting.{Setting}
+use Rattle.regex_options.specs.Table.{program_help}
+use Rattle.regex_options.specs.Plain.{Job, matching, replacing, splitting, Source, in_argument, in_file}
+use Rattle.regex_options.specs.Request.{Action, Ask, apply, escape, explain, help, lint, search, show}
+use Rattle.regex_options.specs.declared.request.View.{View}
 use Rattle.regress.specs.Compiled.{IsCompiled}
 use Rattle.regress.specs.Unicode.{unicode_setting}
 use Rattle.regress.specs.declared.pattern.Regex.{Regex}
-use Rattle.regress_display.specs.Request.{table_asked}
+use Rattle.regress_arguments.specs.Output.{Took}
+use Rattle.regress_base.specs.declared.types.Flags.{Flags}
 use Rattle.regress_display.specs.Request as trees
+use Rattle.regress_display.specs.Request.{table_asked}
 use Rattle.regress_display.specs.Shown.{IsFirstOutput}
-use Rattle.regex_options.specs.Help.{program_help}
-use Rattle.regex_options.specs.Request.{Action, Ask, apply, escape, explain, help, lint, search, show}
+use Rattle.regress_escape.specs.Escape.{escaped}
+use Rattle.regress_front.specs.Accepted.{NoneIsAccepted}
+use Rattle.regress_tree.specs.Setting.{Setting}
 use Rattle.regex_command.specs.Ending.{IsLate}
-use Rattle.regex_command.specs.Explained.{IsExplanationIn, MayFailToExplain}
-use Rattle.regex_command.specs.Inputs.{WritesInputs, WritesSomeOf, inputs_of}
-use Rattle.regex_options.specs.Job.{Job, matching, replacing, splitting}
-use Rattle.regex_command.specs.Linted.{IsReport}
-use Rattle.regex_command.specs.Source.{LacksText, OfText}
-use Rattle.regex_command.specs.Trees.{IsTreeOutput, IsQuietFor, IsShowFailure}
-use Rattle.regex_options.specs.declared.request.View.{View}
-use Rattle.regex_command.specs.declared.failure.Failure.{Failure}
+use Rattle.regex_command.specs.Patterns.{IsExplanationIn, MayFailToExplain, IsReport, IsTreeOutput, IsQuietFor, IsShowFailure}
+use Rattle.regex_command.specs.Searched.{WritesInputs, WritesSomeOf, inputs_of}
 use Rattle.regex_command.specs.declared.failure.Failure.TheVariants.{Argument, Memory, Output, Syntax, TooLarge, OutOfSteps, Unreadable, NotUtf8, PatternNotUtf8, TooLong}
+use Rattle.regex_command.specs.declared.failure.Failure.{Failure}
+
+-- The bytes are the text of the pattern. Nothing is known of the bytes of a file.
+abbrev pub IsTextOf : Source → List ℕ → Type 0
+IsTextOf (in_argument text) bytes = bytes ≡ text
+IsTextOf (in_file name) bytes = ⊤
+
+-- P holds of the text of the pattern.
+abbrev pub OfText : Source → (P : List ℕ → Type 0) → Type 0
+OfText source P = (text : List ℕ) × IsTextOf source text × P text
+
+-- A failure that may occur while the file of a pattern is read.
+abbrev pub MayFailToRead : Failure → Type 0
+MayFailToRead Argument = ⊥
+MayFailToRead Memory = ⊤
+MayFailToRead Output = ⊥
+MayFailToRead (Syntax pattern message position) = ⊥
+MayFailToRead TooLarge = ⊥
+MayFailToRead OutOfSteps = ⊥
+MayFailToRead (Unreadable name) = ⊤
+MayFailToRead (NotUtf8 name line offset) = ⊥
+MayFailToRead (PatternNotUtf8 name offset) = ⊤
+MayFailToRead (TooLong name) = ⊥
+
+-- The text of the pattern is not known: memory is short, or its file cannot be read or is not UTF-8.
+abbrev pub LacksText : Source → Failure → Type 0
+LacksText (in_argument text) failure = failure ≡ Memory
+LacksText (in_file name) failure = MayFailToRead failure
 
 -- No pattern is accepted, or it is too large, or memory is short.
 abbrev pub IsRejected : Setting → (text : List ℕ) → Failure → Type 0

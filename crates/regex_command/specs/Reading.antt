@@ -1,7 +1,7 @@
 -- Reading one line.
 use Rattle.std.specs.Prelude.{◌≡◌, ◌≢◌, ℕ, ◌<◌, Bool, true, false, List, [], ◌∷◌, ◌++◌, length, All, Option, OnSome}
 use Rattle.std.specs.Io.KnownBytes.{Consumes, IsAtEnd}
-use Rattle.regex_command.specs.Source.{without_line_feed}
+use Rattle.regex_command.specs.Searched.{without_line_feed}
 use Rattle.regex_command.specs.declared.reading.Next.{Next}
 use Rattle.regex_command.specs.declared.reading.Next.TheVariants.{Line, LastLine, End}
 

@@ -4,7 +4,7 @@ ghost use Rattle.regress_arguments.specs.Output.{Took};
 ghost use Rattle.regress.specs.Unicode.{unicode_setting};
 ghost use Rattle.regress.specs.Found.{match_of};
 ghost use Rattle.regex_command.specs.Ending.{OrOutput};
-ghost use Rattle.regex_command.specs.Explained.{AreMatchRanges, HasForm, IsAcceptedPattern, IsExplanationIn, IsPageLine, MayFailToExplain, MayFailToFind, range_of};
+ghost use Rattle.regex_command.specs.Patterns.{AreMatchRanges, HasForm, IsAcceptedPattern, IsExplanationIn, IsPageLine, MayFailToExplain, MayFailToFind, range_of};
 ghost use Rattle.regex_options.specs.Request.{asked_form};
 
 use crate::compiling::compiled;

@@ -1,7 +1,7 @@
 //! Failures of a run.
 ghost use Rattle.std.specs.Prelude.{◌≡◌};
 ghost use Rattle.regex_command.specs.Ending.{IsLate, unaccepted};
-ghost use Rattle.regex_command.specs.Source.{MayFailToRead};
+ghost use Rattle.regex_command.specs.Printed.{MayFailToRead};
 ghost use Rattle.regex_command.specs.declared.failure.Failure.TheVariants.{Output};
 
 use regress::{Error, SearchError};

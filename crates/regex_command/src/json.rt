@@ -1,34 +1,52 @@
 //! Matches as JSON.
-ghost use Rattle.std.specs.Prelude.{◌≡◌, IfOk, IfSome, None, OnOk, drop, map, option_map, slice_index_or, string_bytes};
+ghost use Rattle.std.specs.Prelude.{◌≡◌, ◌++◌, All, IfOk, IfSome, None, OnOk, drop, flat_map, map, option_map, slice_index_or, string_bytes};
 ghost use Rattle.regress_found.specs.Found.{IsInside};
 ghost use Rattle.regress_tree.specs.Inside.{IsSpanInside};
 ghost use Rattle.regress.specs.Compiled.{groups_of};
 ghost use Rattle.regress.specs.Found.{match_of};
 ghost use Rattle.regress.specs.Groups.{names_left, span_of};
-ghost use Rattle.regex_command.specs.Json.{AddsJson, comma_before, group_json, groups_json, located_json, match_json, name_json, part_json};
-ghost use Rattle.regex_command.specs.Runs.{HasOffsets, run_of};
+ghost use Rattle.regex_command.specs.Reply.{comma_before, group_json, groups_json, located_json, match_json, matches_json, name_json, part_json, matches_of, run_of};
+ghost use Rattle.regex_command.specs.InLine.{AreInText, HasOffsets};
 
-use crate::runs::Run;
-use regress::{GroupNames, Match, Regex, SearchError};
+use crate::runs::{Run, TextMatches};
+use regress::{GroupNames, Match, Regex};
 use regress_display::JsonText;
 use std::alloc::{AllocError, Global};
 use std::ops::Range;
 
-/// Adds an object for each match in a text, each on a line, with `prefix` in front.
-pub(crate) fn add_json(
+/// Returns an object for each match, each on a line with `prefix` in front.
+pub(crate) fn all_json(
     alloc: Global,
     regex: &Regex,
     prefix: &str,
-    run: Run<'_>,
-    to: &mut Vec<u8>,
-) -> Result<(), SearchError>
-    requires { HasOffsets (run_of run) }
-    ensures { OnOk result (AddsJson regex.now prefix.now to.old.items (run_of run.entry) to.new.items) }
+    found: &[TextMatches<'_>],
+) -> Result<Vec<u8>, AllocError>
+    requires offsets { All (λ f. HasOffsets (run_of f.run)) found.now }
+    requires inside { All AreInText found.now }
+    ensures { IfOk result (λ bytes. bytes.items ≡ flat_map (matches_json (groups_of regex.now) prefix.now) (map matches_of found.now)) }
 {
-    let matches = regex.find_all(alloc, run.text)?;
-    for found in &matches {
+    let mut bytes = Vec::new(alloc);
+    for text in found {
+        add_json(alloc, regex, prefix, text, &mut bytes)?;
+    }
+    Ok(bytes)
+}
+
+/// Adds an object for each match in a text, each on a line with `prefix` in front.
+fn add_json(
+    alloc: Global,
+    regex: &Regex,
+    prefix: &str,
+    text: &TextMatches<'_>,
+    to: &mut Vec<u8>,
+) -> Result<(), AllocError>
+    requires offsets { HasOffsets (run_of text.now.run) }
+    requires inside { AreInText text.now }
+    ensures { OnOk result (to.new.items ≡ to.old.items ++ matches_json (groups_of regex.now) prefix.now (matches_of text.now)) }
+{
+    for found in &text.matches {
         to.extend_from_slice(prefix.as_bytes())?;
-        to.extend_from_slice(match_json(alloc, regex, run, found)?.as_bytes())?;
+        to.extend_from_slice(match_json(alloc, regex, text.run, found)?.as_bytes())?;
     }
     Ok(())
 }

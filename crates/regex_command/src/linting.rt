@@ -2,7 +2,7 @@
 ghost use Rattle.std.specs.Prelude.{◌≡◌, true, Ok, IfOk, IfErr, OnOk, chars, string_bytes};
 ghost use Rattle.regress_arguments.specs.Output.{Took};
 ghost use Rattle.regex_command.specs.Ending.{IsLate, OrOutput};
-ghost use Rattle.regex_command.specs.Linted.{IsListed, IsListedNext, IsReport, difference_line, is_nothing};
+ghost use Rattle.regex_command.specs.Patterns.{IsListed, IsListedNext, IsReport, difference_line, none_differs};
 ghost use Rattle.regress.specs.Unicode.{unicode_setting};
 
 use crate::failure::{Failure, reject};
@@ -45,7 +45,7 @@ fn print_differences<'f, W: Write>(
     out: &mut W,
 ) -> Result<bool, Failure<'f>>
     ensures written { IfOk result (λ _. Took (W.contents out.old) (W.contents out.new) (IsListed found.now)) }
-    ensures clean { IfOk result (λ clean. clean ≡ is_nothing found.now) }
+    ensures clean { IfOk result (λ clean. clean ≡ none_differs found.now) }
     ensures first { IfErr result (OrOutput (out.new ≡ out.old)) }
     ensures late { IfErr result IsLate }
 {

@@ -7,14 +7,12 @@
 ghost use Rattle.std.specs.Prelude.{◌≡◌, ◌≤◌, ◌⊎◌, true, false, IfSome, IfOk, IfErr, is_err, Ok, map, string_bytes};
 ghost use Rattle.std.specs.Io.KnownBytes.{Appends};
 ghost use Rattle.regress_display.specs.Request.{requested};
-ghost use Rattle.regex_options.specs.Help.{program_help};
+ghost use Rattle.regex_options.specs.Table.{program_help};
 ghost use Rattle.regex_options.specs.Request.{action, ask, asked_by};
 ghost use Rattle.regex_command.specs.Ending.{IsLate, OrOutput};
-ghost use Rattle.regex_options.specs.Job.{job};
-ghost use Rattle.regex_command.specs.Printed.{Begins, Does, IsDue, IsQuiet, IsQuietAt, MayFail, MayFailAt, Prints, PrintsAll, PrintsEscaped, PrintsFirst, PrintsSome, changes, view_of};
+ghost use Rattle.regex_options.specs.Plain.{job, source};
+ghost use Rattle.regex_command.specs.Printed.{Begins, Does, IsDue, IsQuiet, IsQuietAt, MayFail, MayFailAt, Prints, PrintsAll, PrintsEscaped, PrintsFirst, PrintsSome, changes, view_of, LacksText, OfText};
 ghost use Rattle.regress.specs.Unicode.{unicode_setting};
-ghost use Rattle.regex_command.specs.Source.{LacksText, OfText};
-ghost use Rattle.regex_options.specs.Source.{source};
 ghost use Rattle.regex_command.specs.declared.failure.Failure.TheVariants.{Output};
 
 mod compiling;
@@ -26,6 +24,7 @@ mod linting;
 mod painting;
 mod pattern;
 mod place;
+mod prefix;
 mod printing;
 mod reading;
 mod reply;
@@ -79,7 +78,7 @@ fn run<R: Env + Files + AllocGlobal, I: Read + Drop, W: Write + Drop, E: Write>(
                 words: &args,
                 terminal,
             };
-            let (status, _) = run_buffered(rt, rt.alloc(), arguments, input, out, err);
+            let (status, _) = run_buffered(rt, arguments, input, out, err);
             status
         }
         Err(ArgumentsError::NotUtf8) => report(Failure::Argument, err),
@@ -89,9 +88,8 @@ fn run<R: Env + Files + AllocGlobal, I: Read + Drop, W: Write + Drop, E: Write>(
 
 /// Runs `run_regex` with a buffered output, and returns the exit status, and the output if it has all that was written.
 /// The status is 2 if the buffer cannot be allocated.
-fn run_buffered<R: Files, I: Read + Drop, W: Write + Drop, E: Write>(
+fn run_buffered<R: Files + AllocGlobal, I: Read + Drop, W: Write + Drop, E: Write>(
     rt: &R,
-    alloc: Global,
     arguments: Arguments<'_>,
     input: I,
     out: W,
@@ -106,9 +104,9 @@ fn run_buffered<R: Files, I: Read + Drop, W: Write + Drop, E: Write>(
     ensures quiet { result.0 ≡ 0 → err.new ≡ err.old }
     ensures quiet_none { result.0 ≡ 1 → IfOk (asked_by arguments.entry) (IsQuiet (err.new ≡ err.old)) }
 {
-    match BufWriter::new(alloc, out) {
+    match BufWriter::new(rt.alloc(), out) {
         Ok(mut buffered) => {
-            let status = run_regex(rt, alloc, arguments, input, &mut buffered, err);
+            let status = run_regex(rt, arguments, input, &mut buffered, err);
             (status, buffered.into_inner().ok())
         }
         Err(_) => (report(Failure::Memory, err), None),
@@ -125,9 +123,8 @@ fn run_buffered<R: Files, I: Read + Drop, W: Write + Drop, E: Write>(
 ///
 /// With 2, the output for the first lines, or the first of two trees, may have been written to `out`. An error of a
 /// write to `err` is ignored.
-pub fn run_regex<R: Files, I: Read + Drop, W: Write, E: Write>(
+pub fn run_regex<R: Files + AllocGlobal, I: Read + Drop, W: Write, E: Write>(
     rt: &R,
-    alloc: Global,
     arguments: Arguments<'_>,
     input: I,
     out: &mut W,
@@ -144,7 +141,7 @@ pub fn run_regex<R: Files, I: Read + Drop, W: Write, E: Write>(
     ensures quiet_none { result ≡ 1 → IfOk (asked_by arguments.entry) (IsQuiet (err.new ≡ err.old)) }
 {
     match read_arguments(arguments) {
-        Ok(asked) => run_asked(rt, alloc, asked, input, out, err),
+        Ok(asked) => run_asked(rt, asked, input, out, err),
         Err(error) => {
             let _ = write_usage_error(error, err);
             2
@@ -153,9 +150,8 @@ pub fn run_regex<R: Files, I: Read + Drop, W: Write, E: Write>(
 }
 
 /// Writes what is asked for, or the message of a failure, and returns the exit status.
-fn run_asked<R: Files, I: Read + Drop, W: Write, E: Write>(
+fn run_asked<R: Files + AllocGlobal, I: Read + Drop, W: Write, E: Write>(
     rt: &R,
-    alloc: Global,
     asked: Asked<'_>,
     input: I,
     out: &mut W,
@@ -167,7 +163,7 @@ fn run_asked<R: Files, I: Read + Drop, W: Write, E: Write>(
     ensures quiet { result ≡ 0 → err.new ≡ err.old }
     ensures quiet_none { result ≡ 1 → IsQuiet (err.new ≡ err.old) (ask asked.entry) }
 {
-    match response(rt, alloc, asked, input, out, err) {
+    match response(rt, asked, input, out, err) {
         Ok(found) => { if found { 0 } else { 1 } }
         Err(failure) => report(failure, err),
     }
@@ -175,9 +171,8 @@ fn run_asked<R: Files, I: Read + Drop, W: Write, E: Write>(
 
 /// Writes what is asked for, and returns whether it is found. Why a pattern is rejected that is not searched for is
 /// written to `err`.
-fn response<'a, R: Files, I: Read + Drop, W: Write, E: Write>(
+fn response<'a, R: Files + AllocGlobal, I: Read + Drop, W: Write, E: Write>(
     rt: &R,
-    alloc: Global,
     asked: Asked<'a>,
     input: I,
     out: &mut W,
@@ -192,16 +187,15 @@ fn response<'a, R: Files, I: Read + Drop, W: Write, E: Write>(
     ensures quiet_none { IsQuiet (err.new ≡ err.old) (ask asked.entry) }
 {
     match asked {
-        Asked::Help(options) => print_help(alloc, options, out),
-        Asked::Escape(text) => print_escaped(alloc, text, out),
-        Asked::Apply(request) => apply(rt, alloc, request, input, out, err),
+        Asked::Help(options) => print_help(rt.alloc(), options, out),
+        Asked::Escape(text) => print_escaped(rt.alloc(), text, out),
+        Asked::Apply(request) => apply(rt, request, input, out, err),
     }
 }
 
 /// Reads the pattern of a request, and does what it asks for.
-fn apply<'a, R: Files, I: Read + Drop, W: Write, E: Write>(
+fn apply<'a, R: Files + AllocGlobal, I: Read + Drop, W: Write, E: Write>(
     rt: &R,
-    alloc: Global,
     request: Request<'a>,
     input: I,
     out: &mut W,
@@ -216,37 +210,47 @@ fn apply<'a, R: Files, I: Read + Drop, W: Write, E: Write>(
     ensures quiet { result ≡ Ok true → err.new ≡ err.old }
     ensures quiet_none { IsQuietAt (err.new ≡ err.old) (action request.entry.action) }
 {
-    let text = pattern_text(rt, alloc, request.pattern)?;
+    let text = pattern_text(rt, request.pattern)?;
     let pattern = Pattern {
         text: &text,
         flags: request.flags,
     };
-    apply_to(rt, alloc, pattern, request.action, input, out, err)
+    let wanted = Wanted {
+        pattern,
+        action: request.action,
+    };
+    apply_to(rt, wanted, input, out, err)
+}
+
+/// A pattern, and what to do with it.
+#[derive(Clone, Copy)]
+struct Wanted<'p, 'a> {
+    pattern: Pattern<'p>,
+    action: Action<'a>,
 }
 
 /// Does with a pattern what is asked for.
-fn apply_to<'a, R: Files, I: Read + Drop, W: Write, E: Write>(
+fn apply_to<'a, R: Files + AllocGlobal, I: Read + Drop, W: Write, E: Write>(
     rt: &R,
-    alloc: Global,
-    pattern: Pattern<'_>,
-    asked: Action<'a>,
+    wanted: Wanted<'_, 'a>,
     input: I,
     out: &mut W,
     err: &mut E,
 ) -> Result<bool, Failure<'a>>
-    ensures found { IfOk result (Does pattern.entry.flags pattern.entry.text.now (action asked.entry) (I.remaining input)
+    ensures found { IfOk result (Does wanted.entry.pattern.flags wanted.entry.pattern.text.now (action wanted.entry.action) (I.remaining input)
         (W.contents out.old) (W.contents out.new)) }
-    ensures first { IfErr result (OrOutput ((out.new ≡ out.old) ⊎ Begins pattern.entry.flags pattern.entry.text.now
-        (action asked.entry) (I.remaining input) (W.contents out.old) (W.contents out.new))) }
-    ensures due { IfErr result (MayFailAt pattern.entry.flags pattern.entry.text.now (action asked.entry)) }
+    ensures first { IfErr result (OrOutput ((out.new ≡ out.old) ⊎ Begins wanted.entry.pattern.flags wanted.entry.pattern.text.now
+        (action wanted.entry.action) (I.remaining input) (W.contents out.old) (W.contents out.new))) }
+    ensures due { IfErr result (MayFailAt wanted.entry.pattern.flags wanted.entry.pattern.text.now (action wanted.entry.action)) }
     ensures quiet { result ≡ Ok true → err.new ≡ err.old }
-    ensures quiet_none { IsQuietAt (err.new ≡ err.old) (action asked.entry) }
+    ensures quiet_none { IsQuietAt (err.new ≡ err.old) (action wanted.entry.action) }
 {
-    match asked {
-        Action::Search(search) => print_search(rt, alloc, pattern, search, input, out),
-        Action::Show(view) => print_tree(alloc, view_of(view, pattern), out, err),
-        Action::Lint => print_lint(alloc, pattern, out, err),
-        Action::Explain(form) => print_explanation(alloc, pattern, form, out, err),
+    let pattern = wanted.pattern;
+    match wanted.action {
+        Action::Search(search) => print_search(rt, pattern, search, input, out),
+        Action::Show(view) => print_tree(rt.alloc(), view_of(view, pattern), out, err),
+        Action::Lint => print_lint(rt.alloc(), pattern, out, err),
+        Action::Explain(form) => print_explanation(rt.alloc(), pattern, form, out, err),
     }
 }
 
@@ -265,9 +269,8 @@ fn view_of(view: View, pattern: Pattern<'_>) -> TreeRequest<'_>
 }
 
 /// Searches for a pattern, and returns whether a line is selected, or the task changes lines.
-fn print_search<'a, R: Files, I: Read + Drop, W: Write>(
+fn print_search<'a, R: Files + AllocGlobal, I: Read + Drop, W: Write>(
     rt: &R,
-    alloc: Global,
     pattern: Pattern<'_>,
     search: Search<'a>,
     input: I,
@@ -279,9 +282,9 @@ fn print_search<'a, R: Files, I: Read + Drop, W: Write>(
         (job search.entry.task) search.entry.multiline (map string_bytes search.entry.files.now) (I.remaining input) (W.contents out.old) (W.contents out.new))) }
     ensures due { IfErr result (IsDue (unicode_setting pattern.entry.flags) pattern.entry.text.now) }
 {
-    let regex = compiled(alloc, pattern)?;
-    let searcher = Searcher::new(&regex);
-    let searched = search_all(rt, alloc, &searcher, search, input, out);
+    let regex = compiled(rt.alloc(), pattern)?;
+    let searcher = Searcher::new(rt.alloc(), &regex);
+    let searched = search_all(rt, &searcher, search, input, out);
     out.flush().map_err(|_| Failure::Output)?;
     let any = searched?;
     Ok(any || changes(search.task))

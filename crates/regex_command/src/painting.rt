@@ -1,44 +1,40 @@
 //! Matches in color.
-ghost use Rattle.std.specs.Prelude.{◌≡◌, ◌++◌, All, OnOk, map};
+ghost use Rattle.std.specs.Prelude.{◌≡◌, ◌++◌, All, IfOk, OnOk, length, map};
 ghost use Rattle.regress_found.specs.Found.{IsInside};
 ghost use Rattle.regress_replace.specs.Expansion.{matched_text};
 ghost use Rattle.regress_replace.specs.Order.{AreInOrder};
 ghost use Rattle.regress_replace.specs.Replaced.{replaced};
 ghost use Rattle.regress.specs.Found.{match_of};
-ghost use Rattle.regex_command.specs.Painted.{AddsPainted, PaintsLine, painted, painted_if};
+ghost use Rattle.regex_command.specs.InLine.{AreInLine, AreInText};
+ghost use Rattle.regex_command.specs.Reply.{painted, painted_if, painted_line, ended, matches_of};
 
-use regress::{Match, Regex, SearchError};
+use crate::runs::TextMatches;
+use regress::Match;
 use std::alloc::{AllocError, Global};
 
-/// Adds a line with its matches in color; its bytes that are not UTF-8 are unchanged.
-pub(crate) fn add_painted_line(
+/// Returns the line with its matches in color, with `prefix` in front; its bytes that are not UTF-8 are unchanged.
+pub(crate) fn painted_line(
     alloc: Global,
-    regex: &Regex,
+    prefix: &str,
     line: &[u8],
-    to: &mut Vec<u8>,
-) -> Result<(), SearchError>
-    ensures { OnOk result (PaintsLine regex.now line.now to.old.items to.new.items) }
+    found: &[TextMatches<'_>],
+) -> Result<Vec<u8>, AllocError>
+    requires order { AreInLine (length line.now) 0 (map (λ f. f.run) (map matches_of found.now)) }
+    requires inside { All AreInText found.now }
+    ensures { IfOk result (λ bytes. bytes.items ≡ prefix.now ++ ended (painted_line line.now 0 (map matches_of found.now))) }
 {
-    for chunk in line.utf8_chunks() {
-        add_painted_chunk(alloc, regex, chunk.valid(), chunk.invalid(), to)?;
+    let mut bytes = Vec::new(alloc);
+    bytes.extend_from_slice(prefix.as_bytes())?;
+    let mut from = 0;
+    for text in found {
+        let run = text.run;
+        bytes.extend_from_slice(&line[from..run.start])?;
+        add_painted_matches(run.text, &text.matches, &mut bytes)?;
+        from = run.start + run.text.len();
     }
-    Ok(())
-}
-
-/// Adds a text with its matches in color, and the bytes after it that are not UTF-8.
-fn add_painted_chunk(
-    alloc: Global,
-    regex: &Regex,
-    text: &str,
-    invalid: &[u8],
-    to: &mut Vec<u8>,
-) -> Result<(), SearchError>
-    ensures { OnOk result (AddsPainted regex.now to.old.items (record { text = text.now; invalid = invalid.now }) to.new.items) }
-{
-    let matches = regex.find_all(alloc, text)?;
-    add_painted_matches(text, &matches, to)?;
-    to.extend_from_slice(invalid)?;
-    Ok(())
+    bytes.extend_from_slice(&line[from..])?;
+    bytes.push(b'\n')?;
+    Ok(bytes)
 }
 
 /// Adds a text with these matches in color.

@@ -1,13 +1,13 @@
 //! Patterns, and where they are.
 ghost use Rattle.std.specs.Prelude.{◌≡◌, IfOk, IfErr, string_bytes};
-ghost use Rattle.regex_command.specs.Source.{IsTextOf, LacksText, MayFailToRead, without_line_feed};
-ghost use Rattle.regex_options.specs.Source.{source};
+ghost use Rattle.regex_command.specs.Printed.{IsTextOf, LacksText, MayFailToRead};
+ghost use Rattle.regex_command.specs.Searched.{without_line_feed};
+ghost use Rattle.regex_options.specs.Plain.{source};
 
 use crate::failure::{Failure, read_failure};
 use crate::reading::remove_line_feed;
 use regex_options::PatternSource;
 use regress_base::types::Flags;
-use std::alloc::Global;
 use std::fs::{File, Files};
 use std::io::Read;
 
@@ -19,25 +19,24 @@ pub(crate) struct Pattern<'p> {
 }
 
 /// Returns the text of a pattern.
-pub(crate) fn pattern_text<'a, R: Files>(
+pub(crate) fn pattern_text<'a, R: Files + AllocGlobal>(
     rt: &R,
-    alloc: Global,
     from: PatternSource<'a>,
 ) -> Result<String, Failure<'a>>
     ensures text { IfOk result (λ text. IsTextOf (source from.entry) (string_bytes text)) }
     ensures failed { IfErr result (LacksText (source from.entry)) }
 {
     match from {
-        PatternSource::Text(text) => Ok(String::from_str(alloc, text)?),
-        PatternSource::File(name) => pattern_of(name, read_file(rt, alloc, name)?),
+        PatternSource::Text(text) => Ok(String::from_str(rt.alloc(), text)?),
+        PatternSource::File(name) => pattern_of(name, read_file(rt, name)?),
     }
 }
 
 /// Returns the bytes of a file.
-fn read_file<'a, R: Files>(rt: &R, alloc: Global, name: &'a str) -> Result<Vec<u8>, Failure<'a>>
+fn read_file<'a, R: Files + AllocGlobal>(rt: &R, name: &'a str) -> Result<Vec<u8>, Failure<'a>>
     ensures { IfErr result MayFailToRead }
 {
-    let mut bytes = Vec::new(alloc);
+    let mut bytes = Vec::new(rt.alloc());
     let Ok(mut file) = File::open(rt, name) else {
         return Err(Failure::Unreadable(name));
     };

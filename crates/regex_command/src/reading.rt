@@ -2,7 +2,7 @@
 ghost use Rattle.std.specs.Prelude.{◌≡◌, [], IfOk, MatchBool, true};
 ghost use Rattle.std.specs.Io.KnownBytes.{Keeps};
 ghost use Rattle.regex_command.specs.Reading.{IsRead, IsReadLine};
-ghost use Rattle.regex_command.specs.Source.{without_line_feed};
+ghost use Rattle.regex_command.specs.Searched.{without_line_feed};
 ghost use Rattle.regex_command.specs.declared.reading.Next.TheVariants.{Line};
 
 use memchr::memchr;

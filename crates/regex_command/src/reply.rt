@@ -1,15 +1,14 @@
 //! What is written for a line.
-ghost use Rattle.std.specs.Prelude.{◌≡◌, ◌↔◌, ℕ, List, [], ◌++◌, All, IfOk, IsTrue, OnOk, map, string_bytes};
-ghost use Rattle.std.specs.List.{FoldsTo};
-ghost use Rattle.regex_options.specs.Job.{job};
-ghost use Rattle.regex_command.specs.Json.{AddsJson};
-ghost use Rattle.regex_command.specs.Painted.{PaintsLine, painted_if};
-ghost use Rattle.regex_command.specs.Reply.{AddsMatches, IsReply, IsSelected, MatchesIn, Shows, ShowsIf, ShowsPieces, ShowsReplaced, ended};
-ghost use Rattle.regex_command.specs.Runs.{HasOffsets, run_of, utf8_runs};
+ghost use Rattle.std.specs.Prelude.{◌≡◌, ◌↔◌, ◌++◌, All, IfOk, IsTrue, OnOk, false, flat_map, if◌then◌else◌, length, map, not, string_bytes, true};
+ghost use Rattle.regex_options.specs.Plain.{job};
+ghost use Rattle.regex_command.specs.InLine.{AreInLine, AreInText, HasMatch, needs_matches, plain, shown_by};
+ghost use Rattle.regex_command.specs.Reply.{painted_if, IsReply, IsSelected, MatchesIn, ShowsIf, ShowsPieces, ShowsReplaced, ended, matches_shown, AreSearched, matches_of, run_of, utf8_runs};
+ghost use Rattle.regex_command.specs.Prefix.{text_of};
 
-use crate::json::add_json;
-use crate::painting::{add_painted_if, add_painted_line};
-use crate::runs::{Run, utf8_runs};
+use crate::json::all_json;
+use crate::painting::{add_painted_if, painted_line};
+use crate::prefix::{Prefix, prefix_text};
+use crate::runs::{Run, TextMatches, utf8_runs};
 use crate::searcher::Searcher;
 use regex_options::{Selection, Shown, Task};
 use regress::{Regex, SearchError};
@@ -31,15 +30,13 @@ struct Line<'a> {
 
 /// Returns what a task writes for a line, each line of it with `prefix` in front where the task selects lines.
 pub(crate) fn reply_to(
-    alloc: Global,
-    regex: &Searcher<'_>,
-    task: Task<'_>,
-    prefix: &str,
+    searcher: &Searcher<'_>,
+    prefix: Prefix<'_>,
     line: &str,
 ) -> Result<Reply, SearchError>
-    ensures { IfOk result (λ reply. IsReply regex.now.regex.now line.now (job task.entry) prefix.now reply.selected reply.bytes.items) }
+    ensures { IfOk result (λ reply. IsReply searcher.now.regex.now line.now (job prefix.entry.task) (text_of prefix.entry) reply.selected reply.bytes.items) }
 {
-    match task {
+    match prefix.task {
         Task::Match(selection) => {
             let texts = [Run {
                 start: 0,
@@ -49,114 +46,203 @@ pub(crate) fn reply_to(
                 bytes: line.as_bytes(),
                 texts: &texts,
             };
-            selected(alloc, regex, selection, prefix, line)
+            selected(searcher, selection, prefix, line)
         }
         Task::Replace(template) => Ok(Reply {
             selected: true,
-            bytes: replaced(alloc, regex.regex, template, line)?.into_bytes(),
+            bytes: replaced(searcher.alloc, searcher.regex, template, line)?.into_bytes(),
         }),
         Task::Split => Ok(Reply {
             selected: true,
-            bytes: pieces(alloc, regex.regex, line)?.into_bytes(),
+            bytes: pieces(searcher.alloc, searcher.regex, line)?.into_bytes(),
         }),
     }
 }
 
 /// Returns what `match -a` writes for a line that is not UTF-8.
 pub(crate) fn reply_to_binary(
-    alloc: Global,
-    regex: &Searcher<'_>,
+    searcher: &Searcher<'_>,
     selection: Selection,
-    prefix: &str,
+    prefix: Prefix<'_>,
     line: &[u8],
 ) -> Result<Reply, SearchError>
-    ensures { IfOk result (λ reply. IsSelected regex.now.regex.now (utf8_runs line.now) selection.invert reply.selected
-        × ShowsIf regex.now.regex.now line.now (utf8_runs line.now) reply.selected selection prefix.now reply.bytes.items) }
+    ensures { IfOk result (λ reply. IsSelected searcher.now.regex.now (utf8_runs line.now) selection.invert reply.selected
+        × ShowsIf searcher.now.regex.now line.now (utf8_runs line.now) reply.selected selection (text_of prefix.entry) reply.bytes.items) }
 {
-    let texts = utf8_runs(alloc, line)?;
+    let texts = utf8_runs(searcher.alloc, line)?;
     let line = Line {
         bytes: line,
         texts: &texts,
     };
-    selected(alloc, regex, selection, prefix, line)
+    selected(searcher, selection, prefix, line)
 }
 
-/// Searches a line.
+/// Searches a line once: for all matches only if they are shown.
 fn selected(
-    alloc: Global,
-    regex: &Searcher<'_>,
+    searcher: &Searcher<'_>,
     selection: Selection,
-    prefix: &str,
+    prefix: Prefix<'_>,
     line: Line<'_>,
 ) -> Result<Reply, SearchError>
-    requires { All (λ r. HasOffsets (run_of r)) line.texts.now }
-    ensures selected { IfOk result (λ reply. IsSelected regex.now.regex.now (map run_of line.entry.texts.now) selection.invert reply.selected) }
-    ensures shows { IfOk result (λ reply. ShowsIf regex.now.regex.now line.entry.bytes.now (map run_of line.entry.texts.now) reply.selected selection prefix.now reply.bytes.items) }
+    requires { AreInLine (length line.bytes.now) 0 (map run_of line.texts.now) }
+    ensures selected { IfOk result (λ reply. IsSelected searcher.now.regex.now (map run_of line.entry.texts.now) selection.invert reply.selected) }
+    ensures shows { IfOk result (λ reply. ShowsIf searcher.now.regex.now line.entry.bytes.now (map run_of line.entry.texts.now) reply.selected selection (text_of prefix.entry) reply.bytes.items) }
 {
-    let matches = match_in(alloc, regex, line.texts)?;
-    let selected = if selection.invert { !matches } else { matches };
-    let bytes = if selected {
-        shown(alloc, regex.regex, selection, prefix, line)?
+    if needs_matches(selection) {
+        selected_by_matches(searcher, selection, prefix, line)
     } else {
-        Vec::new(alloc)
-    };
-    Ok(Reply { selected, bytes })
+        selected_by_test(searcher, selection, prefix, line)
+    }
+}
+
+/// Returns whether all matches of a selected line are needed to show it.
+fn needs_matches(selection: Selection) -> bool
+    ensures { result ≡ needs_matches selection.shown selection.paints }
+{
+    match selection.shown {
+        Shown::Lines => selection.paints,
+        Shown::Matches | Shown::Json => true,
+        Shown::Count | Shown::Names | Shown::Nothing => false,
+    }
+}
+
+/// Searches a line, of which no matches are shown.
+fn selected_by_test(
+    searcher: &Searcher<'_>,
+    selection: Selection,
+    prefix: Prefix<'_>,
+    line: Line<'_>,
+) -> Result<Reply, SearchError>
+    requires { needs_matches selection.shown selection.paints ≡ false }
+    ensures selected { IfOk result (λ reply. IsSelected searcher.now.regex.now (map run_of line.entry.texts.now) selection.invert reply.selected) }
+    ensures shows { IfOk result (λ reply. ShowsIf searcher.now.regex.now line.entry.bytes.now (map run_of line.entry.texts.now) reply.selected selection (text_of prefix.entry) reply.bytes.items) }
+{
+    let selected = is_selected(selection.invert, match_in(searcher, line.texts)?);
+    if selected {
+        let bytes = plain(searcher.alloc, selection.shown, prefix, line.bytes)?;
+        Ok(Reply { selected, bytes })
+    } else {
+        let bytes = Vec::new(searcher.alloc);
+        Ok(Reply { selected, bytes })
+    }
+}
+
+/// Searches a line, of which the matches are shown.
+fn selected_by_matches(
+    searcher: &Searcher<'_>,
+    selection: Selection,
+    prefix: Prefix<'_>,
+    line: Line<'_>,
+) -> Result<Reply, SearchError>
+    requires order { AreInLine (length line.bytes.now) 0 (map run_of line.texts.now) }
+    requires shows { needs_matches selection.shown selection.paints ≡ true }
+    ensures selected { IfOk result (λ reply. IsSelected searcher.now.regex.now (map run_of line.entry.texts.now) selection.invert reply.selected) }
+    ensures shows { IfOk result (λ reply. ShowsIf searcher.now.regex.now line.entry.bytes.now (map run_of line.entry.texts.now) reply.selected selection (text_of prefix.entry) reply.bytes.items) }
+{
+    let found = search_texts(searcher, line.texts)?;
+    let selected = is_selected(selection.invert, has_match(&found));
+    if selected {
+        let bytes = shown(searcher, selection, prefix, line.bytes, &found)?;
+        Ok(Reply { selected, bytes })
+    } else {
+        let bytes = Vec::new(searcher.alloc);
+        Ok(Reply { selected, bytes })
+    }
+}
+
+/// Returns whether a line is selected, by whether the pattern matches in it.
+fn is_selected(invert: bool, matches: bool) -> bool
+    ensures { result ≡ (if invert then not matches else matches) }
+{
+    if invert { !matches } else { matches }
 }
 
 /// Returns whether the pattern matches in one of the texts.
-fn match_in(alloc: Global, regex: &Searcher<'_>, texts: &[Run<'_>]) -> Result<bool, SearchError>
-    ensures { IfOk result (λ matches. IsTrue matches ↔ MatchesIn regex.now.regex.now (map run_of texts.now)) }
+fn match_in(searcher: &Searcher<'_>, texts: &[Run<'_>]) -> Result<bool, SearchError>
+    ensures { IfOk result (λ matches. IsTrue matches ↔ MatchesIn searcher.now.regex.now (map run_of texts.now)) }
 {
     for run in texts {
-        if regex.is_match(alloc, run.text)? {
+        if searcher.is_match(run.text)? {
             return Ok(true);
         }
     }
     Ok(false)
 }
 
-/// Returns what is written for a selected line.
-fn shown(
-    alloc: Global,
-    regex: &Regex,
-    selection: Selection,
-    prefix: &str,
-    line: Line<'_>,
-) -> Result<Vec<u8>, SearchError>
-    requires { All (λ r. HasOffsets (run_of r)) line.texts.now }
-    ensures { IfOk result (λ bytes. Shows regex.now line.entry.bytes.now (map run_of line.entry.texts.now) selection.shown selection.paints prefix.now bytes.items) }
+/// Returns the texts, each with all matches in it.
+fn search_texts<'a>(
+    searcher: &'a Searcher<'a>,
+    texts: &[Run<'a>],
+) -> Result<Vec<TextMatches<'a>>, SearchError>
+    ensures searched { IfOk result (λ found. AreSearched searcher.now.regex.now (map run_of texts.now) (map matches_of found.items)) }
+    ensures inside { IfOk result (λ found. All AreInText found.items) }
 {
+    let mut found = Vec::new(searcher.alloc);
+    for run in texts {
+        let matches = searcher.find_all(run.text)?;
+        found.push(TextMatches { run: *run, matches })?;
+    }
+    Ok(found)
+}
+
+/// Returns whether there is a match in one of the texts.
+fn has_match(found: &[TextMatches<'_>]) -> bool
+    ensures { IsTrue result ↔ HasMatch (map matches_of found.now) }
+{
+    for text in found {
+        if !text.matches.is_empty() {
+            return true;
+        }
+    }
+    false
+}
+
+/// Returns what is written for a selected line with these matches.
+fn shown(
+    searcher: &Searcher<'_>,
+    selection: Selection,
+    prefix: Prefix<'_>,
+    line: &[u8],
+    found: &[TextMatches<'_>],
+) -> Result<Vec<u8>, AllocError>
+    requires order { AreInLine (length line.now) 0 (map (λ f. f.run) (map matches_of found.now)) }
+    requires inside { All AreInText found.now }
+    requires shows { needs_matches selection.shown selection.paints ≡ true }
+    ensures { IfOk result (λ bytes. bytes.items ≡ shown_by searcher.now.regex.now line.now selection.shown selection.paints (text_of prefix.entry) (map matches_of found.now)) }
+{
+    let prefix = prefix_text(searcher.alloc, prefix)?;
     match selection.shown {
-        Shown::Lines if selection.paints => painted_line(alloc, regex, prefix, line.bytes),
-        Shown::Lines => whole_line(alloc, prefix, line.bytes),
-        Shown::Matches => all_matches(alloc, regex, selection.paints, prefix, line.texts),
-        Shown::Json => all_json(alloc, regex, prefix, line.texts),
-        Shown::Count | Shown::Names | Shown::Nothing => Ok(Vec::new(alloc)),
+        Shown::Lines => painted_line(searcher.alloc, &prefix, line, found),
+        Shown::Matches => all_matches(searcher.alloc, selection.paints, &prefix, found),
+        Shown::Json => all_json(searcher.alloc, searcher.regex, &prefix, found),
+        Shown::Count | Shown::Names | Shown::Nothing => Ok(Vec::new(searcher.alloc)),
+    }
+}
+
+/// Returns what is written for a selected line without its matches.
+fn plain(
+    alloc: Global,
+    shown: Shown,
+    prefix: Prefix<'_>,
+    line: &[u8],
+) -> Result<Vec<u8>, AllocError>
+    ensures { IfOk result (λ bytes. bytes.items ≡ plain line.now shown (text_of prefix.entry)) }
+{
+    match shown {
+        Shown::Lines => whole_line(alloc, prefix, line),
+        Shown::Matches | Shown::Json | Shown::Count | Shown::Names | Shown::Nothing => {
+            Ok(Vec::new(alloc))
+        }
     }
 }
 
 /// Returns the line, with `prefix` in front.
-fn whole_line(alloc: Global, prefix: &str, line: &[u8]) -> Result<Vec<u8>, SearchError>
-    ensures { IfOk result (λ bytes. bytes.items ≡ prefix.now ++ ended line.now) }
+fn whole_line(alloc: Global, prefix: Prefix<'_>, line: &[u8]) -> Result<Vec<u8>, AllocError>
+    ensures { IfOk result (λ bytes. bytes.items ≡ text_of prefix.entry ++ ended line.now) }
 {
+    let prefix = prefix_text(alloc, prefix)?;
     let mut bytes = Vec::new(alloc);
-    add_line(prefix, line, &mut bytes)?;
-    Ok(bytes)
-}
-
-/// Returns the line with its matches in color, with `prefix` in front.
-fn painted_line(
-    alloc: Global,
-    regex: &Regex,
-    prefix: &str,
-    line: &[u8],
-) -> Result<Vec<u8>, SearchError>
-    ensures { IfOk result (λ bytes. (out : List ℕ) × PaintsLine regex.now line.now prefix.now out × (bytes.items ≡ ended out)) }
-{
-    let mut bytes = Vec::new(alloc);
-    bytes.extend_from_slice(prefix.as_bytes())?;
-    add_painted_line(alloc, regex, line, &mut bytes)?;
-    bytes.push(b'\n')?;
+    add_line(&prefix, line, &mut bytes)?;
     Ok(bytes)
 }
 
@@ -173,34 +259,32 @@ fn add_line(prefix: &str, line: &[u8], to: &mut Vec<u8>) -> Result<(), AllocErro
 /// Returns a line for each match that is not empty.
 fn all_matches(
     alloc: Global,
-    regex: &Regex,
     paints: bool,
     prefix: &str,
-    texts: &[Run<'_>],
-) -> Result<Vec<u8>, SearchError>
-    ensures { IfOk result (λ bytes. FoldsTo (AddsMatches regex.now paints prefix.now) [] (map run_of texts.now) bytes.items) }
+    found: &[TextMatches<'_>],
+) -> Result<Vec<u8>, AllocError>
+    requires { All AreInText found.now }
+    ensures { IfOk result (λ bytes. bytes.items ≡ flat_map (matches_shown paints prefix.now) (map matches_of found.now)) }
 {
     let mut bytes = Vec::new(alloc);
-    for run in texts {
-        add_matches(alloc, regex, paints, prefix, *run, &mut bytes)?;
+    for text in found {
+        add_matches(paints, prefix, text, &mut bytes)?;
     }
     Ok(bytes)
 }
 
 /// Adds a line for each match in a text that is not empty.
 fn add_matches(
-    alloc: Global,
-    regex: &Regex,
     paints: bool,
     prefix: &str,
-    run: Run<'_>,
+    text: &TextMatches<'_>,
     to: &mut Vec<u8>,
-) -> Result<(), SearchError>
-    ensures { OnOk result (AddsMatches regex.now paints prefix.now to.old.items (run_of run.entry) to.new.items) }
+) -> Result<(), AllocError>
+    requires { AreInText text.now }
+    ensures { OnOk result (to.new.items ≡ to.old.items ++ matches_shown paints prefix.now (matches_of text.now)) }
 {
-    let matches = regex.find_all(alloc, run.text)?;
-    for found in &matches {
-        let matched = &run.text[found.start()..found.end()];
+    for found in &text.matches {
+        let matched = &text.run.text[found.start()..found.end()];
         if !matched.is_empty() {
             add_match(paints, prefix, matched, to)?;
         }
@@ -216,23 +300,6 @@ fn add_match(paints: bool, prefix: &str, text: &str, to: &mut Vec<u8>) -> Result
     add_painted_if(paints, text, to)?;
     to.push(b'\n')?;
     Ok(())
-}
-
-/// Returns an object of JSON for each match, each on a line.
-fn all_json(
-    alloc: Global,
-    regex: &Regex,
-    prefix: &str,
-    texts: &[Run<'_>],
-) -> Result<Vec<u8>, SearchError>
-    requires { All (λ r. HasOffsets (run_of r)) texts.now }
-    ensures { IfOk result (λ bytes. FoldsTo (AddsJson regex.now prefix.now) [] (map run_of texts.now) bytes.items) }
-{
-    let mut bytes = Vec::new(alloc);
-    for run in texts {
-        add_json(alloc, regex, prefix, *run, &mut bytes)?;
-    }
-    Ok(bytes)
 }
 
 /// Returns the line with its matches replaced.

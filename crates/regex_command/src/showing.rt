@@ -1,12 +1,11 @@
 //! `parse` and `draw`.
 ghost use Rattle.std.specs.Prelude.{◌≡◌, ◌≢◌, true, false, ◌⊎◌, Ok, IfOk, IfErr, string_bytes};
 ghost use Rattle.regress_arguments.specs.Output.{Took};
-ghost use Rattle.regress_display.specs.Accepted.{NoneIsAccepted, setting_of_request};
+ghost use Rattle.regress_display.specs.Request.{NoneIsAccepted, setting_of_request, requested};
 ghost use Rattle.regress_display.specs.Fault.{IsFaultOutput};
-ghost use Rattle.regress_display.specs.Request.{requested};
 ghost use Rattle.regress_display.specs.Shown.{IsFirstOutput};
 ghost use Rattle.regex_command.specs.Ending.{OrOutput};
-ghost use Rattle.regex_command.specs.Trees.{HasFaultOutput, IsTreeOutput, IsFaultWritten, IsQuietFor, IsShowFailure};
+ghost use Rattle.regex_command.specs.Patterns.{HasFaultOutput, IsTreeOutput, IsFaultWritten, IsQuietFor, IsShowFailure};
 ghost use Rattle.regex_command.specs.declared.failure.Failure.TheVariants.{Output};
 ghost use Rattle.regress_parse.specs.Settled.{IsSyntaxError};
 
@@ -15,6 +14,14 @@ use regress_display::{Format, Request, ShowError, show, write_json_fault};
 use regress_parse::{Error, FaultKind};
 use std::alloc::Global;
 use std::io::Write;
+
+/// Why a pattern is rejected, and where.
+#[derive(Clone, Copy)]
+struct Fault<'a> {
+    kind: &'a FaultKind,
+    error: &'a Error,
+    position: usize,
+}
 
 /// Writes the tree of a pattern, or why it is rejected, and returns whether it is accepted.
 ///
@@ -41,7 +48,14 @@ pub(crate) fn print_tree<'f, W: Write, E: Write>(
                 error,
                 position,
             },
-        ) => print_fault(&kind, &error, position, request, out, err),
+        ) => {
+            let fault = Fault {
+                kind: &kind,
+                error: &error,
+                position,
+            };
+            print_fault(fault, request, out, err)
+        }
         Err(ShowError::Memory) => Err(Failure::Memory),
         Err(ShowError::Output) => Err(Failure::Output),
     }
@@ -49,15 +63,13 @@ pub(crate) fn print_tree<'f, W: Write, E: Write>(
 
 /// Writes why a pattern is rejected, and returns that it is not accepted.
 fn print_fault<'f, W: Write, E: Write>(
-    kind: &FaultKind,
-    error: &Error,
-    position: usize,
+    fault: Fault<'_>,
     request: Request<'_>,
     out: &mut W,
     err: &mut E,
 ) -> Result<bool, Failure<'f>>
-    requires { IsSyntaxError (setting_of_request (requested request)) (requested request).pattern kind.now
-        (string_bytes error.now.text) position }
+    requires { IsSyntaxError (setting_of_request (requested request)) (requested request).pattern fault.kind.now
+        (string_bytes fault.error.now.text) fault.position }
     ensures shown { IfOk result (λ accepted. (accepted ≡ false) × Took (W.contents out.old) (W.contents out.new)
         (IsFaultWritten request.entry.format (requested request.entry))) }
     ensures quiet { result ≡ Ok true → err.new ≡ err.old }
@@ -67,12 +79,12 @@ fn print_fault<'f, W: Write, E: Write>(
 {
     match request.format {
         Format::Text => {
-            let _ = write_syntax_error(&error.text, request.pattern, position, err);
+            let _ = write_syntax_error(&fault.error.text, request.pattern, fault.position, err);
             Ok(false)
         }
-        Format::Json => print_json_fault(kind, error, position, request, out),
+        Format::Json => print_json_fault(fault, request, out),
         Format::Svg => {
-            let _ = write_syntax_error(&error.text, request.pattern, position, err);
+            let _ = write_syntax_error(&fault.error.text, request.pattern, fault.position, err);
             Ok(false)
         }
     }
@@ -80,20 +92,24 @@ fn print_fault<'f, W: Write, E: Write>(
 
 /// Writes why a pattern is rejected as JSON, and returns that it is not accepted.
 fn print_json_fault<'f, W: Write>(
-    kind: &FaultKind,
-    error: &Error,
-    position: usize,
+    fault: Fault<'_>,
     request: Request<'_>,
     out: &mut W,
 ) -> Result<bool, Failure<'f>>
-    requires { IsSyntaxError (setting_of_request (requested request)) (requested request).pattern kind.now
-        (string_bytes error.now.text) position }
+    requires { IsSyntaxError (setting_of_request (requested request)) (requested request).pattern fault.kind.now
+        (string_bytes fault.error.now.text) fault.position }
     ensures shown { IfOk result (λ accepted. (accepted ≡ false)
         × Took (W.contents out.old) (W.contents out.new) (IsFaultOutput (requested request.entry))) }
     ensures quiet { result ≢ Ok true }
     ensures failed { IfErr result (λ failure. (failure ≡ Output) × NoneIsAccepted (requested request.entry)) }
 {
-    match write_json_fault(kind, error, request.pattern, position, out) {
+    match write_json_fault(
+        fault.kind,
+        fault.error,
+        request.pattern,
+        fault.position,
+        out,
+    ) {
         Ok(()) => Ok(false),
         Err(_) => Err(Failure::Output),
     }

@@ -4,7 +4,7 @@ use Rattle.std.specs.Str.{all_ascii_digits}
 use Rattle.std.specs.Str.Parse.{digits_value}
 use Rattle.regress_arguments.specs.Letters.{no_flags, with_letters}
 use Rattle.regress_base.specs.declared.types.Flags.{Flags}
-use Rattle.regex_options.specs.Source.{Source, in_argument, in_file, source}
+use Rattle.regex_options.specs.Plain.{Source, in_argument, in_file, source}
 use Rattle.regex_options.specs.declared.given.Color.{Color}
 use Rattle.regex_options.specs.declared.given.Color.TheVariants.{Always, Never, Auto}
 use Rattle.regex_options.specs.declared.given.Given as code

@@ -1,9 +1,5 @@
-pub mod Commands
 pub mod Given
-pub mod Help
-pub mod Job
+pub mod Plain
 pub mod Reading
 pub mod Request
-pub mod Source
 pub mod Table
-pub mod Usage

@@ -5,7 +5,7 @@ use Rattle.std.specs.List.{after_first, before_first, position_or_len, starts_wi
 use Rattle.std.specs.declared.alloc.Global.{Global}
 use Rattle.regex_options.specs.Given.{Given, given_by, nothing_given, switched, valued}
 use Rattle.regex_options.specs.Table.{has, has_letter, has_long, is_joined, is_next, is_of_match_only, is_valued}
-use Rattle.regex_options.specs.Usage.{UsageError, first_error, invalid, missing, on_ok, only_of_match, or_error, unknown_option, usage_error}
+use Rattle.regex_options.specs.Plain.{UsageError, first_error, invalid, missing, on_ok, only_of_match, or_error, unknown_option, usage_error}
 use Rattle.regex_options.specs.declared.command.Command.{Command}
 use Rattle.regex_options.specs.declared.reading.Reading as code
 use Rattle.regex_options.specs.declared.table.Argument.{Argument}

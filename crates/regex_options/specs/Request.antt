@@ -7,12 +7,10 @@ use Rattle.regress_display.specs.declared.request.Format.{Format}
 use Rattle.regress_display.specs.declared.request.Format.TheVariants.{Text, Json, Svg}
 use Rattle.regress_display.specs.declared.request.Stage.{Stage}
 use Rattle.regress_display.specs.declared.request.Stage.TheVariants.{Parsed, Both}
-use Rattle.regex_options.specs.Commands.{command_of}
+use Rattle.regex_options.specs.Table.{command_of}
 use Rattle.regex_options.specs.Given.{Given}
-use Rattle.regex_options.specs.Job.{Job, job, matching, replacing, splitting}
+use Rattle.regex_options.specs.Plain.{Job, job, matching, replacing, splitting, Source, in_argument, source, UsageError, excluded_by_json, missing, on_ok, or_error, text_without_page, unexpected, unknown_command, unknown_option, unless_error}
 use Rattle.regex_options.specs.Reading.{Reading, options_of, start}
-use Rattle.regex_options.specs.Source.{Source, in_argument, source}
-use Rattle.regex_options.specs.Usage.{UsageError, excluded_by_json, missing, on_ok, or_error, text_without_page, unexpected, unknown_command, unknown_option, unless_error}
 use Rattle.regex_options.specs.declared.command.Command.{Command}
 use Rattle.regex_options.specs.declared.command.Command.TheVariants as commands
 use Rattle.regex_options.specs.declared.given.Color.{Color}

@@ -1,15 +1,16 @@
--- The table of options.
+-- The table of options, the commands that take a pattern, and the help.
 use Rattle.std.specs.Borrow.{Bor}
-use Rattle.std.specs.Prelude.{ℕ, Bool, true, false, not, ◌&&◌, ◌||◌, List, Option, Some, None, ◌==◌, bytes_eq, slice_get}
+use Rattle.std.specs.Prelude.{ℕ, Bool, true, false, not, ◌&&◌, ◌||◌, List, Option, Some, None, ◌==◌, bytes_eq, slice_get, if◌then◌else◌, codes, [], ◌∷◌, ◌++◌}
 use Rattle.std.specs.List.{starts_with}
-use Rattle.regex_options.specs.declared.command.Command.{Command}
 use Rattle.regex_options.specs.declared.command.Command.TheVariants.{Match, Replace, Split, Parse, Draw, Lint, Explain}
-use Rattle.regex_options.specs.declared.table.Joining.{Joining}
+use Rattle.regex_options.specs.declared.command.Command.{Command}
+use Rattle.regex_options.specs.declared.help.TheConstants.{HELP_AFTER, HELP_BEFORE}
 use Rattle.regex_options.specs.declared.table.Joining.TheVariants.{Next, Joined, Either}
+use Rattle.regex_options.specs.declared.table.Joining.{Joining}
 use Rattle.regex_options.specs.declared.table.OptionEntry.{OptionEntry}
 use Rattle.regex_options.specs.declared.table.Scope.{Scope}
-use Rattle.regex_options.specs.declared.table.Sets.{Sets}
 use Rattle.regex_options.specs.declared.table.Sets.TheVariants.{Switch, Value}
+use Rattle.regex_options.specs.declared.table.Sets.{Sets}
 
 -- the command has the option
 abbrev pub has : Scope → Command → Bool
@@ -71,3 +72,29 @@ has_letter letter option = not (has_argument option.sets) && is_letter option.sh
 -- the option has an argument, and the word begins with its letter
 abbrev pub is_valued : (word : List ℕ) → OptionEntry → Bool
 is_valued word option = has_argument option.sets && begins option.short word
+
+-- the command with this name
+abbrev pub command_of : List ℕ → Option Command
+command_of name =
+    if bytes_eq name (codes "match") then Some Match
+    else if bytes_eq name (codes "replace") then Some Replace
+    else if bytes_eq name (codes "split") then Some Split
+    else if bytes_eq name (codes "parse") then Some Parse
+    else if bytes_eq name (codes "draw") then Some Draw
+    else if bytes_eq name (codes "lint") then Some Lint
+    else if bytes_eq name (codes "explain") then Some Explain
+    else None
+
+-- a heading, unless it is the one before
+abbrev pub new_heading : (before heading : List ℕ) → List ℕ
+new_heading before heading = if bytes_eq heading before then [] else heading
+
+-- the lines of the options, each group below its heading
+abbrev pub options_help : (before : List ℕ) → List OptionEntry → List ℕ
+options_help before [] = []
+options_help before (option ∷ options) =
+    new_heading before option.scope.heading.now ++ (option.line.now ++ options_help option.scope.heading.now options)
+
+-- the help, by the table of options
+abbrev pub program_help : List OptionEntry → List ℕ
+program_help options = (HELP_BEFORE.now ++ options_help [] options) ++ HELP_AFTER.now

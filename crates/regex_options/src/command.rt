@@ -1,6 +1,6 @@
 //! The commands that take a pattern.
 ghost use Rattle.std.specs.Prelude.{◌≡◌};
-ghost use Rattle.regex_options.specs.Commands.{command_of};
+ghost use Rattle.regex_options.specs.Table.{command_of};
 
 /// A command that takes a pattern.
 #[derive(Clone, Copy)]

@@ -1,6 +1,6 @@
 //! The help.
 ghost use Rattle.std.specs.Prelude.{◌≡◌, ◌++◌, [], IfOk, OnOk, string_bytes};
-ghost use Rattle.regex_options.specs.Help.{new_heading, options_help, program_help};
+ghost use Rattle.regex_options.specs.Table.{new_heading, options_help, program_help};
 
 use crate::table::OptionEntry;
 use std::alloc::{AllocError, Global};

@@ -3,7 +3,7 @@ ghost use Rattle.std.specs.Prelude.{◌≡◌, drop, find, option_map};
 ghost use Rattle.regex_options.specs.Given.{given_by};
 ghost use Rattle.regex_options.specs.Reading.{after_prefix, is_option, lacked, long_parts, noted, options_of, parts_of, reading_of, short_value, start, used, with_letters, with_long, with_short, with_switch, with_value, with_word};
 ghost use Rattle.regex_options.specs.Table.{has_letter, has_long, is_valued};
-ghost use Rattle.regex_options.specs.Usage.{first_error, plain_result, usage_error};
+ghost use Rattle.regex_options.specs.Plain.{first_error, plain_result, usage_error};
 
 use crate::command::Command;
 use crate::error::UsageError;

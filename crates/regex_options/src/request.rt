@@ -1,10 +1,8 @@
 //! What the arguments ask for.
 ghost use Rattle.std.specs.Prelude.{◌≡◌, option_map};
 ghost use Rattle.regex_options.specs.Given.{given_by};
-ghost use Rattle.regex_options.specs.Job.{job};
+ghost use Rattle.regex_options.specs.Plain.{job, source, plain_result, usage_error};
 ghost use Rattle.regex_options.specs.Request.{action, action_of, after_pattern, alone, ask, asked_by, asked_form, command_with, conflict, escape_of, form_of, help_of, is_lines, other_of, paints, printed_format, replace_of, request_of, search_with, selection_of, stage_of, taken_pattern, unknown, view_in};
-ghost use Rattle.regex_options.specs.Source.{source};
-ghost use Rattle.regex_options.specs.Usage.{plain_result, usage_error};
 
 use crate::command::{Command, command_of};
 use crate::error::UsageError;

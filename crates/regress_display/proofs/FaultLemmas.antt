@@ -3,8 +3,7 @@ use Rattle.std.proofs.Common.{◌≡◌, ℕ, List, ◌++◌, codes, append_asso
 use Rattle.std.specs.Fmt.{decimal}
 use Rattle.regress_lexer.specs.declared.fault.FaultKind.{FaultKind}
 use Rattle.regress_lexer.specs.FaultKinds.{name_of}
-use Rattle.regress_display.specs.Fault.{fault_json, json_text}
-use Rattle.regress_display.specs.Location.{line_at, column_at}
+use Rattle.regress_display.specs.Fault.{fault_json, json_text, line_at, column_at}
 
 pub fault_json-written : (kind : FaultKind) (text source : List ℕ) (position : ℕ) (words name : List ℕ) (line column : ℕ) →
     words ≡ text → name ≡ name_of kind → line ≡ line_at source position → column ≡ column_at source position →

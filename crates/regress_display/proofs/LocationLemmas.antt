@@ -5,7 +5,7 @@ use Rattle.std.specs.Str.{IsUtf8}
 use Rattle.std.proofs.lemmas.List.{reverse-append, length-take}
 use Rattle.std.proofs.lemmas.List.Sums.{sum_by-append, count_by-le-length, suffix_len-le-length}
 use Rattle.std.proofs.lemmas.Str.{encodes-chars, length-le-encodes}
-use Rattle.regress_display.specs.Location.{is_line_feed, line_after, column_after}
+use Rattle.regress_display.specs.Fault.{is_line_feed, line_after, column_after}
 
 feeds_more : (before : List ℕ) (c : ℕ) →
     count_by is_line_feed (before ++ c ∷ []) ≡ count_by is_line_feed before + (0 + cond (is_line_feed c) 1 0)

@@ -18,8 +18,7 @@ use Rattle.regress_parse.specs.Settled.{IsFaultOf}
 use Rattle.regress_syntax.specs.Syntax.{Pattern}
 use Rattle.regress_tree.specs.Setting.{Setting}
 use Rattle.regress_tree.specs.Tree.{Tree, tree}
-use Rattle.regress_display.specs.Accepted.{setting_of_request}
-use Rattle.regress_display.specs.Request.{Request, table_asked}
+use Rattle.regress_display.specs.Request.{setting_of_request, Request, table_asked}
 use Rattle.regress_display.specs.Ending.{Leaves}
 use Rattle.regress_display.specs.Shown.{IsParsed, IsOptimized, IsOptimizedShown, IsFirstOutput, IsFirstShown, IsOutput, IsShown, IsShownAs, IsShownWith, shows_spans}
 use Rattle.regress_display.specs.declared.error.ShowError.{ShowError}

@@ -3,8 +3,7 @@ use Rattle.std.specs.Prelude.{◌⊎◌, string_bytes}
 use Rattle.regress_parse.specs.declared.fault.PlacedFault.{PlacedFault}
 use Rattle.regress_parse.specs.declared.fault.PlacedFault.TheVariants as fault
 use Rattle.regress_parse.specs.Settled.{IsSyntaxError}
-use Rattle.regress_display.specs.Accepted.{IsAcceptedPattern, setting_of_request}
-use Rattle.regress_display.specs.Request.{Request}
+use Rattle.regress_display.specs.Request.{IsAcceptedPattern, setting_of_request, Request}
 use Rattle.regress_display.specs.declared.error.ShowError.{ShowError}
 use Rattle.regress_display.specs.declared.error.ShowError.TheVariants.{Syntax, Memory, Output}
 

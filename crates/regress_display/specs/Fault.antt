@@ -1,12 +1,31 @@
--- A syntax error as JSON.
-use Rattle.std.specs.Prelude.{◌≡◌, ℕ, ◌/◌, ◌%◌, List, ◌++◌, codes, chars, encode_utf8, flat_map, if◌then◌else◌, nat_lt, ◌==◌, false}
+-- A syntax error as JSON, with the line and the column of its code point, both from 1.
+use Rattle.std.specs.Prelude.{ℕ, ◌+◌, Bool, not, List, take, ◌==◌, ◌≡◌, ◌/◌, ◌%◌, ◌++◌, codes, chars, encode_utf8, flat_map, if◌then◌else◌, nat_lt, false}
+use Rattle.std.specs.List.{count_by, suffix_len}
 use Rattle.std.specs.Fmt.{decimal, digits}
-use Rattle.regress_lexer.specs.declared.fault.FaultKind.{FaultKind}
 use Rattle.regress_lexer.specs.FaultKinds.{name_of}
-use Rattle.regress_display.specs.Location.{line_at, column_at}
-use Rattle.regress_display.specs.Accepted.{setting_of_request}
-use Rattle.regress_display.specs.Request.{Request}
 use Rattle.regress_parse.specs.Settled.{IsSyntaxError}
+use Rattle.regress_lexer.specs.declared.fault.FaultKind.{FaultKind}
+use Rattle.regress_display.specs.Request.{setting_of_request, Request}
+
+-- A line feed ends a line.
+abbrev pub is_line_feed : ℕ → Bool
+is_line_feed c = c == 10
+
+-- the line after these code points
+abbrev pub line_after : List ℕ → ℕ
+line_after before = count_by is_line_feed before + 1
+
+-- the column after them, from the number of code points since the last line feed
+abbrev pub column_after : List ℕ → ℕ
+column_after before = suffix_len (λ c. not (is_line_feed c)) before + 1
+
+-- the line of the code point at a position; past the end of the source, that of its end
+abbrev pub line_at : (source : List ℕ) → (position : ℕ) → ℕ
+line_at source position = line_after (take position source)
+
+-- its column
+abbrev pub column_at : (source : List ℕ) → (position : ℕ) → ℕ
+column_at source position = column_after (take position source)
 
 -- the bytes of a character of a JSON string (RFC 8259, section 7); a control character as `\u001f`
 abbrev pub json_character : ℕ → List ℕ

@@ -1,12 +1,15 @@
--- What to show of a pattern.
+-- What to show of a pattern, and accepted and rejected patterns.
 use Rattle.std.specs.Prelude.{ℕ, Bool, List, if◌then◌else◌, chars}
 use Rattle.regress_base.specs.Table.{Table}
 use Rattle.regress_base.specs.declared.types.Flags.{Flags}
+use Rattle.regress_parse.specs.Accepted as parse
+use Rattle.regress_syntax.specs.Syntax.{Pattern}
+use Rattle.regress_tree.specs.Setting.{Setting}
 use Rattle.regress_ucd.specs.UnicodeTable.{unicode_table}
 use Rattle.regress_unicode.specs.SmallTable.{small_table}
 use Rattle.regress_display.specs.declared.request.Format.{Format}
-use Rattle.regress_display.specs.declared.request.Stage.{Stage}
 use Rattle.regress_display.specs.declared.request.Request as code
+use Rattle.regress_display.specs.declared.request.Stage.{Stage}
 
 -- which tree of a pattern to show in which format; the pattern as a list of code points
 pub record Request : Type 0 where
@@ -29,3 +32,19 @@ requested r = record {
   pattern = chars r.pattern.now;
   flags = r.flags;
 }
+
+-- the request's flags and table
+abbrev pub setting_of_request : Request → Setting
+setting_of_request request = record { flags = request.flags; table = request.table }
+
+-- The requested text denotes this pattern under its flags and table.
+abbrev pub IsAccepted : Request → Pattern → Type 0
+IsAccepted request p = parse.IsAccepted (setting_of_request request) request.pattern p
+
+-- The requested text denotes some pattern.
+abbrev pub IsAcceptedPattern : Request → Type 0
+IsAcceptedPattern request = (p : Pattern) × IsAccepted request p
+
+-- The requested text denotes no pattern.
+abbrev pub NoneIsAccepted : Request → Type 0
+NoneIsAccepted request = parse.NoneIsAccepted (setting_of_request request) request.pattern

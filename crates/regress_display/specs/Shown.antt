@@ -17,8 +17,7 @@ use Rattle.regress_json.specs.Json.{spanned_json_of}
 use Rattle.regress_parse.specs.Spans.{spans_of}
 use Rattle.regress_parse.specs.declared.pattern.SpannedRegex.{SpannedRegex}
 use Rattle.regress_parse.specs.declared.span.Span.{Span}
-use Rattle.regress_display.specs.Accepted.{IsAccepted, setting_of_request}
-use Rattle.regress_display.specs.Request.{Request}
+use Rattle.regress_display.specs.Request.{IsAccepted, setting_of_request, Request}
 use Rattle.regress_display.specs.declared.request.Format.{Format}
 use Rattle.regress_display.specs.declared.request.Format.TheVariants.{Text, Json, Svg}
 use Rattle.regress_display.specs.declared.request.Stage.{Stage}

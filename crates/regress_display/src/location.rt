@@ -1,6 +1,6 @@
 //! Lines and columns.
 ghost use Rattle.std.specs.Prelude.{◌≡◌, chars};
-ghost use Rattle.regress_display.specs.Location.{column_at, line_at};
+ghost use Rattle.regress_display.specs.Fault.{column_at, line_at};
 
 /// The line and the column of a code point, both from 1.
 #[derive(Clone, Copy)]

@@ -7,8 +7,7 @@ ghost use Rattle.regress_syntax.specs.SettingOf.{setting_of};
 ghost use Rattle.regress_tree.specs.Tree.{tree};
 ghost use Rattle.regress_tree.specs.WellFormed.{IsWellFormed};
 ghost use Rattle.regress_unicode.specs.TableOf.{table_of};
-ghost use Rattle.regress_display.specs.Accepted.{setting_of_request};
-ghost use Rattle.regress_display.specs.Request.{requested, table_asked};
+ghost use Rattle.regress_display.specs.Request.{setting_of_request, requested, table_asked};
 ghost use Rattle.regress_display.specs.Ending.{IsDue, Leaves};
 ghost use Rattle.regress_display.specs.Shown.{IsFirstOutput, IsFirstShown, IsOptimizedShown, IsOutput, IsParsed, IsShown, IsShownWith, shows_spans};
 ghost use Rattle.regress_display.specs.declared.error.ShowError.TheVariants.{Memory, Output};
@@ -28,11 +27,13 @@ use regress_unicode::Tables;
 use std::alloc::{AllocError, Global};
 use std::io::Write;
 
-/// A pattern's source, and the spans of a tree's nodes in it; no spans if they are not known or not shown.
+/// How a tree is shown: the pattern's source, the spans of the tree's nodes in it, and the format. There are no spans if
+/// they are not known or not shown.
 #[derive(Clone, Copy)]
 struct Written<'a> {
     pattern: &'a [u32],
     spans: &'a [Span],
+    format: Format,
 }
 
 /// Writes what the request asks for, and flushes the output.
@@ -55,15 +56,9 @@ pub fn show<W: Write>(alloc: Global, request: &Request<'_>, out: &mut W) -> Resu
     let written = Written {
         pattern: &points,
         spans: &parsed.spans,
+        format: request.format,
     };
-    show_trees(
-        alloc,
-        &mut parsed.regex,
-        &written,
-        request.stage,
-        request.format,
-        out,
-    )
+    show_trees(alloc, &mut parsed.regex, &written, request.stage, out)
 }
 
 /// Parses a pattern, given as code points, as the request specifies.
@@ -121,22 +116,21 @@ fn show_trees<W: Write>(
     regex: &mut Regex,
     written: &Written<'_>,
     stage: Stage,
-    format: Format,
     out: &mut W,
 ) -> Result<(), ShowError>
     requires { IsWellFormed (tree regex.old.node) }
     ensures shown { OnOk result (Took (W.contents out.old) (W.contents out.new)
-        (IsShown stage format regex.old.flags (tree regex.old.node) written.now.spans.now)) }
+        (IsShown stage written.now.format regex.old.flags (tree regex.old.node) written.now.spans.now)) }
     ensures failed { IfErr result (λ failure. (failure ≡ Memory) ⊎ (failure ≡ Output)) }
     ensures leaves { IfErr result (Leaves (out.new ≡ out.old) (Took (W.contents out.old) (W.contents out.new)
-        (IsFirstShown stage format regex.old.flags (tree regex.old.node) written.now.spans.now))) }
+        (IsFirstShown stage written.now.format regex.old.flags (tree regex.old.node) written.now.spans.now))) }
 {
     match stage {
-        Stage::Parsed => write_tree(alloc, regex, written, format, "", out),
-        Stage::Optimized => show_optimized(alloc, regex, written.pattern, format, out),
+        Stage::Parsed => write_tree(alloc, regex, written, "", out),
+        Stage::Optimized => show_optimized(alloc, regex, written.pattern, written.format, out),
         Stage::Both => {
-            write_tree(alloc, regex, written, format, "--\n", out)?;
-            show_optimized(alloc, regex, written.pattern, format, out)
+            write_tree(alloc, regex, written, "--\n", out)?;
+            show_optimized(alloc, regex, written.pattern, written.format, out)
         }
     }
 }
@@ -158,8 +152,9 @@ fn show_optimized<W: Write>(
     let written = Written {
         pattern,
         spans: &[],
+        format,
     };
-    write_tree(alloc, regex, &written, format, "", out)
+    write_tree(alloc, regex, &written, "", out)
 }
 
 /// Writes a tree and the text after it.
@@ -167,15 +162,14 @@ fn write_tree<W: Write>(
     alloc: Global,
     regex: &Regex,
     written: &Written<'_>,
-    format: Format,
     after: &str,
     out: &mut W,
 ) -> Result<(), ShowError>
     ensures written { OnOk result (Took (W.contents out.old) (W.contents out.new)
-        (IsShownWith format regex.now.flags (tree regex.now.node) written.now.spans.now after.now)) }
+        (IsShownWith written.now.format regex.now.flags (tree regex.now.node) written.now.spans.now after.now)) }
     ensures failed { IfErr result (λ failure. ((failure ≡ Memory) × (out.new ≡ out.old)) ⊎ (failure ≡ Output)) }
 {
-    match format {
+    match written.format {
         Format::Text => write_out(regex, "", after, out),
         Format::Json => {
             let spans = written.spans;

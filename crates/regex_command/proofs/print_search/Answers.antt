@@ -2,8 +2,8 @@ use Rattle.std.proofs.Common.{◌≡◌, ◌∙◌, ◌⊎◌, ◌||◌, inr, ap
 use Rattle.std.specs.Prelude.{string_bytes}
 use Rattle.regress_arguments.proofs.lemmas.Output.{appends_kept}
 use Rattle.regex_command.specs.Ending.{OrOutput}
-use Rattle.regex_command.specs.Inputs.{WritesSomeOf, inputs_of}
-use Rattle.regex_options.specs.Job.{job}
+use Rattle.regex_command.specs.Searched.{WritesSomeOf, inputs_of}
+use Rattle.regex_options.specs.Plain.{job}
 use Rattle.regex_command.specs.Printed.{PrintsFirst, changes}
 use Rattle.regress.specs.Compiled.{IsCompiled}
 use Rattle.regress.specs.Unicode.{unicode_setting}

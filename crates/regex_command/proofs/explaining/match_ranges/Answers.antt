@@ -1,7 +1,7 @@
 use Rattle.std.proofs.Common.{◌∙◌, List, ap, map}
 use Rattle.regress.specs.Found.{match_of}
 use Rattle.regress.specs.declared.found.Match.{Match}
-use Rattle.regex_command.specs.Explained.{range_of}
+use Rattle.regex_command.specs.Patterns.{range_of}
 use Rattle.regex_command.proofs.explaining.match_ranges.Goals as goal
 
 pub returns-clause-ranges : goal.returns-clause-ranges

@@ -1,9 +1,8 @@
 use Rattle.std.proofs.Common.{◌≡◌, length, rules, sym, subst}
 use Rattle.std.specs.Prelude.{IfErr, codes, false}
 use Rattle.regex_command.specs.Ending.{OrOutput}
-use Rattle.regex_command.specs.Inputs.{WritesSomeOf}
-use Rattle.regex_options.specs.Job.{job}
-use Rattle.regex_command.specs.Searched.{SearchesFirst}
+use Rattle.regex_command.specs.Searched.{WritesSomeOf, SearchesFirst}
+use Rattle.regex_options.specs.Plain.{job}
 use Rattle.regex_command.proofs.InputLemmas.{no_files, one_some}
 use Rattle.regex_command.proofs.SearchLemmas.{if_err_map}
 use Rattle.regex_command.proofs.inputs.search_all.Goals as goal
@@ -15,7 +14,7 @@ returns-then-is_empty-clause-first g c =
     let input = g.I.Read.remaining c.args.input in
     let old = g.W.Write.contents c.args.out.now in
     let new = g.W.Write.contents c.search_input.new.out in
-    let r = c.args.regex.now.regex.now in
+    let r = c.args.searcher.now.regex.now in
     let task = job c.args.search.task in
     let none : length files ≡ 0 = search rules in
     subst (λ inputs. IfErr c.search_input.result (OrOutput (WritesSomeOf r task inputs old new))) (sym (no_files multiline files input none))

@@ -1,16 +1,15 @@
 use Rattle.std.proofs.Common.{◌∙◌, None, length, map, arith, sym, subst}
 use Rattle.std.specs.Prelude.{nat_lt, string_bytes}
 use Rattle.regex_command.specs.Ending.{OrOutput}
-use Rattle.regex_command.specs.Inputs.{Input, WritesInput, WritesSomeOf, named_files}
-use Rattle.regex_options.specs.Job.{job}
-use Rattle.regex_command.specs.Searched.{SearchesFirst}
+use Rattle.regex_command.specs.Searched.{Input, WritesInput, WritesSomeOf, named_files, SearchesFirst}
+use Rattle.regex_options.specs.Plain.{job}
 use Rattle.regex_command.proofs.InputLemmas.{ended, input_at, inputs_length, one_more, some_of}
 use Rattle.regex_command.proofs.SearchLemmas.{or_output, passed_on}
 use Rattle.regex_command.proofs.inputs.search_files.Goals as goal
 
 pub returns-then-has_ended-clause-all : goal.returns-then-has_ended-clause-all
 returns-then-has_ended-clause-all g c =
-    ended c.args.regex.now.regex.now (job c.args.search.task) (named_files c.args.search.multiline (map string_bytes c.args.search.files.now)) (g.W.Write.contents c.args.out.now)
+    ended c.args.searcher.now.regex.now (job c.args.search.task) (named_files c.args.search.multiline (map string_bytes c.args.search.files.now)) (g.W.Write.contents c.args.out.now)
     c.loop-file.file-index c.loop-file.any (g.W.Write.contents c.loop-file.out) c.loop-file.invariant (sym c.has_ended.ensures ∙ c.if-has_ended.true)
 
 pub returns-in_err-any-clause-first : goal.returns-in_err-any-clause-first
@@ -23,7 +22,7 @@ returns-in_err-any-clause-first g c =
     let input : Input = (record { name = string_bytes file; in_front = nat_lt 1 (length files); multiline = multiline }, None) in
     let between = g.W.Write.contents c.loop-file.out in
     let after = g.W.Write.contents c.search_file.new.out in
-    let r = c.args.regex.now.regex.now in
+    let r = c.args.searcher.now.regex.now in
     let task = job c.args.search.task in
     passed_on (OrOutput (WritesSomeOf r task inputs (g.W.Write.contents c.args.out.now) after)) c.from_residual.result c.in_err-any.field-0.0 c.from_residual.ensures.1
     (or_output (SearchesFirst r task input.0 None between after) _ c.in_err-any.field-0.0
@@ -42,7 +41,7 @@ loop-file-preserved g c =
     let input : Input = (record { name = string_bytes file; in_front = nat_lt 1 (length files); multiline = multiline }, None) in
     let between = g.W.Write.contents c.loop-file.out in
     let after = g.W.Write.contents c.search_file.new.out in
-    let r = c.args.regex.now.regex.now in
+    let r = c.args.searcher.now.regex.now in
     let task = job c.args.search.task in
     one_more r task inputs (g.W.Write.contents c.args.out.now) i c.loop-file.any between c.loop-file.invariant input
     (omega (arith, c.loop-file-test.true, inputs_length multiline files)) (input_at multiline files i file c.loop-file-test.true (sym c.file-item.is)) after

@@ -1,5 +1,5 @@
 use Rattle.std.proofs.Common.{◌∙◌}
-use Rattle.regex_command.specs.Runs.{run_of}
+use Rattle.regex_command.specs.Reply.{run_of}
 use Rattle.regex_command.proofs.JsonLemmas.{group_of_parts}
 use Rattle.regex_command.proofs.json.group_json.Goals as goal
 

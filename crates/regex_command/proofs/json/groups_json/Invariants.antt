@@ -3,7 +3,7 @@ use Rattle.std.proofs.Common.{map, string_bytes}
 use Rattle.regress.specs.Compiled.{groups_of}
 use Rattle.regress.specs.Found.{match_of}
 use Rattle.regress.specs.Groups.{names_left}
-use Rattle.regex_command.specs.Runs.{run_of}
+use Rattle.regex_command.specs.Reply.{run_of}
 use Rattle.regex_command.proofs.JsonLemmas.{SoFar}
 use Rattle.regex_command.proofs.json.groups_json.Given as goal
 

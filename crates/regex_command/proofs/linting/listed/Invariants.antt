@@ -1,7 +1,7 @@
 -- the differences so far
 use Rattle.std.proofs.Common.{[], take}
 use Rattle.std.specs.List.{FoldsTo}
-use Rattle.regex_command.specs.Linted.{IsListedNext}
+use Rattle.regex_command.specs.Patterns.{IsListedNext}
 use Rattle.regex_command.proofs.linting.listed.Given as goal
 
 abbrev pub invariant-loop-difference : goal.invariant-loop-difference

@@ -1,39 +1,38 @@
 use Rattle.std.proofs.Common.{◌≡◌, ◌∙◌, inr, ap, sym, subst}
 use Rattle.regex_command.specs.Ending.{OrOutput}
 use Rattle.regex_command.specs.Reading.{IsRead}
-use Rattle.regex_command.specs.Searched.{SearchesFirst}
+use Rattle.regex_command.specs.Searched.{SearchesFirst, named}
 use Rattle.regex_command.specs.declared.reading.Next.TheVariants.{Line, LastLine}
-use Rattle.regex_options.specs.Job.{job}
-use Rattle.regex_command.specs.Place.{named}
+use Rattle.regex_options.specs.Plain.{job}
 use Rattle.regex_command.proofs.SearchLemmas.{all, another, byte_of, enough, first, first_or_output, is_end, is_line, last, or_output, passed_on}
 use Rattle.regex_command.proofs.searching.search_lines.Goals as goal
 
 pub returns-then-is_enough-clause-all : goal.returns-then-is_enough-clause-all
 returns-then-is_enough-clause-all g c =
-    enough c.args.regex.now.regex.now (job c.args.task) (named c.args.place) (g.B.Read.remaining c.args.reader.now) (g.W.Write.contents c.args.out.now)
+    enough c.args.search.searcher.now.regex.now (job c.args.search.task) (named c.args.search.place) (g.B.Read.remaining c.args.reader.now) (g.W.Write.contents c.args.out.now)
     (g.B.Read.remaining c.loop-number.reader) (g.W.Write.contents c.loop-number.out) c.loop-number.number c.loop-number.selected c.loop-number.invariant
     (sym c.is_enough.ensures ∙ c.if-is_enough.true)
 
 pub returns-in_err-next-clause-first : goal.returns-in_err-next-clause-first
 returns-in_err-next-clause-first g c =
-    first_or_output c.args.regex.now.regex.now (job c.args.task) (named c.args.place) (g.B.Read.remaining c.args.reader.now) (g.W.Write.contents c.args.out.now)
+    first_or_output c.args.search.searcher.now.regex.now (job c.args.search.task) (named c.args.search.place) (g.B.Read.remaining c.args.reader.now) (g.W.Write.contents c.args.out.now)
     (g.B.Read.remaining c.loop-number.reader) (g.W.Write.contents c.loop-number.out) c.loop-number.number c.loop-number.selected c.loop-number.invariant _
 
 pub returns-in-End-clause-all : goal.returns-in-End-clause-all
 returns-in-End-clause-all g c =
-    all c.args.regex.now.regex.now (job c.args.task) (named c.args.place) (g.B.Read.remaining c.args.reader.now) (g.W.Write.contents c.args.out.now)
+    all c.args.search.searcher.now.regex.now (job c.args.search.task) (named c.args.search.place) (g.B.Read.remaining c.args.reader.now) (g.W.Write.contents c.args.out.now)
     (g.B.Read.remaining c.loop-number.reader) (g.W.Write.contents c.loop-number.out) c.loop-number.number c.loop-number.selected c.loop-number.invariant
-    (is_end c.args.place.multiline (g.B.Read.remaining c.loop-number.reader) (g.B.Read.remaining c.next_line.new.reader) c.next_line.new.line.items
+    (is_end c.args.search.place.multiline (g.B.Read.remaining c.loop-number.reader) (g.B.Read.remaining c.next_line.new.reader) c.next_line.new.line.items
     (rw c.in-End.is at c.in_ok-next.ensures.read))
 
 pub returns-in_err-is_selected-clause-first : goal.returns-in_err-is_selected-clause-first
 returns-in_err-is_selected-clause-first g c =
-    let first_lines = first c.args.regex.now.regex.now (job c.args.task) (named c.args.place) (g.B.Read.remaining c.args.reader.now) (g.W.Write.contents c.args.out.now)
+    let first_lines = first c.args.search.searcher.now.regex.now (job c.args.search.task) (named c.args.search.place) (g.B.Read.remaining c.args.reader.now) (g.W.Write.contents c.args.out.now)
     (g.B.Read.remaining c.loop-number.reader) (g.W.Write.contents c.loop-number.out) c.loop-number.number c.loop-number.selected c.loop-number.invariant in
-    passed_on (OrOutput (SearchesFirst c.args.regex.now.regex.now (job c.args.task) (named c.args.place) (g.B.Read.remaining c.args.reader.now) (g.W.Write.contents c.args.out.now) (g.W.Write.contents c.write_reply.new.out)))
+    passed_on (OrOutput (SearchesFirst c.args.search.searcher.now.regex.now (job c.args.search.task) (named c.args.search.place) (g.B.Read.remaining c.args.reader.now) (g.W.Write.contents c.args.out.now) (g.W.Write.contents c.write_reply.new.out)))
     c.from_residual-in_err-is_selected.result c.in_err-is_selected.field-0.0 c.from_residual-in_err-is_selected.ensures.1
     (or_output (c.write_reply.new.out ≡ c.loop-number.out) _ c.in_err-is_selected.field-0.0 c.in_err-is_selected.ensures.untouched
-    (λ same. subst (SearchesFirst c.args.regex.now.regex.now (job c.args.task) (named c.args.place) (g.B.Read.remaining c.args.reader.now) (g.W.Write.contents c.args.out.now))
+    (λ same. subst (SearchesFirst c.args.search.searcher.now.regex.now (job c.args.search.task) (named c.args.search.place) (g.B.Read.remaining c.args.reader.now) (g.W.Write.contents c.args.out.now))
     (ap g.W.Write.contents (sym same)) first_lines))
 
 pub returns-in-LastLine-clause-all : goal.returns-in-LastLine-clause-all
@@ -42,11 +41,11 @@ returns-in-LastLine-clause-all g c =
     let new = g.B.Read.remaining c.next_line.new.reader in
     let line = c.deref.result.now in
     rw (c.from-selected.ensures, byte_of c.in_ok-is_selected.is_selected)
-    (last c.args.regex.now.regex.now (job c.args.task) (named c.args.place) (g.B.Read.remaining c.args.reader.now) (g.W.Write.contents c.args.out.now)
+    (last c.args.search.searcher.now.regex.now (job c.args.search.task) (named c.args.search.place) (g.B.Read.remaining c.args.reader.now) (g.W.Write.contents c.args.out.now)
     old (g.W.Write.contents c.loop-number.out) (g.W.Write.contents c.write_reply.new.out) c.loop-number.number
     c.loop-number.selected c.loop-number.invariant line c.in_ok-is_selected.is_selected
     (sym c.is_enough.ensures ∙ c.if-is_enough.false) c.in_ok-is_selected.ensures.reply new
-    (subst (λ bytes. IsRead c.args.place.multiline old new bytes LastLine) (sym c.deref.ensures.value) (rw c.in-LastLine.is at c.in_ok-next.ensures.read)))
+    (subst (λ bytes. IsRead c.args.search.place.multiline old new bytes LastLine) (sym c.deref.ensures.value) (rw c.in-LastLine.is at c.in_ok-next.ensures.read)))
 
 pub loop-number-preserved : goal.loop-number-preserved
 loop-number-preserved g c =
@@ -54,14 +53,14 @@ loop-number-preserved g c =
     let new = g.B.Read.remaining c.next_line.new.reader in
     let line = c.deref.result.now in
     rw (c.from-selected.ensures, byte_of c.in_ok-is_selected.is_selected)
-    (another c.args.regex.now.regex.now (job c.args.task) (named c.args.place) (g.B.Read.remaining c.args.reader.now) (g.W.Write.contents c.args.out.now)
+    (another c.args.search.searcher.now.regex.now (job c.args.search.task) (named c.args.search.place) (g.B.Read.remaining c.args.reader.now) (g.W.Write.contents c.args.out.now)
     old (g.W.Write.contents c.loop-number.out) (g.W.Write.contents c.write_reply.new.out) c.loop-number.number
     c.loop-number.selected c.loop-number.invariant line c.in_ok-is_selected.is_selected
     (sym c.is_enough.ensures ∙ c.if-is_enough.false) c.in_ok-is_selected.ensures.reply new
-    (subst (λ bytes. IsRead c.args.place.multiline old new bytes Line) (sym c.deref.ensures.value)
-    (is_line c.args.place.multiline old new _ c.in_ok-next.next c.in_default.not-End c.in_default-next.not-LastLine c.in_ok-next.ensures.read)))
+    (subst (λ bytes. IsRead c.args.search.place.multiline old new bytes Line) (sym c.deref.ensures.value)
+    (is_line c.args.search.place.multiline old new _ c.in_ok-next.next c.in_default.not-End c.in_default-next.not-LastLine c.in_ok-next.ensures.read)))
 
 pub returns-clause-first : goal.returns-clause-first
 returns-clause-first g c =
-    inr (first c.args.regex.now.regex.now (job c.args.task) (named c.args.place) (g.B.Read.remaining c.args.reader.now) (g.W.Write.contents c.args.out.now)
+    inr (first c.args.search.searcher.now.regex.now (job c.args.search.task) (named c.args.search.place) (g.B.Read.remaining c.args.reader.now) (g.W.Write.contents c.args.out.now)
     (g.B.Read.remaining c.loop-number.reader) (g.W.Write.contents c.loop-number.out) c.loop-number.number c.loop-number.selected c.loop-number.invariant)

@@ -1,13 +1,13 @@
 -- The lines so far were searched.
 use Rattle.std.proofs.Common.{◌-◌}
-use Rattle.regex_options.specs.Job.{job}
-use Rattle.regex_command.specs.Place.{named}
+use Rattle.regex_options.specs.Plain.{job}
+use Rattle.regex_command.specs.Searched.{named}
 use Rattle.regex_command.proofs.SearchLemmas.{SoFar}
 use Rattle.regex_command.proofs.searching.search_lines.Given as goal
 
 abbrev pub invariant-loop-number : goal.invariant-loop-number
 invariant-loop-number g l =
-    SoFar l.fn.regex.regex.now (job l.fn.task) (named l.fn.place) (g.B.Read.remaining l.fn.reader) (g.W.Write.contents l.fn.out)
+    SoFar l.fn.search.searcher.now.regex.now (job l.fn.search.task) (named l.fn.search.place) (g.B.Read.remaining l.fn.reader) (g.W.Write.contents l.fn.out)
     (g.B.Read.remaining l.reader) (g.W.Write.contents l.out) l.number l.selected
 
 abbrev pub decreases-loop-number : goal.decreases-loop-number

@@ -2,7 +2,7 @@ use Rattle.std.proofs.Common.{◌∙◌, ◌<◌, length, ap, sym, arith, rules,
 use Rattle.std.proofs.lemmas.Iterator.{YieldsList-from_chars, YieldsList-from_take}
 use Rattle.std.proofs.lemmas.Iterator.Consumers.{YieldsList-end, YieldsList-turn}
 use Rattle.std.proofs.lemmas.List.{map-id}
-use Rattle.regress_display.specs.Location.{line_after, column_after}
+use Rattle.regress_display.specs.Fault.{line_after, column_after}
 use Rattle.regress_display.proofs.LocationLemmas.{after_line_feed, after_other, line_fits, column_fits}
 use Rattle.regress_display.proofs.location.Location.at.Goals as goal
 

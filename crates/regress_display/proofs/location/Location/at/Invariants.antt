@@ -1,6 +1,6 @@
 -- the line and the column after the characters so far
 use Rattle.std.proofs.Common.{◌≡◌}
-use Rattle.regress_display.specs.Location.{line_after, column_after}
+use Rattle.regress_display.specs.Fault.{line_after, column_after}
 use Rattle.regress_display.proofs.location.Location.at.Given as goal
 
 abbrev pub invariant-loop-c : goal.invariant-loop-c

@@ -1,7 +1,34 @@
--- Why arguments are invalid.
+-- Plain data: what is done with each line, where the pattern is, and why arguments are invalid.
 use Rattle.std.specs.Prelude.{ℕ, List, Option, Some, None, Result, Ok, Err}
 use Rattle.regex_options.specs.declared.error.UsageError as code
 use Rattle.regex_options.specs.declared.error.UsageError.TheVariants.{Missing, UnknownCommand, UnknownOption, Invalid, OnlyOfMatch, ExcludedByJson, TextWithoutPage, Unexpected}
+use Rattle.regex_options.specs.declared.source.PatternSource.TheVariants.{Text, File}
+use Rattle.regex_options.specs.declared.source.PatternSource.{PatternSource}
+use Rattle.regex_options.specs.declared.task.Selection.{Selection}
+use Rattle.regex_options.specs.declared.task.Task.TheVariants.{Match, Replace, Split}
+use Rattle.regex_options.specs.declared.task.Task.{Task}
+
+-- selected lines are shown, matches are replaced by the expansion of a template, or lines are split at matches
+pub data Job : Type 0 where
+  matching : Selection → Job
+  replacing : (template : List ℕ) → Job
+  splitting : Job
+
+-- the job as the code represents it
+abbrev pub job : Task → Job
+job (Match s) = matching s
+job (Replace template) = replacing template.now
+job Split = splitting
+
+-- a pattern, or the name of the file that has it
+pub data Source : Type 0 where
+  in_argument : (text : List ℕ) → Source
+  in_file : (name : List ℕ) → Source
+
+-- the source as the code represents it
+abbrev pub source : PatternSource → Source
+source (Text text) = in_argument text.now
+source (File name) = in_file name.now
 
 -- a missing argument, by its name; an argument that is wrong; or options that exclude or need others
 pub data UsageError : Type 0 where

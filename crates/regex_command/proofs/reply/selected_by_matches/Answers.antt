@@ -1,0 +1,28 @@
+use Rattle.std.proofs.Common.{◌∙◌, List, ap, length, map, subst, sym}
+use Rattle.regex_command.specs.InLine.{AreInLine}
+use Rattle.regex_command.specs.Reply.{TextMatches, matches_of, run_of}
+use Rattle.regex_command.specs.declared.runs.TextMatches as code
+use Rattle.regex_command.proofs.FoundLemmas.{is_matched}
+use Rattle.regex_command.proofs.reply.selected_by_matches.Goals as goal
+
+pub shown-requires-clause-order : goal.shown-requires-clause-order
+shown-requires-clause-order c =
+    subst (AreInLine (length c.args.line.bytes.now) 0)
+    (sym (ap (λ (fs : List code.TextMatches). map (λ (f : TextMatches). f.run) (map matches_of fs)) c.deref-then-selected.ensures.value
+    ∙ c.in_ok-found.ensures.searched.texts_are)) c.requires.order
+
+pub returns-then-selected-clause-selected : goal.returns-then-selected-clause-selected
+returns-then-selected-clause-selected c = (
+  c.has_match.result,
+  is_matched c.args.searcher.now.regex.now (map run_of c.args.line.texts.now) (map matches_of c.in_ok-found.found.items) c.has_match.result
+      c.in_ok-found.ensures.searched (rw c.deref.ensures.value at c.has_match.ensures),
+  c.is_selected-selected.ensures,
+)
+
+pub returns-clause-selected : goal.returns-clause-selected
+returns-clause-selected c = (
+  c.has_match.result,
+  is_matched c.args.searcher.now.regex.now (map run_of c.args.line.texts.now) (map matches_of c.in_ok-found.found.items) c.has_match.result
+      c.in_ok-found.ensures.searched (rw c.deref.ensures.value at c.has_match.ensures),
+  c.is_selected-selected.ensures,
+)

@@ -1,0 +1,147 @@
+-- What `parse`, `draw`, `lint` and `explain` write.
+use Rattle.std.specs.Prelude.{◌≡◌, ◌⊎◌, ⊤, ℕ, Bool, true, false, List, [], ◌==◌, ◌++◌, codes, length, map, Some, None}
+use Rattle.std.specs.Fmt.{decimal}
+use Rattle.std.specs.List.{FoldsTo}
+use Rattle.std.specs.declared.ops.Range.{Range}
+use Rattle.regex_options.specs.Request.{Form, lines, page}
+use Rattle.regress.specs.Compiled.{IsCompiled, outcomes_of}
+use Rattle.regress.specs.declared.pattern.Regex.{Regex}
+use Rattle.regress_differences.specs.CaseMode.{widest_flags}
+use Rattle.regress_differences.specs.Kinds.{name_of, text_of}
+use Rattle.regress_differences.specs.Reported.{reported}
+use Rattle.regress_differences.specs.declared.kind.Difference.{Difference}
+use Rattle.regress_display.specs.Request as display
+use Rattle.regress_display.specs.Fault.{IsFaultOutput}
+use Rattle.regress_display.specs.Request.{Request}
+use Rattle.regress_display.specs.Shown.{IsOutput}
+use Rattle.regress_display.specs.declared.request.Format.TheVariants.{Text, Json, Svg}
+use Rattle.regress_display.specs.declared.request.Format.{Format}
+use Rattle.regress_explain.specs.Page.{IsPage}
+use Rattle.regress_found.specs.Found.{start_of, state_of}
+use Rattle.regress_found.specs.Repeated.{AreAllMatches}
+use Rattle.regress_found.specs.declared.found.Match.{Match}
+use Rattle.regress_parse.specs.Accepted.{IsAccepted, NoneIsAccepted}
+use Rattle.regress_spans.specs.Paired.{spanned_of}
+use Rattle.regress_syntax.specs.Syntax.{Pattern}
+use Rattle.regress_tree.specs.Setting.{Setting}
+use Rattle.regex_command.specs.Ending.{IsLate}
+use Rattle.regex_command.specs.declared.failure.Failure.TheVariants.{Argument, Memory, Output, Syntax, TooLarge, OutOfSteps, Unreadable, NotUtf8, PatternNotUtf8, TooLong}
+use Rattle.regex_command.specs.declared.failure.Failure.{Failure}
+
+-- What is written to standard output for a rejected pattern: its syntax error as JSON, and nothing in the other formats.
+abbrev pub IsFaultWritten : Format → Request → List ℕ → Type 0
+IsFaultWritten Text request bytes = display.NoneIsAccepted request × (bytes ≡ [])
+IsFaultWritten Json request bytes = IsFaultOutput request bytes
+IsFaultWritten Svg request bytes = display.NoneIsAccepted request × (bytes ≡ [])
+
+-- The tree of an accepted pattern, or what is written for a rejected one.
+abbrev pub IsTreeOutput : (accepted : Bool) → Request → List ℕ → Type 0
+IsTreeOutput true request bytes = IsOutput request bytes
+IsTreeOutput false request bytes = IsFaultWritten request.format request bytes
+
+-- Where a syntax error is written as JSON, nothing is written to standard error.
+abbrev pub IsQuietFor : Format → (quiet : Type 0) → Type 0
+IsQuietFor Text quiet = ⊤
+IsQuietFor Json quiet = quiet
+IsQuietFor Svg quiet = ⊤
+
+-- There is something to write for a rejected pattern.
+abbrev pub HasFaultOutput : Format → Request → Type 0
+HasFaultOutput Text request = ⊥
+HasFaultOutput Json request = display.NoneIsAccepted request
+HasFaultOutput Svg request = ⊥
+
+-- Memory is short, or what there is to write cannot be written.
+abbrev pub IsShowFailure : Request → Failure → Type 0
+IsShowFailure request Argument = ⊥
+IsShowFailure request Memory = ⊤
+IsShowFailure request Output = display.IsAcceptedPattern request ⊎ HasFaultOutput request.format request
+IsShowFailure request (Syntax pattern text position) = ⊥
+IsShowFailure request TooLarge = ⊥
+IsShowFailure request OutOfSteps = ⊥
+IsShowFailure request (Unreadable name) = ⊥
+IsShowFailure request (NotUtf8 name line offset) = ⊥
+IsShowFailure request (PatternNotUtf8 name offset) = ⊥
+IsShowFailure request (TooLong name) = ⊥
+
+-- the differences of an accepted pattern from ECMA-262
+abbrev pub HasDifferences : Setting → (source : List ℕ) → List Difference → Type 0
+HasDifferences setting source found = (p : Pattern) × (accepted : IsAccepted setting source p)
+    × (found ≡ reported (widest_flags setting.flags source) source (spanned_of setting source p accepted.derived))
+
+-- `1-4: case-closure: ` and the text of the kind, for the code points from 1 on before 4
+abbrev pub difference_line : Difference → List ℕ
+difference_line d = decimal d.span.start ++ codes "-" ++ decimal d.span.end ++ codes ": " ++ name_of d.kind ++ codes ": " ++ text_of d.kind ++ codes "\n"
+
+-- one difference further: its line, and what shows it in the pattern
+abbrev pub IsListedNext : (before : List ℕ) → Difference → (after : List ℕ) → Type 0
+IsListedNext before d after = (shown : List ℕ) × (after ≡ before ++ (difference_line d ++ shown))
+
+-- all differences in order
+abbrev pub IsListed : List Difference → List ℕ → Type 0
+IsListed found bytes = FoldsTo IsListedNext [] found bytes
+
+-- there is no difference
+abbrev pub none_differs : List Difference → Bool
+none_differs found = length found == 0
+
+-- what is written for an accepted pattern, which is clean if nothing is
+pub record IsReportOfAccepted (clean : Bool) (setting : Setting) (source : List ℕ) (bytes : List ℕ) : Type 0 where
+  pub found : List Difference
+  pub differ : HasDifferences setting source found
+  pub listed : IsListed found bytes
+  pub is_clean : clean ≡ none_differs found
+
+-- Nothing is written to standard output for a rejected pattern.
+pub record IsReportOfRejected (clean : Bool) (setting : Setting) (source : List ℕ) (bytes : List ℕ) : Type 0 where
+  pub none : NoneIsAccepted setting source
+  pub nothing : bytes ≡ []
+  pub unclean : clean ≡ false
+
+abbrev pub IsReport : (clean : Bool) → Setting → (source : List ℕ) → List ℕ → Type 0
+IsReport clean setting source bytes = IsReportOfAccepted clean setting source bytes ⊎ IsReportOfRejected clean setting source bytes
+
+-- Some pattern is accepted.
+abbrev pub IsAcceptedPattern : Setting → (source : List ℕ) → Type 0
+IsAcceptedPattern setting source = (p : Pattern) × IsAccepted setting source p
+
+-- Some text for an accepted pattern, and nothing to standard output for a rejected one.
+abbrev pub IsExplanation : (accepted : Bool) → Setting → (source : List ℕ) → List ℕ → Type 0
+IsExplanation true setting source bytes = IsAcceptedPattern setting source
+IsExplanation false setting source bytes = NoneIsAccepted setting source × (bytes ≡ [])
+
+-- a page and a line feed
+abbrev pub IsPageLine : List ℕ → Type 0
+IsPageLine bytes = (html : List ℕ) × IsPage html × (bytes ≡ html ++ codes "\n")
+
+-- Some text, or a page. Which parts of a text the page marks is not stated: the contract of `page` does not state it.
+abbrev pub HasForm : Form → List ℕ → Type 0
+HasForm lines bytes = ⊤
+HasForm (page text) bytes = IsPageLine bytes
+
+-- An explanation in this form.
+abbrev pub IsExplanationIn : Form → (accepted : Bool) → Setting → (source : List ℕ) → List ℕ → Type 0
+IsExplanationIn form accepted setting source bytes = IsExplanation accepted setting source bytes × (accepted ≡ true → HasForm form bytes)
+
+-- A failure that may occur when an accepted pattern is searched for: it may be too large.
+abbrev pub MayFailToFind : Failure → Type 0
+MayFailToFind failure = IsLate failure ⊎ (failure ≡ TooLarge)
+
+-- A text is given.
+abbrev pub HasText : Form → Type 0
+HasText lines = ⊥
+HasText (page None) = ⊥
+HasText (page (Some text)) = ⊤
+
+-- A failure that may occur for an explanation: only with a text the pattern may be too large.
+abbrev pub MayFailToExplain : Form → Failure → Type 0
+MayFailToExplain form failure = IsLate failure ⊎ (HasText form × (failure ≡ TooLarge))
+
+-- the bytes that a match spans
+abbrev pub range_of : Match → Range ℕ
+range_of m = record { start = start_of m; end = (state_of m).position }
+
+-- The ranges are those of all matches of the pattern in the text, in order.
+abbrev pub AreMatchRanges : Setting → (source text : List ℕ) → List (Range ℕ) → Type 0
+AreMatchRanges setting source text ranges =
+    (r : Regex) × IsCompiled setting source r × ((ms : List Match) × AreAllMatches text (outcomes_of r text) ms × (ranges ≡ map range_of ms))
