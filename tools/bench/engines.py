@@ -1,7 +1,8 @@
 """The engines that bench_matcher and bench_hostile compare, each with a way to measure a search.
 
-A measurement gives the number of matches and the CPU seconds, or a word: REJECTED if the engine does not accept the
-pattern, LIMIT if it stopped at a limit of its own, LATE if it took longer than the limit of time."""
+A measurement gives the number of matches and the CPU seconds, for short times the seconds, or a word: REJECTED if the
+engine does not accept the pattern, LIMIT if it stopped at a limit of its own, LATE if it took longer than the limit of
+time."""
 import os
 import re
 import resource
@@ -13,7 +14,25 @@ from pathlib import Path
 HERE = Path(__file__).resolve().parent
 ROOT = HERE.parent.parent
 LIBRARY = ROOT / "crates/regress_c/out/libregress_c.a"
+# The installed library has what the built one needs of the toolchain.
+INSTALLED = "libregress_front.a"
+MANIFEST = """[package]
+name = "count_regex"
+version = "0.0.0"
+edition = "2021"
+[dependencies]
+regex = "1"
+[workspace]
+"""
+LOCAL_CRATES = """[source.crates-io]
+replace-with = "local"
+[source.local]
+directory = "{}"
+"""
 REJECTED, LIMIT, LATE = "-", "limit", ">"
+RUST = "Rust's regex"
+# The clock of CPU seconds may tick only every 4 milliseconds, so of shorter times those of the wall clock are taken.
+SHORT = 0.02
 
 
 def run(command, seconds, text=None):
@@ -31,7 +50,8 @@ def run(command, seconds, text=None):
 
 
 class Timed:
-    """An engine that prints the number of matches and the CPU seconds of the search, without its start."""
+    """An engine that prints the number of matches, and the CPU seconds and the seconds of the search, without its
+    start."""
 
     def __init__(self, command, written):
         self.command = command
@@ -44,8 +64,8 @@ class Timed:
         ran, _ = answer
         if ran.returncode:
             return LIMIT if ran.returncode == 2 else REJECTED
-        count, used = ran.stdout.split()
-        return int(count), float(used)
+        count, used, taken = ran.stdout.split()
+        return int(count), float(taken if float(taken) < SHORT else used)
 
 
 class Kit:
@@ -56,7 +76,7 @@ class Kit:
 
     def measure(self, pattern, flags, mode, file, seconds):
         with open(file, "rb") as text:
-            answer = run([self.program, *for_kit(pattern, flags), mode], seconds, text)
+            answer = run([self.program, *for_crate(pattern, flags), mode], seconds, text)
         if answer is None:
             return LATE
         ran, used = answer
@@ -74,8 +94,8 @@ def inline(pattern, flags):
     return [(f"(?{letters})" if letters else "") + re.sub(r"\\k<(\w+)>", r"(?P=\1)", named)]
 
 
-def for_kit(pattern, flags):
-    r"""`\d`, `\w` and `\b` are those of ASCII in JavaScript, and of Unicode in the library `regex`."""
+def for_crate(pattern, flags):
+    r"""`\d`, `\w` and `\b` are those of ASCII in JavaScript, and of Unicode in the crate and the library `regex`."""
     ascii_only = {r"\d": "[0-9]", r"\D": "[^0-9]", r"\w": "[0-9A-Za-z_]", r"\W": "[^0-9A-Za-z_]", r"\b": r"(?-u:\b)"}
     [written] = inline(pattern, flags)
     return [re.sub(r"\\.", lambda found: ascii_only.get(found[0], found[0]), written)]
@@ -86,16 +106,21 @@ def skip(name, reason):
 
 
 def ours(folder, library):
-    """The C library of this repository. Exits if no program can be linked with it."""
+    """The C library of this repository, as it is built or installed. Exits if no program can be linked with it."""
     if not Path(library).exists():
         sys.exit(f"{library} is not built")
-    if not shutil.which("rt"):
-        sys.exit("there is no rt, with whose kit the library is linked")
-    kit = Path(shutil.which("rt")).resolve().parent.parent
-    compiler = shutil.which(os.environ.get("CC", "cc")) or kit / "toolchain/bin/clang"
+    archives, compiler = [library], shutil.which(os.environ.get("CC", "cc"))
+    if Path(library).name != INSTALLED:
+        if not shutil.which("rt"):
+            sys.exit("there is no rt, with whose kit the library is linked")
+        kit = Path(shutil.which("rt")).resolve().parent.parent
+        archives.append(kit / "c/liblibc_c.a")
+        compiler = compiler or kit / "toolchain/bin/clang"
+    if not compiler:
+        sys.exit("there is no C compiler")
     program = Path(folder) / "regress"
     source = ["-I", ROOT / "include", HERE / "regress.c"]
-    if subprocess.run([compiler, "-O2", "-o", program, *source, library, kit / "c/liblibc_c.a"]).returncode:
+    if subprocess.run([compiler, "-O2", "-o", program, *source, *archives]).returncode:
         sys.exit(f"{HERE / 'regress.c'} does not compile")
     return Timed([str(program)], with_flags)
 
@@ -125,9 +150,28 @@ def built_kit(folder):
     return str(program) if program.exists() else skip("the library regex", "rt run does not build it")
 
 
-def others(folder, kit):
+def built_crate(folder, crates):
+    """Builds the program of the Rust crate `regex`, and returns its path; None if it fails. `crates` is a folder of
+    sources of crates, or None for the registry."""
+    if not shutil.which("cargo"):
+        return skip(RUST, "there is no cargo")
+    made = Path(folder) / "count_regex"
+    (made / "src").mkdir(parents=True)
+    (made / "Cargo.toml").write_text(MANIFEST)
+    shutil.copy(HERE / "count_regex.rs", made / "src/main.rs")
+    command = ["cargo", "build", "--release", "--quiet"]
+    if crates:
+        (made / ".cargo").mkdir()
+        (made / ".cargo/config.toml").write_text(LOCAL_CRATES.format(Path(crates).resolve()))
+        command.append("--offline")
+    if subprocess.run(command, cwd=made, capture_output=True).returncode:
+        return skip(RUST, "cargo does not build it; --crates names a folder of sources")
+    return str(made / "target/release/count_regex")
+
+
+def others(folder, kit, crates=None):
     """The engines beside ours that are installed, by name. `kit` is the program of the toolchain's `regex`, `skip`, or
-    None to build it."""
+    None to build it; `crates` a folder of sources of crates, or None for the registry."""
     engines = {}
     if shutil.which("node"):
         script = str(HERE / "count.js")
@@ -143,6 +187,9 @@ def others(folder, kit):
         program = compiled(folder, name, library, package)
         if program:
             engines[label] = Timed([program], inline)
+    program = built_crate(folder, crates)
+    if program:
+        engines[RUST] = Timed([program], for_crate)
     program = (kit or built_kit(folder)) if kit != "skip" else skip("the library regex", "as asked")
     if program:
         engines["kit's regex"] = Kit(program)

@@ -1,5 +1,5 @@
-/* regress FILE PATTERN FLAGS all|first: prints the number of matches, and the CPU seconds of the search, by the C
-   library of this repository. FLAGS are letters as in JavaScript. The status is 1 if the pattern is rejected, 2 if the
+/* regress FILE PATTERN FLAGS all|first: prints the number of matches, and the CPU seconds and the seconds of the
+   search, by the C library of this repository. FLAGS are letters as in JavaScript. The status is 1 if the pattern is rejected, 2 if the
    search takes too many steps, and 3 if something else fails. */
 
 #include <stdio.h>
@@ -44,6 +44,12 @@ static int is_compiled(const char *pattern, uint32_t flags, regress_regex *regex
         == REGRESS_OK;
 }
 
+static double seconds(void) {
+    struct timespec now;
+    clock_gettime(CLOCK_MONOTONIC, &now);
+    return (double)now.tv_sec + (double)now.tv_nsec / 1e9;
+}
+
 /* Searches for all matches or the first one, and prints their number and the time. Returns the library's status. */
 static uint32_t search(regress_regex *regex, const struct text *text, int all) {
     uint32_t (*find)(regress_regex *, const uint8_t *, size_t, size_t, size_t *, size_t, size_t *) =
@@ -55,11 +61,12 @@ static uint32_t search(regress_regex *regex, const struct text *text, int all) {
     if (!spans) {
         return REGRESS_MEMORY;
     }
+    double started = seconds();
     clock_t before = clock();
     uint32_t status = find(regex, text->bytes, text->length, 0, spans, room, &needed);
     double used = (double)(clock() - before) / CLOCKS_PER_SEC;
     if (status == REGRESS_OK || status == REGRESS_NO_MATCH) {
-        printf("%zu %f\n", needed / width, used);
+        printf("%zu %f %f\n", needed / width, used, seconds() - started);
     }
     free(spans);
     return status;

@@ -3,7 +3,7 @@ use Rattle.std.specs.Prelude.{◌≡◌, ℕ, List, map}
 use Rattle.regress_front.specs.Accepted.{IsAccepted}
 use Rattle.regress_front.specs.Setting.{Setting}
 use Rattle.regress_front.specs.Syntax.{Pattern}
-use Rattle.regress_differences.specs.CaseMode.{flags_somewhere}
+use Rattle.regress_differences.specs.CaseMode.{widest_flags}
 use Rattle.regress_differences.specs.Kinds.{name_of, text_of}
 use Rattle.regress_differences.specs.Paired.{spanned_of}
 use Rattle.regress_differences.specs.Reported.{reported}
@@ -22,4 +22,4 @@ explained difference = (difference.span.start, difference.span.end, name_of diff
 abbrev pub AreRemarksOn : Setting → (source : List ℕ) → List Remark → Type 0
 AreRemarksOn setting source remarks = (p : Pattern) × (accepted : IsAccepted setting source p)
     × (map shown remarks
-    ≡ map explained (reported (flags_somewhere setting.flags source) source (spanned_of setting source p accepted.derived)))
+    ≡ map explained (reported (widest_flags setting.flags source) source (spanned_of setting source p accepted.derived)))

@@ -46,6 +46,12 @@ control_characters : Has (codes "\\b\\c0\\n]") (one 8 ∷ one 0x10 ∷ one 0xA �
 unfolding compiled
 control_characters = (refl, refl)
 
+-- The ends of a range may be octal escapes, or digits that no escape is.
+digits_after_a_backslash : Has (codes "\\1-\\3]") (run 1 3 ∷ []) × Has (codes "\\60-\\62]") (run 0x30 0x32 ∷ [])
+    × Has (codes "\\8-\\9]") (run 0x38 0x39 ∷ []) × Has (codes "\\0-\\7]") (run 0 7 ∷ [])
+unfolding compiled
+digits_after_a_backslash = (refl, refl, refl, refl)
+
 the_matcher_inverts : compiled false (codes "^a]") ≡ Some (true, only (one 0x61 ∷ []))
 unfolding compiled
 the_matcher_inverts = refl

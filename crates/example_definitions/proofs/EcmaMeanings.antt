@@ -1,7 +1,7 @@
 -- Examples: what ECMA-262's algorithm returns, computed from its transcription. Patterns, texts and results are those of
--- the notes of the standard (22.2.2.3 CompileSubpattern, 22.2.2.3.1 RepeatMatcher, 22.2.2.4 CompileAssertion); `{2,3}`,
--- `(d*)`, the lookbehind and the searches are those of V8 11.3.
-use Rattle.std.proofs.Common.{◌≡◌, ℕ, ◌+◌, List, [], ◌∷◌, length, Option, Some, None, option_map, refl, codes}
+-- the notes of the standard (22.2.2.3 CompileSubpattern, 22.2.2.3.1 RepeatMatcher, 22.2.2.4 CompileAssertion); the
+-- others are those of V8 11.3, but for groups of one name, which it does not accept.
+use Rattle.std.proofs.Common.{◌≡◌, ℕ, ◌+◌, List, [], ◌∷◌, ◌++◌, length, Option, Some, None, option_map, refl, codes}
 use lib.Utf8.{encode}
 use Rattle.regress_base.specs.Intervals.{is_member, is_within}
 use Rattle.regress_tree.specs.Reading.{byte_position}
@@ -12,7 +12,8 @@ use Rattle.regress_ecma.specs.Repetition.{repeat_matcher}
 use Rattle.regress_ecma.specs.CharacterMatchers.{character_set_matcher, backreference_matcher}
 use Rattle.regress_ecma.specs.Compile.{compile_pattern}
 use Rattle.regress_ecma.specs.Exec.{Found, first_match, builtin_exec, found_in_bytes}
-use Rattle.example_definitions.proofs.Meanings.{plain, pattern_of, unset, span}
+use Rattle.example_definitions.proofs.EcmaCases.{kelvin, long_s, letters, i, iu, v}
+use Rattle.example_definitions.proofs.Meanings.{empty_table, plain, named, pattern_of, unset, span}
 
 -- the match of the pattern at an index of the text
 unfoldable match_at : Setting → Source → List ℕ → (index : ℕ) → Option MatchResult
@@ -74,6 +75,65 @@ a_negative_lookahead_leaves_its_captures_undefined = refl
 a_lookbehind_is_matched_backwards : Matches (codes "(?<=(\\d+)(\\d+))$") (codes "1053") 4 4 (span 0 1 ∷ span 1 4 ∷ [])
 unfolding Matches
 a_lookbehind_is_matched_backwards = refl
+
+-- ---- flags and names
+
+-- The source is a pattern, which matches the text from its start to an index, with these captures.
+unfoldable MatchesWith : Setting → Source → List ℕ → (end : ℕ) → List (Option CaptureRange) → Type 0
+unfolding match_at
+MatchesWith setting source text end captures =
+    match_at setting source text 0 ≡ Some (Some (record { input = text; end_index = end; captures = captures }))
+
+-- The source is a pattern, which does not match the text from its start.
+unfoldable FailsWith : Setting → Source → List ℕ → Type 0
+unfolding match_at
+FailsWith setting source text = match_at setting source text 0 ≡ Some None
+
+abbrev two_names : Source
+two_names = codes "(?:(?<a>x)|(?<a>y))\\k<a>"
+
+a_reference_takes_the_group_that_is_set : MatchesWith named two_names (codes "yy") 2 (unset ∷ span 0 1 ∷ [])
+    × MatchesWith named two_names (codes "xx") 2 (span 0 1 ∷ unset ∷ []) × FailsWith named two_names (codes "xy")
+unfolding MatchesWith FailsWith
+a_reference_takes_the_group_that_is_set = (refl, refl, refl)
+
+a_reference_to_groups_that_are_unset_matches :
+    MatchesWith named (codes "(?:(?<a>x)|(?<a>y)|z)\\k<a>") (codes "z") 1 (unset ∷ unset ∷ [])
+unfolding MatchesWith
+a_reference_to_groups_that_are_unset_matches = refl
+
+-- some letters, with the flag i, and with i and u
+abbrev with_i : Setting
+with_i = record { flags = i; table = letters }
+
+abbrev with_iu : Setting
+with_iu = record { flags = iu; table = letters }
+
+a_reference_compares_canonical_forms : MatchesWith with_iu (codes "(k)\\1") (codes "k" ++ kelvin ∷ []) 2 (span 0 1 ∷ [])
+    × FailsWith with_i (codes "(k)\\1") (codes "k" ++ kelvin ∷ []) × MatchesWith with_i (codes "(k)\\1") (codes "kK") 2 (span 0 1 ∷ [])
+unfolding MatchesWith FailsWith
+a_reference_compares_canonical_forms = (refl, refl, refl)
+
+-- The upper case of U+017F is an ASCII letter, which without u is not its canonical form.
+no_letter_becomes_one_of_ascii : FailsWith with_i (codes "\\u017F") (codes "s") × MatchesWith with_iu (codes "\\u017F") (codes "s") 1 []
+    × MatchesWith with_i (codes "\\u017F") (long_s ∷ []) 1 []
+unfolding MatchesWith FailsWith
+no_letter_becomes_one_of_ascii = (refl, refl, refl)
+
+-- two strings of RGI_Emoji
+abbrev emoji : Setting
+emoji = record {
+  flags = v;
+  table = record empty_table {
+    strings = record { name = codes "RGI_Emoji"; value = (0x1F44D ∷ []) ∷ (0x1F44D ∷ 0x1F3FD ∷ []) ∷ [] } ∷ [];
+  };
+}
+
+the_longest_string_of_a_property_comes_first : MatchesWith emoji (codes "\\p{RGI_Emoji}") (0x1F44D ∷ 0x1F3FD ∷ []) 2 []
+    × MatchesWith emoji (codes "\\p{RGI_Emoji}\\u{1F3FD}") (0x1F44D ∷ 0x1F3FD ∷ []) 2 []
+    × MatchesWith emoji (codes "\\p{RGI_Emoji}") (0x1F44D ∷ codes "a") 1 [] × FailsWith emoji (codes "\\p{RGI_Emoji}") (codes "a")
+unfolding MatchesWith FailsWith
+the_longest_string_of_a_property_comes_first = (refl, refl, refl, refl)
 
 -- ---- searches
 

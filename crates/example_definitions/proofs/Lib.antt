@@ -3,6 +3,7 @@ mod CharacterMeanings
 mod CharacterSets
 mod ClassSetExamples
 mod DuplicateExamples
+mod EcmaCases
 mod EcmaClasses
 mod EcmaMeanings
 mod GroupExamples

@@ -4,13 +4,11 @@ use Rattle.std.specs.List.{FoldsTo}
 use Rattle.std.specs.Str.Lossy.{utf8_invalid_len, utf8_valid_len}
 use Rattle.std.proofs.lemmas.Fn.{FoldsTo-push}
 use Rattle.std.proofs.lemmas.List.Elements.{All-map}
-use Rattle.std.proofs.lemmas.List.{drop_all, drop_at, get_or-map, length-append, length-map, take_at}
+use Rattle.std.proofs.lemmas.List.{drop_at, get_or-map, length-append, length-map, take_at}
 use Rattle.regress_found.specs.Found.{IsInside, start_of}
-use Rattle.regress_found.specs.Repeated.{AreAllMatches}
 use Rattle.regress_replace.specs.Expansion.{end_of, matched_text}
 use Rattle.regress_replace.specs.Replaced.{replaced}
 use Rattle.regress_replace.proofs.lemmas.Order.{IsBefore, before_first, before_next, next_match}
-use Rattle.regress.specs.Compiled.{outcomes_of}
 use Rattle.regress.specs.Found.{match_of}
 use Rattle.regress.specs.declared.found.Match.{Match}
 use Rattle.regress.specs.declared.pattern.Regex.{Regex}
@@ -48,23 +46,6 @@ module _ (text : List ℕ) (ms : List Match) (from i : ℕ) (m : Match) (below :
       IsBefore text (end_of (match_of m)) (drop (i + 1) (map match_of ms))
   next_end inside before = before_next text from (map match_of ms) i (match_of m) below_all here (All-map (IsInside text) match_of ms inside) before
 
--- No match is left.
-pub none_left : (text : List ℕ) (ms : List Match) (from i : ℕ) (done all : List ℕ) → length ms ≤ i → done ++ painted_from text from ms i ≡ all →
-    done ++ drop from text ≡ all
-none_left text ms from i done all over so_far =
-    ap (λ zs. done ++ replaced text (λ m. painted (matched_text text m)) from zs)
-    (sym (drop_all i (map match_of ms) (subst (λ n. n ≤ i) (sym (length-map ms match_of)) over)))
-    ∙ so_far
-
--- The matches of a text were added in color, and then other bytes.
-pub chunk_added : (r : Regex) (text invalid before between after : List ℕ) (ms : List Match) → AreAllMatches text (outcomes_of r text) (map match_of ms) →
-    between ≡ before ++ painted_from text 0 ms 0 → after ≡ between ++ invalid → AddsPainted r before (record { text = text; invalid = invalid }) after
-chunk_added r text invalid before between after ms all one two = (
-  painted_from text 0 ms 0,
-  record { matches = map match_of ms; all = all; is = refl },
-  two ∙ ap (λ zs. zs ++ invalid) one,
-)
-
 module _ (r : Regex) (line before : List ℕ) where
   -- These chunks were added, and with those of the bytes that are left they are the chunks of the line.
   pub record SoFar (left done : List ℕ) : Type 0 where
@@ -73,9 +54,6 @@ module _ (r : Regex) (line before : List ℕ) where
     pub chunks : List Chunk
     pub steps : FoldsTo (AddsPainted r) before chunks done
     pub parts : chunks ++ chunks_within bound left ≡ chunks_of line
-
-  pub none_yet : SoFar line before
-  none_yet = record { bound = length line; enough = omega arith; chunks = []; steps = refl; parts = refl }
 
   chunks_step : (bound : ℕ) (left text invalid rest : List ℕ) → 0 < length left → left ≡ text ++ (invalid ++ rest) → length text ≡ utf8_valid_len left →
       length invalid ≡ utf8_invalid_len (drop (utf8_valid_len left) left) →

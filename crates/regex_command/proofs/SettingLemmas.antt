@@ -1,9 +1,10 @@
 -- What holds under a table that is that of all of Unicode.
 use Rattle.std.proofs.Common.{◌≡◌, ℕ, List, subst}
-use Rattle.std.specs.Prelude.{Result, Err, ⊤}
+use Rattle.std.specs.Prelude.{⊤}
 use Rattle.regress_base.specs.declared.types.Flags.{Flags}
 use Rattle.regress_base.specs.Table.{Table}
-use Rattle.regress_parse.specs.Fault.{RejectedOnlyIf, unplaced}
+use Rattle.regress_parse.specs.Accepted.{NoneIsAccepted}
+use Rattle.regress_parse.specs.Settled.{IsFaultOf}
 use Rattle.regress_parse.specs.declared.fault.PlacedFault.{PlacedFault}
 use Rattle.regress_parse.specs.declared.fault.PlacedFault.TheVariants as placed
 use Rattle.regress_tree.specs.Setting.{Setting}
@@ -20,9 +21,7 @@ abbrev pub OnSyntax : PlacedFault → Type 0 → Type 0
 OnSyntax (placed.Syntax kind error position) P = P
 OnSyntax (placed.Memory error) P = ⊤
 
-pub rejected_by : {X : Type 0} (r : Result X PlacedFault) (fault : PlacedFault) (P : Type 0) → r ≡ Err fault → RejectedOnlyIf (unplaced r) P → OnSyntax fault P
-rejected_by {X} r fault P is only = by fault (subst (λ (r : Result X PlacedFault). RejectedOnlyIf (unplaced r) P) is only)
-  where
-    by : (fault : PlacedFault) → RejectedOnlyIf {X = X} (unplaced (Err fault)) P → OnSyntax fault P
-    by (placed.Syntax kind error position) h = h
-    by (placed.Memory error) h = tt
+pub rejected_by : (setting : Setting) (source : List ℕ) (fault : PlacedFault) → IsFaultOf setting source fault →
+    OnSyntax fault (NoneIsAccepted setting source)
+rejected_by setting source (placed.Syntax kind error position) is = is.rejected
+rejected_by setting source (placed.Memory error) is = tt

@@ -2,7 +2,7 @@
 use Rattle.std.specs.Prelude.{◌≡◌, ◌⊎◌, ◌==◌, ℕ, Bool, false, List, [], ◌++◌, codes, length}
 use Rattle.std.specs.Fmt.{decimal}
 use Rattle.std.specs.List.{FoldsTo}
-use Rattle.regress_differences.specs.CaseMode.{flags_somewhere}
+use Rattle.regress_differences.specs.CaseMode.{widest_flags}
 use Rattle.regress_differences.specs.Kinds.{name_of, text_of}
 use Rattle.regress_differences.specs.Reported.{reported}
 use Rattle.regress_differences.specs.declared.kind.Difference.{Difference}
@@ -14,7 +14,7 @@ use Rattle.regress_tree.specs.Setting.{Setting}
 -- the differences of an accepted pattern from ECMA-262
 abbrev pub HasDifferences : Setting → (source : List ℕ) → List Difference → Type 0
 HasDifferences setting source found = (p : Pattern) × (accepted : IsAccepted setting source p)
-    × (found ≡ reported (flags_somewhere setting.flags source) source (spanned_of setting source p accepted.derived))
+    × (found ≡ reported (widest_flags setting.flags source) source (spanned_of setting source p accepted.derived))
 
 -- `1-4: case-closure: ` and the text of the kind, for the code points from 1 on before 4
 abbrev pub difference_line : Difference → List ℕ

@@ -68,6 +68,7 @@ fn explanation<'f>(
             let matched = Matched {
                 text,
                 ranges: &ranges,
+                captures: &[],
             };
             Ok(page_line(alloc, points, parsed, Some(matched))?)
         }

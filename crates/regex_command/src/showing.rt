@@ -1,13 +1,14 @@
 //! `parse` and `draw`.
 ghost use Rattle.std.specs.Prelude.{◌≡◌, ◌≢◌, true, false, ◌⊎◌, Ok, IfOk, IfErr, string_bytes};
 ghost use Rattle.regress_arguments.specs.Output.{Took};
-ghost use Rattle.regress_display.specs.Accepted.{IsFault, NoneIsAccepted, setting_of_request};
+ghost use Rattle.regress_display.specs.Accepted.{NoneIsAccepted, setting_of_request};
 ghost use Rattle.regress_display.specs.Fault.{IsFaultOutput};
 ghost use Rattle.regress_display.specs.Request.{requested};
 ghost use Rattle.regress_display.specs.Shown.{IsFirstOutput};
 ghost use Rattle.regex_command.specs.Ending.{OrOutput};
 ghost use Rattle.regex_command.specs.Trees.{HasFaultOutput, IsTreeOutput, IsFaultWritten, IsQuietFor, IsShowFailure};
 ghost use Rattle.regex_command.specs.declared.failure.Failure.TheVariants.{Output};
+ghost use Rattle.regress_parse.specs.Settled.{IsSyntaxError};
 
 use crate::failure::{Failure, write_syntax_error};
 use regress_display::{Format, Request, ShowError, show, write_json_fault};
@@ -55,7 +56,7 @@ fn print_fault<'f, W: Write, E: Write>(
     out: &mut W,
     err: &mut E,
 ) -> Result<bool, Failure<'f>>
-    requires { IsFault (setting_of_request (requested request)) (requested request).pattern kind.now
+    requires { IsSyntaxError (setting_of_request (requested request)) (requested request).pattern kind.now
         (string_bytes error.now.text) position }
     ensures shown { IfOk result (λ accepted. (accepted ≡ false) × Took (W.contents out.old) (W.contents out.new)
         (IsFaultWritten request.entry.format (requested request.entry))) }
@@ -85,7 +86,7 @@ fn print_json_fault<'f, W: Write>(
     request: Request<'_>,
     out: &mut W,
 ) -> Result<bool, Failure<'f>>
-    requires { IsFault (setting_of_request (requested request)) (requested request).pattern kind.now
+    requires { IsSyntaxError (setting_of_request (requested request)) (requested request).pattern kind.now
         (string_bytes error.now.text) position }
     ensures shown { IfOk result (λ accepted. (accepted ≡ false)
         × Took (W.contents out.old) (W.contents out.new) (IsFaultOutput (requested request.entry))) }

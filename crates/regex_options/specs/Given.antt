@@ -1,5 +1,5 @@
 -- What the options specify.
-use Rattle.std.specs.Prelude.{ℕ, Bool, true, false, not, ◌||◌, ◌&&◌, ◌^◌, nat_lt, List, Option, Some, None, option_and_then, option_map, if◌then◌else◌, ◌==◌, bytes_eq, codes, length}
+use Rattle.std.specs.Prelude.{ℕ, true, false, not, ◌||◌, ◌&&◌, ◌^◌, nat_lt, List, Option, Some, None, option_and_then, option_map, if◌then◌else◌, ◌==◌, bytes_eq, codes, length}
 use Rattle.std.specs.Str.{all_ascii_digits}
 use Rattle.std.specs.Str.Parse.{digits_value}
 use Rattle.regress_arguments.specs.Letters.{no_flags, with_letters}

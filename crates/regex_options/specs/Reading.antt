@@ -1,6 +1,6 @@
 -- The options before the pattern, by the table.
 use Rattle.std.specs.Borrow.{Bor}
-use Rattle.std.specs.Prelude.{ℕ, Bool, true, false, not, ◌&&◌, List, [], ◌∷◌, Option, Some, None, option_and_then, option_map, if◌then◌else◌, ◌==◌, bytes_eq, codes, drop, find, is_none, length, nat_lt, slice_index, Result, Ok, Err, String, string_bytes}
+use Rattle.std.specs.Prelude.{ℕ, Bool, not, ◌&&◌, List, [], ◌∷◌, Option, Some, None, option_and_then, option_map, if◌then◌else◌, ◌==◌, bytes_eq, codes, drop, find, is_none, length, nat_lt, slice_index, Result, Ok, Err, String, string_bytes}
 use Rattle.std.specs.List.{after_first, before_first, position_or_len, starts_with}
 use Rattle.std.specs.declared.alloc.Global.{Global}
 use Rattle.regex_options.specs.Given.{Given, given_by, nothing_given, switched, valued}

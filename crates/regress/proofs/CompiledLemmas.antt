@@ -5,12 +5,10 @@ use Rattle.std.proofs.lemmas.List.Sorted.{IsPermutation-trans, length_permutatio
 use Rattle.std.specs.List.Sorted.{IsNonDecreasingBy, IsPermutation}
 use Rattle.std.specs.Prelude.{Result, Ok, Err, IfErr, IfOk, IsErr, IsErrAnd, chars}
 use Rattle.std.specs.Str.{IsUtf8}
-use Rattle.regress_front.specs.Accepted.{IsTrueOf, MayExceed, Means, NoneIsAccepted}
-use Rattle.regress_front.specs.Fault.{HasPositionWithin, HasTextOfKind, RejectedOnlyIf, ReportsKindAt, unplaced}
+use Rattle.regress_front.specs.Accepted.{Means}
 use Rattle.regress_front.specs.Reading.{forwards}
 use Rattle.regress_front.specs.Law.{MeansTheSame}
 use Rattle.regress_front.specs.Setting.{Setting}
-use Rattle.regress_front.specs.Settled.{IsAtFirstDuplicate, IsFinal}
 use Rattle.regress_front.specs.Source.{Source}
 use Rattle.regress_front.specs.Steps.{byte_state}
 use Rattle.regress_front.specs.Syntax.{Pattern}
@@ -19,6 +17,7 @@ use Rattle.regress_front.specs.WellFormed.{captures}
 use Rattle.regress_front.specs.declared.parse.PlacedFault.{PlacedFault}
 use Rattle.regress_front.specs.declared.parse.PlacedFault.TheVariants as fault
 use Rattle.regress_front.specs.declared.unicode.Tables.{Tables}
+use Rattle.regress_front.specs.Settled.{IsFaultOf}
 use Rattle.regress_match.specs.Names.{capture_of}
 use Rattle.regress_match.specs.declared.names.Group.{Group}
 use Rattle.regress.specs.Compiled.{IsCompiled, IsCompiledFrom, IsTreeOf, groups_of, source_of, tree_of}
@@ -44,35 +43,19 @@ pub means_optimized : (setting : Setting) (old new : Tree) (p : Pattern) → Mea
 means_optimized setting old new p means same = λ text s is_text is_state.
     sym ((same setting text is_text).same (byte_state text s)) ∙ means text s is_text is_state
 
-module _ (setting : Setting) (source : Source) (options : Options) {X : Type 0} where
-  -- An error of the parser is due.
-  pub due : (r : Result X PlacedFault) (f : PlacedFault) → r ≡ Err f → RejectedOnlyIf (unplaced r) (NoneIsAccepted setting source) →
-      HasTextOfKind r → ReportsKindAt r (λ kind position. IsTrueOf setting source kind) →
-      ReportsKindAt r (λ kind position. MayExceed source kind) → HasPositionWithin (length source) r →
-      ReportsKindAt r (IsFinal setting source) → ReportsKindAt r (IsAtFirstDuplicate setting source) →
-      IsDue setting source options (error_of f)
-  due (Ok x) f is rejected text reported limits within settled duplicate = absurd (cc)
-  due (Err (fault.Syntax kind e position)) (fault.Syntax k g at) is rejected text reported limits within settled duplicate =
-      let one : fault.Syntax kind e position ≡ fault.Syntax k g at = cc in
-      subst (λ f. IsDue setting source options (error_of f)) one (record {
-        rejected = rejected;
-        text = text;
-        reported = record { reported = reported; limits = limits; within = within; settled = settled; duplicate = duplicate };
-      })
-  due (Err (fault.Memory e)) (fault.Syntax k g at) is rejected text reported limits within settled duplicate = absurd (cc)
-  due r (fault.Memory e) is rejected text reported limits within settled duplicate = tt
+-- An error of the parser is due.
+pub due : (setting : Setting) (source : Source) (options : Options) (f : PlacedFault) → IsFaultOf setting source f →
+    IsDue setting source options (error_of f)
+due setting source options (fault.Syntax kind e position) is = is
+due setting source options (fault.Memory e) is = tt
 
 -- An error of the parser that is converted is due.
 pub failed : (setting : Setting) (source : Source) {X Y : Type 0} (r : Result X PlacedFault) (f : PlacedFault) (out : Result Y Error) →
-    IsErr out × IsErrAnd out (λ error. error ≡ error_of f) → r ≡ Err f → RejectedOnlyIf (unplaced r) (NoneIsAccepted setting source) →
-    HasTextOfKind r → ReportsKindAt r (λ kind position. IsTrueOf setting source kind) →
-    ReportsKindAt r (λ kind position. MayExceed source kind) → HasPositionWithin (length source) r →
-    ReportsKindAt r (IsFinal setting source) → ReportsKindAt r (IsAtFirstDuplicate setting source) →
+    IsErr out × IsErrAnd out (λ error. error ≡ error_of f) → r ≡ Err f → IfErr r (IsFaultOf setting source) →
     (options : Options) → IfErr out (IsDue setting source options)
-failed setting source r f (Ok y) given is rejected text reported limits within settled duplicate options = tt
-failed setting source r f (Err error) given is rejected text reported limits within settled duplicate options =
-    subst (IsDue setting source options) (sym given.1)
-    (due setting source options r f is rejected text reported limits within settled duplicate)
+failed setting source r f (Ok y) given is known options = tt
+failed setting source r f (Err error) given is known options =
+    subst (IsDue setting source options) (sym given.1) (due setting source options f (subst (λ r. IfErr r (IsFaultOf setting source)) is known))
 
 -- An error that is passed on has the property that it had.
 pub passed_on : (P : Error → Type 0) {X Y : Type 0} (r : Result X Error) (e : Error) (out : Result Y Error) →

@@ -1,5 +1,5 @@
 -- The matches that an iteration has found.
-use Rattle.std.proofs.Common.{◌≡◌, ◌∙◌, ℕ, ◌<◌, false, List, [], ◌∷◌, ◌++◌, Option, Some, None, All, length, map, refl, subst, sym, option_map, arith}
+use Rattle.std.proofs.Common.{◌≡◌, ◌∙◌, ℕ, ◌-◌, ◌<◌, false, List, [], ◌∷◌, ◌++◌, Option, Some, None, All, length, map, refl, subst, sym, option_map, arith}
 use Rattle.std.specs.Prelude.{◌↔◌, IfNone, IfSome, IsSome, IsTrue, Ok, is_some}
 use Rattle.std.proofs.lemmas.List.{map-append}
 use Rattle.std.proofs.lemmas.List.Elements.{All-cons, All-head, All-nil, All-push, All-tail}
@@ -151,6 +151,15 @@ pub never_out_next : (factor : Option ℕ) (outcome : Outcome) → IfSome factor
     factor ≡ None
 never_out_next None outcome linear is = refl
 never_out_next (Some n) outcome linear is = absurd (subst (λ o. IfOutOfSteps o ⊥) is linear)
+
+-- A search for the next match that is out of steps costs at least those that remained.
+pub costs_remaining : (m : Matcher) (text : List ℕ) (from before after : ℕ) (factor : Option ℕ) (outcome : Outcome) →
+    IfSome factor (λ _. IfOutOfSteps outcome ⊥) → IfNone factor (IfOutOfSteps outcome (after ≡ 0)) →
+    IsWithinFindCost m text from (before - after) → outcome ≡ outcomes.OutOfSteps → IsWithinFindCost m text from before
+costs_remaining m text from before after None outcome linear limited within is =
+    let all : after ≡ 0 = subst (λ o. IfOutOfSteps o (after ≡ 0)) is limited in
+    subst (λ k. IsWithinFindCost m text from (before - k)) all within
+costs_remaining m text from before after (Some n) outcome linear limited within is = absurd (subst (λ o. IfOutOfSteps o ⊥) is linear)
 
 pub never_none : {X : Type 0} (factor : Option ℕ) (found : Option X) → IfSome factor (λ _. IsSome found) → found ≡ None → factor ≡ None
 never_none None found linear is = refl

@@ -1,3 +1,4 @@
+pub mod lemmas
 mod CompiledLemmas
 mod EcmaLemmas
 mod FoundLemmas

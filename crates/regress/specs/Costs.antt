@@ -1,9 +1,15 @@
 -- The costs of searches with a compiled regular expression.
-use Rattle.std.specs.Prelude.{ℕ, List, Option}
-use Rattle.regress_match.specs.Costs.{IsWithinFindCost}
+use Rattle.std.specs.Prelude.{◌≡◌, ℕ, List, Option, None}
+use Rattle.regress_match.specs.AllCosts.{CostsOfMatches}
+use Rattle.regress_match.specs.Costs.{HasCosts, IsWithinFindCost}
 use Rattle.regress_match.specs.Matcher as matcher
+use Rattle.regress_match.specs.declared.matcher.Matcher.{Matcher}
 use Rattle.regress_match.specs.declared.nonlinear.Nonlinear.{Nonlinear}
 use Rattle.regress.specs.declared.pattern.Regex.{Regex}
+
+-- the program of the pattern
+abbrev pub matcher_of : Regex → Matcher
+matcher_of r = r.matcher
 
 -- an upper bound for the steps of a search for all matches for each byte of a text, and once more; none if such searches
 -- are not known to take linear time
@@ -19,8 +25,24 @@ abbrev pub limit_of : Regex → ℕ
 limit_of r = r.steps
 
 -- A search from there on costs at least the step limit.
-abbrev pub CostsLimit : Regex → (text : List ℕ) → (from : ℕ) → Type 0
-CostsLimit r text from = IsWithinFindCost r.matcher text from (limit_of r)
+pub record CostsLimit (r : Regex) (text : List ℕ) (from : ℕ) : Type 0 where
+  pub has : HasCosts r.matcher text
+  pub within : IsWithinFindCost r.matcher text from (limit_of r)
+
+-- The searches for all matches from there on, up to one of them, cost at least the step limit.
+abbrev pub AllCostLimit : Regex → (text : List ℕ) → (from : ℕ) → Type 0
+AllCostLimit r text from = CostsOfMatches r.matcher text from (limit_of r)
+
+-- A search for one match may be out of steps: it is not known to take linear time, and costs at least the step limit.
+pub record IsTooCostly (r : Regex) (text : List ℕ) (from : ℕ) : Type 0 where
+  pub linear : factor_of r ≡ None
+  pub bounded : find_factor_of r ≡ None
+  pub costs : CostsLimit r text from
+
+-- The same of a search for all matches.
+pub record AllAreTooCostly (r : Regex) (text : List ℕ) (from : ℕ) : Type 0 where
+  pub linear : factor_of r ≡ None
+  pub costs : AllCostLimit r text from
 
 -- why searches for all matches are not known to take linear time; none if they do
 abbrev pub nonlinear_of : Regex → Option Nonlinear

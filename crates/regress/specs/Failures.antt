@@ -1,15 +1,12 @@
 -- Why a pattern was not compiled.
-use Rattle.std.specs.Prelude.{◌≡◌, ◌⊎◌, ℕ, ◌<◌, List, string_bytes}
-use Rattle.regress_front.specs.Accepted.{NoneIsAccepted}
+use Rattle.std.specs.Prelude.{◌⊎◌, ℕ, ◌<◌, List, string_bytes}
 use Rattle.regress_front.specs.Bound.{node_bound}
-use Rattle.regress_front.specs.Fault.{text_of}
 use Rattle.regress_front.specs.Setting.{Setting}
-use Rattle.regress_front.specs.Settled.{IsReported}
 use Rattle.regress_front.specs.Source.{Source}
-use Rattle.regress_front.specs.declared.parse.FaultKind.{FaultKind}
 use Rattle.regress_front.specs.declared.parse.PlacedFault.{PlacedFault}
 use Rattle.regress_front.specs.declared.parse.PlacedFault.TheVariants as fault
 use Rattle.regress_front.specs.Tree.{Tree}
+use Rattle.regress_front.specs.Settled.{IsSyntaxError}
 use Rattle.regress_program.specs.Size.{program_size}
 use Rattle.regress_program.specs.declared.fault.CompileFault.{CompileFault}
 use Rattle.regress_program.specs.declared.fault.CompileFault.TheVariants as compile_fault
@@ -30,12 +27,6 @@ error_of (fault.Memory e) = Memory
 abbrev pub compile_error_of : CompileFault → Error
 compile_error_of (compile_fault.Memory e) = Memory
 compile_error_of compile_fault.TooLong = TooLarge
-
--- A syntax error of a source that has no accepted pattern, with the text of its kind.
-pub record IsSyntaxError (setting : Setting) (source : Source) (kind : FaultKind) (message : List ℕ) (position : ℕ) : Type 0 where
-  pub rejected : NoneIsAccepted setting source
-  pub text : message ≡ text_of kind
-  pub reported : IsReported setting source kind position
 
 -- The program of an accepted pattern, by its tree, has more instructions than the limit.
 pub record IsTooLong (setting : Setting) (source : Source) (limit : ℕ) : Type 0 where

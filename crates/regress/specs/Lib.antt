@@ -4,6 +4,7 @@ pub mod Failures
 pub mod Found
 pub mod Groups
 pub mod Inside
+pub mod Kept
 pub mod Letters
 pub mod Limits
 pub mod Replaced

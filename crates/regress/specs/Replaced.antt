@@ -1,5 +1,5 @@
 -- A text in which matches are replaced, and a text that is split at matches.
-use Rattle.std.specs.Prelude.{◌≡◌, ℕ, zero, suc, ◌≤◌, ◌<◌, List, [], ◌∷◌, Option, Some, None, Result, Ok, String, length, map, option_map, string_bytes}
+use Rattle.std.specs.Prelude.{◌≡◌, ℕ, zero, suc, ◌≤◌, ◌<◌, List, [], ◌∷◌, Option, Some, None, Result, Ok, Err, String, length, map, option_map, string_bytes}
 use Rattle.std.specs.Borrow.{Bor}
 use Rattle.std.specs.declared.alloc.Global.{Global}
 use Rattle.std.specs.Fn.{CalledAt, Mut}
@@ -28,6 +28,15 @@ pub record IsReplacedBy {F : Type 0} (g : Mut F (Bor Match × Unit {0}) (Result 
   pub after : F
   pub called : FoldsTo (λ f c f'. CalledAt g f c.0 (Ok c.1) f') f calls after
   pub is : out ≡ joined (split_pieces text 0 (map match_of ms)) (map (λ c. string_bytes c.1) calls)
+
+-- A closure was called on some matches, and then returned this error.
+pub record HasReturned {F : Type 0} (g : Mut F (Bor Match × Unit {0}) (Result (String Global) SearchError)) (f : F) (error : SearchError) : Type 0 where
+  pub calls : List (Match × String Global)
+  pub before : F
+  pub called : FoldsTo (λ f c f'. CalledAt g f c.0 (Ok c.1) f') f calls before
+  pub last : Match
+  pub after : F
+  pub returned : CalledAt g before last (Err error) after
 
 module _ (text : List ℕ) (at : ℕ → List MatchState) where
   -- The text with its leftmost match replaced, if it has one.

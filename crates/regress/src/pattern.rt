@@ -52,23 +52,25 @@ pub struct Regex {
 }
 
 impl Regex {
-    ghost use Rattle.std.specs.Prelude.{◌≡◌, ◌<◌, ◌≤◌, ◌↔◌, false, All, IsTrue, IfOk, IfErr, IfNone, IfSome, None, chars, is_none, is_some, length, map, min, option_map};
+    ghost use Rattle.std.specs.Prelude.{◌≡◌, ◌<◌, ◌≤◌, ◌↔◌, false, All, IsTrue, IfOk, IfErr, IfNone, IfSome, None, chars, is_none, is_some, length, map, min, option_map, string_bytes};
     ghost use Rattle.std.specs.Arc.{arc_value};
     ghost use Rattle.regress_front.specs.Bound.{HasAtMost};
     ghost use Rattle.regress_front.specs.SettingOf.{setting_of as setting_under};
     ghost use Rattle.regress_front.specs.Source.{IsCodePoint};
     ghost use Rattle.regress_found.specs.Found.{IsInside, Finds};
-    ghost use Rattle.regress_match.specs.Matcher.{IsFactorOf, IsFindFactorOf, IsNonlinearOf};
+    ghost use Rattle.regress_match.specs.Matcher.{IsFactorOf, IsFindFactorOf, IsNonlinearOf, is_find_linear_tree};
     ghost use Rattle.regress_found.specs.Repeated.{AreAllMatches};
+    ghost use Rattle.regress_prefilter.specs.Literals.{bytes_in, literals, longest};
     ghost use Rattle.regress_program.specs.Size.{program_size};
     ghost use Rattle.regress_replace.specs.Order.{AreInOrder};
-    ghost use Rattle.regress.specs.Costs.{CostsLimit, factor_of, find_factor_of, limit_of, nonlinear_of};
+    ghost use Rattle.regress.specs.Costs.{AllCostLimit, CostsLimit, factor_of, find_factor_of, limit_of, matcher_of, nonlinear_of};
+    ghost use Rattle.regress.specs.Kept.{Keeps};
     ghost use Rattle.regress.specs.Compiled.{IsCompiled, IsCompiledFrom, groups_of, outcomes_of, setting_of, source_of, tree_of};
     ghost use Rattle.regress.specs.Unicode.{unicode_setting};
     ghost use Rattle.regress.specs.Source.{text_of};
     ghost use Rattle.regress.specs.Failures.{IsDue, IsDueWithLetters};
     ghost use Rattle.regress.specs.Found.{groups_in, match_of};
-    ghost use Rattle.regress.specs.Searched.{MatchesSomewhere, has_failed, next_from, search_limit, searched_factor, searched_groups, searched_outcomes, searched_text};
+    ghost use Rattle.regress.specs.Searched.{MatchesSomewhere, has_failed, next_from, search_limit, search_remaining, search_taken, searched_factor, searched_groups, searched_matcher, searched_outcomes, searched_text};
     ghost use Rattle.regress.specs.Groups.{names_left};
     ghost use Rattle.regress.specs.Letters.{AreFlags, flags_of, no_flags};
     ghost use Rattle.regress.specs.Limits.{default_options};
@@ -84,6 +86,7 @@ impl Regex {
     /// As for [`Regex::with_options`].
     pub fn new(alloc: Global, pattern: &str) -> Result<Regex, Error>
         ensures compiled { IfOk result (IsCompiled (unicode_setting no_flags) pattern.now) }
+        ensures keeps { IfOk result (Keeps default_options no_flags (chars pattern.now)) }
         ensures failed { IfErr result (IsDue (unicode_setting no_flags) (chars pattern.now) default_options) }
     {
         Regex::under_unicode(alloc, pattern, Flags::default())
@@ -108,6 +111,7 @@ impl Regex {
     pub fn with_flags(alloc: Global, pattern: &str, letters: &str) -> Result<Regex, Error>
         ensures accepted { IfOk result (λ _. AreFlags (chars letters.now)) }
         ensures compiled { IfOk result (IsCompiled (unicode_setting (flags_of (chars letters.now))) pattern.now) }
+        ensures keeps { IfOk result (Keeps default_options (flags_of (chars letters.now)) (chars pattern.now)) }
         ensures failed { IfErr result (IsDueWithLetters (chars letters.now) (chars pattern.now)) }
     {
         let flags = parse_flags(letters)?;
@@ -139,10 +143,12 @@ impl Regex {
         ensures limit { IfOk result (λ regex. limit_of regex ≡ options.steps) }
         ensures linear { IfOk result (λ regex. IsFactorOf options.linear_instructions (tree_of regex) (factor_of regex)) }
         ensures find_linear { IfOk result (λ regex. IsFindFactorOf options.linear_instructions (tree_of regex) (find_factor_of regex)) }
+        ensures find_linear_tree { IfOk result (λ regex. is_some (find_factor_of regex) ≡ is_find_linear_tree options.linear_instructions (tree_of regex)) }
         ensures nonlinear { IfOk result (λ regex. IsNonlinearOf options.linear_instructions (tree_of regex) (nonlinear_of regex)) }
     {
         let points = code_points(alloc, pattern)?;
-        Regex::from_unicode(alloc, &points, flags, options, tables)
+        let source = String::from_str(alloc, pattern)?;
+        Regex::with_source(alloc, source, &points, flags, options, tables)
     }
 
     /// Compiles a pattern of code points, which may be surrogates, as [`Regex::with_options`] does.
@@ -171,6 +177,39 @@ impl Regex {
         ensures limit { IfOk result (λ regex. limit_of regex ≡ options.steps) }
         ensures linear { IfOk result (λ regex. IsFactorOf options.linear_instructions (tree_of regex) (factor_of regex)) }
         ensures find_linear { IfOk result (λ regex. IsFindFactorOf options.linear_instructions (tree_of regex) (find_factor_of regex)) }
+        ensures find_linear_tree { IfOk result (λ regex. is_some (find_factor_of regex) ≡ is_find_linear_tree options.linear_instructions (tree_of regex)) }
+        ensures nonlinear { IfOk result (λ regex. IsNonlinearOf options.linear_instructions (tree_of regex) (nonlinear_of regex)) }
+    {
+        let source = text_of(alloc, pattern)?;
+        Regex::with_source(alloc, source, pattern, flags, options, tables)
+    }
+
+    /// Compiles a pattern of code points whose text is `source`.
+    ///
+    /// # Preconditions
+    /// As for [`Regex::from_unicode`], and `source` has U+FFFD in place of each surrogate.
+    ///
+    /// # Errors
+    /// As for [`Regex::with_options`].
+    fn with_source(
+        alloc: Global,
+        source: String,
+        pattern: &[u32],
+        flags: Flags,
+        options: Options,
+        tables: &Arc<Tables>,
+    ) -> Result<Regex, Error>
+        requires points { All IsCodePoint pattern.now }
+        requires text { string_bytes source ≡ text_of pattern.now }
+        ensures compiled { IfOk result (IsCompiledFrom (setting_under flags (arc_value tables.now)) pattern.now) }
+        ensures source { IfOk result (λ regex. source_of regex ≡ text_of pattern.now) }
+        ensures failed { IfErr result (IsDue (setting_under flags (arc_value tables.now)) pattern.now options) }
+        ensures small { IfOk result (λ _. options.nodes < usize.MAX → HasAtMost flags pattern.now options.nodes) }
+        ensures within { IfOk result (λ regex. program_size (tree_of regex) ≤ options.instructions) }
+        ensures limit { IfOk result (λ regex. limit_of regex ≡ options.steps) }
+        ensures linear { IfOk result (λ regex. IsFactorOf options.linear_instructions (tree_of regex) (factor_of regex)) }
+        ensures find_linear { IfOk result (λ regex. IsFindFactorOf options.linear_instructions (tree_of regex) (find_factor_of regex)) }
+        ensures find_linear_tree { IfOk result (λ regex. is_some (find_factor_of regex) ≡ is_find_linear_tree options.linear_instructions (tree_of regex)) }
         ensures nonlinear { IfOk result (λ regex. IsNonlinearOf options.linear_instructions (tree_of regex) (nonlinear_of regex)) }
     {
         let bound = node_bound(pattern, flags);
@@ -179,7 +218,6 @@ impl Regex {
         }
         let compiled = optimized(alloc, pattern, flags, tables)?;
         let groups = groups(alloc, &compiled)?;
-        let source = text_of(alloc, pattern)?;
         let limits = Limits {
             instructions: options.instructions,
             linear_instructions: options.linear_instructions,
@@ -196,6 +234,7 @@ impl Regex {
     /// Compiles a pattern under the table of all of Unicode, within the default options.
     fn under_unicode(alloc: Global, pattern: &str, flags: Flags) -> Result<Regex, Error>
         ensures compiled { IfOk result (IsCompiled (unicode_setting flags) pattern.now) }
+        ensures keeps { IfOk result (Keeps default_options flags (chars pattern.now)) }
         ensures failed { IfErr result (IsDue (unicode_setting flags) (chars pattern.now) default_options) }
     {
         let tables = Arc::new(alloc, unicode_tables(alloc)?)?;
@@ -216,7 +255,9 @@ impl Regex {
     /// assert_eq!(rt; regex.required_literal(), Some(", user=".as_bytes()));
     /// ```
     pub fn required_literal(&self) -> Option<&[u8]>
-        ensures { IfSome result (λ literal. RequiresLiteral self.now literal.now) }
+        ensures required { IfSome result (λ literal. RequiresLiteral self.now literal.now) }
+        ensures not_empty { IfSome result (λ literal. 0 < length literal.now) }
+        ensures longest { bytes_in result ≡ longest (literals (tree_of self.now)) }
     {
         self.matcher.required_literal()
     }
@@ -309,7 +350,10 @@ impl Regex {
         ensures outcomes { searched_outcomes result ≡ outcomes_of self.now text.now }
         ensures groups { searched_groups result ≡ groups_of self.now }
         ensures linear { searched_factor result ≡ factor_of self.now }
+        ensures matcher { searched_matcher result ≡ matcher_of self.now }
         ensures limit { IfNone (factor_of self.now) (search_limit result ≡ limit_of self.now) }
+        ensures remaining { search_remaining result ≡ search_limit result }
+        ensures taken { search_taken result ≡ 0 }
         ensures failed { has_failed result ≡ false }
     {
         self.find_from(alloc, text, 0)
@@ -323,7 +367,10 @@ impl Regex {
         ensures outcomes { searched_outcomes result ≡ outcomes_of self.now text.now }
         ensures groups { searched_groups result ≡ groups_of self.now }
         ensures linear { searched_factor result ≡ factor_of self.now }
+        ensures matcher { searched_matcher result ≡ matcher_of self.now }
         ensures limit { IfNone (factor_of self.now) (search_limit result ≡ limit_of self.now) }
+        ensures remaining { search_remaining result ≡ search_limit result }
+        ensures taken { search_taken result ≡ 0 }
         ensures failed { has_failed result ≡ false }
     {
         Matches::new(alloc, &self.matcher, &self.groups, text, start, self.steps)
@@ -344,6 +391,7 @@ impl Regex {
         ensures inside { IfOk result (λ all. All (λ m. IsInside text.now (match_of m)) all.items) }
         ensures groups { IfOk result (λ all. All (λ m. groups_in m ≡ groups_of self.now) all.items) }
         ensures linear { IfErr result (λ error. error ≡ OutOfSteps → factor_of self.now ≡ None) }
+        ensures costs { IfErr result (λ error. error ≡ OutOfSteps → AllCostLimit self.now text.now 0) }
     {
         let mut all = Vec::new(alloc);
         for found in self.find_iter(alloc, text) {
@@ -359,6 +407,7 @@ impl Regex {
         ensures inside { IfOk result (λ all. All (IsInside text.now) all.items) }
         ensures order { IfOk result (λ all. AreInOrder 0 all.items) }
         ensures linear { IfErr result (λ error. error ≡ OutOfSteps → factor_of self.now ≡ None) }
+        ensures costs { IfErr result (λ error. error ≡ OutOfSteps → AllCostLimit self.now text.now 0) }
     {
         search::find_all(alloc, &self.matcher, text, self.steps)
     }
@@ -379,8 +428,9 @@ impl Regex {
 
     /// Returns whether a search for all matches is known to take time linear in the length of the text.
     ///
-    /// It is if the pattern has neither a back reference nor a capture group in a lookaround that is not negated, and
-    /// if its program has at most `linear_instructions` of [`Options`] instructions.
+    /// It is exactly if the pattern has neither a back reference nor a capture group in a lookaround that is not negated,
+    /// and its program at most `linear_instructions` of [`Options`] instructions. What is in a loop without iterations,
+    /// as in `(?:(a)\1){0}`, does not count.
     ///
     /// # Examples
     /// ```
@@ -395,7 +445,8 @@ impl Regex {
     /// Returns whether a search for one match is known to take time linear in the length of the text: also where
     /// lookarounds contain capture groups. It is if [`Regex::is_linear`].
     ///
-    /// A back reference rules it out, and so does a program of more than `linear_instructions` of [`Options`] instructions.
+    /// It is exactly if the pattern has no back reference, other than in a loop without iterations, and its program at
+    /// most `linear_instructions` of [`Options`] instructions.
     ///
     /// # Examples
     /// ```

@@ -1,11 +1,13 @@
 //! Replacing matches in a text.
-ghost use Rattle.std.specs.Prelude.{All, IfOk, map, string_bytes};
+ghost use Rattle.std.specs.Prelude.{◌≡◌, ◌⊎◌, All, IfErr, IfOk, None, map, string_bytes};
 ghost use Rattle.regress_found.specs.Found.{IsInside};
 ghost use Rattle.regress_replace.specs.Expansion.{expansion};
 ghost use Rattle.regress_replace.specs.Order.{AreInOrder};
 ghost use Rattle.regress.specs.Compiled.{groups_of, outcomes_of};
+ghost use Rattle.regress.specs.Costs.{AllAreTooCostly, AllCostLimit, CostsLimit, IsTooCostly, factor_of, find_factor_of};
 ghost use Rattle.regress.specs.Found.{match_of};
-ghost use Rattle.regress.specs.Replaced.{IsReplacedBy, ReplacesAll, ReplacesAllWith, ReplacesFirst, ReplacesFirstWith};
+ghost use Rattle.regress.specs.Replaced.{HasReturned, IsReplacedBy, ReplacesAll, ReplacesAllWith, ReplacesFirst, ReplacesFirstWith};
+ghost use Rattle.regress.specs.declared.failure.SearchError.TheVariants.{OutOfSteps};
 
 use crate::failure::SearchError;
 use crate::found::Match;
@@ -33,8 +35,11 @@ impl Regex {
     /// assert_eq!(rt; swapped.as_str(), "two one four three");
     /// ```
     pub fn replace(&self, alloc: Global, text: &str, template: &str) -> Result<String, SearchError>
-        ensures { IfOk result (λ out. ReplacesFirst text.now (outcomes_of self.now text.now)
+        ensures replaced { IfOk result (λ out. ReplacesFirst text.now (outcomes_of self.now text.now)
             (λ m. expansion text.now m (groups_of self.now) template.now) (string_bytes out)) }
+        ensures linear { IfErr result (λ error. error ≡ OutOfSteps → factor_of self.now ≡ None) }
+        ensures bounded { IfErr result (λ error. error ≡ OutOfSteps → find_factor_of self.now ≡ None) }
+        ensures costs { IfErr result (λ error. error ≡ OutOfSteps → CostsLimit self.now text.now 0) }
     {
         match self.find(alloc, text)? {
             Some(m) => Ok(replace_matches(
@@ -62,8 +67,10 @@ impl Regex {
         text: &str,
         template: &str,
     ) -> Result<String, SearchError>
-        ensures { IfOk result (λ out. ReplacesAll text.now (outcomes_of self.now text.now)
+        ensures replaced { IfOk result (λ out. ReplacesAll text.now (outcomes_of self.now text.now)
             (λ m. expansion text.now m (groups_of self.now) template.now) (string_bytes out)) }
+        ensures linear { IfErr result (λ error. error ≡ OutOfSteps → factor_of self.now ≡ None) }
+        ensures costs { IfErr result (λ error. error ≡ OutOfSteps → AllCostLimit self.now text.now 0) }
     {
         let matches = self.all_matches(alloc, text)?;
         Ok(replace_matches(alloc, text, &matches, template, &self.groups)?)
@@ -90,7 +97,8 @@ impl Regex {
         replacer: F,
     ) -> Result<String, SearchError>
         requires { F.IsAlwaysCallable replacer }
-        ensures { IfOk result (λ out. ReplacesFirstWith text.now (outcomes_of self.now text.now) F.FnMut replacer (string_bytes out)) }
+        ensures replaced { IfOk result (λ out. ReplacesFirstWith text.now (outcomes_of self.now text.now) F.FnMut replacer (string_bytes out)) }
+        ensures failed { IfErr result (λ error. error ≡ OutOfSteps → IsTooCostly self.now text.now 0 ⊎ HasReturned F.FnMut replacer error) }
     {
         match self.find(alloc, text)? {
             Some(m) => replace_each(alloc, text, slice::from_ref(&m), replacer),
@@ -124,7 +132,8 @@ impl Regex {
         replacer: F,
     ) -> Result<String, SearchError>
         requires { F.IsAlwaysCallable replacer }
-        ensures { IfOk result (λ out. ReplacesAllWith text.now (outcomes_of self.now text.now) F.FnMut replacer (string_bytes out)) }
+        ensures replaced { IfOk result (λ out. ReplacesAllWith text.now (outcomes_of self.now text.now) F.FnMut replacer (string_bytes out)) }
+        ensures failed { IfErr result (λ error. error ≡ OutOfSteps → AllAreTooCostly self.now text.now 0 ⊎ HasReturned F.FnMut replacer error) }
     {
         let matches = self.find_all(alloc, text)?;
         replace_each(alloc, text, &matches, replacer)
@@ -141,7 +150,8 @@ fn replace_each<F: FnMut(&Match) -> Result<String, SearchError>>(
     requires callable { F.IsAlwaysCallable replacer }
     requires inside { All (λ m. IsInside text.now (match_of m)) matches.now }
     requires order { AreInOrder 0 (map match_of matches.now) }
-    ensures { IfOk result (λ out. IsReplacedBy F.FnMut replacer text.now matches.now (string_bytes out)) }
+    ensures replaced { IfOk result (λ out. IsReplacedBy F.FnMut replacer text.now matches.now (string_bytes out)) }
+    ensures failed { IfErr result (λ error. error ≡ OutOfSteps → HasReturned F.FnMut replacer error) }
 {
     let mut out = String::new(alloc);
     let mut from = 0;

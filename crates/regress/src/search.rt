@@ -1,6 +1,7 @@
 //! Searches, in linear time or within a step limit.
 ghost use Rattle.std.specs.Prelude.{◌≡◌, All, IfErr, IfOk, IfSome, None};
 ghost use Rattle.regress_front.specs.WellFormed.{IsWellFormed};
+ghost use Rattle.regress_match.specs.AllCosts.{CostsOfMatches};
 ghost use Rattle.regress_match.specs.Costs.{IsWithinFindCost};
 ghost use Rattle.regress_match.specs.Iterated.{iterated_matcher};
 ghost use Rattle.regress_found.specs.Found.{IsInside, Finds};
@@ -48,6 +49,7 @@ pub(crate) fn find_all(
     ensures inside { IsWellFormed (matcher_tree matcher.now) → IfOk result (λ all. All (IsInside text.now) all.items) }
     ensures order { IfOk result (λ all. AreInOrder 0 all.items) }
     ensures linear { IfErr result (λ error. error ≡ OutOfSteps → factor_of matcher.now ≡ None) }
+    ensures costs { IfErr result (λ error. error ≡ OutOfSteps → CostsOfMatches matcher.now text.now 0 steps) }
 {
     match matcher.find_all(alloc, text, steps)? {
         Some(all) => Ok(all),
@@ -70,9 +72,9 @@ pub struct Matches<'r> {
 }
 
 impl<'r> Matches<'r> {
-    ghost use Rattle.std.specs.Prelude.{◌≡◌, ◌≤◌, ◌+◌, ◌*◌, IfNone, false, length, map};
+    ghost use Rattle.std.specs.Prelude.{◌≡◌, ◌≤◌, ◌+◌, ◌*◌, IfNone, false, length, map, min};
     ghost use Rattle.regress_match.specs.Names.{capture_of};
-    ghost use Rattle.regress.specs.Searched.{Proceeds, has_failed, next_from, search_limit, searched_factor, searched_groups, searched_outcomes, searched_text};
+    ghost use Rattle.regress.specs.Searched.{Proceeds, has_failed, next_from, search_limit, search_remaining, search_taken, searched_factor, searched_groups, searched_matcher, searched_outcomes, searched_text};
 
     pub(crate) fn new(
         alloc: Global,
@@ -88,7 +90,10 @@ impl<'r> Matches<'r> {
         ensures outcomes { searched_outcomes result ≡ matcher_outcomes matcher.now text.now }
         ensures groups { searched_groups result ≡ map capture_of groups.now }
         ensures linear { searched_factor result ≡ factor_of matcher.now }
+        ensures matcher { searched_matcher result ≡ matcher.now }
         ensures limit { IfNone (factor_of matcher.now) (search_limit result ≡ steps) }
+        ensures remaining { search_remaining result ≡ search_limit result }
+        ensures taken { search_taken result ≡ 0 }
         ensures failed { has_failed result ≡ false }
     {
         Matches {
@@ -102,6 +107,7 @@ impl<'r> Matches<'r> {
     /// Returns the number of steps that the search took so far. Of a call of `next` that returned
     /// [`SearchError::Memory`] some are not counted.
     pub fn steps(&self) -> u64
+        ensures taken { result ≡ min (search_taken self.now) u64.MAX }
         ensures linear { IfSome (searched_factor self.now) (λ n. result ≤ n * (length (searched_text self.now) + 1)) }
         ensures limited { IfNone (searched_factor self.now) (result ≤ search_limit self.now) }
     {

@@ -1,12 +1,14 @@
 //! Splitting a text at matches.
-ghost use Rattle.std.specs.Prelude.{All, ℕ, List, IfOk, map};
+ghost use Rattle.std.specs.Prelude.{◌≡◌, All, ℕ, List, IfErr, IfOk, None, map};
 ghost use Rattle.std.specs.Borrow.{Bor};
 ghost use Rattle.regress_found.specs.Found.{IsInside};
 ghost use Rattle.regress_found.specs.Repeated.{AreAllMatches};
 ghost use Rattle.regress_replace.specs.Order.{AreInOrder};
 ghost use Rattle.regress_replace.specs.Split.{part_texts};
 ghost use Rattle.regress.specs.Compiled.{outcomes_of};
+ghost use Rattle.regress.specs.Costs.{AllCostLimit, factor_of};
 ghost use Rattle.regress.specs.Replaced.{AreFirstMatches, IsSplit, IsSplitWithCaptures, IsSplitWithin};
+ghost use Rattle.regress.specs.declared.failure.SearchError.TheVariants.{OutOfSteps};
 
 use crate::failure::SearchError;
 use crate::pattern::Regex;
@@ -33,8 +35,10 @@ impl Regex {
     /// assert_eq!(rt; pieces.as_slice(), ["a", "b,c"].as_slice());
     /// ```
     pub fn split<'a>(&self, alloc: Global, text: &'a str) -> Result<Vec<&'a str>, SearchError>
-        ensures { IfOk result (λ pieces. IsSplit text.now (outcomes_of self.now text.now)
+        ensures split { IfOk result (λ pieces. IsSplit text.now (outcomes_of self.now text.now)
             (map (λ (piece : Bor (List ℕ)). piece.now) pieces.items)) }
+        ensures linear { IfErr result (λ error. error ≡ OutOfSteps → factor_of self.now ≡ None) }
+        ensures costs { IfErr result (λ error. error ≡ OutOfSteps → AllCostLimit self.now text.now 0) }
     {
         let matches = self.all_matches(alloc, text)?;
         Ok(split_at_matches(alloc, text, &matches)?)
@@ -51,8 +55,10 @@ impl Regex {
         text: &'a str,
         limit: usize,
     ) -> Result<Vec<&'a str>, SearchError>
-        ensures { IfOk result (λ pieces. IsSplitWithin text.now (outcomes_of self.now text.now) limit
+        ensures split { IfOk result (λ pieces. IsSplitWithin text.now (outcomes_of self.now text.now) limit
             (map (λ (piece : Bor (List ℕ)). piece.now) pieces.items)) }
+        ensures linear { IfErr result (λ error. error ≡ OutOfSteps → factor_of self.now ≡ None) }
+        ensures costs { IfErr result (λ error. error ≡ OutOfSteps → AllCostLimit self.now text.now 0) }
     {
         if limit == 0 {
             return Ok(Vec::new(alloc));
@@ -83,7 +89,9 @@ impl Regex {
         text: &'a str,
         limit: Option<usize>,
     ) -> Result<Vec<Option<&'a str>>, SearchError>
-        ensures { IfOk result (λ parts. IsSplitWithCaptures text.now (outcomes_of self.now text.now) limit (part_texts parts.items)) }
+        ensures split { IfOk result (λ parts. IsSplitWithCaptures text.now (outcomes_of self.now text.now) limit (part_texts parts.items)) }
+        ensures linear { IfErr result (λ error. error ≡ OutOfSteps → factor_of self.now ≡ None) }
+        ensures costs { IfErr result (λ error. error ≡ OutOfSteps → AllCostLimit self.now text.now 0) }
     {
         let matches = self.all_matches(alloc, text)?;
         Ok(split_with_captures(alloc, text, &matches, limit)?)
@@ -99,6 +107,8 @@ impl Regex {
         ensures first { IfOk result (λ first. AreFirstMatches text.now (outcomes_of self.now text.now) count first.items) }
         ensures inside { IfOk result (λ first. All (IsInside text.now) first.items) }
         ensures order { IfOk result (λ first. AreInOrder 0 first.items) }
+        ensures linear { IfErr result (λ error. error ≡ OutOfSteps → factor_of self.now ≡ None) }
+        ensures costs { IfErr result (λ error. error ≡ OutOfSteps → AllCostLimit self.now text.now 0) }
     {
         let mut first = Vec::new(alloc);
         let mut matches = self.find_iter(alloc, text);

@@ -33,11 +33,12 @@ impl From<AllocError> for ArgumentsError {
 /// Returns [`ArgumentsError::OutOfMemory`] if an allocation fails, and [`ArgumentsError::NotUtf8`] if an argument is
 /// not UTF-8.
 pub fn arguments<R: Env + AllocGlobal>(rt: &R) -> Result<Vec<String>, ArgumentsError> {
-    Ok(env::args(rt).map_err(unread)?.skip(1).collect(rt.alloc())?)
+    let own = env::args(rt).map_err(argument_error)?.skip(1);
+    Ok(own.collect(rt.alloc())?)
 }
 
 /// Converts the error of an argument.
-fn unread(error: io::Error) -> ArgumentsError
+fn argument_error(error: io::Error) -> ArgumentsError
     ensures memory { error_kind error ≡ ErrorKind.OutOfMemory → result ≡ OutOfMemory }
     ensures other { error_kind error ≢ ErrorKind.OutOfMemory → result ≡ NotUtf8 }
 {

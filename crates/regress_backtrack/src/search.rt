@@ -1,5 +1,5 @@
 //! Searching a text from left to right.
-ghost use Rattle.std.specs.Prelude.{◌≡◌, ◌≤◌, ◌<◌, ◌+◌, [], ℕ, IfOk, IfSome, MatchOption, length};
+ghost use Rattle.std.specs.Prelude.{◌≡◌, ◌≤◌, ◌<◌, ◌+◌, ◌-◌, [], ℕ, IfOk, IfSome, MatchOption, Some, length};
 ghost use Rattle.regress_tree.specs.Tree.{Tree};
 ghost use Rattle.regress_unicode.specs.declared.Tables.{Tables};
 ghost use Rattle.regress_program.specs.Compiled.{IsPattern};
@@ -7,7 +7,8 @@ ghost use Rattle.regress_program.specs.Cost.{Cost, IsCost};
 ghost use Rattle.regress_program.specs.Program.{IsSolution, Out};
 ghost use Rattle.regress_backtrack.specs.Backtracker.{AreCosts, AreOutcomes, SameRuns, outcomes_at, run_code, run_text, search_cost_at, tree_outcomes_at};
 ghost use Rattle.regress_code.specs.Code.{code_routines, cost_from, outcomes_from, setting_with, tree_outcomes_from};
-ghost use Rattle.regress_found.specs.Results.{IsSearchResult, IsMatchResult};
+ghost use Rattle.regress_found.specs.Results.{IfMatched, IsSearchResult, IsMatchResult};
+ghost use Rattle.regress_found.specs.Tried.{positions_tried};
 ghost use Rattle.regress_backtrack.specs.Searched.{IsFor};
 ghost use Rattle.regress_code.specs.declared.code.Code.{Code};
 ghost use Rattle.regress_found.specs.declared.outcome.Outcome.TheVariants.{OutOfSteps};
@@ -70,7 +71,8 @@ impl Backtracker<'_, '_> {
     /// and with 0 for each `from` in the text. A step that is begun is completed, even if it counts more than remains. If
     /// the first bytes show that no match begins in the rest of the text, that rest counts nothing.
     ///
-    /// A search takes at most its cost: the steps that following every outcome from every byte offset takes. Every program
+    /// A search that finds a match takes at least a step for each byte offset up to its start, or all steps that remain.
+    /// It takes at most its cost: the steps that following every outcome from every byte offset takes. Every program
     /// has a cost in every text, and with more steps than that the result is not [`Outcome::OutOfSteps`].
     ///
     /// So the limit bounds the time: it is at most `remaining` and the length of the text together, times a factor that depends
@@ -93,6 +95,7 @@ impl Backtracker<'_, '_> {
         ensures costs { IfOk result (λ _. (outs : ℕ → Out) (costs : ℕ → Cost) → AreCosts self.old outs costs →
             remaining.old ≤ remaining.new + search_cost_at self.old costs from) }
         ensures spent { IfOk result (λ outcome. outcome ≡ OutOfSteps → remaining.new ≡ 0) }
+        ensures tried { IfOk result (λ outcome. IfMatched outcome (λ m. remaining.new ≤ remaining.old - positions_tried (run_text self.old) from (Some m))) }
         ensures same { SameRuns self.old self.new }
     {
         let code = self.code;

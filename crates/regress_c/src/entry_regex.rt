@@ -1,14 +1,15 @@
 //! The functions that C calls to compile a pattern, and to search for it. include/regress.h documents them.
 ghost use Rattle.std.specs.Prelude.{◌≡◌, if◌then◌else◌, IfSome, IsUtf8, None, is_some, length, min, option_map, unwrap_or};
-ghost use Rattle.regress.specs.Costs.{factor_of, find_factor_of, nonlinear_of};
+ghost use Rattle.regress.specs.Costs.{AllAreTooCostly, IsTooCostly, factor_of, find_factor_of, nonlinear_of};
 ghost use Rattle.regress.specs.Compiled.{groups_of, outcomes_of};
 ghost use Rattle.regress.specs.Searched.{MatchesSomewhere};
 ghost use Rattle.regress_capi.specs.CompileResults.{CompileResult, limits_of};
+ghost use Rattle.regress_capi.specs.Fault.{HasKind, IsTextOf};
 ghost use Rattle.regress_capi.specs.Reasons.{reason_number};
 ghost use Rattle.regress_capi.specs.Request.{setting_by, IsTextRequest};
 ghost use Rattle.regress_capi.specs.SearchResults.{SearchResult, TestResult};
 ghost use Rattle.regress_capi.specs.Spans.{AreEndsOfAll, AreEndsOfFirst};
-ghost use Rattle.regress_capi.specs.TextResults.{HasGroup, HasKind, IsMessage, IsNameOf, TextResult};
+ghost use Rattle.regress_capi.specs.TextResults.{HasGroup, IsNameOf, TextResult};
 ghost use Rattle.regress_found.specs.Found.{Finds};
 
 use regress_capi::compiling::write_handle;
@@ -76,7 +77,7 @@ pub extern "C" fn regress_find(
     ensures same { handle.new.value ≡ handle.old.value }
     ensures status { IfSome handle.old.value (λ regex. SearchResult (IsUtf8 text.now)
         (AreEndsOfFirst text.now (outcomes_of regex text.now) from) (Finds text.now (outcomes_of regex text.now) from None)
-        spans.old result needed.new spans.new) }
+        (IsTooCostly regex text.now from) spans.old result needed.new spans.new) }
 {
     let regex = handle.take(alloc);
     let status = searches::write_first(alloc, &regex, Searched { text, from }, spans, needed);
@@ -104,7 +105,7 @@ pub extern "C" fn regress_find_all(
     requires { handle.old.value ≡ None → ⊥ }
     ensures same { handle.new.value ≡ handle.old.value }
     ensures status { IfSome handle.old.value (λ regex. SearchResult (IsUtf8 text.now)
-        (AreEndsOfAll text.now (outcomes_of regex text.now) from) ⊥ spans.old result needed.new spans.new) }
+        (AreEndsOfAll text.now (outcomes_of regex text.now) from) ⊥ (AllAreTooCostly regex text.now from) spans.old result needed.new spans.new) }
 {
     let regex = handle.take(alloc);
     let status = searches::write_all(alloc, &regex, Searched { text, from }, spans, needed);
@@ -125,7 +126,8 @@ pub extern "C" fn regress_is_match(alloc: Global, handle: &mut Handle, text: &[u
     requires { handle.old.value ≡ None → ⊥ }
     ensures same { handle.new.value ≡ handle.old.value }
     ensures status { IfSome handle.old.value (λ regex. TestResult (IsUtf8 text.now)
-        (MatchesSomewhere text.now (outcomes_of regex text.now)) (MatchesSomewhere text.now (outcomes_of regex text.now) → ⊥) result) }
+        (MatchesSomewhere text.now (outcomes_of regex text.now)) (MatchesSomewhere text.now (outcomes_of regex text.now) → ⊥)
+        (IsTooCostly regex text.now 0) result) }
 {
     let regex = handle.take(alloc);
     let status = searches::test(alloc, &regex, text);
@@ -251,7 +253,7 @@ pub extern "C" fn regress_group_name(
 /// 0, and `needed` is 0 unless the status is 0 or 3.
 #[unsafe(no_mangle)]
 pub extern "C" fn regress_error_message(kind: u32, out: &mut [u8], needed: &mut usize) -> u32
-    ensures status { TextResult (HasKind kind) (IsMessage kind) out.old result needed.new out.new }
+    ensures status { TextResult (HasKind kind) (IsTextOf kind) out.old result needed.new out.new }
 {
     texts::write_message(kind, out, needed)
 }

@@ -2,6 +2,7 @@
 ghost use Rattle.std.specs.Prelude.{◌≡◌, IfSome, IsUtf8, None};
 ghost use Rattle.regress_capi.specs.EscapeResults.{EscapeResult};
 ghost use Rattle.regress_capi.specs.ReplaceResults.{HasAllReplaced, HasFirstReplaced};
+ghost use Rattle.regress.specs.Costs.{AllAreTooCostly, IsTooCostly};
 ghost use Rattle.regress_capi.specs.SearchResults.{SearchResult};
 
 use regress_capi::escaping;
@@ -30,7 +31,7 @@ pub extern "C" fn regress_replace(
     requires { handle.old.value ≡ None → ⊥ }
     ensures same { handle.new.value ≡ handle.old.value }
     ensures status { IfSome handle.old.value (λ regex. SearchResult (IsUtf8 text.now × IsUtf8 template.now)
-        (HasFirstReplaced regex text.now template.now) ⊥ out.old result needed.new out.new) }
+        (HasFirstReplaced regex text.now template.now) ⊥ (IsTooCostly regex text.now 0) out.old result needed.new out.new) }
 {
     let regex = handle.take(alloc);
     let status = replacing::write_first_replaced(
@@ -63,7 +64,7 @@ pub extern "C" fn regress_replace_all(
     requires { handle.old.value ≡ None → ⊥ }
     ensures same { handle.new.value ≡ handle.old.value }
     ensures status { IfSome handle.old.value (λ regex. SearchResult (IsUtf8 text.now × IsUtf8 template.now)
-        (HasAllReplaced regex text.now template.now) ⊥ out.old result needed.new out.new) }
+        (HasAllReplaced regex text.now template.now) ⊥ (AllAreTooCostly regex text.now 0) out.old result needed.new out.new) }
 {
     let regex = handle.take(alloc);
     let status = replacing::write_all_replaced(

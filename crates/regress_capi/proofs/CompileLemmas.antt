@@ -5,8 +5,8 @@ use Rattle.regress_front.specs.Setting.{Setting}
 use Rattle.regress_lexer.specs.FaultKinds.{number_of}
 use Rattle.regress_lexer.specs.declared.fault.FaultKind.{FaultKind}
 use Rattle.regress_parse.specs.Accepted.{NoneIsAccepted}
-use Rattle.regress_parse.specs.Settled.{IsReported}
-use Rattle.regress.specs.Failures.{IsSyntaxError, IsTooLarge}
+use Rattle.regress_parse.specs.Settled.{IsReported, IsSyntaxError}
+use Rattle.regress.specs.Failures.{IsTooLarge}
 use Rattle.regress.specs.declared.limits.Options.{Options}
 use Rattle.regress.specs.declared.pattern.Regex.{Regex}
 use Rattle.regress_capi.specs.CompileResults.{CompileResult, IsCompiledWithin, compiled, rejected, too_large}

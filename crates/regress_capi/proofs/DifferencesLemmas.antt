@@ -4,15 +4,14 @@ use Rattle.std.specs.Prelude.{IfOk, MatchBool, Result, Ok, Err}
 use Rattle.regress_tree.specs.Setting.{Setting}
 use Rattle.regress_lexer.specs.Source.{Source}
 use Rattle.regress_syntax.specs.Syntax.{Pattern}
-use Rattle.regress_parse.specs.Accepted.{IsAccepted, NoneIsAccepted, OfAccepted}
-use Rattle.regress_parse.specs.Fault.{RejectedOnlyIf, ReportsKindAt, unplaced}
-use Rattle.regress_parse.specs.Settled.{IsReported}
+use Rattle.regress_parse.specs.Accepted.{IsAccepted, OfAccepted}
 use Rattle.regress_parse.specs.declared.fault.PlacedFault.{PlacedFault}
 use Rattle.regress_parse.specs.declared.fault.PlacedFault.TheVariants.{Syntax, Memory}
+use Rattle.regress_parse.specs.Settled.{IsFaultOf}
 use Rattle.regress_spans.specs.Paired.{spanned_of}
 use Rattle.regress_ecma.specs.Compared.{IsComparable}
 use Rattle.regress_ecma.specs.Differences.{HasCaseDataOfUnicode}
-use Rattle.regress_differences.specs.CaseMode.{flags_somewhere}
+use Rattle.regress_differences.specs.CaseMode.{widest_flags}
 use Rattle.regress_differences.specs.Reported.{reported}
 use Rattle.regress_differences.specs.declared.kind.Difference.{Difference}
 use Rattle.regress_capi.specs.DifferencesResults.{AreDifferences, AreNumbered, DifferencesResult, differences_written, differences_out_of_memory, differences_little, differences_bad, differences_rejected}
@@ -23,7 +22,7 @@ module _ (setting : Setting) (source : Source) where
   -- what is stated of the differences of a pattern, as one record
   pub differences-are : {V : Type 0} (items : V → List Difference) (r : Result V PlacedFault) →
       IfOk r (λ v. (p : Pattern) × (accepted : IsAccepted setting source p)
-      × (items v ≡ reported (flags_somewhere setting.flags source) source (spanned_of setting source p accepted.derived))) →
+      × (items v ≡ reported (widest_flags setting.flags source) source (spanned_of setting source p accepted.derived))) →
       IfOk r (λ v. items v ≡ [] → HasCaseDataOfUnicode setting.table →
       (setting.flags.unicode_sets ≡ true → setting.flags.unicode ≡ true) → OfAccepted setting source (IsComparable setting)) →
       IfOk r (λ v. AreDifferences setting source (items v))
@@ -43,12 +42,12 @@ module _ {setting : Setting} {source : Source} where
       subst (λ buffer. DifferencesResult (Unit {0}) setting source old 3 needed 0 0 buffer) (sym left.0)
       (differences_little tt (items, are, count, subst (λ xs. length old < length xs) same left.1))
 
-  pub differences-fault : (X : Type 0) {old : List NumberedDifference} (fault : PlacedFault) →
-      RejectedOnlyIf (unplaced {X = X} (Err fault)) (NoneIsAccepted setting source) → ReportsKindAt {X = X} (Err fault) (IsReported setting source) →
+  pub differences-fault : {old : List NumberedDifference} (fault : PlacedFault) → IsFaultOf setting source fault →
       DifferencesResult (Unit {0}) setting source old (of_fault 5 fault).status (of_fault 5 fault).needed (of_fault 5 fault).kind
       (of_fault 5 fault).position old
-  differences-fault X (Syntax kind error position) none is = differences_rejected tt none (record { kind = kind; numbered = refl; reported = is })
-  differences-fault X (Memory e) none is = differences_out_of_memory tt
+  differences-fault (Syntax kind error position) is =
+      differences_rejected tt is.rejected (record { kind = kind; numbered = refl; reported = is.reported })
+  differences-fault (Memory e) is = differences_out_of_memory tt
 
   -- of a pattern whose arguments are valid
   pub differences-asked : {A : Type 0} {old new : List NumberedDifference} {status needed kind position : ℕ} → A →

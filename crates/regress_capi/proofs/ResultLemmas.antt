@@ -1,14 +1,12 @@
 -- The result of a call, from what it computed.
 use Rattle.std.proofs.Common.{◌≡◌, ◌++◌, ◌<◌, ℕ, List, Bool, true, false, drop, length, refl, sym, ap, ◌∙◌, subst}
-use Rattle.std.specs.Prelude.{Err, MatchBool}
+use Rattle.std.specs.Prelude.{MatchBool}
 use Rattle.regress_tree.specs.Setting.{Setting}
 use Rattle.regress_lexer.specs.Source.{Source}
 use Rattle.regress_lexer.specs.declared.fault.FaultKind.{FaultKind}
-use Rattle.regress_parse.specs.Accepted.{NoneIsAccepted}
-use Rattle.regress_parse.specs.Fault.{RejectedOnlyIf, ReportsKindAt, text_of, unplaced}
-use Rattle.regress_parse.specs.Settled.{IsReported}
 use Rattle.regress_parse.specs.declared.fault.PlacedFault.{PlacedFault}
 use Rattle.regress_parse.specs.declared.fault.PlacedFault.TheVariants.{Syntax, Memory}
+use Rattle.regress_parse.specs.Settled.{IsFaultOf, IsSyntaxError}
 use Rattle.regress_lexer.specs.FaultKinds.{number_of}
 use Rattle.regress_capi.specs.Replies.{of_fault, of_items, of_text}
 use Rattle.regress_capi.specs.Results.{AreWords}
@@ -29,26 +27,26 @@ module _ {Asked : Type 0} {setting : Setting} {source : Source} where
       subst (λ buffer. EncodingResult Asked setting source optimized old 3 needed 0 0 buffer) (sym left.0)
       (words.little asked (items, are, count, subst (λ xs. length old < length xs) same left.1))
 
-  pub words-fault : (X : Type 0) {optimized : Bool} {old : List ℕ} (fault : PlacedFault) → Asked →
-      RejectedOnlyIf (unplaced {X = X} (Err fault)) (NoneIsAccepted setting source) → ReportsKindAt {X = X} (Err fault) (IsReported setting source) →
+  pub words-fault : {optimized : Bool} {old : List ℕ} (fault : PlacedFault) → Asked →
+      IsFaultOf setting source fault →
       EncodingResult Asked setting source optimized old (of_fault 1 fault).status (of_fault 1 fault).needed (of_fault 1 fault).kind
       (of_fault 1 fault).position old
-  words-fault X (Syntax kind error position) asked none is = rejected asked none (record { kind = kind; numbered = refl; reported = is })
-  words-fault X (Memory e) asked none is = words.out_of_memory asked
+  words-fault (Syntax kind error position) asked is = rejected asked is.rejected (record { kind = kind; numbered = refl; reported = is.reported })
+  words-fault (Memory e) asked is = words.out_of_memory asked
 
   -- an accepted pattern has no syntax error
   pub no-fault : {old : List ℕ} (items : List ℕ) → Asked → AreWords setting source false items → ErrorResult Asked setting source old 0 0 0 0 old
   no-fault items asked are = faultless are.1.pattern asked are.1.accepted
 
   pub fault-given : {old new : List ℕ} (fits : Bool) (kind : FaultKind) (position : ℕ) (text handed : List ℕ) → Asked →
-      NoneIsAccepted setting source → IsReported setting source kind position → text ≡ text_of kind → handed ≡ text →
+      IsSyntaxError setting source kind text position → handed ≡ text →
       MatchBool fits (new ≡ handed ++ drop (length handed) old) ((new ≡ old) × (length old < length handed)) →
       ErrorResult Asked setting source old (of_text fits (length handed) (number_of kind) position).status (length handed) (number_of kind) position new
-  fault-given true kind position text handed asked none is says same put =
-      reported asked none (handed, (record { kind = kind; numbered = refl; reported = is }, same ∙ says), refl, put)
-  fault-given {old = old} false kind position text handed asked none is says same left =
+  fault-given true kind position text handed asked is same put =
+      reported asked is.rejected (handed, (record { kind = kind; numbered = refl; reported = is.reported }, same ∙ is.text), refl, put)
+  fault-given {old = old} false kind position text handed asked is same left =
       subst (λ buffer. ErrorResult Asked setting source old 3 (length handed) (number_of kind) position buffer) (sym left.0)
-      (faults.little asked none (handed, (record { kind = kind; numbered = refl; reported = is }, same ∙ says), refl, left.1))
+      (faults.little asked is.rejected (handed, (record { kind = kind; numbered = refl; reported = is.reported }, same ∙ is.text), refl, left.1))
 
 -- -- of a text
 

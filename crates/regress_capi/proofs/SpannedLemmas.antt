@@ -7,14 +7,13 @@ use Rattle.regress_tree.specs.Visits.{nodes}
 use Rattle.regress_tree.specs.WellFormed.{captures}
 use Rattle.regress_lexer.specs.Source.{Source}
 use Rattle.regress_syntax.specs.Syntax.{Pattern}
-use Rattle.regress_parse.specs.Accepted.{IsAccepted, Means, NoneIsAccepted, OfAccepted}
-use Rattle.regress_parse.specs.Fault.{RejectedOnlyIf, ReportsKindAt, unplaced}
-use Rattle.regress_parse.specs.Settled.{IsReported}
+use Rattle.regress_parse.specs.Accepted.{IsAccepted, Means, OfAccepted}
 use Rattle.regress_parse.specs.TreeOf.{tree_of}
 use Rattle.regress_parse.specs.Spans.{spans_of}
 use Rattle.regress_parse.specs.declared.fault.PlacedFault.{PlacedFault}
 use Rattle.regress_parse.specs.declared.fault.PlacedFault.TheVariants.{Syntax, Memory}
 use Rattle.regress_parse.specs.declared.span.Span.{Span}
+use Rattle.regress_parse.specs.Settled.{IsFaultOf}
 use Rattle.regress_spans.specs.Paired.{postorder, spanned_of}
 use Rattle.regress_capi.specs.Replies.{of_fault, of_items}
 use Rattle.regress_capi.specs.SpannedResults.{ArePlaced, AreSpannedWords, SpannedResult, spanned_written, spanned_rejected, spanned_out_of_memory, spanned_little, spanned_bad}
@@ -68,10 +67,9 @@ module _ {setting : Setting} {source : Source} {A : Type 0} {old_words : List �
       (subst (λ ss. SpannedResult A setting source old_words old_spans 3 needed spans_needed 0 0 old_words ss) (sym left.1)
       (spanned_little asked (xs, ys, are, count, spans_count, left.2)))
 
-  pub spanned-fault : (X : Type 0) (fault : PlacedFault) → A → RejectedOnlyIf (unplaced {X = X} (Err fault)) (NoneIsAccepted setting source) →
-      ReportsKindAt {X = X} (Err fault) (IsReported setting source) →
+  pub spanned-fault : (fault : PlacedFault) → A → IsFaultOf setting source fault →
       SpannedResult A setting source old_words old_spans (of_fault 1 fault).status (of_fault 1 fault).needed 0 (of_fault 1 fault).kind
       (of_fault 1 fault).position old_words old_spans
-  spanned-fault X (Syntax kind error position) asked none is =
-      spanned_rejected asked none (record { kind = kind; numbered = refl; reported = is })
-  spanned-fault X (Memory e) asked none is = spanned_out_of_memory asked
+  spanned-fault (Syntax kind error position) asked is =
+      spanned_rejected asked is.rejected (record { kind = kind; numbered = refl; reported = is.reported })
+  spanned-fault (Memory e) asked is = spanned_out_of_memory asked

@@ -2,9 +2,8 @@
 use Rattle.std.specs.Prelude.{◌≡◌, ◌==◌, ℕ, List, Option, Some, chars, if◌then◌else◌}
 use Rattle.regress_front.specs.Setting.{Setting}
 use Rattle.regress_parse.specs.Accepted.{NoneIsAccepted}
-use Rattle.regress_match.specs.Matcher.{IsFactorOf, IsFindFactorOf, IsNonlinearOf}
-use Rattle.regress.specs.Compiled.{IsCompiled, tree_of}
-use Rattle.regress.specs.Costs.{factor_of, find_factor_of, limit_of, nonlinear_of}
+use Rattle.regress.specs.Compiled.{IsCompiled}
+use Rattle.regress.specs.Kept.{Keeps}
 use Rattle.regress.specs.Failures.{IsTooLarge}
 use Rattle.regress.specs.Limits.{default_options}
 use Rattle.regress.specs.declared.limits.Options.{Options}
@@ -25,13 +24,10 @@ limits_of l = record {
   linear_instructions = or_default l.linear_instructions default_options.linear_instructions;
 }
 
--- The regular expression is compiled from this text, and searches within these limits.
+-- The regular expression is compiled from this text, within these limits, and searches within them.
 pub record IsCompiledWithin (setting : Setting) (text : List ℕ) (options : Options) (regex : Regex) : Type 0 where
   pub compiled : IsCompiled setting text regex
-  pub limit : limit_of regex ≡ options.steps
-  pub linear : IsFactorOf options.linear_instructions (tree_of regex) (factor_of regex)
-  pub find_linear : IsFindFactorOf options.linear_instructions (tree_of regex) (find_factor_of regex)
-  pub nonlinear : IsNonlinearOf options.linear_instructions (tree_of regex) (nonlinear_of regex)
+  pub keeps : Keeps options setting.flags (chars text) regex
 
 -- The status, `kind`, `position`, and the handle before and after. `Asked` states that the arguments are valid.
 pub data CompileResult (Asked : Type 0) (setting : Setting) (text : List ℕ) (options : Options) (old : Option Regex) :

@@ -7,7 +7,7 @@ use Rattle.regress_parse.specs.Accepted.{IsAccepted, NoneIsAccepted, OfAccepted}
 use Rattle.regress_spans.specs.Paired.{spanned_of}
 use Rattle.regress_ecma.specs.Compared.{IsComparable}
 use Rattle.regress_ecma.specs.Differences.{HasCaseDataOfUnicode}
-use Rattle.regress_differences.specs.CaseMode.{flags_somewhere}
+use Rattle.regress_differences.specs.CaseMode.{widest_flags}
 use Rattle.regress_differences.specs.Kinds.{name_of, number_of, text_of}
 use Rattle.regress_differences.specs.Reported.{reported}
 use Rattle.regress_differences.specs.declared.kind.Difference.{Difference}
@@ -19,7 +19,7 @@ use Rattle.regress_capi.specs.declared.differing.NumberedDifference.{NumberedDif
 pub record AreDifferences (setting : Setting) (source : Source) (found : List Difference) : Type 0 where
   pub pattern : Pattern
   pub accepted : IsAccepted setting source pattern
-  pub listed : found ≡ reported (flags_somewhere setting.flags source) source (spanned_of setting source pattern accepted.derived)
+  pub listed : found ≡ reported (widest_flags setting.flags source) source (spanned_of setting source pattern accepted.derived)
   pub comparable : found ≡ [] → HasCaseDataOfUnicode setting.table →
       (setting.flags.unicode_sets ≡ true → setting.flags.unicode ≡ true) → OfAccepted setting source (IsComparable setting)
 

@@ -14,3 +14,5 @@ pub mod EscapeResults
 pub mod BoundResults
 pub mod DifferencesResults
 pub mod SpannedResults
+-- The numbers and the texts of syntax errors.
+pub use Rattle.regress_parse.specs.Fault

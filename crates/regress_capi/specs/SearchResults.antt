@@ -5,28 +5,28 @@ use Rattle.regress.specs.declared.failure.SearchError.TheVariants.{Memory, OutOf
 use Rattle.regress_capi.specs.Results.{Gives, IsTooSmall}
 
 -- The status, `needed`, and the buffer before and after. `Asked` states that the arguments are valid, `P` what is
--- written, and `Missing` that there is no match.
-pub data SearchResult (Asked : Type 0) (P : List ℕ → Type 0) (Missing : Type 0) (old : List ℕ) : (status needed : ℕ) (new : List ℕ) → Type 0 where
+-- written, `Missing` that there is no match, and `Costly` that the search may be out of steps.
+pub data SearchResult (Asked : Type 0) (P : List ℕ → Type 0) (Missing Costly : Type 0) (old : List ℕ) : (status needed : ℕ) (new : List ℕ) → Type 0 where
   -- the whole result is written
-  written : {needed : ℕ} {new : List ℕ} → Asked → Gives P needed old new → SearchResult Asked P Missing old 0 needed new
+  written : {needed : ℕ} {new : List ℕ} → Asked → Gives P needed old new → SearchResult Asked P Missing Costly old 0 needed new
   -- the text has no match
-  no_match : Asked → Missing → SearchResult Asked P Missing old 1 0 old
+  no_match : Asked → Missing → SearchResult Asked P Missing Costly old 1 0 old
   -- an allocation failed
-  out_of_memory : Asked → SearchResult Asked P Missing old 2 0 old
+  out_of_memory : Asked → SearchResult Asked P Missing Costly old 2 0 old
   -- the buffer is too small
-  little : {needed : ℕ} → Asked → IsTooSmall P needed old → SearchResult Asked P Missing old 3 needed old
+  little : {needed : ℕ} → Asked → IsTooSmall P needed old → SearchResult Asked P Missing Costly old 3 needed old
   -- the arguments are invalid
-  bad : (Asked → ⊥) → SearchResult Asked P Missing old 4 0 old
+  bad : (Asked → ⊥) → SearchResult Asked P Missing Costly old 4 0 old
   -- the search takes more steps than allowed
-  out_of_steps : Asked → SearchResult Asked P Missing old 7 0 old
+  out_of_steps : Asked → Costly → SearchResult Asked P Missing Costly old 7 0 old
 
 -- The status of a call that asks whether there is a match.
-pub data TestResult (Asked Present Missing : Type 0) : (status : ℕ) → Type 0 where
-  found : Asked → Present → TestResult Asked Present Missing 0
-  not_found : Asked → Missing → TestResult Asked Present Missing 1
-  too_little_memory : Asked → TestResult Asked Present Missing 2
-  no_text : (Asked → ⊥) → TestResult Asked Present Missing 4
-  too_many_steps : Asked → TestResult Asked Present Missing 7
+pub data TestResult (Asked Present Missing Costly : Type 0) : (status : ℕ) → Type 0 where
+  found : Asked → Present → TestResult Asked Present Missing Costly 0
+  not_found : Asked → Missing → TestResult Asked Present Missing Costly 1
+  too_little_memory : Asked → TestResult Asked Present Missing Costly 2
+  no_text : (Asked → ⊥) → TestResult Asked Present Missing Costly 4
+  too_many_steps : Asked → Costly → TestResult Asked Present Missing Costly 7
 
 -- the status of an error of a search
 abbrev pub status_of : SearchError → ℕ

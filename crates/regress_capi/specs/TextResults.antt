@@ -1,9 +1,6 @@
 -- The results of calls that write a text which does not depend on a search.
 use Rattle.std.specs.Prelude.{◌≡◌, ◌<◌, ◌≤◌, ◌-◌, ◌++◌, ◌∷◌, ℕ, List, [], Some, drop, length, option_map, slice_get, unwrap_or}
 use Rattle.regress_front.specs.WellFormed.{Capture}
-use Rattle.regress_lexer.specs.FaultKinds.{number_of}
-use Rattle.regress_lexer.specs.declared.fault.FaultKind.{FaultKind}
-use Rattle.regress_parse.specs.Fault.{words}
 use Rattle.regress_capi.specs.Results.{Gives, IsTooSmall}
 
 -- the rest of a buffer, with 0 in place of its first item, if it has one
@@ -40,11 +37,3 @@ HasGroup groups number = (0 < number) × (number ≤ length groups)
 -- The text is the name of the group with this number, and empty for a group without a name.
 abbrev pub IsNameOf : List Capture → (number : ℕ) → List ℕ → Type 0
 IsNameOf groups number text = option_map (λ group. unwrap_or group.name []) (slice_get groups (number - 1)) ≡ Some text
-
--- There is a kind of syntax error with this number.
-abbrev pub HasKind : (number : ℕ) → Type 0
-HasKind number = (0 < number) × (number ≤ 32)
-
--- The text is that of each kind of syntax error with this number, up to a name.
-abbrev pub IsMessage : (number : ℕ) → List ℕ → Type 0
-IsMessage number text = (kind : FaultKind) → number ≡ number_of kind → text ≡ words kind

@@ -1,10 +1,8 @@
 //! The differences of a pattern from ECMA-262, with their kinds as numbers.
-ghost use Rattle.std.specs.Prelude.{◌≡◌, ◌≤◌, All, IfOk, MatchOption, chars, map};
+ghost use Rattle.std.specs.Prelude.{◌≡◌, ◌≤◌, All, IfOk, MatchOption, chars, map, IfErr};
 ghost use Rattle.regress_front.specs.Intervals.{code_point_max};
-ghost use Rattle.regress_front.specs.Accepted.{NoneIsAccepted};
-ghost use Rattle.regress_front.specs.Fault.{RejectedOnlyIf, ReportsKindAt, unplaced};
-ghost use Rattle.regress_front.specs.Settled.{IsReported};
 ghost use Rattle.regress_front.specs.SettingOf.{setting_of};
+ghost use Rattle.regress_front.specs.Settled.{IsFaultOf};
 ghost use Rattle.regress_differences.specs.Kinds.{number_of};
 ghost use Rattle.regress_capi.specs.DifferencesResults.{AreDifferences, AreNumbered, DifferencesResult, HasDifferenceKind, IsDifferenceName, IsDifferenceText, numbered};
 ghost use Rattle.regress_capi.specs.Request.{setting_by, IsTextRequest};
@@ -110,8 +108,7 @@ fn numbered_differences(
 ) -> Result<Vec<NumberedDifference>, PlacedFault>
     requires { All (λ c. c ≤ code_point_max) pattern.now }
     ensures listed { IfOk result (λ items. AreNumbered (setting_by bits) pattern.now items.items) }
-    ensures rejected { RejectedOnlyIf (unplaced result) (NoneIsAccepted (setting_by bits) pattern.now) }
-    ensures reported { ReportsKindAt result (IsReported (setting_by bits) pattern.now) }
+    ensures rejected { IfErr result (IsFaultOf (setting_by bits) pattern.now) }
 {
     let tables = make_tables(alloc, bits)?;
     let found = find_differences(alloc, pattern, parse_flags(bits), &tables)?;
@@ -127,8 +124,7 @@ fn find_differences(
 ) -> Result<Vec<Difference>, PlacedFault>
     requires { All (λ c. c ≤ code_point_max) pattern.now }
     ensures listed { IfOk result (λ found. AreDifferences (setting_of flags tables.now) pattern.now found.items) }
-    ensures rejected { RejectedOnlyIf (unplaced result) (NoneIsAccepted (setting_of flags tables.now) pattern.now) }
-    ensures reported { ReportsKindAt result (IsReported (setting_of flags tables.now) pattern.now) }
+    ensures rejected { IfErr result (IsFaultOf (setting_of flags tables.now) pattern.now) }
 {
     differences(alloc, pattern, flags, tables)
 }

@@ -1,5 +1,6 @@
 //! The results of replacing matches by a template.
 ghost use Rattle.std.specs.Prelude.{◌≡◌, IsUtf8, MatchOption, MatchResult, string_bytes};
+ghost use Rattle.regress.specs.Costs.{AllAreTooCostly, IsTooCostly};
 ghost use Rattle.regress_capi.specs.ReplaceResults.{HasAllReplaced, HasFirstReplaced};
 ghost use Rattle.regress_capi.specs.SearchResults.{IsBare, SearchResult, status_of};
 ghost use Rattle.regress_capi.specs.TextResults.{PlainResult};
@@ -30,7 +31,8 @@ pub fn write_first_replaced(
     needed: &mut usize,
 ) -> u32
     ensures status { SearchResult (IsUtf8 replaced.entry.text.now × IsUtf8 replaced.entry.template.now)
-        (HasFirstReplaced regex.now replaced.entry.text.now replaced.entry.template.now) ⊥ out.old result needed.new out.new }
+        (HasFirstReplaced regex.now replaced.entry.text.now replaced.entry.template.now) ⊥
+        (IsTooCostly regex.now replaced.entry.text.now 0) out.old result needed.new out.new }
 {
     *needed = 0;
     match decode(replaced.text, replaced.template) {
@@ -51,7 +53,8 @@ pub fn write_all_replaced(
     needed: &mut usize,
 ) -> u32
     ensures status { SearchResult (IsUtf8 replaced.entry.text.now × IsUtf8 replaced.entry.template.now)
-        (HasAllReplaced regex.now replaced.entry.text.now replaced.entry.template.now) ⊥ out.old result needed.new out.new }
+        (HasAllReplaced regex.now replaced.entry.text.now replaced.entry.template.now) ⊥
+        (AllAreTooCostly regex.now replaced.entry.text.now 0) out.old result needed.new out.new }
 {
     *needed = 0;
     match decode(replaced.text, replaced.template) {

@@ -1,9 +1,11 @@
 //! The results of searches.
-ghost use Rattle.std.specs.Prelude.{◌≡◌, ◌++◌, ◌∷◌, [], IfOk, IsUtf8, MatchOption, MatchResult, None};
+ghost use Rattle.std.specs.Prelude.{◌≡◌, ◌++◌, ◌∷◌, [], IfErr, IfOk, IsUtf8, MatchOption, MatchResult, None};
 ghost use Rattle.regress.specs.Compiled.{outcomes_of};
+ghost use Rattle.regress.specs.Costs.{AllAreTooCostly, IsTooCostly};
 ghost use Rattle.regress.specs.Found.{match_of};
 ghost use Rattle.regress.specs.Searched.{MatchesSomewhere};
 ghost use Rattle.regress.specs.Groups.{span_of};
+ghost use Rattle.regress.specs.declared.failure.SearchError.TheVariants.{OutOfSteps};
 ghost use Rattle.regress_capi.specs.SearchResults.{IsBare, SearchResult, TestResult, status_of};
 ghost use Rattle.regress_capi.specs.Spans.{AreEndsOfAll, AreEndsOfFirst, ends_of, match_ends};
 ghost use Rattle.regress_found.specs.Found.{Finds};
@@ -39,7 +41,8 @@ pub fn write_first(
 ) -> u32
     ensures status { SearchResult (IsUtf8 searched.entry.text.now)
         (AreEndsOfFirst searched.entry.text.now (outcomes_of regex.now searched.entry.text.now) searched.entry.from)
-        (Finds searched.entry.text.now (outcomes_of regex.now searched.entry.text.now) searched.entry.from None) spans.old result needed.new spans.new }
+        (Finds searched.entry.text.now (outcomes_of regex.now searched.entry.text.now) searched.entry.from None)
+        (IsTooCostly regex.now searched.entry.text.now searched.entry.from) spans.old result needed.new spans.new }
 {
     *needed = 0;
     match str::from_utf8(searched.text) {
@@ -61,7 +64,7 @@ pub fn write_all(
 ) -> u32
     ensures status { SearchResult (IsUtf8 searched.entry.text.now)
         (AreEndsOfAll searched.entry.text.now (outcomes_of regex.now searched.entry.text.now) searched.entry.from) ⊥
-        spans.old result needed.new spans.new }
+        (AllAreTooCostly regex.now searched.entry.text.now searched.entry.from) spans.old result needed.new spans.new }
 {
     *needed = 0;
     match str::from_utf8(searched.text) {
@@ -77,7 +80,7 @@ pub fn write_all(
 /// more steps than allowed.
 pub fn test(alloc: Global, regex: &Regex, text: &[u8]) -> u32
     ensures status { TestResult (IsUtf8 text.now) (MatchesSomewhere text.now (outcomes_of regex.now text.now))
-        (MatchesSomewhere text.now (outcomes_of regex.now text.now) → ⊥) result }
+        (MatchesSomewhere text.now (outcomes_of regex.now text.now) → ⊥) (IsTooCostly regex.now text.now 0) result }
 {
     match str::from_utf8(text) {
         Ok(text) => match regex.is_match(alloc, text) {
@@ -96,7 +99,7 @@ fn report(
     needed: &mut usize,
 ) -> u32
     ensures { MatchResult found (λ some. MatchOption some (IsBare 1 buffer.old result needed.new buffer.new) (λ items.
-        SearchResult (Unit {0}) (λ numbers. numbers ≡ items.items) ⊥ buffer.old result needed.new buffer.new))
+        SearchResult (Unit {0}) (λ numbers. numbers ≡ items.items) ⊥ ⊥ buffer.old result needed.new buffer.new))
         (λ error. IsBare (status_of error) buffer.old result needed.new buffer.new) }
 {
     *needed = 0;
@@ -119,7 +122,7 @@ pub(crate) fn error_status(error: SearchError) -> u32
 
 /// Writes numbers and their count. Returns the status.
 fn give(items: &Vec<usize>, buffer: &mut [usize], needed: &mut usize) -> u32
-    ensures { SearchResult (Unit {0}) (λ numbers. numbers ≡ items.now.items) ⊥ buffer.old result needed.new buffer.new }
+    ensures { SearchResult (Unit {0}) (λ numbers. numbers ≡ items.now.items) ⊥ ⊥ buffer.old result needed.new buffer.new }
 {
     *needed = items.len();
     if copy_to(items, buffer) { OK } else { ROOM }
@@ -131,13 +134,14 @@ fn first_ends(
     text: &str,
     from: usize,
 ) -> Result<Option<Vec<usize>>, SearchError>
-    ensures { IfOk result (λ some. MatchOption some (Finds text.now (outcomes_of regex.now text.now) from None) (λ ends.
+    ensures ends { IfOk result (λ some. MatchOption some (Finds text.now (outcomes_of regex.now text.now) from None) (λ ends.
         AreEndsOfFirst text.now (outcomes_of regex.now text.now) from ends.items)) }
+    ensures failed { IfErr result (λ error. error ≡ OutOfSteps → IsTooCostly regex.now text.now from) }
 {
     match regex.find_at(alloc, text, from)? {
         Some(found) => {
             let mut ends = Vec::new(alloc);
-            push_ends(&found, &mut ends)?;
+            push_spans(&found, &mut ends)?;
             Ok(Some(ends))
         }
         None => Ok(None),
@@ -150,18 +154,19 @@ fn all_ends(
     text: &str,
     from: usize,
 ) -> Result<Option<Vec<usize>>, SearchError>
-    ensures { IfOk result (λ some. MatchOption some ⊥ (λ ends. AreEndsOfAll text.now (outcomes_of regex.now text.now) from ends.items)) }
+    ensures ends { IfOk result (λ some. MatchOption some ⊥ (λ ends. AreEndsOfAll text.now (outcomes_of regex.now text.now) from ends.items)) }
+    ensures failed { IfErr result (λ error. error ≡ OutOfSteps → AllAreTooCostly regex.now text.now from) }
 {
     let mut ends = Vec::new(alloc);
     for found in regex.find_from(alloc, text, from) {
         let found = found?;
-        push_ends(&found, &mut ends)?;
+        push_spans(&found, &mut ends)?;
     }
     Ok(Some(ends))
 }
 
 /// Appends the ends of a match, and then those of each group.
-fn push_ends(found: &Match<'_>, ends: &mut Vec<usize>) -> Result<(), AllocError>
+fn push_spans(found: &Match<'_>, ends: &mut Vec<usize>) -> Result<(), AllocError>
     ensures { IfOk result (λ _. ends.new.items ≡ ends.old.items ++ match_ends (match_of found.now)) }
 {
     for span in found.groups() {

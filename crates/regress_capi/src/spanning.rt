@@ -1,11 +1,9 @@
 //! The encoding of a pattern's tree, with the spans of its nodes.
-ghost use Rattle.std.specs.Prelude.{◌≡◌, ◌≤◌, ◌<◌, ◌⊎◌, ◌++◌, All, IfOk, MatchBool, chars, drop, length, map};
+ghost use Rattle.std.specs.Prelude.{◌≡◌, ◌≤◌, ◌<◌, ◌⊎◌, ◌++◌, All, IfOk, MatchBool, chars, drop, length, map, IfErr};
 ghost use Rattle.regress_front.specs.Intervals.{code_point_max};
 ghost use Rattle.regress_front.specs.SettingOf.{setting_of};
 ghost use Rattle.regress_front.specs.Tree.{tree};
-ghost use Rattle.regress_front.specs.Accepted.{NoneIsAccepted};
-ghost use Rattle.regress_front.specs.Fault.{RejectedOnlyIf, ReportsKindAt, unplaced};
-ghost use Rattle.regress_front.specs.Settled.{IsReported};
+ghost use Rattle.regress_front.specs.Settled.{IsFaultOf};
 ghost use Rattle.regress_capi.specs.Replies.{bare};
 ghost use Rattle.regress_capi.specs.Request.{setting_by, IsRequest, IsTextRequest};
 ghost use Rattle.regress_capi.specs.SpannedResults.{ArePlaced, AreSpannedWords, SpannedResult, span_at};
@@ -145,8 +143,7 @@ fn copy_both(found: &SpannedWords, words: &mut [u32], spans: &mut [NodeSpan]) ->
 fn spanned_words(alloc: Global, pattern: &[u32], bits: u32) -> Result<SpannedWords, PlacedFault>
     requires { All (λ c. c ≤ code_point_max) pattern.now }
     ensures words { IfOk result (λ found. AreSpannedWords (setting_by bits) pattern.now found.words.items found.spans.items) }
-    ensures rejected { RejectedOnlyIf (unplaced result) (NoneIsAccepted (setting_by bits) pattern.now) }
-    ensures reported { ReportsKindAt result (IsReported (setting_by bits) pattern.now) }
+    ensures rejected { IfErr result (IsFaultOf (setting_by bits) pattern.now) }
 {
     let tables = make_tables(alloc, bits)?;
     let parsed = parse(alloc, pattern, parse_flags(bits), &tables)?;
@@ -165,8 +162,7 @@ fn parse(
 ) -> Result<SpannedRegex, PlacedFault>
     requires { All (λ c. c ≤ code_point_max) pattern.now }
     ensures placed { IfOk result (λ parsed. ArePlaced (setting_of flags tables.now) pattern.now (tree parsed.regex.node) parsed.spans.items) }
-    ensures rejected { RejectedOnlyIf (unplaced result) (NoneIsAccepted (setting_of flags tables.now) pattern.now) }
-    ensures reported { ReportsKindAt result (IsReported (setting_of flags tables.now) pattern.now) }
+    ensures rejected { IfErr result (IsFaultOf (setting_of flags tables.now) pattern.now) }
 {
     try_parse_with_spans(alloc, pattern, flags, tables)
 }

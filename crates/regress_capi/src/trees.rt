@@ -1,12 +1,9 @@
 //! The encoding of a pattern's tree.
-ghost use Rattle.std.specs.Prelude.{◌≡◌, ◌≤◌, All, IfOk};
+ghost use Rattle.std.specs.Prelude.{◌≤◌, All, IfOk, IfErr};
 ghost use Rattle.regress_front.specs.Intervals.{code_point_max};
-ghost use Rattle.regress_front.specs.TableOf.{table_of};
 ghost use Rattle.regress_front.specs.SettingOf.{setting_of};
 ghost use Rattle.regress_front.specs.Tree.{tree};
-ghost use Rattle.regress_front.specs.Accepted.{NoneIsAccepted};
-ghost use Rattle.regress_front.specs.Fault.{RejectedOnlyIf, ReportsKindAt, HasTextOfKind, unplaced};
-ghost use Rattle.regress_front.specs.Settled.{IsReported};
+ghost use Rattle.regress_front.specs.Settled.{IsFaultOf};
 ghost use Rattle.regress_capi.specs.Request.{setting_by};
 ghost use Rattle.regress_capi.specs.Results.{IsResult, AreWords};
 
@@ -28,9 +25,7 @@ pub(crate) fn make_encoding(
 ) -> Result<Vec<u32>, PlacedFault>
     requires { All (λ c. c ≤ code_point_max) pattern.now }
     ensures words { IfOk result (λ words. AreWords (setting_by bits) pattern.now optimized words.items) }
-    ensures rejected { RejectedOnlyIf (unplaced result) (NoneIsAccepted (setting_by bits) pattern.now) }
-    ensures text { HasTextOfKind result }
-    ensures reported { ReportsKindAt result (IsReported (setting_by bits) pattern.now) }
+    ensures rejected { IfErr result (IsFaultOf (setting_by bits) pattern.now) }
 {
     let tables = make_tables(alloc, bits)?;
     let regex = make_tree(alloc, pattern, parse_flags(bits), &tables, optimized)?;
@@ -47,9 +42,7 @@ fn make_tree(
 ) -> Result<Regex, PlacedFault>
     requires { All (λ c. c ≤ code_point_max) pattern.now }
     ensures status { IfOk result (λ regex. IsResult (setting_of flags tables.now) pattern.now optimized (tree regex.node)) }
-    ensures rejected { RejectedOnlyIf (unplaced result) (NoneIsAccepted (setting_of flags tables.now) pattern.now) }
-    ensures text { HasTextOfKind result }
-    ensures reported { ReportsKindAt result (IsReported (setting_of flags tables.now) pattern.now) }
+    ensures rejected { IfErr result (IsFaultOf (setting_of flags tables.now) pattern.now) }
 {
     let mut regex = try_parse_with_position(alloc, pattern, flags, tables)?;
     if optimized {

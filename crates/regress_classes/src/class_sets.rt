@@ -287,7 +287,7 @@ fn parse_operands(
     loop {
         let operand = parse_operand(cursor, around)?.into_value(cursor.alloc)?;
         if cursor.try_consume(']') {
-            return Ok(chain.close(operand)?);
+            return Ok(chain.finish(operand)?);
         }
         consume_operator(cursor, operator, around.opened)?;
         chain = chain.push(operand)?;

@@ -1,9 +1,9 @@
 //! Programs that are analyzed.
-ghost use Rattle.std.specs.Prelude.{◌≡◌, ◌≤◌, ◌<◌, Err, IfOk, false, length, min, true};
+ghost use Rattle.std.specs.Prelude.{◌≡◌, ◌≤◌, ◌<◌, Err, IfOk, length, min, not, true};
 ghost use Rattle.regress_tree.specs.Tree.{tree};
 ghost use Rattle.regress_tree.specs.WellFormed.{IsWellFormed, captures};
 ghost use Rattle.regress_program.specs.Compiled.{IsPattern, total};
-ghost use Rattle.regress_program.specs.Linear.{has_back_reference, has_capturing_lookaround, is_linear, reason};
+ghost use Rattle.regress_program.specs.Linear.{has_back_reference, is_linear, is_linear_tree, reason};
 ghost use Rattle.regress_program.specs.Search.{flags_of, groups_of, is_known_tidy, routines_of};
 ghost use Rattle.regress_program.specs.Size.{program_size};
 ghost use Rattle.regress_program.specs.Tidy.{has_no_back_reference, table_groups as groups_by_tables};
@@ -49,8 +49,8 @@ impl Code {
         ensures pattern { IfOk result (λ code. IsPattern (code_routines code) (tree regex.now.node)) }
         ensures flags { IfOk result (λ code. code_flags code ≡ regex.now.flags) }
         ensures groups { IfOk result (λ code. code_groups code ≡ min (length (captures (tree regex.now.node))) usize.MAX) }
-        ensures linear { IfOk result (λ code. has_back_reference (tree regex.now.node) ≡ false → has_capturing_lookaround (tree regex.now.node) ≡ false → is_linear (code_routines code) ≡ true) }
-        ensures plain { IfOk result (λ code. has_back_reference (tree regex.now.node) ≡ false → has_no_back_reference (code_routines code) ≡ true) }
+        ensures linear { IfOk result (λ code. is_linear (code_routines code) ≡ is_linear_tree (tree regex.now.node)) }
+        ensures plain { IfOk result (λ code. has_no_back_reference (code_routines code) ≡ not (has_back_reference (tree regex.now.node))) }
         ensures tidy { IfOk result (λ code. IsWellFormed (tree regex.now.node) → code_tidy code ≡ true) }
         ensures size { IfOk result (λ code. total (code_routines code) ≡ program_size (tree regex.now.node)) }
         ensures within { IfOk result (λ code. total (code_routines code) ≤ limit) }

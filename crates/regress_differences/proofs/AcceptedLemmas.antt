@@ -11,7 +11,7 @@ use Rattle.regress_parse.specs.declared.span.Span.{Span}
 use Rattle.regress_spans.specs.Paired.{spanned_of}
 use Rattle.regress_ecma.specs.Differences.{differs}
 use Rattle.regress_differences.specs.declared.kind.Difference.{Difference}
-use Rattle.regress_differences.specs.CaseMode.{flags_somewhere}
+use Rattle.regress_differences.specs.CaseMode.{widest_flags}
 use Rattle.regress_differences.specs.Reported.{reported}
 use Rattle.regress_differences.proofs.DiffersLemmas.{none_differs}
 
@@ -20,16 +20,16 @@ module _ (setting : Setting) (source : Source) where
   abbrev pub IsListed : List Difference → Type 0
   IsListed ds =
       (p : Pattern) × (accepted : IsAccepted setting source p)
-      × (ds ≡ reported (flags_somewhere setting.flags source) source (spanned_of setting source p accepted.derived))
+      × (ds ≡ reported (widest_flags setting.flags source) source (spanned_of setting source p accepted.derived))
 
   -- The nodes with their spans are those of the pattern.
   pub listed : (ds : List Difference) (ts : List Tree) (ss spans : List Span) (widest : Flags) → ds ≡ reported widest source (zip ts ss) →
-      widest ≡ flags_somewhere setting.flags source → ss ≡ spans →
+      widest ≡ widest_flags setting.flags source → ss ≡ spans →
       (p : Pattern) × (accepted : IsAccepted setting source p) × (zip ts spans ≡ spanned_of setting source p accepted.derived) → IsListed ds
   listed ds ts ss spans widest found mode same (p, accepted, paired) = (
     p,
     accepted,
-    found ∙ ap₂ (λ (f : Flags) (us : List Span). reported f source (zip ts us)) mode same ∙ ap (reported (flags_somewhere setting.flags source) source) paired,
+    found ∙ ap₂ (λ (f : Flags) (us : List Span). reported f source (zip ts us)) mode same ∙ ap (reported (widest_flags setting.flags source) source) paired,
   )
 
   pub none_differs_of_accepted : OneIsDerived setting source → (ds : List Difference) → IsListed ds → ds ≡ [] →

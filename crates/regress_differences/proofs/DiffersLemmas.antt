@@ -15,20 +15,19 @@ use Rattle.regress_base.proofs.lemmas.Sets.{intervals_of-member}
 use Rattle.regress_classes.specs.ClassProductions.{members_of}
 use Rattle.regress_classes.specs.ClassSets.{has_strings}
 use Rattle.regress_syntax.specs.Grammar.{IsPattern, AreTerms, IsItem}
-use Rattle.regress_syntax.specs.Meaning.{is_in_class, longest_first, groups_named, direction_of_group}
+use Rattle.regress_syntax.specs.Meaning.{is_in_class, longest_first}
 use Rattle.regress_syntax.specs.Productions.{Context, context_inside, single, opens, head_of_item, allows, has_name, head_at}
-use Rattle.regress_syntax.specs.Syntax.{Name, is_named, by_number, by_name, Atom, literal, dot, anchor, boundary, class_escape, class, class_set, string_property, back_reference, Group, grouping, modified, capture, look, Pattern, Terms, Item, one, either, no_terms, more_terms, atom, group, opened_by, counts_of_item, counts_of_terms, counts_of_term, names}
+use Rattle.regress_syntax.specs.Syntax.{Name, is_named, by_number, by_name, Atom, literal, dot, anchor, boundary, class_escape, class, class_set, string_property, back_reference, Group, grouping, modified, capture, look, Pattern, Terms, Item, one, either, no_terms, more_terms, atom, group, opened_by, counts_of_item, counts_of_terms, counts_of_term, names, direction_of_group, groups_named}
 use Rattle.regress_syntax.proofs.lemmas.Productions.{head_at-ends, head_at-shortens, optional_quantifier_at-ends}
 use Rattle.regress_parse.specs.Accepted.{own_context, IsDerived}
 use Rattle.regress_parse.specs.TreeOf.{concatenation, tree_of_quantified, tree_of_atom, trees_of_terms, tree_of_item}
 use Rattle.regress_parse.specs.Spans.{span_of_times, how_many, span_of_alternative, between}
 use Rattle.regress_spans.specs.Paired.{postorder, beside, spanned_of_pattern, spanned_of_terms, spanned_of_item, spanned_of}
-use Rattle.regress_ecma.specs.Atoms.{numbers_of}
 use Rattle.regress_ecma.specs.Characters.{switched, update_modifiers}
 use Rattle.regress_ecma.specs.Compile.{flags_inside}
 use Rattle.regress_ecma.proofs.lemmas.InCase.{member_closed, differs_in_case-more}
 use Rattle.regress_ecma.specs.Differences.{is_words, has_unlike, has_ends, differs_in_case, differs_at_atom, differs, differs_in_terms, differs_in_item}
-use Rattle.regress_differences.specs.CaseMode.{is_somewhere, switches_on, flags_somewhere}
+use Rattle.regress_differences.specs.CaseMode.{is_somewhere, switches_on, widest_flags}
 use Rattle.regress_differences.specs.Reported.{class_escape_at, class_may_differ, reported}
 use Rattle.regress_differences.proofs.QuietLemmas.{IsQuiet, HaveNoKind, split, split_order, all_quiet, without_spans, one_reference, property_reported, points_reported, class_reported}
 use Rattle.regress_differences.proofs.HeadLemmas.{AtomFits, head_fits}
@@ -73,11 +72,6 @@ inside_same (capture name) ctx = refl
 inside_same (look negate direction) ctx = refl
 
 -- ---- the groups of a name
-
-named_same : (name : Name) (n : ℕ) (all : List (Option Name)) → groups_named name n all ≡ numbers_of name n all
-named_same name n [] = refl
-named_same name n (other ∷ all) =
-    ap (λ (ns : List ℕ). cond (is_named name other) (n ∷ ns) ns) (named_same name (n + 1) all)
 
 some_named : (name : Name) (n : ℕ) (all : List (Option Name)) → has_name name all ≡ true → groups_named name n all ≢ []
 some_named name n [] e = absurd (false≢true e)
@@ -206,9 +200,8 @@ module _ (all : List (Option Name)) (widest : Flags) (source : Source) where
   atom_same ctx (string_property flags written) t w fits none = absurd (property_reported widest t fits written flags.icase none.0)
   atom_same ctx (back_reference flags (by_number n)) t w fits none = refl
   atom_same ctx (back_reference flags (by_name name)) t w fits none =
-      subst (λ (names : List (Option Name)). not (length (numbers_of name 1 names) == 1) ≡ false) w.same_names
-      (subst (λ (ns : List ℕ). not (length ns == 1) ≡ false) (named_same name 1 ctx.names)
-      (one_reference widest t fits.0 flags.icase (groups_named name 1 ctx.names) (some_named name 1 ctx.names fits.1) none))
+      subst (λ (names : List (Option Name)). not (length (groups_named name 1 names) == 1) ≡ false) w.same_names
+      (one_reference widest t fits.0 flags.icase (groups_named name 1 ctx.names) (some_named name 1 ctx.names fits.1) none)
 
   mutual
     -- Nothing is reported of the nodes with their spans.
@@ -260,9 +253,9 @@ module _ (all : List (Option Name)) (widest : Flags) (source : Source) where
 
 -- If nothing is reported of the nodes of a pattern, none of its constructs differs.
 pub none_differs : (setting : Setting) (source : Source) (p : Pattern) (derived : IsDerived setting source p) →
-    reported (flags_somewhere setting.flags source) source (spanned_of setting source p derived) ≡ [] → differs (names p) setting.flags p ≡ false
+    reported (widest_flags setting.flags source) source (spanned_of setting source p derived) ≡ [] → differs (names p) setting.flags p ≡ false
 none_differs setting source p derived none =
-    let widest = flags_somewhere setting.flags source in
+    let widest = widest_flags setting.flags source in
     let inner = spanned_of_pattern (length source) (own_context setting p) forwards 0 p source [] derived in
     pattern_same (names p) widest source (own_context setting p) forwards 0 p source []
     (record {

@@ -12,7 +12,8 @@ use Rattle.regress_tree.specs.Tree.{string_set, bracket, Tree, leaf}
 use Rattle.regress_lexer.specs.Source.{Source, is_at}
 use Rattle.regress_parse.specs.TreeOf.{alternation, references, strings_or_points}
 use Rattle.regress_parse.specs.declared.span.Span.{Span}
-use Rattle.regress_spans.specs.Paired.{postorder, in_tree_order}
+use Rattle.regress_parse.specs.Spans.{in_tree_order}
+use Rattle.regress_spans.specs.Paired.{postorder}
 use Rattle.regress_ecma.specs.Differences.{is_words, has_unlike, has_ends, differs_in_case}
 use Rattle.regress_differences.specs.declared.kind.Difference.{Difference}
 use Rattle.regress_differences.specs.declared.kind.DifferenceKind.{DifferenceKind}

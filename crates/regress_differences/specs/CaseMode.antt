@@ -23,5 +23,5 @@ abbrev pub may_ignore_case : Flags → Source → Bool
 may_ignore_case flags source = flags.icase || is_somewhere switches_on source
 
 -- the flags of the pattern, with i if it may be matched with i somewhere
-abbrev pub flags_somewhere : Flags → Source → Flags
-flags_somewhere flags source = record flags { icase = may_ignore_case flags source }
+abbrev pub widest_flags : Flags → Source → Flags
+widest_flags flags source = record flags { icase = may_ignore_case flags source }

@@ -1,6 +1,6 @@
 //! Whether a pattern may be matched with the flag i somewhere.
 ghost use Rattle.std.specs.Prelude.{◌≡◌};
-ghost use Rattle.regress_differences.specs.CaseMode.{is_somewhere, switches_on, flags_somewhere};
+ghost use Rattle.regress_differences.specs.CaseMode.{is_somewhere, switches_on, widest_flags};
 
 use regress_base::types::Flags;
 use regress_lexer::modifiers::parse_modifiers;
@@ -9,8 +9,8 @@ use regress_lexer::modifiers::parse_modifiers;
 ///
 /// # Complexity
 /// Linear in the length of the pattern.
-pub(crate) fn flags_somewhere(pattern: &[u32], flags: Flags) -> Flags
-    ensures { result ≡ flags_somewhere flags pattern.now }
+pub(crate) fn widest_flags(pattern: &[u32], flags: Flags) -> Flags
+    ensures { result ≡ widest_flags flags pattern.now }
 {
     Flags {
         icase: flags.icase || is_switched_on(pattern),

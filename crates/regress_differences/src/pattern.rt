@@ -1,20 +1,19 @@
 //! Reports the differences of a whole pattern.
-ghost use Rattle.std.specs.Prelude.{◌≡◌, true, false, [], length, All, IfOk};
+ghost use Rattle.std.specs.Prelude.{◌≡◌, true, false, [], length, All, IfOk, IfErr};
 ghost use Rattle.regress_unicode.specs.TableOf.{table_of};
 ghost use Rattle.regress_lexer.specs.Source.{IsCodePoint};
 ghost use Rattle.regress_syntax.specs.Syntax.{Pattern, names};
 ghost use Rattle.regress_syntax.specs.SettingOf.{setting_of};
-ghost use Rattle.regress_parse.specs.Accepted.{IsAccepted, NoneIsAccepted, IsTrueOf, MayExceed, OfAccepted};
-ghost use Rattle.regress_parse.specs.Fault.{RejectedOnlyIf, ReportsKindAt, HasTextOfKind, unplaced, HasPositionWithin};
-ghost use Rattle.regress_parse.specs.Settled.{IsFinal, IsAtFirstDuplicate};
+ghost use Rattle.regress_parse.specs.Accepted.{IsAccepted, OfAccepted};
 ghost use Rattle.regress_parse.specs.Spans.{IsWithin};
+ghost use Rattle.regress_parse.specs.Settled.{IsFaultOf};
 ghost use Rattle.regress_spans.specs.Paired.{spanned_of};
 ghost use Rattle.regress_ecma.specs.Compared.{IsComparable};
 ghost use Rattle.regress_ecma.specs.Differences.{HasCaseDataOfUnicode, differs};
-ghost use Rattle.regress_differences.specs.CaseMode.{flags_somewhere};
+ghost use Rattle.regress_differences.specs.CaseMode.{widest_flags};
 ghost use Rattle.regress_differences.specs.Reported.{reported};
 
-use crate::case_mode::flags_somewhere;
+use crate::case_mode::widest_flags;
 use crate::finder::find_differences;
 use crate::kind::Difference;
 use regress_base::types::Flags;
@@ -69,7 +68,7 @@ pub fn differences(
     ensures listed { let setting = setting_of flags tables.now in
         IfOk result (λ found. (p : Pattern) × (accepted : IsAccepted setting pattern.now p)
         × (found.items
-        ≡ reported (flags_somewhere flags pattern.now) pattern.now (spanned_of setting pattern.now p accepted.derived))) }
+        ≡ reported (widest_flags flags pattern.now) pattern.now (spanned_of setting pattern.now p accepted.derived))) }
     ensures within { IfOk result (λ found.
         All (λ d. IsWithin (record { start = 0; end = length pattern.now }) d.span) found.items) }
 
@@ -81,16 +80,10 @@ pub fn differences(
         OfAccepted (setting_of flags tables.now) pattern.now (IsComparable (setting_of flags tables.now))) }
 
     // The errors of `try_parse_with_spans`.
-    ensures rejected { RejectedOnlyIf (unplaced result) (NoneIsAccepted (setting_of flags tables.now) pattern.now) }
-    ensures text { HasTextOfKind result }
-    ensures reported { ReportsKindAt result (λ kind position. IsTrueOf (setting_of flags tables.now) pattern.now kind) }
-    ensures limits { ReportsKindAt result (λ kind position. MayExceed pattern.now kind) }
-    ensures position { HasPositionWithin (length pattern.now) result }
-    ensures settled { ReportsKindAt result (IsFinal (setting_of flags tables.now) pattern.now) }
-    ensures duplicate { ReportsKindAt result (IsAtFirstDuplicate (setting_of flags tables.now) pattern.now) }
+    ensures rejected { IfErr result (IsFaultOf (setting_of flags tables.now) pattern.now) }
 {
     first_outcome_is_the_match();
     let parsed = try_parse_with_spans(alloc, pattern, flags, tables)?;
-    let widest = flags_somewhere(pattern, flags);
+    let widest = widest_flags(pattern, flags);
     Ok(find_differences(alloc, pattern, widest, &parsed.regex.node, &parsed.spans)?)
 }

@@ -31,7 +31,7 @@ fn has_ends(members: &CodePointSet) -> bool
     members.contains(0) && members.contains(CODE_POINT_MAX)
 }
 
-/// Returns whether some member may have other case variants with u than without.
+/// Returns whether some member has other case variants with u than without.
 fn has_unlike(intervals: &[Interval]) -> bool
     ensures { result ≡ has_unlike intervals.now }
 {
@@ -45,7 +45,7 @@ fn has_unlike(intervals: &[Interval]) -> bool
     false
 }
 
-/// Returns whether some code point of the interval may have other case variants with u than without.
+/// Returns whether some code point of the interval has other case variants with u than without.
 fn is_unlike(interval: Interval) -> bool
     ensures { result ≡ list_any (is_member unlike) (code_points interval) }
 {
@@ -73,8 +73,8 @@ fn meets(interval: Interval, other: Interval) -> bool
     interval.overlaps(other)
 }
 
-/// Returns intervals that have all characters whose case variants are not the same with and without u, and others.
-fn unlike_intervals() -> [Interval; 18]
+/// Returns the characters whose case variants are not the same with and without u.
+fn unlike_intervals() -> [Interval; 29]
     ensures { result ≡ unlike }
 {
     [
@@ -82,19 +82,30 @@ fn unlike_intervals() -> [Interval; 18]
         Interval::new(0x53, 0x53),
         Interval::new(0x6B, 0x6B),
         Interval::new(0x73, 0x73),
-        Interval::new(0xB5, 0xB5),
-        Interval::new(0xC0, 0xD6),
-        Interval::new(0xD8, 0xF6),
-        Interval::new(0xF8, 0x586),
-        Interval::new(0x10A0, 0x10FF),
-        Interval::new(0x13A0, 0x13FD),
-        Interval::new(0x1C80, 0x1FFC),
-        Interval::new(0x2126, 0x2184),
-        Interval::new(0x24B6, 0x24E9),
-        Interval::new(0x2C00, 0x2D2D),
-        Interval::new(0xA640, 0xABBF),
-        Interval::new(0xFB00, 0xFB06),
-        Interval::new(0xFF21, 0xFF5A),
-        Interval::new(0x10400, 0x1E943),
+        Interval::new(0xC5, 0xC5),
+        Interval::new(0xDF, 0xDF),
+        Interval::new(0xE5, 0xE5),
+        Interval::new(0x17F, 0x17F),
+        Interval::new(0x390, 0x390),
+        Interval::new(0x398, 0x398),
+        Interval::new(0x3A9, 0x3A9),
+        Interval::new(0x3B0, 0x3B0),
+        Interval::new(0x3B8, 0x3B8),
+        Interval::new(0x3C9, 0x3C9),
+        Interval::new(0x3D1, 0x3D1),
+        Interval::new(0x3F4, 0x3F4),
+        Interval::new(0x1E9E, 0x1E9E),
+        Interval::new(0x1F80, 0x1FAF),
+        Interval::new(0x1FB3, 0x1FB3),
+        Interval::new(0x1FBC, 0x1FBC),
+        Interval::new(0x1FC3, 0x1FC3),
+        Interval::new(0x1FCC, 0x1FCC),
+        Interval::new(0x1FD3, 0x1FD3),
+        Interval::new(0x1FE3, 0x1FE3),
+        Interval::new(0x1FF3, 0x1FF3),
+        Interval::new(0x1FFC, 0x1FFC),
+        Interval::new(0x2126, 0x2126),
+        Interval::new(0x212A, 0x212B),
+        Interval::new(0xFB05, 0xFB06),
     ]
 }

@@ -1,25 +1,24 @@
 -- The results of the writes of a run.
-use Rattle.std.proofs.Common.{◌≡◌, ℕ, Bool, true, List, [], ◌++◌, Option, inl, inr, refl, subst, sym, codes}
+use Rattle.std.proofs.Common.{◌≡◌, ℕ, Bool, true, List, [], ◌++◌, Option, inl, inr, refl, subst, codes}
 use Rattle.std.specs.Io.KnownBytes.{Appends}
-use Rattle.std.specs.Prelude.{Result, Ok, Err, OnOk, IfOk, IfErr, length}
+use Rattle.std.specs.Prelude.{Result, Ok, Err, OnOk, IfOk, IfErr}
 use Rattle.regress_arguments.specs.Output.{Took}
 use Rattle.regress_arguments.proofs.lemmas.Output.{appends_both}
 use Rattle.regress_base.specs.declared.types.Flags.{Flags}
 use Rattle.regress_base.specs.Table.{Table}
 use Rattle.regress_lexer.specs.Source.{Source}
 use Rattle.regress_parse.specs.Accepted as parse
-use Rattle.regress_parse.specs.Fault.{HasPositionWithin, HasTextOfKind, RejectedOnlyIf, ReportsKindAt, unplaced}
-use Rattle.regress_parse.specs.Settled.{IsFinal, IsAtFirstDuplicate}
 use Rattle.regress_parse.specs.declared.fault.PlacedFault.{PlacedFault}
 use Rattle.regress_parse.specs.declared.fault.PlacedFault.TheVariants as fault
 use Rattle.regress_parse.specs.TreeOf.{tree_of}
 use Rattle.regress_parse.specs.Spans.{spans_of}
 use Rattle.regress_parse.specs.declared.span.Span.{Span}
 use Rattle.regress_parse.specs.declared.pattern.SpannedRegex.{SpannedRegex}
+use Rattle.regress_parse.specs.Settled.{IsFaultOf}
 use Rattle.regress_syntax.specs.Syntax.{Pattern}
 use Rattle.regress_tree.specs.Setting.{Setting}
 use Rattle.regress_tree.specs.Tree.{Tree, tree}
-use Rattle.regress_display.specs.Accepted.{IsFaultOf, setting_of_request}
+use Rattle.regress_display.specs.Accepted.{setting_of_request}
 use Rattle.regress_display.specs.Request.{Request, table_asked}
 use Rattle.regress_display.specs.Ending.{Leaves}
 use Rattle.regress_display.specs.Shown.{IsParsed, IsOptimized, IsOptimizedShown, IsFirstOutput, IsFirstShown, IsOutput, IsShown, IsShownAs, IsShownWith, shows_spans}
@@ -62,20 +61,6 @@ spanned_parsed shown setting source (Ok s) (p, accepted, same, spans) = record {
   spans = λ _. spans;
 }
 spanned_parsed shown setting source (Err fault) spanned = tt
-
--- the clauses of the parser on an error
-pub fault_of : {X : Type 0} (setting : Setting) (source : Source) (r : Result X PlacedFault) →
-    RejectedOnlyIf (unplaced r) (parse.NoneIsAccepted setting source) → HasTextOfKind r →
-    ReportsKindAt r (λ kind position. parse.IsTrueOf setting source kind) → ReportsKindAt r (λ kind position. parse.MayExceed source kind) →
-    HasPositionWithin (length source) r → ReportsKindAt r (IsFinal setting source) → ReportsKindAt r (IsAtFirstDuplicate setting source) →
-    IfErr r (IsFaultOf setting source)
-fault_of setting source (Ok x) none words reported limits within settled duplicate = tt
-fault_of setting source (Err (fault.Syntax kind e position)) none words reported limits within settled duplicate = record {
-  none = none;
-  words = words;
-  reported = record { reported = reported; limits = limits; within = within; settled = settled; duplicate = duplicate };
-}
-fault_of setting source (Err (fault.Memory e)) none words reported limits within settled duplicate = tt
 
 -- the result of parsing with the requested table
 module _ (shown : Bool) (flags : Flags) (source : Source) (r : Result SpannedRegex PlacedFault) where

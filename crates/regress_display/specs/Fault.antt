@@ -4,8 +4,9 @@ use Rattle.std.specs.Fmt.{decimal, digits}
 use Rattle.regress_lexer.specs.declared.fault.FaultKind.{FaultKind}
 use Rattle.regress_lexer.specs.FaultKinds.{name_of}
 use Rattle.regress_display.specs.Location.{line_at, column_at}
-use Rattle.regress_display.specs.Accepted.{IsFault, setting_of_request}
+use Rattle.regress_display.specs.Accepted.{setting_of_request}
 use Rattle.regress_display.specs.Request.{Request}
+use Rattle.regress_parse.specs.Settled.{IsSyntaxError}
 
 -- the bytes of a character of a JSON string (RFC 8259, section 7); a control character as `\u001f`
 abbrev pub json_character : ℕ → List ℕ
@@ -30,5 +31,5 @@ pub record IsFaultOutput (request : Request) (bytes : List ℕ) : Type 0 where
   pub kind : FaultKind
   pub text : List ℕ
   pub position : ℕ
-  pub fault : IsFault (setting_of_request request) request.pattern kind text position
+  pub fault : IsSyntaxError (setting_of_request request) request.pattern kind text position
   pub written : bytes ≡ fault_json kind text request.pattern position ++ codes "\n"

@@ -2,11 +2,12 @@
 ghost use Rattle.std.specs.Prelude.{◌≡◌, ◌⊎◌, IfOk, IfErr, OnOk, All, chars};
 ghost use Rattle.regress_arguments.specs.Output.{Took};
 ghost use Rattle.regress_parse.specs.Source.{IsCodePoint};
+ghost use Rattle.regress_parse.specs.Settled.{IsFaultOf};
 ghost use Rattle.regress_syntax.specs.SettingOf.{setting_of};
 ghost use Rattle.regress_tree.specs.Tree.{tree};
 ghost use Rattle.regress_tree.specs.WellFormed.{IsWellFormed};
 ghost use Rattle.regress_unicode.specs.TableOf.{table_of};
-ghost use Rattle.regress_display.specs.Accepted.{IsFaultOf, setting_of_request};
+ghost use Rattle.regress_display.specs.Accepted.{setting_of_request};
 ghost use Rattle.regress_display.specs.Request.{requested, table_asked};
 ghost use Rattle.regress_display.specs.Ending.{IsDue, Leaves};
 ghost use Rattle.regress_display.specs.Shown.{IsFirstOutput, IsFirstShown, IsOptimizedShown, IsOutput, IsParsed, IsShown, IsShownWith, shows_spans};

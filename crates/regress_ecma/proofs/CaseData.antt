@@ -1,7 +1,7 @@
 -- The table of all of Unicode has the case data of Unicode, by tests of the bounds of its entries.
-use Rattle.std.proofs.Common.{◌≡◌, ℕ, ℤ, pos, negsuc, ◌+◌, ◌-◌, ◌%◌, ◌<◌, ◌≤◌, Bool, true, false, not, ◌&&◌, ◌||◌, nat_le, nat_lt, ◌==◌, cond, ◌⊎◌, inl, inr, List, [], ◌∷◌, refl, sym, ap, ap₂, ◌∙◌, arith, ⊎_elim}
+use Rattle.std.proofs.Common.{◌≡◌, ℕ, ℤ, pos, negsuc, ◌+◌, ◌-◌, ◌%◌, ◌≤◌, Bool, true, false, not, ◌&&◌, ◌||◌, nat_le, nat_lt, ◌==◌, cond, ◌⊎◌, inl, inr, List, [], ◌∷◌, refl, sym, ap, ◌∙◌, arith}
 use Rattle.std.specs.List.{list_all}
-use Rattle.std.proofs.lemmas.Bool.{cases_lt, and_parts, eq-eqb, eqb-true, false≢true}
+use Rattle.std.proofs.lemmas.Bool.{and_parts, eq-eqb, eqb-true, false≢true}
 use Rattle.std.proofs.lemmas.Bool.Decides.{nat_tests}
 use Rattle.regress_base.specs.Classes.{word_characters}
 use Rattle.regress_base.specs.Intervals.{Bounds, is_member, is_within}
@@ -10,8 +10,8 @@ use Rattle.regress_base.proofs.lemmas.Listings.{lists-interval}
 use Rattle.regress_unicode.specs.FoldEntries.{FoldEntry, moved, is_in_mapping, mapped_in_mapping, mapped}
 use Rattle.regress_ucd.specs.UnicodeTable.{unicode_parts, unicode_table}
 use Rattle.regress_ucd.proofs.lemmas.ValidTable.{unicode_valid}
-use Rattle.regress_ecma.specs.Differences.{HasCaseDataOfUnicode, HasVariantsIn, unlike, cased}
-use Rattle.regress_ecma.proofs.Outside.{is_outside, is_inside, not_outside, inside, carried}
+use Rattle.regress_ecma.specs.Differences.{HasCaseDataOfUnicode, HasVariantsIn, unlike, cased_beyond_ascii, cased}
+use Rattle.regress_ecma.proofs.Outside.{is_outside, is_inside, inside, carried}
 use Rattle.regress_ecma.proofs.Sets.{same_truth}
 
 -- ---- entries
@@ -117,18 +117,7 @@ variants set entries h a b none same =
           ∙ inside set (targets by.0) (mapped entries b) (and_parts (is_inside set (sources by.0)) _ by.1.passes).1 by.1.to_target))
     ]
 
--- ---- ASCII
-
--- what ASCII has as lower and upper case
-abbrev lower : ℕ → ℕ
-lower c = cond (nat_le 0x41 c && nat_le c 0x5A) (c + 32) c
-
-abbrev upper : ℕ → ℕ
-upper c = cond (nat_le 0x61 c && nat_le c 0x7A) (c - 32) c
-
--- all numbers below 128
-abbrev ascii : List ℕ
-ascii = code_points (record { first = 0; last = 127 })
+-- ---- characters with the same variants in both maps
 
 in_all : (q : ℕ → Bool) (xs : List ℕ) (m : ℕ) → list_all q xs ≡ true → lists xs m ≡ true → q m ≡ true
 in_all q [] m h member = absurd (false≢true member)
@@ -140,110 +129,74 @@ in_all q (x ∷ xs) m h member =
     by_test true e t later = sym (ap q (eqb-true x m e)) ∙ (and_parts (q x) (list_all q xs) h).0
     by_test false e t later = later t
 
-in_ascii : (q : ℕ → Bool) → list_all q ascii ≡ true → (c : ℕ) → c < 128 → q c ≡ true
-unfolding is_within
-in_ascii q h c below =
-    in_all q ascii c h (lists-interval (record { first = 0; last = 127 }) c ∙ grind (arith, nat_tests, below))
+-- f maps the members of `unlike` to members; it maps each other code point to one that is no member, and that has the same
+-- value of g.
+abbrev is_kept : (f g : ℕ → ℕ) → ℕ → Bool
+is_kept f g c = cond (is_member unlike c) (is_member unlike (f c)) (not (is_member unlike (f c)) && (g (f c) == g c))
 
--- The same lower case means the same upper case.
-same_case : (a b : ℕ) → (upper b == upper a) ≡ (lower b == lower a)
-same_case a b = grind (arith, nat_tests)
+abbrev keeps_each : (f g : ℕ → ℕ) → FoldEntry → Bool
+keeps_each f g entry = list_all (is_kept f g) (code_points (sources entry))
 
--- the lower case of the ASCII letters but K and S
-abbrev letters : List Bounds
-letters = record { first = 0x61; last = 0x6A } ∷ record { first = 0x6C; last = 0x72 } ∷ record { first = 0x74; last = 0x7A } ∷ []
-
--- it maps only ASCII to such letters
-abbrev gives_ascii : FoldEntry → Bool
-gives_ascii entry = nat_lt (sources entry).last 128 || is_outside letters (targets entry)
-
-letters_below : (c : ℕ) → is_member letters c ≡ true → c < 128
-unfolding is_member is_within
-letters_below c member = grind (arith, nat_tests, member)
-
-ascii_before : (entries : List FoldEntry) → list_all gives_ascii entries ≡ true → (c : ℕ) → is_member letters (mapped entries c) ≡ true → c < 128
-unfolding is_within
-ascii_before entries h c member = elim (stays_or_moves gives_ascii entries h c) [
-  | inl stays ↦ letters_below c (sym (ap (is_member letters) stays) ∙ member)
-  | inr by ↦ by_test by.0 by.1 (nat_lt (sources by.0).last 128) refl by.1.passes
+-- It is enough to test the code points of the entries.
+kept : (entries : List FoldEntry) (g : ℕ → ℕ) → list_all (keeps_each (mapped entries) g) entries ≡ true → (c : ℕ) →
+    is_kept (mapped entries) g c ≡ true
+kept entries g h c = elim (stays_or_moves (keeps_each (mapped entries) g) entries h c) [
+  | inl stays ↦ rw stays (itself (is_member unlike c))
+  | inr by ↦ in_all (is_kept (mapped entries) g) (code_points (sources by.0)) c by.1.passes
+      (lists-interval (sources by.0) c ∙ by.1.from_source)
 ]
   where
-    by_test : (entry : FoldEntry) → IsMovedBy gives_ascii c (mapped entries c) entry → (b : Bool) → nat_lt (sources entry).last 128 ≡ b →
-        (b || is_outside letters (targets entry)) ≡ true → c < 128
-    by_test entry by true e t = grind (arith, nat_tests, e, by.from_source)
-    by_test entry by false e t = absurd (not_outside letters (targets entry) (mapped entries c) t by.to_target member)
+    itself : (b : Bool) → cond b b (not b && (g c == g c)) ≡ true
+    itself true = refl
+    itself false = eq-eqb _ _ refl
 
-module _ (folds uppers : List FoldEntry) (folded : (c : ℕ) → c < 128 → mapped folds c ≡ lower c) (raised : (c : ℕ) → c < 128 → mapped uppers c ≡ upper c)
-    (from_ascii : (c : ℕ) → is_member letters (mapped folds c) ≡ true → c < 128) (above : (c : ℕ) → 128 ≤ c → 128 ≤ mapped uppers c) where
-  ascii_same : (a b : ℕ) → a < 128 → b < 128 → (mapped uppers b == mapped uppers a) ≡ (mapped folds b == mapped folds a)
-  ascii_same a b low_a low_b =
-      ap₂ (λ (x y : ℕ). x == y) (raised b low_b) (raised a low_a) ∙ same_case a b
-      ∙ sym (ap₂ (λ (x y : ℕ). x == y) (folded b low_b) (folded a low_a))
+module _ (f g : ℕ → ℕ) (keeps : (c : ℕ) → is_kept f g c ≡ true) where
+  kept_outside : (c : ℕ) → is_member unlike c ≡ false → (is_member unlike (f c) ≡ false) × (g (f c) ≡ g c)
+  kept_outside c none = by_tests (is_member unlike (f c)) (g (f c) == g c) refl refl (rw none at (keeps c))
+    where
+      by_tests : (m t : Bool) → is_member unlike (f c) ≡ m → (g (f c) == g c) ≡ t → (not m && t) ≡ true →
+          (is_member unlike (f c) ≡ false) × (g (f c) ≡ g c)
+      by_tests true t e same h = absurd (false≢true h)
+      by_tests false t e same h = (e, eqb-true _ _ (same ∙ h))
 
-  upper_low : (a : ℕ) → a < 128 → upper a < 128
-  upper_low a low = grind (arith, nat_tests, low)
+  outside_before : (c : ℕ) → is_member unlike (f c) ≡ false → is_member unlike c ≡ false
+  outside_before c none = by_test (is_member unlike c) refl
+    where
+      by_test : (b : Bool) → is_member unlike c ≡ b → is_member unlike c ≡ false
+      by_test false e = e
+      by_test true e = absurd (false≢true (sym none ∙ (rw e at (keeps c))))
 
-  letter_same : (a b : ℕ) → a < 128 → is_member letters (lower a) ≡ true → (mapped uppers b == mapped uppers a) ≡ (mapped folds b == mapped folds a)
-  letter_same a b low letter =
-      same_truth _ _
-      (λ h.
-      let same : mapped uppers b ≡ mapped uppers a = eqb-true _ _ h in
-      let below : b < 128 = ⊎_elim (λ (under : b < 128). under)
-      (λ (over : 128 ≤ b). absurd (omega (arith, above b over, upper_low a low, same, raised a low))) (cases_lt b 128) in
-      sym (ascii_same a b low below) ∙ h)
-      (λ h.
-      let same : mapped folds b ≡ lower a = eqb-true _ _ h ∙ folded a low in
-      ascii_same a b low (from_ascii b (ap (is_member letters) same ∙ letter)) ∙ h)
-
--- a member of `cased` that is not in `unlike`
-abbrev is_letter_or_not : ℕ → Bool
-is_letter_or_not c = is_member unlike c || (not (is_member cased c) || is_member letters (lower c))
-
-cased_below : (c : ℕ) → is_member unlike c ≡ false → is_member cased c ≡ true → c < 128
-unfolding is_member is_within unlike
-cased_below c none member = grind (arith, nat_tests, none, member)
-
-letter_of : (c : ℕ) → is_member unlike c ≡ false → is_member cased c ≡ true → is_member letters (lower c) ≡ true
-unfolding is_member is_within unlike
-letter_of c none member = by_test (is_member unlike c) (is_member cased c) none member (in_ascii is_letter_or_not refl c (cased_below c none member))
-  where
-    by_test : (u v : Bool) → u ≡ false → v ≡ true → (u || (not v || is_member letters (lower c))) ≡ true → is_member letters (lower c) ≡ true
-    by_test true v e f t = absurd (false≢true (sym e))
-    by_test false true e f t = t
-    by_test false false e f t = absurd (false≢true f)
+  same_variants : (a b : ℕ) → is_member unlike a ≡ false → f b ≡ f a → g b ≡ g a
+  same_variants a b none same =
+      let of_a = kept_outside a none in
+      let of_b = kept_outside b (outside_before b (ap (is_member unlike) same ∙ of_a.0)) in
+      sym of_b.1 ∙ ap g same ∙ of_a.1
 
 -- ---- the table of all of Unicode
 
-folded_ascii : list_all (λ c. mapped unicode_parts.folds c == lower c) ascii ≡ true
-unfolding unicode_parts mapped
-folded_ascii = refl
+kept_folds : list_all (keeps_each (mapped unicode_parts.folds) (mapped unicode_parts.uppers)) unicode_parts.folds ≡ true
+unfolding unicode_parts mapped is_member is_within unlike
+kept_folds = refl
 
-raised_ascii : list_all (λ c. mapped unicode_parts.uppers c == upper c) ascii ≡ true
-unfolding unicode_parts mapped
-raised_ascii = refl
+kept_uppers : list_all (keeps_each (mapped unicode_parts.uppers) (mapped unicode_parts.folds)) unicode_parts.uppers ≡ true
+unfolding unicode_parts mapped is_member is_within unlike
+kept_uppers = refl
 
 unicode_same : (a b : ℕ) → is_member unlike a ≡ false →
     (mapped unicode_parts.uppers b == mapped unicode_parts.uppers a) ≡ (mapped unicode_parts.folds b == mapped unicode_parts.folds a)
-unfolding unicode_parts unlike
-unicode_same a b none = by_test (is_member cased a) refl
-  where
-    folded : (c : ℕ) → c < 128 → mapped unicode_parts.folds c ≡ lower c
-    folded c low = eqb-true _ _ (in_ascii (λ c. mapped unicode_parts.folds c == lower c) folded_ascii c low)
-
-    raised : (c : ℕ) → c < 128 → mapped unicode_parts.uppers c ≡ upper c
-    raised c low = eqb-true _ _ (in_ascii (λ c. mapped unicode_parts.uppers c == upper c) raised_ascii c low)
-
-    by_test : (c : Bool) → is_member cased a ≡ c → (mapped unicode_parts.uppers b == mapped unicode_parts.uppers a) ≡ (mapped unicode_parts.folds b == mapped unicode_parts.folds a)
-    by_test true e =
-        letter_same unicode_parts.folds unicode_parts.uppers folded raised (ascii_before unicode_parts.folds refl) (above_ascii unicode_parts.uppers refl) a b
-        (cased_below a none e) (letter_of a none e)
-    by_test false e =
-        same_truth _ _
-        (λ h. let same : b ≡ a = variants cased unicode_parts.uppers refl a b e (eqb-true _ _ h) in eq-eqb _ _ (ap (mapped unicode_parts.folds) same))
-        (λ h. let same : b ≡ a = variants cased unicode_parts.folds refl a b e (eqb-true _ _ h) in eq-eqb _ _ (ap (mapped unicode_parts.uppers) same))
+unicode_same a b none =
+    same_truth _ _
+    (λ h.
+    eq-eqb _ _
+    (same_variants (mapped unicode_parts.uppers) (mapped unicode_parts.folds)
+    (kept unicode_parts.uppers (mapped unicode_parts.folds) kept_uppers) a b none (eqb-true _ _ h)))
+    (λ h.
+    eq-eqb _ _
+    (same_variants (mapped unicode_parts.folds) (mapped unicode_parts.uppers)
+    (kept unicode_parts.folds (mapped unicode_parts.uppers) kept_folds) a b none (eqb-true _ _ h)))
 
 pub unicode_case_data : HasCaseDataOfUnicode unicode_table
-unfolding unicode_table unicode_parts unlike
+unfolding unicode_table unicode_parts cased_beyond_ascii
 unicode_case_data = record {
   idempotent = unicode_valid.fold.idempotent;
   in_range = unicode_valid.fold.in_range;

@@ -16,7 +16,7 @@ use Rattle.regress_syntax.specs.Meaning.{is_in_class}
 use Rattle.regress_ecma.specs.Notation.{CharSet}
 use Rattle.regress_ecma.specs.Characters.{canonicalize, has_some, all_characters, character_complement, word_characters, is_extra_word_character, class_escape_set, character_class_escape}
 use Rattle.regress_ecma.specs.CharacterMatchers.{is_found}
-use Rattle.regress_ecma.specs.Differences.{HasCaseDataOfUnicode, unlike, cased, is_words, has_unlike, has_ends, differs_in_case}
+use Rattle.regress_ecma.specs.Differences.{HasCaseDataOfUnicode, unlike, cased_beyond_ascii, cased, is_words, has_unlike, has_ends, differs_in_case}
 use Rattle.regress_ecma.proofs.Outside.{apart}
 use Rattle.regress_ecma.proofs.CharacterSets.{IsSetOf}
 use Rattle.regress_ecma.proofs.Members.{has_some_from, has_some_gives}
@@ -57,11 +57,11 @@ like_of set none c member = by_test (is_member unlike c) refl
     by_test false e = e
 
 digits_uncased : IsUncased digits
-unfolding unlike
+unfolding cased_beyond_ascii
 digits_uncased c member = apart cased digits refl c member
 
 spaces_uncased : IsUncased (white_space ++ line_terminators)
-unfolding unlike
+unfolding cased_beyond_ascii
 spaces_uncased c member = apart cased (white_space ++ line_terminators) refl c member
 
 module _ (table : Table) (maps : HasCaseDataOfUnicode table) (rer : Flags) (with_u : rer.unicode_sets ≡ true → rer.unicode ≡ true)

@@ -18,7 +18,7 @@ use Rattle.regress_ecma.specs.Notation.{CharSet}
 use Rattle.regress_ecma.specs.Characters.{has_either_unicode_flag, canonicalize, upper_case, has_some, all_characters, character_complement, word_characters, is_extra_word_character, class_escape_set, character_class_escape}
 use Rattle.regress_ecma.specs.CharacterMatchers.{is_found}
 use Rattle.regress_ecma.specs.Atoms.{one_character, dot_set, without_line_terminators}
-use Rattle.regress_ecma.specs.Differences.{HasCaseDataOfUnicode, unlike, cased}
+use Rattle.regress_ecma.specs.Differences.{HasCaseDataOfUnicode, cased_beyond_ascii, cased}
 use Rattle.regress_ecma.proofs.Members.{or-right, has_some_from, has_some_gives}
 use Rattle.regress_ecma.proofs.Outside.{apart}
 use Rattle.regress_ecma.proofs.CharacterSets.{IsSetOf}
@@ -194,7 +194,7 @@ module _ (table : Table) (maps : HasCaseDataOfUnicode table) (rer : Flags) (with
       by_test false e = maps.upper_variants a b none e
 
   lines_uncased : (c : ℕ) → is_line_terminator c ≡ true → is_member cased c ≡ false
-  unfolding unlike
+  unfolding cased_beyond_ascii
   lines_uncased c line = apart cased line_terminators refl c line
 
   -- A character with the canonical form of a line terminator is one.

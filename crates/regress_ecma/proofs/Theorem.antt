@@ -21,14 +21,14 @@ use Rattle.regress_tree.specs.Steps.{IsStateOf, IsCaptureOf, hold_at, dedup, ◌
 use Rattle.regress_base.proofs.lemmas.Literals.{scalar_in_range}
 use Rattle.regress_classes.specs.ClassProductions.{members_of}
 use Rattle.regress_classes.specs.ClassSets.{Value, has_strings}
-use Rattle.regress_syntax.specs.Meaning.{is_in_class, along, any_reference, groups_named, is_literal, is_any, is_in_word, atom_steps, pattern_steps, terms_steps, item_steps, quantified_steps, meaning}
-use Rattle.regress_syntax.specs.Syntax.{Name, names, Atom, literal, dot, anchor, boundary, class_escape, class, class_set, string_property, back_reference, by_number, by_name, is_named, Group, grouping, modified, capture, look, Pattern, Terms, Item, one, either, no_terms, more_terms, atom, group, Counts, counts, counts_of_group, counts_of_quantifier, counts_of_item, counts_of_term, counts_of_terms, added, names_of_group, names_of_terms, names_of_item}
+use Rattle.regress_syntax.specs.Meaning.{is_in_class, along, any_reference, is_literal, is_any, is_in_word, atom_steps, pattern_steps, terms_steps, item_steps, quantified_steps, meaning}
+use Rattle.regress_syntax.specs.Syntax.{Name, names, Atom, literal, dot, anchor, boundary, class_escape, class, class_set, string_property, back_reference, by_number, by_name, Group, grouping, modified, capture, look, Pattern, Terms, Item, one, either, no_terms, more_terms, atom, group, Counts, counts, counts_of_group, counts_of_quantifier, counts_of_item, counts_of_term, counts_of_terms, added, names_of_group, names_of_terms, names_of_item, groups_named}
 use Rattle.regress_ecma.specs.Notation.{CharSet, failure, Matcher}
 use Rattle.regress_ecma.specs.Characters.{character_class_escape, character_complement, word_characters}
 use Rattle.regress_ecma.specs.Repetition.{match_two_alternatives, match_sequence}
 use Rattle.regress_ecma.specs.CharacterMatchers.{is_same, backreference_matcher}
 use Rattle.regress_ecma.specs.Assertions.{is_in_at, index_before, is_word_char, accept, compile_anchor, compile_boundary}
-use Rattle.regress_ecma.specs.Atoms.{numbers_of, compile_atom}
+use Rattle.regress_ecma.specs.Atoms.{compile_atom}
 use Rattle.regress_ecma.specs.Compile.{compile_pattern, quantified, flags_inside, compile_disjunction, compile_alternative, compile_term}
 use Rattle.regress_ecma.specs.Differences.{HasCaseDataOfUnicode, flags_of, IsInOrder, IsProper, AreProper, IsProperItem, is_words, differs_in_case, differs_at_atom, differs, differs_in_terms, differs_in_item}
 use Rattle.regress_ecma.specs.Compared.{state_on, IsComparable}
@@ -102,27 +102,17 @@ module _ (setting : Setting) (maps : HasCaseDataOfUnicode setting.table) (with_u
   reference_agrees rer flags d n =
       Agrees-back_reference setting.table rer text is_text (denotes setting.table rer.icase setting.flags.unicode) (compared rer flags) d n
 
-  same_numbers : (name : Name) (n : ℕ) (names : List (Option Name)) → groups_named name n names ≡ numbers_of name n names
-  same_numbers name n [] = refl
-  same_numbers name n (other ∷ names) =
-      ap (λ (rest : List ℕ). if is_named name other then n ∷ rest else rest) (same_numbers name (n + 1) names)
-
-  named_agrees : (rer : Flags) → HasFlagsOf rer → (d : Direction) (name : Name) (ns : List ℕ) → numbers_of name 1 all ≡ ns → not (length ns == 1) ≡ false →
+  named_agrees : (rer : Flags) → HasFlagsOf rer → (d : Direction) (name : Name) (ns : List ℕ) → groups_named name 1 all ≡ ns → not (length ns == 1) ≡ false →
       Agrees text d
       (any_reference (λ k. back_reference_steps d (of_characters text) (denotes setting.table rer.icase setting.flags.unicode) (k - 1)) (groups_named name 1 all))
-      (backreference_matcher setting.table rer (numbers_of name 1 all) d)
+      (backreference_matcher setting.table rer (groups_named name 1 all) d)
   named_agrees rer flags d name [] is none = absurd (false≢true (sym none))
   named_agrees rer flags d name (n ∷ []) is none =
       subst
       (λ (ms : List ℕ). Agrees text d
       (any_reference (λ k. back_reference_steps d (of_characters text) (denotes setting.table rer.icase setting.flags.unicode) (k - 1)) ms)
-      (backreference_matcher setting.table rer (numbers_of name 1 all) d))
-      (sym (same_numbers name 1 all))
-      (subst
-      (λ (ms : List ℕ). Agrees text d
-      (any_reference (λ k. back_reference_steps d (of_characters text) (denotes setting.table rer.icase setting.flags.unicode) (k - 1)) ms)
       (backreference_matcher setting.table rer ms d))
-      (sym is) (reference_agrees rer flags d n))
+      (sym is) (reference_agrees rer flags d n)
   named_agrees rer flags d name (n ∷ k ∷ ns) is none = absurd (several (length ns) none)
     where
       several : (l : ℕ) → not (suc (suc l) == 1) ≡ false → ⊥
@@ -185,7 +175,7 @@ module _ (setting : Setting) (maps : HasCaseDataOfUnicode setting.table) (with_u
       class_set_agrees d rer flags parts.0 negated value parts.1
   atom_agrees d (string_property rer written) flags none = absurd (false≢true (sym none))
   atom_agrees d (back_reference rer (by_number n)) flags none = reference_agrees rer flags d n
-  atom_agrees d (back_reference rer (by_name name)) flags none = named_agrees rer flags d name (numbers_of name 1 all) refl none
+  atom_agrees d (back_reference rer (by_name name)) flags none = named_agrees rer flags d name (groups_named name 1 all) refl none
 
   quantified_agrees : (d : Direction) (q : Option Quantifier) → IsInOrder q → (n count : ℕ) (f : Steps.Matcher) (m : Matcher) → Agrees text d f m →
       Agrees text d (quantified_steps (length text) q n (n + count) f) (quantified fuel n count q m)

@@ -1,12 +1,11 @@
 -- ECMA-262, 22.2.2.8 CompileCharacterClass, 22.2.2.9 CompileToCharSet and 22.2.2.10 CompileClassSetString. With the flag v
--- the elements of a CharSet are sequences of characters.
+-- the elements of a CharSet are sequences of characters. Numbers in comments are those of the clause's steps.
 use Rattle.std.specs.Prelude.{ℕ, Bool, false, true, not, ◌&&◌, ◌||◌, List, [], ◌∷◌, ◌++◌, map, filter, Option, Some, None, if◌then◌else◌}
-use Rattle.std.specs.List.{list_any}
-use Rattle.std.specs.Str.{bytes_eq}
 use Rattle.regress_base.specs.Intervals.{is_member, intervals_of}
 use Rattle.regress_base.specs.Table.{Table}
 use Rattle.regress_base.specs.declared.types.Flags.{Flags}
 use Rattle.regress_lexer.specs.Source.{char}
+use Rattle.regress_classes.specs.ClassSets.{is_among}
 use Rattle.regress_syntax.specs.Syntax.{Atom, class, class_set}
 use Rattle.regress_ecma.specs.Notation.{CharSet}
 use Rattle.regress_ecma.specs.Characters.{maybe_simple_case_folding as fold_characters, character_complement, character_class_escape}
@@ -33,10 +32,6 @@ union a b = record {
   has_empty = a.has_empty || b.has_empty;
 }
 
--- the string is one of the strings
-abbrev pub is_among : List (List ℕ) → List ℕ → Bool
-is_among strings s = list_any (λ other. bytes_eq other s) strings
-
 -- the elements that both have
 abbrev pub in_both : Elements → Elements → Elements
 in_both a b = record {
@@ -53,18 +48,18 @@ in_first_only a b = record {
   has_empty = a.has_empty && not b.has_empty;
 }
 
--- 22.2.2.10 CompileClassSetString: the CharSet of one string
+-- 22.2.2.10 CompileClassSetString, and 2 of ClassStringDisjunctionContents: the CharSet of one string
 abbrev pub one_string : List ℕ → Elements
 one_string [] = record no_elements { has_empty = true }
 one_string (c ∷ []) = only (one_character c)
 one_string (c ∷ d ∷ cs) = record no_elements { strings = (c ∷ d ∷ cs) ∷ [] }
 
--- ClassStringDisjunctionContents
+-- ClassStringDisjunctionContents, 1 to 4
 abbrev pub each_string : List (List ℕ) → Elements
 each_string [] = no_elements
 each_string (s ∷ strings) = union (one_string s) (each_string strings)
 
--- 22.2.2.9.1 CharacterRange
+-- 22.2.2.9.1 CharacterRange, 7
 abbrev pub character_range : (first last : ℕ) → CharSet
 character_range first last = record { first = first; last = last } ∷ []
 
@@ -75,19 +70,21 @@ character_of other = None
 
 -- B.1.2.8.1 CharacterRangeOrUnion, of the atoms' CharSets a and b
 abbrev pub range_or_union : (a b : Elements) → Option ℕ → Option ℕ → Elements
+-- 1.a
 range_or_union a b None last = union a (union (only (one_character (char "-"))) b)
 range_or_union a b (Some first) None = union a (union (only (one_character (char "-"))) b)
+-- 2
 range_or_union a b (Some first) (Some last) = only (character_range first last)
 
 module _ (table : Table) (rer : Flags) where
-  -- 22.2.2.9.5 MaybeSimpleCaseFolding
+  -- 22.2.2.9.5 MaybeSimpleCaseFolding: 2 to 4, or 1
   abbrev pub maybe_simple_case_folding : Elements → Elements
   maybe_simple_case_folding a =
       if rer.unicode_sets && rer.icase
       then record a { characters = fold_characters table rer a.characters; strings = map (map table.fold) a.strings }
       else a
 
-  -- 22.2.2.9.6 CharacterComplement
+  -- 22.2.2.9.6 CharacterComplement: 1 and 2
   abbrev pub complement : Elements → Elements
   complement a = only (character_complement table rer a.characters)
 
@@ -95,25 +92,35 @@ module _ (table : Table) (rer : Flags) where
   abbrev mutual
     -- of ClassAtom and ClassEscape, and of ClassSetOperand
     pub atom_to_char_set : ClassAtom → Elements
+    -- ClassAtom and ClassEscape, 1 to 3; ClassSetOperand, ClassSetCharacter, 1 and 2
     atom_to_char_set (character c) = maybe_simple_case_folding (only (one_character c))
+    -- CharacterClassEscape
     atom_to_char_set (class_escape kind capital) = only (character_class_escape table rer kind capital)
+    -- `p{`, 1, and `P{`, 1 to 3; the folding is the last step of UnicodePropertyValueExpression
     atom_to_char_set (property members capital) =
         if capital then complement (maybe_simple_case_folding (only members)) else maybe_simple_case_folding (only members)
     atom_to_char_set (string_property members) = maybe_simple_case_folding (each_string members)
+    -- ClassSetOperand, ClassStringDisjunction, 1 and 2
     atom_to_char_set (class_strings strings) = maybe_simple_case_folding (each_string strings)
+    -- NestedClass, 1, and inverted 1 and 2
     atom_to_char_set (nested_class invert contents) =
         if invert then complement (compile_to_char_set contents) else compile_to_char_set contents
 
     -- of ClassContents
     pub compile_to_char_set : ClassContents → Elements
+    -- the empty ClassContents, 1
     compile_to_char_set empty = no_elements
+    -- NonemptyClassRanges, 1 to 3; ClassUnion, 1 to 3
     compile_to_char_set (atom_then first rest) = union (atom_to_char_set first) (compile_to_char_set rest)
+    -- NonemptyClassRanges, 1 to 5, with 4 of annex B; ClassSetRange, 1 to 3, in ClassUnion
     compile_to_char_set (range_then first last rest) =
         union
         (maybe_simple_case_folding
         (range_or_union (atom_to_char_set first) (atom_to_char_set last) (character_of first) (character_of last)))
         (compile_to_char_set rest)
+    -- ClassIntersection, 1 to 3
     compile_to_char_set (intersection left right) = in_both (compile_to_char_set left) (atom_to_char_set right)
+    -- ClassSubtraction, 1 to 3
     compile_to_char_set (subtraction left right) = in_first_only (compile_to_char_set left) (atom_to_char_set right)
 
   -- the class of the syntax tree with these elements
@@ -123,5 +130,7 @@ module _ (table : Table) (rer : Flags) where
   -- 22.2.2.8 CompileCharacterClass: with the flag v the complement is taken, without it the matcher inverts.
   abbrev pub compile_character_class : CharacterClass → Atom
   compile_character_class node =
+      -- 1
       let a : Elements = compile_to_char_set node.contents in
+      -- 2 and 3
       if rer.unicode_sets then class_of (if node.invert then complement a else a) else class rer node.invert a.characters

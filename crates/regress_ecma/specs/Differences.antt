@@ -8,27 +8,25 @@ use Rattle.regress_base.specs.declared.charclasses.CharacterClassType.TheVariant
 use Rattle.regress_base.specs.declared.types.Flags.{Flags}
 use Rattle.regress_base.specs.declared.types.Quantifier.{Quantifier}
 use Rattle.regress_classes.specs.ClassSets.{has_strings}
-use Rattle.regress_syntax.specs.Syntax.{Name, by_number, by_name, Atom, literal, dot, anchor, boundary, class_escape, class, class_set, string_property, back_reference, Pattern, Terms, Item, one, either, no_terms, more_terms, atom, group}
+use Rattle.regress_syntax.specs.Syntax.{Name, by_number, by_name, Atom, literal, dot, anchor, boundary, class_escape, class, class_set, string_property, back_reference, Pattern, Terms, Item, one, either, no_terms, more_terms, atom, group, groups_named}
 use Rattle.regress_ecma.specs.Characters.{has_some}
-use Rattle.regress_ecma.specs.Atoms.{numbers_of}
 use Rattle.regress_ecma.specs.Compile.{flags_inside}
 
--- Intervals that have all characters whose case variants are not the same with and without u, and others. Of the ASCII
--- letters, K and S have a variant outside of ASCII only with u.
+-- The 78 characters whose case variants are not the same with and without u: of ASCII K and S, which have a variant
+-- outside of it only with u, and most letters of Greek with iota subscript. Six of them, U+0390, U+03B0, U+1FD3, U+1FE3,
+-- U+FB05 and U+FB06, have variants since Unicode 15.1.
 unfoldable pub unlike : List Bounds
 unlike =
-    record { first = 0x4B; last = 0x4B } ∷ record { first = 0x53; last = 0x53 } ∷ record { first = 0x6B; last = 0x6B }
-    ∷ record { first = 0x73; last = 0x73 } ∷ record { first = 0xB5; last = 0xB5 } ∷ record { first = 0xC0; last = 0xD6 }
-    ∷ record { first = 0xD8; last = 0xF6 } ∷ record { first = 0xF8; last = 0x586 } ∷ record { first = 0x10A0; last = 0x10FF }
-    ∷ record { first = 0x13A0; last = 0x13FD } ∷ record { first = 0x1C80; last = 0x1FFC }
-    ∷ record { first = 0x2126; last = 0x2184 } ∷ record { first = 0x24B6; last = 0x24E9 }
-    ∷ record { first = 0x2C00; last = 0x2D2D } ∷ record { first = 0xA640; last = 0xABBF }
-    ∷ record { first = 0xFB00; last = 0xFB06 } ∷ record { first = 0xFF21; last = 0xFF5A }
-    ∷ record { first = 0x10400; last = 0x1E943 } ∷ []
+    record { first = 0x4B; last = 0x4B } ∷ record { first = 0x53; last = 0x53 } ∷ record { first = 0x6B; last = 0x6B } ∷ record { first = 0x73; last = 0x73 } ∷ record { first = 0xC5; last = 0xC5 } ∷ record { first = 0xDF; last = 0xDF } ∷ record { first = 0xE5; last = 0xE5 } ∷ record { first = 0x17F; last = 0x17F } ∷ record { first = 0x390; last = 0x390 } ∷ record { first = 0x398; last = 0x398 } ∷ record { first = 0x3A9; last = 0x3A9 } ∷ record { first = 0x3B0; last = 0x3B0 } ∷ record { first = 0x3B8; last = 0x3B8 } ∷ record { first = 0x3C9; last = 0x3C9 } ∷ record { first = 0x3D1; last = 0x3D1 } ∷ record { first = 0x3F4; last = 0x3F4 } ∷ record { first = 0x1E9E; last = 0x1E9E } ∷ record { first = 0x1F80; last = 0x1FAF } ∷ record { first = 0x1FB3; last = 0x1FB3 } ∷ record { first = 0x1FBC; last = 0x1FBC } ∷ record { first = 0x1FC3; last = 0x1FC3 } ∷ record { first = 0x1FCC; last = 0x1FCC } ∷ record { first = 0x1FD3; last = 0x1FD3 } ∷ record { first = 0x1FE3; last = 0x1FE3 } ∷ record { first = 0x1FF3; last = 0x1FF3 } ∷ record { first = 0x1FFC; last = 0x1FFC } ∷ record { first = 0x2126; last = 0x2126 } ∷ record { first = 0x212A; last = 0x212B } ∷ record { first = 0xFB05; last = 0xFB06 } ∷ []
+
+-- intervals that have all characters with case variants outside of ASCII, and others
+unfoldable pub cased_beyond_ascii : List Bounds
+cased_beyond_ascii =
+    record { first = 0xB5; last = 0xB5 } ∷ record { first = 0xC0; last = 0xD6 } ∷ record { first = 0xD8; last = 0xF6 } ∷ record { first = 0xF8; last = 0x586 } ∷ record { first = 0x10A0; last = 0x10FF } ∷ record { first = 0x13A0; last = 0x13FD } ∷ record { first = 0x1C80; last = 0x1FFC } ∷ record { first = 0x2126; last = 0x2184 } ∷ record { first = 0x24B6; last = 0x24E9 } ∷ record { first = 0x2C00; last = 0x2D2D } ∷ record { first = 0xA640; last = 0xABBF } ∷ record { first = 0xFB00; last = 0xFB06 } ∷ record { first = 0xFF21; last = 0xFF5A } ∷ record { first = 0x10400; last = 0x1E943 } ∷ []
 
 -- intervals that have all characters with case variants, and others: the ASCII letters, and those
 abbrev pub cased : List Bounds
-cased = record { first = 0x41; last = 0x5A } ∷ record { first = 0x61; last = 0x7A } ∷ unlike
+cased = record { first = 0x41; last = 0x5A } ∷ record { first = 0x61; last = 0x7A } ∷ cased_beyond_ascii
 
 -- No other character maps to what a character outside of these intervals maps to.
 abbrev pub HasVariantsIn : List Bounds → (ℕ → ℕ) → Type 0
@@ -85,7 +83,7 @@ is_words Digits = false
 is_words Spaces = false
 is_words Words = true
 
--- Some member may have other case variants with u than without.
+-- Some member has other case variants with u than without.
 abbrev pub has_unlike : List Bounds → Bool
 has_unlike = has_some (is_member unlike)
 
@@ -114,7 +112,7 @@ module _ (names : List (Option Name)) where
   differs_at_atom rer (string_property flags written) = true
   differs_at_atom rer (back_reference flags (by_number n)) = false
   -- a reference to several groups of one name
-  differs_at_atom rer (back_reference flags (by_name name)) = not (length (numbers_of name 1 names) == 1)
+  differs_at_atom rer (back_reference flags (by_name name)) = not (length (groups_named name 1 names) == 1)
 
   abbrev mutual
     pub differs : Flags → Pattern → Bool

@@ -1,4 +1,5 @@
--- ECMA-262, 22.2.7.2 RegExpBuiltinExec: the search for a match from an index on.
+-- ECMA-262, 22.2.7.2 RegExpBuiltinExec: the search for a match from an index on. Numbers in comments are those of its
+-- steps.
 use Rattle.std.specs.Prelude.{ℕ, zero, suc, ◌+◌, ◌-◌, List, length, Option, Some, None}
 use Rattle.regress_tree.specs.Reading.{byte_position}
 use Rattle.regress_tree.specs.Setting.{Setting}
@@ -15,12 +16,12 @@ Found = ℕ × MatchState
 abbrev pub match_at : Setting → Pattern → (input : List ℕ) → (index : ℕ) → MatchResult
 match_at setting p input index = compile_pattern (length input + 1) setting.table setting.flags p input index
 
--- the match at an index, or else what is found later
+-- the match at an index, 13.e, or else what is found later, 13.d
 abbrev pub or_later : (index : ℕ) → MatchResult → Option Found → Option Found
 or_later index None later = later
 or_later index (Some x) later = Some (index, x)
 
--- the first match at one of the n indices from `index` on
+-- the first match at one of the n indices from `index` on: 13
 unfoldable pub first_match : (at : ℕ → MatchResult) → (n index : ℕ) → Option Found
 first_match at zero index = None
 first_match at (suc n) index = or_later index (at index) (first_match at n (index + 1))

@@ -4,9 +4,9 @@ use Rattle.std.specs.Fmt.{decimal}
 use Rattle.regress_svg.specs.Escape.{escaped_text}
 use Rattle.regress_svg.specs.Markup.{IsDocument}
 use Rattle.regress_explain.specs.declared.markup.Element.{Element}
-use Rattle.regress_explain.specs.declared.markup.Element.TheVariants.{Section, Heading, Paragraph, Figure, Items, Item, Code, Small, Mark, Division, Inline}
+use Rattle.regress_explain.specs.declared.markup.Element.TheVariants.{Section, Heading, Paragraph, Figure, Items, Item, Code, Small, Mark, Division, Inline, Footer, Link, Table, Row, ColumnHead, Cell}
 use Rattle.regress_explain.specs.declared.markup.Tag.{Tag}
-use Rattle.regress_explain.specs.declared.markup.Tag.TheVariants.{Head, Style, Body, End, Open, Close, Part, Line}
+use Rattle.regress_explain.specs.declared.markup.Tag.TheVariants.{Head, Style, Body, End, Open, Close, Part, Line, To}
 
 -- the name of an element
 abbrev pub name_of : Element → List ℕ
@@ -21,6 +21,12 @@ name_of Small = codes "small"
 name_of Mark = codes "mark"
 name_of Division = codes "div"
 name_of Inline = codes "span"
+name_of Footer = codes "footer"
+name_of Link = codes "a"
+name_of Table = codes "table"
+name_of Row = codes "tr"
+name_of ColumnHead = codes "th"
+name_of Cell = codes "td"
 
 -- a tag, or several
 abbrev pub tag_bytes : Tag → List ℕ
@@ -31,8 +37,10 @@ tag_bytes Body = codes "</style></head><body><main>"
 tag_bytes End = codes "</main></body></html>"
 tag_bytes (Open element) = codes "<" ++ name_of element ++ codes ">"
 tag_bytes (Close element) = codes "</" ++ name_of element ++ codes ">"
-tag_bytes (Part span) = codes "<span class=\"m s" ++ decimal span.start ++ codes "-" ++ decimal span.end ++ codes "\">"
+tag_bytes (Part span) = codes "<span class=\"m s" ++ decimal span.start ++ codes "-" ++ decimal span.end
+    ++ codes "\" id=\"p" ++ decimal span.start ++ codes "-" ++ decimal span.end ++ codes "\">"
 tag_bytes (Line span) = codes "<div class=\"m s" ++ decimal span.start ++ codes "-" ++ decimal span.end ++ codes "\" tabindex=\"0\">"
+tag_bytes (To span) = codes "<a href=\"#p" ++ decimal span.start ++ codes "-" ++ decimal span.end ++ codes "\">"
 
 -- a piece of a page
 pub data Piece : Type 0 where

@@ -8,17 +8,21 @@ use crate::matched::{Matched, write_text};
 use crate::outline::{Part, outline};
 use crate::source::write_pattern;
 use crate::style::write_style;
+use crate::summary::summary;
+use regress_labels::group_names;
 use regress_parse::SpannedRegex;
 use regress_railroad::svg_with_marks;
 use std::alloc::{AllocError, Global};
 
 /// Returns a page about a parsed pattern, as one HTML document that refers to no other file and needs no script: the
-/// pattern, its railroad diagram, its explanation as nested lists, and a text with its matches, if one is given.
+/// pattern, its railroad diagram, its explanation as nested lists, and a text with its matches and a table of what
+/// their groups have captured, if one is given.
 ///
 /// Pointing at a part of the pattern or of the diagram, or at a line of the explanation, marks that part everywhere; so
-/// does focusing a line. Colours fit the light or dark scheme that the reader prefers. What the pattern and the text
-/// contain is escaped. Invisible characters of the pattern are shown by their numbers, as `U+000A`, and so are, of the
-/// text, controls other than tabs and line feeds, and format characters such as those that change its direction.
+/// does focusing a line, or following its link to the pattern. Colours fit the light or dark scheme that the reader
+/// prefers. What the pattern and the text contain is escaped. Invisible characters of the pattern are shown by their
+/// numbers, as `U+000A`, and so are, of the text, controls other than tabs and line feeds, and format characters such
+/// as those that change its direction.
 ///
 /// The arguments are those of [`explain`]. A range that is not in the rest of the text after the range before it, or
 /// does not begin and end between two characters, is not marked.
@@ -42,14 +46,32 @@ pub fn page(
     write_head(&parts, &mut page)?;
     write_pattern(pattern, parsed.regex.flags, &parts, &mut page)?;
     write_diagram(pattern, parsed, &mut page)?;
-    page.begin_section("Explanation")?;
-    write_list(&parts, pattern, &mut page)?;
-    page.tag(Tag::Close(Element::Section))?;
+    write_explanation(&parts, pattern, parsed, &mut page)?;
     if let Some(matched) = matched {
-        write_text(matched, &mut page)?;
+        let names = group_names(alloc, &parsed.regex.node)?;
+        write_text(matched, &names, &mut page)?;
     }
+    page.element(Element::Footer, MADE)?;
     page.tag(Tag::End)?;
     Ok(page.finish())
+}
+
+/// How the page was made.
+const MADE: &str = "Made by regex explain --html. This page has no scripts: \
+for another pattern, or with --text for the matches in another text, run the program again.";
+
+/// Writes the sentence about the pattern, and its parts.
+fn write_explanation(
+    parts: &[Part],
+    pattern: &[u32],
+    parsed: &SpannedRegex,
+    page: &mut Markup,
+) -> Written {
+    page.begin_section("Explanation")?;
+    let summary = summary(page.alloc(), &parsed.regex.node)?;
+    page.element(Element::Division, &summary)?;
+    write_list(parts, pattern, page)?;
+    page.tag(Tag::Close(Element::Section))
 }
 
 /// Writes what precedes the content.

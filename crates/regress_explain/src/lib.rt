@@ -1,7 +1,10 @@
 //! Explanations of patterns in words: as lines of text, and as a page with a railroad diagram.
 #![tactic(auto)]
 
+mod elements;
+mod gathering;
 mod html;
+mod lengths;
 mod listing;
 mod markup;
 mod matched;
@@ -9,8 +12,10 @@ mod outline;
 mod shown;
 mod source;
 mod style;
+mod subjects;
+mod summary;
+mod table;
 mod text;
-mod words;
 
 pub use html::page;
 pub use matched::Matched;

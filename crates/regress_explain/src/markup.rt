@@ -29,6 +29,16 @@ pub(crate) enum Element {
     Division,
     /// A part of the pattern.
     Inline,
+    /// How the page was made.
+    Footer,
+    /// A reference to another place of the page.
+    Link,
+    Table,
+    /// A line of a table.
+    Row,
+    /// The name of a column.
+    ColumnHead,
+    Cell,
 }
 
 impl Element {
@@ -47,6 +57,12 @@ impl Element {
             Element::Mark => "mark",
             Element::Division => "div",
             Element::Inline => "span",
+            Element::Footer => "footer",
+            Element::Link => "a",
+            Element::Table => "table",
+            Element::Row => "tr",
+            Element::ColumnHead => "th",
+            Element::Cell => "td",
         }
     }
 }
@@ -68,6 +84,8 @@ pub(crate) enum Tag {
     Part(Span),
     /// The start of a line of the explanation of a part with this span.
     Line(Span),
+    /// The start of a link to the part of the pattern with this span.
+    To(Span),
 }
 
 /// Returns the markup of a tag.
@@ -91,11 +109,15 @@ fn tag_text(alloc: Global, tag: Tag) -> Result<String, AllocError>
             let name = element.name();
             format!(in alloc; "</{name}>")
         }
-        Tag::Part(span) => format!(in alloc; "<span class=\"m s{}-{}\">", span.start, span.end),
+        Tag::Part(span) => {
+            let Span { start, end } = span;
+            format!(in alloc; "<span class=\"m s{start}-{end}\" id=\"p{start}-{end}\">")
+        }
         Tag::Line(span) => format!(in alloc;
             "<div class=\"m s{}-{}\" tabindex=\"0\">",
             span.start, span.end
         ),
+        Tag::To(span) => format!(in alloc; "<a href=\"#p{}-{}\">", span.start, span.end),
     }
 }
 

@@ -2,6 +2,7 @@
 
 use crate::markup::{Element, Markup, Tag, Written};
 use crate::shown::shown_text;
+use crate::table::write_table;
 use std::alloc::{AllocError, Global};
 use std::ops::Range;
 
@@ -12,11 +13,18 @@ pub struct Matched<'a> {
     pub text: &'a str,
     /// The ranges of the matches, in byte offsets, in ascending order and without overlaps.
     pub ranges: &'a [Range<usize>],
+    /// The ranges of the groups, `None` for an unset one: those of the first match, then those of the next, as many of
+    /// each; empty if they are not known.
+    pub captures: &'a [Option<Range<usize>>],
 }
 
-/// Writes the section of a text.
-pub(crate) fn write_text(matched: Matched<'_>, page: &mut Markup) -> Written {
-    let Matched { text, ranges } = matched;
+/// Writes the section of a text: the text, and a table of the matches if there are groups.
+pub(crate) fn write_text(
+    matched: Matched<'_>,
+    names: &[Option<String>],
+    page: &mut Markup,
+) -> Written {
+    let Matched { text, ranges, .. } = matched;
     page.begin_section(&heading(page.alloc(), ranges.len())?)?;
     page.tag(Tag::Open(Element::Paragraph))?;
     let mut at = 0;
@@ -31,6 +39,7 @@ pub(crate) fn write_text(matched: Matched<'_>, page: &mut Markup) -> Written {
     let after = text.get(at..).unwrap_or("");
     page.text(&shown_text(page.alloc(), after)?)?;
     page.tag(Tag::Close(Element::Paragraph))?;
+    write_table(matched, names, page)?;
     page.tag(Tag::Close(Element::Section))
 }
 

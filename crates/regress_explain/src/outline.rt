@@ -1,21 +1,37 @@
 //! The parts of a pattern in its order, each with its span and its meaning.
 
-use crate::words::{Source, words};
-use regress_labels::group_names;
+use crate::gathering::finished;
+use regress_labels::{Character, group_names};
 use regress_parse::{Span, SpannedRegex};
 use regress_tree::ir::Node;
 use regress_tree::ir::held::body;
+use regress_words::{Source, is_one_atom, literal, scanned, words};
 use std::alloc::{AllocError, Global};
 use std::{mem, slice};
 
-/// A node of the tree of a pattern.
+/// A part of a pattern: what a node of the tree is written as, characters one after the other, or a group with
+/// modifiers.
 #[derive(Drop)]
 pub(crate) struct Part {
     pub(crate) span: Span,
-    /// What the node matches.
+    /// What it matches.
     pub(crate) words: String,
     /// The parts inside, in the order of the pattern.
     pub(crate) parts: Vec<Part>,
+    pub(crate) kind: Kind,
+}
+
+/// How a part is explained.
+#[derive(Clone, Copy)]
+pub(crate) enum Kind {
+    /// A character, which may become a part of a text. It has no words yet.
+    Character(Character),
+    /// In a line of its own, or at the end of the line of the part around it.
+    Short,
+    /// In a line of its own, and one for each part inside.
+    Whole,
+    /// In a line that includes what the only part inside matches.
+    Inline,
 }
 
 /// A list of parts in the order of the pattern.
@@ -27,6 +43,8 @@ struct Walker<'a> {
     source: Source<'a>,
     /// The spans of the remaining nodes, in postorder.
     spans: slice::Iter<'a, Span>,
+    /// The span of the node before.
+    last: Span,
     /// Whether the node is inside a lookbehind, where the parts of a `Cat` are in reverse order.
     reversed: bool,
 }
@@ -34,7 +52,8 @@ struct Walker<'a> {
 impl Walker<'_> {
     /// Returns the span of the next node in postorder; an empty one if there are too few.
     fn next_span(&mut self) -> Span {
-        self.spans.next().copied().unwrap_or(NO_SPAN)
+        self.last = self.spans.next().copied().unwrap_or(NO_SPAN);
+        self.last
     }
 }
 
@@ -48,76 +67,188 @@ pub(crate) fn outline(
 ) -> Result<Parts, AllocError> {
     let root = &parsed.regex.node;
     let names = group_names(alloc, root)?;
+    let scan = scanned(alloc, pattern, parsed.regex.flags)?;
     let mut walker = Walker {
         source: Source {
             alloc,
             pattern,
             names: &names,
+            scan: &scan,
         },
         spans: parsed.spans.iter(),
+        last: NO_SPAN,
         reversed: false,
     };
-    let mut parts = Vec::new(alloc);
-    match root {
-        Node::Cat(all) => add_all(all, &mut walker, &mut parts)?,
-        root => add(root, &mut walker, &mut parts)?,
+    let parts = sequence(root, &mut walker)?;
+    finished(parts, 0, walker.source)
+}
+
+/// Returns the parts of a sequence, in the order of the pattern.
+#[cycle(add)]
+fn sequence(node: &Node, walker: &mut Walker<'_>) -> Result<Parts, AllocError> {
+    let mut parts = Vec::new(walker.source.alloc);
+    add(node, walker, &mut parts)?;
+    if walker.reversed {
+        parts.reverse();
     }
     Ok(parts)
 }
 
-/// Adds the part of a node. The end of the pattern has none.
+/// Adds the parts of a node, in the order of the tree. A `Cat` has none of its own, and neither has the end of the
+/// pattern.
 #[cycle(add)]
 fn add(node: &Node, walker: &mut Walker<'_>, parts: &mut Parts) -> Result<(), AllocError> {
-    let inside = inside(node, walker)?;
-    let span = walker.next_span();
-    if let Node::Goal = node {
-        return Ok(());
-    }
-    let words = words(node, span, walker.source)?;
-    parts.push(Part {
-        span,
-        words,
-        parts: inside,
-    })?;
-    Ok(())
-}
-
-/// Returns the parts inside a node, in the order of the pattern.
-#[cycle(add)]
-fn inside(node: &Node, walker: &mut Walker<'_>) -> Result<Parts, AllocError> {
-    let mut parts = Vec::new(walker.source.alloc);
     match node {
         Node::Cat(all) => {
-            add_all(all, walker, &mut parts)?;
-            if walker.reversed {
-                parts.reverse();
+            for node in all {
+                add(node, walker, parts)?;
             }
+            walker.next_span();
         }
-        Node::Alt(..) => add_alternatives(node, walker, &mut parts)?,
-        Node::LookaroundAssertion {
-            backwards,
-            contents,
-            ..
-        } => {
-            let reversed = mem::replace(&mut walker.reversed, *backwards);
-            add(contents, walker, &mut parts)?;
-            walker.reversed = reversed;
+        Node::Goal => {
+            walker.next_span();
         }
-        _ => {
-            if let Some(body) = body(node) {
-                add(body, walker, &mut parts)?;
-            }
-        }
-    }
-    Ok(parts)
-}
-
-#[cycle(add)]
-fn add_all(nodes: &[Node], walker: &mut Walker<'_>, parts: &mut Parts) -> Result<(), AllocError> {
-    for node in nodes {
-        add(node, walker, parts)?;
+        Node::Alt(..) => parts.push(alternation(node, walker)?)?,
+        _ => parts.push(single_part(node, walker)?)?,
     }
     Ok(())
+}
+
+/// Returns the part of a node that is no sequence and no alternation.
+#[cycle(add)]
+fn single_part(node: &Node, walker: &mut Walker<'_>) -> Result<Part, AllocError> {
+    let inside = match body(node) {
+        Some(body) => {
+            let reversed = walker.reversed;
+            if let Node::LookaroundAssertion { backwards, .. } = node {
+                walker.reversed = *backwards;
+            }
+            let inside = sequence(body, walker)?;
+            walker.reversed = reversed;
+            Some(inside)
+        }
+        None => None,
+    };
+    let span = walker.next_span();
+    match inside {
+        Some(inside) => around(node, span, inside, walker.source),
+        None => leaf(node, span, walker.source),
+    }
+}
+
+/// Returns the part of a node without a body.
+fn leaf(node: &Node, span: Span, source: Source<'_>) -> Result<Part, AllocError> {
+    let (words, kind) = match literal(node, span, source)? {
+        Some(character) => (String::new(source.alloc), Kind::Character(character)),
+        None => (words(node, span, source)?, Kind::Short),
+    };
+    let parts = Vec::new(source.alloc);
+    Ok(Part {
+        span,
+        words,
+        parts,
+        kind,
+    })
+}
+
+/// Returns the part of a group, a loop or a lookaround.
+fn around(node: &Node, span: Span, inside: Parts, source: Source<'_>) -> Result<Part, AllocError> {
+    let alloc = source.alloc;
+    let words = words(node, span, source)?;
+    let parts = finished(inside, span.start, source)?;
+    let (words, kind) = match parts.as_slice() {
+        [
+            Part {
+                words: inner,
+                kind: Kind::Short,
+                ..
+            },
+        ] => (format!(in alloc; "{words}: {inner}")?, Kind::Inline),
+        _ => (format!(in alloc; "{words}:")?, Kind::Whole),
+    };
+    Ok(Part {
+        span,
+        words,
+        parts,
+        kind,
+    })
+}
+
+/// An alternative, and the span of its node.
+type Alternative = (Parts, Span);
+
+/// Returns the part of an alternation, or of what is written as one atom.
+#[cycle(add)]
+fn alternation(node: &Node, walker: &mut Walker<'_>) -> Result<Part, AllocError> {
+    if let Some(atom) = atom(node, walker)? {
+        return Ok(atom);
+    }
+    let mut all = Vec::new(walker.source.alloc);
+    add_alternatives(node, walker, &mut all)?;
+    let (span, source) = (walker.next_span(), walker.source);
+    let mut parts = Vec::new(source.alloc);
+    let mut start = span.start;
+    for (inside, span) in all {
+        parts.push(alternative(inside, start, span, source)?)?;
+        start = span.end;
+    }
+    let words = words(node, span, source)?;
+    Ok(Part {
+        span,
+        words: format!(in source.alloc; "{words}:")?,
+        parts,
+        kind: Kind::Whole,
+    })
+}
+
+/// Returns the part of several nodes that are written as one atom, all with the same span, and skips their spans.
+fn atom(node: &Node, walker: &mut Walker<'_>) -> Result<Option<Part>, AllocError> {
+    let (span, source) = match walker.spans.as_slice() {
+        [first, second, ..] if first == second => (*first, walker.source),
+        _ => return Ok(None),
+    };
+    if !is_one_atom(node, span, source)? {
+        return Ok(None);
+    }
+    let mut rest = node;
+    while let Node::Alt(_, right) = rest {
+        walker.next_span();
+        walker.next_span();
+        rest = right;
+    }
+    walker.next_span();
+    Ok(Some(Part {
+        span,
+        words: words(node, span, source)?,
+        parts: Vec::new(source.alloc),
+        kind: Kind::Short,
+    }))
+}
+
+/// Returns the part of an alternative whose node has this span; what is written of it begins at or after `start`.
+fn alternative(
+    inside: Parts,
+    start: usize,
+    span: Span,
+    source: Source<'_>,
+) -> Result<Part, AllocError> {
+    let mut parts = finished(inside, start, source)?;
+    if parts.len() == 1
+        && let Some(only) = parts.pop()
+    {
+        return Ok(only);
+    }
+    let (words, kind) = if parts.is_empty() {
+        ("nothing", Kind::Short)
+    } else {
+        ("one after the other:", Kind::Whole)
+    };
+    Ok(Part {
+        span,
+        words: String::from_str(source.alloc, words)?,
+        parts,
+        kind,
+    })
 }
 
 /// Adds the alternatives of an alternation. It iterates over right sides: there may be as many nested ones as
@@ -126,20 +257,23 @@ fn add_all(nodes: &[Node], walker: &mut Walker<'_>, parts: &mut Parts) -> Result
 fn add_alternatives(
     node: &Node,
     walker: &mut Walker<'_>,
-    parts: &mut Parts,
+    all: &mut Vec<Alternative>,
 ) -> Result<(), AllocError> {
     let Node::Alt(left, right) = node else {
         return Ok(());
     };
-    add(left, walker, parts)?;
+    let parts = sequence(left, walker)?;
+    all.push((parts, walker.last))?;
     let mut inner = 0_usize;
     let mut rest: &Node = right;
     while let Node::Alt(left, right) = rest {
-        add(left, walker, parts)?;
+        let parts = sequence(left, walker)?;
+        all.push((parts, walker.last))?;
         inner = inner.saturating_add(1);
         rest = right;
     }
-    add(rest, walker, parts)?;
+    let parts = sequence(rest, walker)?;
+    all.push((parts, walker.last))?;
     // The spans of the inner `Alt`s come before that of the outermost one.
     for _inner in 0..inner {
         walker.spans.next();

@@ -7,22 +7,7 @@ use std::alloc::{AllocError, Global};
 
 /// Returns the source text at a span, cut off if it is long.
 pub(crate) fn written(alloc: Global, pattern: &[u32], span: Span) -> Result<String, AllocError> {
-    let mut text = String::new(alloc);
-    if let Some(part) = excerpt(alloc, pattern, Some(span))? {
-        for c in part.chars() {
-            push_shown(u32::from(c), alloc, &mut text)?;
-        }
-    }
-    Ok(text)
-}
-
-/// Appends a character of a pattern, or its number, as `U+000A`, if it is invisible and no space.
-pub(crate) fn push_shown(c: u32, alloc: Global, text: &mut String) -> Result<(), AllocError> {
-    if c == 0x20 {
-        text.push(' ')
-    } else {
-        push_symbol(c, alloc, text)
-    }
+    Ok(excerpt(alloc, pattern, Some(span))?.unwrap_or(String::new(alloc)))
 }
 
 /// Returns a text in which controls, other than tabs and line feeds, and invisible format characters are shown by their

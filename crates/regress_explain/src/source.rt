@@ -2,10 +2,10 @@
 
 use crate::markup::{Element, Markup, Tag, Written};
 use crate::outline::Part;
-use crate::shown::push_shown;
 use regress_base::types::Flags;
 use regress_labels::flags_text;
 use regress_parse::Span;
+use regress_words::shown;
 
 /// Writes the section of the pattern, with its flags in the heading.
 pub(crate) fn write_pattern(
@@ -47,10 +47,7 @@ impl Rest<'_> {
             return Ok(());
         };
         self.at = end;
-        let mut text = String::new(page.alloc());
-        for c in next {
-            push_shown(*c, page.alloc(), &mut text)?;
-        }
+        let text = shown(page.alloc(), next)?;
         page.text(&text)
     }
 }

@@ -7,9 +7,9 @@ use regress_parse::Span;
 /// The style sheet without the rule that marks parts. It contains no character that is escaped in markup.
 const STYLE: &str = "\
 :root{color-scheme:light dark;--page:#fff;--ink:#1f2328;--dim:#57606a;--edge:#d0d7de;\
---panel:#f6f8fa;--on:#ffe58f;--glow:#d97706;--hit:#b6e3ff;--rim:#54aeff}\
+--panel:#f6f8fa;--on:#ffe58f;--glow:#b45309;--hit:#b6e3ff;--rim:#0969da}\
 @media (prefers-color-scheme:dark){:root{--page:#0d1117;--ink:#e6edf3;--dim:#9198a1;--edge:#30363d;\
---panel:#161b22;--on:#5c4400;--glow:#f0b429;--hit:#0c4a7c;--rim:#388bfd}}\
+--panel:#161b22;--on:#3a2c00;--glow:#f0b429;--hit:#0c4a7c;--rim:#388bfd}}\
 body{margin:0;background:var(--page);color:var(--ink);font:16px/1.5 system-ui,sans-serif}\
 main{max-width:68rem;margin:auto;padding:0 1rem 2rem}\
 h2{font-size:1rem;margin:1.5rem 0 .5rem}\
@@ -22,11 +22,19 @@ ul{list-style:none;margin:0;padding:0}\
 ul ul{margin-left:.5rem;padding-left:.8rem;border-left:1px solid var(--edge)}\
 div{padding:.05rem .4rem}\
 code{background:var(--panel);border:1px solid var(--edge);border-radius:4px;padding:0 .3rem}\
-small{color:var(--dim)}\
+small,footer,a{color:var(--dim)}\
+footer{margin-top:2rem;font-size:.85rem}\
+:focus-visible{outline:2px solid var(--rim);outline-offset:1px}\
+table{border-collapse:collapse;margin-top:.6rem;font-size:.9rem}\
+th,td{border:1px solid var(--edge);padding:.2rem .6rem;text-align:left;vertical-align:top;white-space:pre-wrap;\
+overflow-wrap:anywhere}\
+th{background:var(--panel)}\
 mark{background:var(--hit);color:inherit;border-radius:3px;box-shadow:inset 0 0 0 1px var(--rim)}\
 mark:empty{border-left:2px solid var(--glow)}\
 .m{border-radius:4px}\
-.m:not(g){filter:none!important}";
+.m:not(g){filter:none!important}\
+@media print{:root{color-scheme:light}main{max-width:none}figure{overflow:visible;border:0}\
+figure svg{max-width:100%;height:auto}li,tr{break-inside:avoid}a{text-decoration:none}}";
 
 /// The declarations for the parts that are marked: a background in the text, and a glow in the diagram.
 const MARKED: &str = "{background:var(--on);filter:drop-shadow(0 0 4px var(--glow))}";
@@ -47,14 +55,14 @@ fn select_all(parts: &[Part], page: &mut Markup) -> Written {
     Ok(())
 }
 
-/// Writes the selectors of a part and of those inside: a part is marked if something of it is pointed at or focused,
-/// and nothing of a part inside is.
+/// Writes the selectors of a part and of those inside: a part is marked if something of it is pointed at, focused or the
+/// target of a link, and nothing of a part inside is.
 #[cycle(select_all)]
 fn select(part: &Part, page: &mut Markup) -> Written {
     let Span { start, end } = part.span;
     let class = format!(in page.alloc(); ".s{start}-{end}")?;
     let selector = format!(in page.alloc();
-        "main:has({class}:is(:hover,:focus)):not(:has({class} .m:not({class}):is(:hover,:focus))) {class},"
+        "main:has({class}:is(:hover,:focus,:target)):not(:has({class} .m:not({class}):is(:hover,:focus,:target))) {class},"
     )?;
     page.text(&selector)?;
     select_all(&part.parts, page)

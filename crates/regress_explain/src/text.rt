@@ -1,7 +1,8 @@
 //! An explanation as lines of text.
 
-use crate::outline::{Part, outline};
+use crate::outline::{Kind, Part, outline};
 use crate::shown::written;
+use crate::summary::summary;
 use regress_parse::SpannedRegex;
 use std::alloc::{AllocError, Global};
 use std::fmt::Write;
@@ -15,21 +16,22 @@ struct Lines<'a> {
     width: usize,
 }
 
-/// Returns an explanation of a parsed pattern for people, with a line for each part: its span, the part as it is
-/// written, and what it matches.
+/// Returns an explanation of a parsed pattern for people: a sentence about what it matches, and a line for each part,
+/// with its span, the part as it is written, and what it matches.
 ///
-/// A part is a node of the tree; the root and the end of the pattern have no line, and alternatives are in one list.
-/// The parts inside follow, indented, in the order of the pattern, also in a lookbehind. Spans are half-open ranges of
-/// code-point indices. Invisible characters are shown by their numbers, as `U+000A`, and what is longer than 60
-/// characters is cut off.
+/// A part is a node of the tree, characters one after the other, or a group with modifiers. A sequence has no line of
+/// its own, except one of several parts that is an alternative; neither have the end of the pattern, and what is in the
+/// line of the part around it, as the `\d` of `\d{4}`. Alternatives are in one list. The parts inside follow, indented,
+/// in the order of the pattern, also in a lookbehind. Spans are half-open ranges of code-point indices. Classes are
+/// described by what is written, not by their members. Invisible characters are shown by their numbers, as `U+000A`, and
+/// what is longer than 60 characters is cut off.
 ///
 /// The lines for `\d{4}-`:
 ///
 /// ```text
-/// 0..6  \d{4}-  one after the other:
-/// 0..5    \d{4}  exactly 4 times:
-/// 0..2      \d  a digit, 0 to 9
-/// 5..6    -  the character "-"
+/// Matches 5 characters, with "-" in them.
+/// 0..5  \d{4}  exactly 4 times: a digit (0-9)
+/// 5..6  -  a hyphen (-)
 /// ```
 ///
 /// `pattern` is the parsed pattern as code points, and `parsed` what `try_parse_with_spans` returns for it. A node for
@@ -53,7 +55,8 @@ pub fn explain(
         pattern,
         width: format!(in alloc; "{last}..{last}")?.len(),
     };
-    let mut text = String::new(alloc);
+    let mut text = summary(alloc, &parsed.regex.node)?;
+    text.push('\n')?;
     write_parts(&parts, 0, lines, &mut text)?;
     Ok(text)
 }
@@ -80,6 +83,9 @@ fn write_part(
     text: &mut String,
 ) -> Result<(), AllocError> {
     write_line(part, depth, lines, text)?;
+    if let Kind::Inline = part.kind {
+        return Ok(());
+    }
     write_parts(&part.parts, depth.saturating_add(1), lines, text)
 }
 

@@ -1,3 +1,4 @@
 pub mod Found
 pub mod Repeated
 pub mod Results
+pub mod Tried

@@ -1,8 +1,5 @@
 -- Repeated searches: all non-overlapping matches from left to right.
 use Rattle.std.specs.Prelude.{◌≡◌, ℕ, ◌+◌, List, [], ◌∷◌, None, length, max}
-use Rattle.std.specs.Borrow.{Bor}
-use Rattle.std.specs.Fn.{CalledAt, Mut}
-use Rattle.std.specs.List.{FoldsTo}
 use Rattle.regress_tree.specs.Steps.{MatchState}
 use Rattle.regress_found.specs.Found.{Finds, IsLeftmost, start_of, state_of}
 use Rattle.regress_found.specs.declared.found.Match.{Match}
@@ -40,13 +37,3 @@ pub record AreAllMatchesFrom (text : List ℕ) (at : ℕ → List MatchState) (f
 -- the same from the start of the text
 abbrev pub AreAllMatches : (text : List ℕ) → (at : ℕ → List MatchState) → List Match → Type 0
 AreAllMatches text at ms = AreAllMatchesFrom text at 0 ms
-
--- A closure was called on the first matches of a repeated search, once on each and in order, which took it from the
--- state `before` to `after`. If `ended` holds, they are all matches.
-pub record CalledOnMatches {F : Type 0} (g : Mut F (Bor Match × Unit {0}) (Unit {0})) (text : List ℕ) (at : ℕ → List MatchState)
-    (before after : F) (ended : Type 0) : Type 0 where
-  pub ms : List Match
-  pub to : ℕ
-  pub found : AreMatches text at 0 to ms
-  pub calls : FoldsTo (λ f m f'. CalledAt g f m tt f') before ms after
-  pub none : ended → Finds text at to None

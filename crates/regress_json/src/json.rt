@@ -1,5 +1,5 @@
 //! Trees as JSON: one object for each node, with all of its fields.
-ghost use Rattle.std.specs.Prelude.{◌≡◌, ◌++◌, ℕ, List, OnOk, Some, true, codes, drop, flat_map, option_map, string_bytes, map};
+ghost use Rattle.std.specs.Prelude.{◌≡◌, ◌++◌, ℕ, List, OnOk, Some, true, codes, drop, option_map, string_bytes, map};
 ghost use Rattle.std.specs.Box.{boxed_slice_items};
 ghost use Rattle.std.specs.List.{join_by};
 ghost use Rattle.std.specs.Fmt.{WritesOnOk};
@@ -74,13 +74,13 @@ impl fmt::Display for SpannedJson<'_> {
 fn write_pattern<W: Write>(regex: &Regex, spans: &[Span], f: &mut Formatter<W>) -> fmt::Result
     ensures { WritesOnOk W.write_str_gives f.old result (text.spanned_json_of regex.now.flags (tree regex.now.node) spans.now) f.new }
 {
-    write_flags(regex.flags, f)?;
+    write_header(regex.flags, f)?;
     write_node(&regex.node, &mut spans.iter(), f)?;
     f.write_str("}")
 }
 
 /// Writes the text before the tree.
-fn write_flags<W: Write>(flags: Flags, f: &mut Formatter<W>) -> fmt::Result
+fn write_header<W: Write>(flags: Flags, f: &mut Formatter<W>) -> fmt::Result
     ensures { WritesOnOk W.write_str_gives f.old result (codes "{\"flags\":" ++ text.flags_json flags ++ codes ",\"node\":") f.new }
 {
     let Flags {

@@ -102,11 +102,15 @@ pub fn iterations_text(alloc: Global, quant: &Quantifier) -> Result<String, Allo
 
 fn times(alloc: Global, min: usize, max: Option<usize>) -> Result<String, AllocError> {
     match (min, max) {
-        (0, Some(1)) => Ok(String::new(alloc)),
-        (1, Some(1)) => String::from_str(alloc, "once"),
-        (min, None) => Ok(format!(in alloc; "{min} or more")?),
-        (min, Some(max)) if min == max => Ok(format!(in alloc; "{min} times")?),
-        (min, Some(max)) => Ok(format!(in alloc; "{min} to {max} times")?),
+        (0, None | Some(1)) => Ok(String::new(alloc)),
+        (1, None) => String::from_str(alloc, "1 or more"),
+        (min, None) => Ok(format!(in alloc; "at least {min}")?),
+        (0, Some(max)) if max > 0 => Ok(format!(in alloc; "at most {max}")?),
+        (min, Some(max)) if min == max => Ok(format!(in alloc; "exactly {min}")?),
+        (min, Some(max)) if min.saturating_add(1) == max => Ok(format!(in alloc;
+            "{min} or {max}"
+        )?),
+        (min, Some(max)) => Ok(format!(in alloc; "{min} to {max}")?),
     }
 }
 

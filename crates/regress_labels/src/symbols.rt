@@ -39,6 +39,13 @@ fn is_assigned(c: u32) -> bool {
     }
 }
 
+/// Returns whether a character is a joiner or a variation selector that belongs to the emoji before it, so that both are
+/// shown as one.
+pub fn joins_emoji(before: u32, c: u32) -> bool {
+    let is_joiner = matches!(c, 0x200D | 0xFE0F);
+    is_joiner && matches!(before, 0xA9 | 0xAE | 0x2190..=0x2BFF | 0xFE0F | 0x1F000..=0x1FAFF)
+}
+
 /// Appends a character: itself, `␣` for a space, or its number, as `U+000A`, if it is invisible.
 ///
 /// # Errors
@@ -48,6 +55,22 @@ pub fn push_symbol(c: u32, alloc: Global, text: &mut String) -> Result<(), Alloc
         Some(' ') => text.push('␣'),
         Some(shown) if is_seen(c) => text.push(shown),
         _ => text.push_str(&format!(in alloc; "U+{c:04X}")?),
+    }
+}
+
+/// Appends a character after another one, as [`push_symbol`] does, or itself if it joins emoji.
+///
+/// # Errors
+/// Returns [`AllocError`] if an allocation fails.
+pub fn push_symbol_after(
+    before: u32,
+    c: u32,
+    alloc: Global,
+    text: &mut String,
+) -> Result<(), AllocError> {
+    match char::from_u32(c) {
+        Some(joiner) if joins_emoji(before, c) => text.push(joiner),
+        _ => push_symbol(c, alloc, text),
     }
 }
 
@@ -74,8 +97,10 @@ const QUOTED_LENGTH: usize = 20;
 /// Returns [`AllocError`] if an allocation fails.
 pub fn quoted(alloc: Global, characters: &[u32]) -> Result<String, AllocError> {
     let mut text = String::from_str(alloc, "\"")?;
+    let mut before = 0;
     for c in characters.iter().take(QUOTED_LENGTH) {
-        push_symbol(*c, alloc, &mut text)?;
+        push_symbol_after(before, *c, alloc, &mut text)?;
+        before = *c;
     }
     let end = if characters.len() > QUOTED_LENGTH {
         "…\""

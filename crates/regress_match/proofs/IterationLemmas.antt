@@ -1,14 +1,10 @@
 -- A search for all matches, between two of them.
 use Rattle.std.proofs.Common.{◌≡◌, ◌∙◌, ℕ, List, [], ◌∷◌, ◌++◌, subst, sym}
-use Rattle.std.proofs.lemmas.Fn.{FoldsTo-push}
-use Rattle.std.specs.Borrow.{Bor}
-use Rattle.std.specs.Fn.{CalledAt, Mut}
-use Rattle.std.specs.List.{FoldsTo}
 use Rattle.regress_found.specs.declared.found.Match.{Match}
 use Rattle.regress_match.specs.Iterated.{IsSameIteration, iterated_from, iterated_matcher, iterated_text}
 use Rattle.regress_found.specs.Results.{IsSearchResult}
 use Rattle.regress_match.specs.Pattern.{matcher_outcomes}
-use Rattle.regress_found.specs.Repeated.{AreAllMatches, AreMatches, CalledOnMatches, next_offset}
+use Rattle.regress_found.specs.Repeated.{AreAllMatches, AreMatches, next_offset}
 use Rattle.regress_match.specs.declared.matcher.Matcher.{Matcher}
 use Rattle.regress_match.specs.declared.matcher_matches.MatcherMatches.{MatcherMatches}
 use Rattle.regress_found.specs.declared.outcome.Outcome.{Outcome}
@@ -46,33 +42,3 @@ module _ (matcher : Matcher) (text : List ℕ) (now : MatcherMatches) (ms : List
   pub all_found : IsSearchResult (iterated_text now) (matcher_outcomes (iterated_matcher now) (iterated_text now)) (iterated_from now) outcomes.NoMatch →
       AreAllMatches text (matcher_outcomes matcher text) ms
   all_found none = record { to = iterated_from now; found = sofar.found; none = none_left none }
-
--- the closure was called on the matches that the search has found
-pub record HasCalled {F : Type 0} (g : Mut F (Bor Match × Unit {0}) (Unit {0})) (matcher : Matcher) (text : List ℕ) (now : MatcherMatches)
-    (before after : F) : Type 0 where
-  pub ms : List Match
-  pub sofar : HasFound matcher text now ms
-  pub calls : FoldsTo (λ f m f'. CalledAt g f m tt f') before ms after
-
-module _ {F : Type 0} (g : Mut F (Bor Match × Unit {0}) (Unit {0})) (matcher : Matcher) (text : List ℕ) (now : MatcherMatches)
-    (before between : F) (so_far : HasCalled g matcher text now before between) where
-  pub one_more_call : (new : MatcherMatches) (m : Match) (after : F) →
-      IsSearchResult (iterated_text now) (matcher_outcomes (iterated_matcher now) (iterated_text now)) (iterated_from now) (outcomes.Matched m) →
-      iterated_from new ≡ next_offset m → IsSameIteration now new → CalledAt g between m tt after → HasCalled g matcher text new before after
-  one_more_call new m after found next same call = record {
-    ms = so_far.ms ++ m ∷ [];
-    sofar = one_more matcher text now so_far.ms so_far.sofar new m found next same;
-    calls = FoldsTo-push (λ f m f'. CalledAt g f m tt f') before so_far.ms between m after so_far.calls call;
-  }
-
-  -- these are the first matches, and all of them if no match remains
-  pub called_on : (ended : Type 0) →
-      (ended → IsSearchResult (iterated_text now) (matcher_outcomes (iterated_matcher now) (iterated_text now)) (iterated_from now) outcomes.NoMatch) →
-      CalledOnMatches g text (matcher_outcomes matcher text) before between ended
-  called_on ended none = record {
-    ms = so_far.ms;
-    to = iterated_from now;
-    found = so_far.sofar.found;
-    calls = so_far.calls;
-    none = λ is. none_left matcher text now so_far.ms so_far.sofar (none is);
-  }

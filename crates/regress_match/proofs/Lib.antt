@@ -2,6 +2,9 @@ pub mod lemmas
 pub mod IterationLemmas
 pub mod NamesLemmas
 pub mod CostLemmas
+pub mod LinearLemmas
+pub mod SpentLemmas
+pub mod PaidLemmas
 pub mod MatcherLemmas
 pub mod OneMatchLemmas
 pub mod RequiredLemmas

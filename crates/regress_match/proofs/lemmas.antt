@@ -3,3 +3,4 @@ pub mod Costs
 pub mod Iterated
 pub mod Searched
 pub mod Inside
+pub mod Matches

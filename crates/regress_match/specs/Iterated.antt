@@ -1,5 +1,7 @@
 -- Repeated searches with a matcher.
-use Rattle.std.specs.Prelude.{◌≡◌, ℕ, List}
+use Rattle.std.specs.Prelude.{◌≡◌, ℕ, ◌+◌, ◌-◌, ◌^◌, ◌≤◌, List, Some, min}
+use Rattle.regress_found.specs.Tried.{positions_tried}
+use Rattle.regress_found.specs.declared.found.Match.{Match}
 use Rattle.regress_tree.specs.Steps.{MatchState}
 use Rattle.regress_match.specs.Pattern.{matcher_outcomes}
 use Rattle.regress_match.specs.declared.matcher.Matcher.{Matcher}
@@ -33,3 +35,17 @@ pub record IsSameIteration (old new : MatcherMatches) : Type 0 where
   pub matcher : iterated_matcher new ≡ iterated_matcher old
   pub text : iterated_text new ≡ iterated_text old
   pub limit : step_limit new ≡ step_limit old
+
+-- the number of steps that were taken: of backtracking, of making the tables, and of searches in them
+abbrev pub steps_taken : MatcherMatches → ℕ
+steps_taken m = (m.limit - m.remaining) + m.searched
+
+-- Steps are only spent.
+pub record Spends (old new : MatcherMatches) : Type 0 where
+  pub remaining : steps_remaining new ≤ steps_remaining old
+  pub taken : steps_taken old ≤ steps_taken new
+
+-- The search for a match has counted a step for each position up to it, or all that remained. It counts up to 2^64 - 1.
+abbrev pub HasCounted : (old new : MatcherMatches) → Match → Type 0
+HasCounted old new m =
+    min (steps_taken old + min (steps_remaining old) (positions_tried (iterated_text old) (iterated_from old) (Some m))) (2 ^ 64 - 1) ≤ steps_taken new

@@ -1,5 +1,6 @@
 pub mod Compiled
 pub mod Costs
+pub mod AllCosts
 pub mod Iterated
 pub mod Kept
 pub mod Limits

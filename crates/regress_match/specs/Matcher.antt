@@ -1,9 +1,9 @@
 -- The costs of searches with a matcher.
-use Rattle.std.specs.Prelude.{◌≡◌, if◌then◌else◌, ℕ, ◌+◌, ◌*◌, ◌≤◌, Bool, false, true, ◌&&◌, nat_le, List, length, Option, Some, None, option_map}
+use Rattle.std.specs.Prelude.{◌≡◌, if◌then◌else◌, ℕ, ◌+◌, ◌*◌, ◌≤◌, Bool, true, not, ◌&&◌, is_some, nat_le, List, length, Option, Some, None, option_map}
 use Rattle.regress_tree.specs.Tree.{Tree}
 use Rattle.regress_tree.specs.WellFormed.{IsWellFormed}
 use Rattle.regress_program.specs.Compiled.{IsPattern, total}
-use Rattle.regress_program.specs.Linear.{has_back_reference, has_capturing_lookaround, is_linear, reason}
+use Rattle.regress_program.specs.Linear.{has_back_reference, is_linear, is_linear_tree, reason, reason_of}
 use Rattle.regress_program.specs.Program.{Routine}
 use Rattle.regress_tables.specs.Search.{capturing_steps}
 use Rattle.regress_program.specs.Size.{program_size}
@@ -38,27 +38,29 @@ find_factor instructions inner = factor instructions + capturing_steps instructi
 abbrev pub find_factor_with : (tidy : Bool) → List Routine → (within : Bool) → Option ℕ
 find_factor_with tidy routines within = if within then option_map (find_factor (total routines)) (table_groups tidy routines) else None
 
--- The bound is that of a program that matches the tree, with as many instructions as the size of the tree. It is searched
--- in linear time exactly if it is linear and within the limit. It is linear if the tree has no back reference and no
--- lookaround that captures.
-pub record IsFactorOf (limit : ℕ) (t : Tree) (bound : Option ℕ) : Type 0 where
-  pub routines : List Routine
-  pub pattern : IsPattern routines t
-  pub size : total routines ≡ program_size t
-  pub linear : has_back_reference t ≡ false → has_capturing_lookaround t ≡ false → is_linear routines ≡ true
-  pub is : bound ≡ factor_with routines (nat_le (total routines) limit)
+-- The bound is that of a program of the tree. Searches for all matches take linear time exactly if the tree is linear and
+-- the program within the limit; else there is none.
+abbrev pub IsFactorOf : (limit : ℕ) → Tree → Option ℕ → Type 0
+IsFactorOf limit t bound = bound ≡ (if nat_le (program_size t) limit && is_linear_tree t then Some (factor (program_size t)) else None)
 
--- The same for a search for one match: it takes linear time exactly if tables lead to the matches of the program, and it
--- is within the limit. They do if the tree is well formed and has no back reference.
+-- A search for one match in a program of a well-formed tree takes linear time: the tree has no back reference, and the
+-- program is within the limit.
+abbrev pub is_find_linear_tree : (limit : ℕ) → Tree → Bool
+is_find_linear_tree limit t = nat_le (program_size t) limit && not (has_back_reference t)
+
+-- The bound is that of a search for one match in a program that matches the tree, with as many instructions as the size of
+-- the tree: it takes linear time if tables lead to the matches of the program, and it is within the limit. Of a well-formed
+-- tree there is a bound exactly if the tree has no back reference and the program is within the limit.
 pub record IsFindFactorOf (limit : ℕ) (t : Tree) (bound : Option ℕ) : Type 0 where
   pub routines : List Routine
   pub pattern : IsPattern routines t
   pub size : total routines ≡ program_size t
-  pub linear : has_back_reference t ≡ false → has_capturing_lookaround t ≡ false → is_linear routines ≡ true
-  pub plain : has_back_reference t ≡ false → has_no_back_reference routines ≡ true
+  pub linear : is_linear routines ≡ is_linear_tree t
+  pub plain : has_no_back_reference routines ≡ not (has_back_reference t)
   pub tidy : Bool
   pub tidy_if : IsWellFormed t → tidy ≡ true
   pub is : bound ≡ find_factor_with tidy routines (nat_le (total routines) limit)
+  pub exactly : IsWellFormed t → is_some bound ≡ is_find_linear_tree limit t
 
 -- why a program is not searched in linear time: by its instructions, or else because it is not within the limit on tables;
 -- none if it is searched in linear time
@@ -70,14 +72,9 @@ nonlinear_by None within = if within then None else Some TooManyInstructions
 abbrev pub nonlinear_with : List Routine → (within : Bool) → Option Nonlinear
 nonlinear_with routines within = nonlinear_by (reason routines) within
 
--- This is why a program that matches the tree, with as many instructions as the size of the tree, is not searched in
--- linear time.
-pub record IsNonlinearOf (limit : ℕ) (t : Tree) (why : Option Nonlinear) : Type 0 where
-  pub routines : List Routine
-  pub pattern : IsPattern routines t
-  pub size : total routines ≡ program_size t
-  pub linear : has_back_reference t ≡ false → has_capturing_lookaround t ≡ false → is_linear routines ≡ true
-  pub is : why ≡ nonlinear_with routines (nat_le (total routines) limit)
+-- This is why searches for all matches with a program of the tree do not take linear time.
+abbrev pub IsNonlinearOf : (limit : ℕ) → Tree → Option Nonlinear → Type 0
+IsNonlinearOf limit t why = why ≡ nonlinear_by (reason_of t) (nat_le (program_size t) limit)
 
 -- that of a matcher; none if its searches for all matches are not known to take linear time
 abbrev pub factor_of : Matcher → Option ℕ

@@ -6,7 +6,7 @@ ghost use Rattle.regress_tree.specs.WellFormed.{IsWellFormed, captures};
 ghost use Rattle.regress_unicode.specs.TableOf.{table_of};
 ghost use Rattle.regress_unicode.specs.declared.Tables.{Tables};
 ghost use Rattle.regress_program.specs.Compiled.{IsPattern, total};
-ghost use Rattle.regress_program.specs.Linear.{has_back_reference, has_capturing_lookaround, is_linear};
+ghost use Rattle.regress_program.specs.Linear.{has_back_reference, is_linear, is_linear_tree};
 ghost use Rattle.regress_program.specs.Size.{program_size};
 ghost use Rattle.regress_program.specs.Tidy.{has_no_back_reference};
 ghost use Rattle.regress_program.specs.declared.fault.CompileFault.TheVariants.{TooLong};
@@ -22,7 +22,6 @@ use regress_code::Code;
 use regress_leaves::case_facts::CaseFacts;
 use regress_prefilter::required_byte;
 use regress_program::CompileFault;
-use regress_program::groups::group_count;
 use regress_tree::ir::Regex;
 use regress_unicode::Tables;
 use std::alloc::Global;
@@ -31,8 +30,9 @@ use std::sync::Arc;
 impl Matcher {
     /// Compiles a pattern into a program of at most `limits.instructions` instructions.
     ///
-    /// Searches take linear time if the program is linear and has at most `limits.linear_instructions` instructions; searches for one
-    /// match also where lookarounds capture.
+    /// Searches for all matches take linear time exactly if the program has at most `limits.linear_instructions` instructions,
+    /// and the tree has no back reference, and no capture group in a lookaround that is not negated; of a well-formed tree
+    /// searches for one match also where lookarounds capture. What is in a loop without iterations does not count.
     ///
     /// # Errors
     /// - [`CompileFault::TooLong`] if the program would have more instructions than the limit.
@@ -55,8 +55,7 @@ impl Matcher {
         ensures within { IfOk result (λ _. program_size (tree regex.node) ≤ limits.instructions) }
         ensures too_long { result ≡ Err TooLong → length (captures (tree regex.node)) < usize.MAX → limits.instructions < program_size (tree regex.node) }
     {
-        let groups = group_count(&regex.node);
-        let code = compiled(alloc, &regex, groups, limits.instructions)?;
+        let code = compiled(alloc, &regex, limits.instructions)?;
         let within = code.instructions() <= limits.linear_instructions;
         let required_byte = required_byte(&regex.node);
         let facts = CaseFacts::find(tables, regex.flags);
@@ -121,25 +120,22 @@ impl Matcher {
 }
 
 /// Returns the program of a pattern, of at most `limit` instructions.
-///
-/// # Preconditions
-/// `groups` is the number of groups of the pattern, at most `usize::MAX`.
-fn compiled(alloc: Global, regex: &Regex, groups: usize, limit: usize) -> Result<Code, CompileFault>
-    requires { groups ≡ min (length (captures (tree regex.now.node))) usize.MAX }
+fn compiled(alloc: Global, regex: &Regex, limit: usize) -> Result<Code, CompileFault>
     ensures means { IfOk result (λ code. (tables : Tables) → IsCodeOf (record { flags = regex.now.flags; table = table_of tables }) (tree regex.now.node) tables code) }
     ensures pattern { IfOk result (λ code. IsPattern (code_routines code) (tree regex.now.node)) }
-    ensures linear { IfOk result (λ code. has_back_reference (tree regex.now.node) ≡ false → has_capturing_lookaround (tree regex.now.node) ≡ false → is_linear (code_routines code) ≡ true) }
-    ensures plain { IfOk result (λ code. has_back_reference (tree regex.now.node) ≡ false → has_no_back_reference (code_routines code) ≡ true) }
+    ensures linear { IfOk result (λ code. is_linear (code_routines code) ≡ is_linear_tree (tree regex.now.node)) }
+    ensures plain { IfOk result (λ code. has_no_back_reference (code_routines code) ≡ not (has_back_reference (tree regex.now.node))) }
     ensures tidy { IfOk result (λ code. IsWellFormed (tree regex.now.node) → code_tidy code ≡ true) }
     ensures size { IfOk result (λ code. total (code_routines code) ≡ program_size (tree regex.now.node)) }
     ensures within { IfOk result (λ code. total (code_routines code) ≤ limit) }
     ensures too_long { result ≡ Err TooLong → length (captures (tree regex.now.node)) < usize.MAX → limit < program_size (tree regex.now.node) }
 {
+    let code = Code::compile(alloc, regex, limit)?;
     // the number of groups is exact only below this
-    if groups == usize::MAX {
+    if code.groups() == usize::MAX {
         return Err(CompileFault::TooLong);
     }
-    Code::compile(alloc, regex, limit)
+    Ok(code)
 }
 
 /// Returns an upper bound for the steps for each character, at most `u64::MAX`: those of backtracking, of making the

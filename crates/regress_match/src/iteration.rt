@@ -1,16 +1,17 @@
 //! The next match of a matcher: by backtracking, and then by tables.
-ghost use Rattle.std.specs.Prelude.{◌≡◌, ◌<◌, ◌≤◌, ◌+◌, ◌-◌, ◌*◌, ℕ, IfNone, IfOk, IfSome, IsNone, IsSome, MatchOption, OnErr, false, length, true};
+ghost use Rattle.std.specs.Prelude.{◌≡◌, ◌<◌, ◌≤◌, ◌+◌, ◌-◌, ◌*◌, ℕ, IfNone, IfOk, IfSome, IsNone, IsSome, MatchOption, OnErr, Some, false, length, min, true};
 ghost use Rattle.regress_tree.specs.WellFormed.{IsWellFormed};
 ghost use Rattle.regress_program.specs.Cost.{Cost};
 ghost use Rattle.regress_program.specs.Program.{Out};
 ghost use Rattle.regress_match.specs.Costs.{AreCosts, IsWithinFindCost, find_cost};
-ghost use Rattle.regress_match.specs.Iterated.{IsSameIteration, iterated_from, iterated_matcher, iterated_text, step_limit, steps_remaining};
+ghost use Rattle.regress_match.specs.Iterated.{HasCounted, IsSameIteration, Spends, iterated_from, iterated_matcher, iterated_text, step_limit, steps_remaining, steps_taken};
 ghost use Rattle.regress_match.specs.Kept.{IsRunOf};
 ghost use Rattle.regress_found.specs.Results.{IsSearchResult, IfMatched, IfOutOfSteps};
 ghost use Rattle.regress_found.specs.Found.{IsInside, start_of};
 ghost use Rattle.regress_match.specs.Matcher.{factor_of, outcome_if};
 ghost use Rattle.regress_match.specs.Pattern.{matcher_outcomes, matcher_tree};
 ghost use Rattle.regress_found.specs.Repeated.{EndsHere, offset_after};
+ghost use Rattle.regress_found.specs.Tried.{positions_tried};
 ghost use Rattle.regress_prefilter.specs.Required.{NoneFrom};
 
 use crate::matcher::Matcher;
@@ -34,7 +35,8 @@ impl<'m> MatcherMatches<'m> {
     /// # Complexity
     /// If [`Matcher::is_linear`], all calls together take at most [`Matcher::steps_per_character`] steps for each byte of
     /// the text, and once more. For any other pattern the step limit is for all calls together, and a call takes at most
-    /// the cost of its search, and one step for each byte of the text and once more.
+    /// the cost of its search, and one step for each byte of the text and once more. Steps are only spent, also by a call that
+    /// returns an error; a match takes at least one for each byte offset up to its start, or all that remain.
     ///
     /// # Errors
     /// Returns [`AllocError`] if an allocation fails. The position of the search stays as it is, so that the call may
@@ -64,6 +66,8 @@ impl<'m> MatcherMatches<'m> {
         ensures linear { IfOk result (λ outcome. IfSome (factor_of (iterated_matcher self.old)) (λ _. IfOutOfSteps outcome ⊥)) }
         ensures limited { IfOk result (λ outcome. IfNone (factor_of (iterated_matcher self.old)) (IfOutOfSteps outcome (steps_remaining self.new ≡ 0))) }
         ensures costs { IfOk result (λ _. IsWithinFindCost (iterated_matcher self.old) (iterated_text self.old) (iterated_from self.old) (steps_remaining self.old - steps_remaining self.new)) }
+        ensures spent { Spends self.old self.new }
+        ensures counted { IfOk result (λ outcome. IfMatched outcome (HasCounted self.old self.new)) }
     {
         if self.search.is_some() {
             return self.find_in_tables(alloc);
@@ -90,6 +94,7 @@ impl<'m> MatcherMatches<'m> {
     /// Returns the number of steps that all calls of [`MatcherMatches::next`] together took. Of a call that returned an
     /// error some are not counted.
     pub fn steps(&self) -> u64
+        ensures taken { result ≡ min (steps_taken self.now) u64.MAX }
         ensures linear { IfSome (factor_of (iterated_matcher self.now)) (λ n. result ≤ n * (length (iterated_text self.now) + 1)) }
         ensures limited { IfNone (factor_of (iterated_matcher self.now)) (result + steps_remaining self.now ≡ step_limit self.now) }
     {
@@ -108,6 +113,8 @@ impl<'m> MatcherMatches<'m> {
         ensures same { IsSameIteration self.old self.new }
         ensures costs { steps_remaining self.old ≤ steps_remaining self.new + (length (iterated_text self.old) + 1) }
         ensures search { IsNone self.new.search }
+        ensures spent { Spends self.old self.new }
+        ensures searched { self.new.searched ≡ self.old.searched }
     {
         let len = self.text.len();
         if self.backtracker.is_some() || len < LONG_TEXT || len as u64 > self.remaining {
@@ -137,10 +144,14 @@ impl<'m> MatcherMatches<'m> {
         ensures goes_on { IfOk result (λ outcome. iterated_from self.new ≡ offset_after (iterated_text self.old) (iterated_from self.old) outcome) }
         ensures stays { OnErr result (iterated_from self.new ≡ iterated_from self.old) }
         ensures same { IsSameIteration self.old self.new }
-        ensures spent { IfOk result (λ outcome. IfOutOfSteps outcome (steps_remaining self.new ≡ 0)) }
+        ensures used_up { IfOk result (λ outcome. IfOutOfSteps outcome (steps_remaining self.new ≡ 0)) }
         ensures costs { IfOk result (λ _. (outs : ℕ → Out) (costs : ℕ → Cost) → AreCosts (iterated_matcher self.old) (iterated_text self.old) outs costs →
             steps_remaining self.old ≤ steps_remaining self.new + find_cost (iterated_matcher self.old) (iterated_text self.old) costs (iterated_from self.old)) }
         ensures search { IsNone self.new.search }
+        ensures spent { Spends self.old self.new }
+        ensures searched { self.new.searched ≡ self.old.searched }
+        ensures tried { IfOk result (λ outcome. IfMatched outcome (λ m.
+            steps_remaining self.new ≤ steps_remaining self.old - positions_tried (iterated_text self.old) (iterated_from self.old) (Some m))) }
     {
         let text = self.text();
         let kept = self.backtracker.take();
@@ -161,6 +172,7 @@ impl<'m> MatcherMatches<'m> {
         ensures same { IsSameIteration self.old self.new }
         ensures remaining { steps_remaining self.new ≡ steps_remaining self.old }
         ensures made { IfOk result (λ _. IfSome (factor_of (iterated_matcher self.old)) (λ _. IsSome self.new.search)) }
+        ensures spent { Spends self.old self.new }
     {
         let matcher = self.matcher;
         if matcher.is_linear() {
@@ -182,6 +194,9 @@ impl<'m> MatcherMatches<'m> {
         ensures same { IsSameIteration self.old self.new }
         ensures remaining { steps_remaining self.new ≡ steps_remaining self.old }
         ensures made { IfOk result (λ outcome. IsSome self.old.search → IfOutOfSteps outcome ⊥) }
+        ensures spent { Spends self.old self.new }
+        ensures tried { IfOk result (λ outcome. IfMatched outcome (λ m.
+            min (self.old.searched + positions_tried (iterated_text self.old) (iterated_from self.old) (Some m)) u64.MAX ≤ self.new.searched)) }
     {
         let text = self.text();
         let Some(search) = &self.search else {

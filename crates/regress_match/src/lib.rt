@@ -16,7 +16,7 @@ mod searches;
 pub use limits::Limits;
 pub use matcher::Matcher;
 pub use matcher_matches::MatcherMatches;
-pub use names::{Group, groups, named};
+pub use names::{Group, groups};
 pub use nonlinear::Nonlinear;
 pub use regress_found::{Found, Match, Outcome};
 pub use regress_prefilter::{first_bytes, next_candidate};

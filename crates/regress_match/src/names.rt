@@ -1,15 +1,13 @@
-//! Groups by name.
+//! The capture groups of a pattern.
 ghost use Rattle.std.specs.Prelude.{◌≡◌, ◌++◌, ◌∷◌, [], IfOk, map, option_map, string_bytes};
 ghost use Rattle.std.specs.List.Sorted.{IsNonDecreasingBy, IsPermutation};
 ghost use Rattle.regress_tree.specs.Gathered.{own_group};
 ghost use Rattle.regress_tree.specs.Tree.{tree};
 ghost use Rattle.regress_tree.specs.WellFormed.{captures};
-ghost use Rattle.regress_found.specs.Found.{state_of};
-ghost use Rattle.regress_match.specs.Listing.{Lists, Finds};
-ghost use Rattle.regress_match.specs.Names.{capture_of, is_named, named_span};
+ghost use Rattle.regress_match.specs.Listing.{Lists};
+ghost use Rattle.regress_match.specs.Names.{capture_of};
 
 use regress_base::types::{CaptureGroupID, CaptureGroupName};
-use regress_found::Match;
 use regress_tree::ir::{Node, Regex, Walk, walk};
 use std::alloc::{AllocError, Global};
 
@@ -94,58 +92,5 @@ fn copy_name(
     match name {
         Some(name) => Ok(Some(String::from_str(alloc, name)?)),
         None => Ok(None),
-    }
-}
-
-/// Returns the span that the group with a name has captured last, as a half-open range of byte offsets.
-///
-/// If several groups share the name it is the first one that is set. The result is `None` if none is set, or if the
-/// pattern has no group with this name. `found` is a match of `regex`.
-///
-/// # Complexity
-/// The tree of the pattern is traversed once for each call.
-pub fn named(found: &Match, regex: &Regex, name: &str) -> Option<(usize, usize)>
-    ensures { result ≡ named_span name.now (state_of found.now).captures (captures (tree regex.now.node)) }
-{
-    let mut finder = Finder {
-        name,
-        found,
-        span: None,
-    };
-    let mut visit = |node: &Node, _: &mut Walk| finder.visit(node);
-    walk(false, false, &regex.node, &mut visit);
-    finder.span
-}
-
-/// A search for a set group with a name.
-#[derive(Drop)]
-struct Finder<'a> {
-    name: &'a str,
-    found: &'a Match,
-    span: Option<(usize, usize)>,
-}
-
-impl Finder<'_> {
-    /// Takes the capture of the node if it is a group with the name, unless one was found.
-    fn visit(&mut self, node: &Node)
-        ensures { Finds self.old self.new (own_group (tree node.now)) }
-    {
-        if self.span.is_some() {
-            return;
-        }
-        if let Node::CaptureGroup { id, name, .. } = node {
-            if is_named(name, self.name) {
-                self.span = self.found.group(usize::from(*id));
-            }
-        }
-    }
-}
-
-fn is_named(own: &Option<CaptureGroupName>, name: &str) -> bool
-    ensures { result ≡ is_named name.now (option_map string_bytes own.now) }
-{
-    match own {
-        Some(own) => own.as_str() == name,
-        None => false,
     }
 }

@@ -1,13 +1,14 @@
 //! Searches with a matcher, in linear time or within a step limit.
-ghost use Rattle.std.specs.Prelude.{◌≡◌, ◌+◌, ◌*◌, ◌≤◌, Ok, IfNone, IfOk, IfSome, IsSome, length, true};
+ghost use Rattle.std.specs.Prelude.{◌≡◌, ◌+◌, ◌*◌, ◌≤◌, IfNone, IfOk, IfSome, IsNone, IsSome, length};
 ghost use Rattle.regress_tree.specs.WellFormed.{IsWellFormed};
 ghost use Rattle.regress_match.specs.Costs.{IsWithinFindCost, IsWithinMatchCost};
-ghost use Rattle.regress_match.specs.Iterated.{iterated_from, iterated_matcher, iterated_text, step_limit, steps_remaining};
+ghost use Rattle.regress_match.specs.AllCosts.{CostsOfMatches};
+ghost use Rattle.regress_match.specs.Iterated.{iterated_from, iterated_matcher, iterated_text, step_limit, steps_remaining, steps_taken};
 ghost use Rattle.regress_found.specs.Results.{IsSearchResult, IfMatched, IsMatchResult};
 ghost use Rattle.regress_found.specs.Found.{IsInside};
 ghost use Rattle.regress_match.specs.Matcher.{IsLimited, IsLinear, factor_of, find_factor_of};
 ghost use Rattle.regress_match.specs.Pattern.{matcher_outcomes, matcher_tree};
-ghost use Rattle.regress_found.specs.Repeated.{AreAllMatches, CalledOnMatches};
+ghost use Rattle.regress_found.specs.Repeated.{AreAllMatches};
 
 use crate::matcher::Matcher;
 use crate::matcher_matches::MatcherMatches;
@@ -148,6 +149,7 @@ impl Matcher {
         ensures from { iterated_from result ≡ from }
         ensures limit { IfNone (factor_of self.now) (step_limit result ≡ steps) }
         ensures remaining { steps_remaining result ≡ step_limit result }
+        ensures taken { steps_taken result ≡ 0 }
     {
         let limit = self.backtracking_steps(text, steps);
         MatcherMatches {
@@ -164,7 +166,8 @@ impl Matcher {
 
     /// Returns all non-overlapping matches in `text`, from left to right, as [`MatcherMatches`] finds them.
     ///
-    /// The result is `None` only if the search takes more than `steps` steps, and never if [`Matcher::is_linear`].
+    /// The result is `None` only if the search takes more than `steps` steps, and never if [`Matcher::is_linear`]. Then the
+    /// searches for the matches up to there cost at least `steps`, each as [`MatcherMatches::next`] states.
     ///
     /// # Errors
     /// Returns [`AllocError`] if an allocation fails.
@@ -194,6 +197,7 @@ impl Matcher {
     ) -> Result<Option<Vec<Match>>, AllocError>
         ensures all { IfOk result (λ found. IfSome found (λ all. AreAllMatches text.now (matcher_outcomes self.now text.now) all.items)) }
         ensures linear { IfOk result (λ found. IfSome (factor_of self.now) (λ _. IsSome found)) }
+        ensures costs { IfOk result (λ found. IsNone found → CostsOfMatches self.now text.now 0 steps) }
     {
         let mut all = Vec::new(alloc);
         let mut matches = self.find_iter(text, 0, steps);
@@ -202,54 +206,6 @@ impl Matcher {
                 Outcome::Matched(found) => all.push(found)?,
                 Outcome::NoMatch => return Ok(Some(all)),
                 Outcome::OutOfSteps => return Ok(None),
-            }
-        }
-    }
-
-    /// Calls `func` on each of the non-overlapping matches in `text`, from left to right, as [`MatcherMatches`] finds
-    /// them. Returns whether these are all matches: false only if the search takes more than `steps` steps, and never if
-    /// [`Matcher::is_linear`].
-    ///
-    /// # Preconditions
-    /// `func` has no precondition: it may be called with any match.
-    ///
-    /// # Errors
-    /// Returns [`AllocError`] if an allocation fails. Then `func` was called on the matches up to there.
-    ///
-    /// # Examples
-    /// ```
-    /// let tables = Arc::new(alloc, Tables::small(alloc)?)?;
-    /// let points = code_points(alloc, "a+")?;
-    /// let regex = try_parse(alloc, &points, Flags::default(), &tables)?;
-    /// let matcher = Matcher::new(alloc, regex, &tables, Limits::default())?;
-    /// let mut count = 0_usize;
-    /// let all = matcher.for_each_match(
-    ///     alloc,
-    ///     "aabxa",
-    ///     0,
-    ///     &mut |_found: &Match| count = count.wrapping_add(1),
-    /// )?;
-    /// assert!(rt; all);
-    /// assert_eq!(rt; count, 2);
-    /// ```
-    pub fn for_each_match<F: FnMut(&Match)>(
-        &self,
-        alloc: Global,
-        text: &str,
-        steps: u64,
-        func: &mut F,
-    ) -> Result<bool, AllocError>
-        requires { F.IsAlwaysCallable func.old }
-        ensures callable { F.IsAlwaysCallable func.new }
-        ensures called { CalledOnMatches F.FnMut text.now (matcher_outcomes self.now text.now) func.old func.new (result ≡ Ok true) }
-        ensures linear { IfOk result (λ all. IfSome (factor_of self.now) (λ _. all ≡ true)) }
-    {
-        let mut matches = self.find_iter(text, 0, steps);
-        loop {
-            match matches.next(alloc)? {
-                Outcome::Matched(found) => func(&found),
-                Outcome::NoMatch => return Ok(true),
-                Outcome::OutOfSteps => return Ok(false),
             }
         }
     }

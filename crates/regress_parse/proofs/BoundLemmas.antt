@@ -1,12 +1,12 @@
 -- The bound on the number of nodes, and how tight it is.
-use Rattle.std.proofs.Common.{ℕ, ◌+◌, ◌*◌, ◌≤◌, Bool, true, false, cond, ◌&&◌, [], ◌∷◌, length, refl, arith}
+use Rattle.std.proofs.Common.{◌≡◌, ℕ, ◌+◌, ◌*◌, ◌≤◌, ◌==◌, Bool, true, false, cond, ◌&&◌, [], ◌∷◌, length, refl, sym, subst, arith}
+use Rattle.std.proofs.lemmas.Bool.{eqb-true}
 use Rattle.regress_base.specs.declared.types.Flags.{Flags}
 use Rattle.regress_tree.specs.Reading.{forwards}
 use Rattle.regress_tree.specs.Visits.{nodes}
 use Rattle.regress_tree.specs.Setting.{Setting}
 use Rattle.regress_lexer.specs.Source.{Source, bar, is_at}
-use Rattle.regress_syntax.specs.Syntax.{Name, Pattern, names}
-use Rattle.regress_syntax.specs.Meaning.{groups_named}
+use Rattle.regress_syntax.specs.Syntax.{Name, Pattern, names, groups_named}
 use Rattle.regress_parse.specs.TreeOf.{tree_of}
 use Rattle.regress_parse.specs.Accepted.{own_context, IsDerived}
 use Rattle.regress_parse.specs.Bound.{total, positions, opens_name, is_reference, nodes_at, node_bound, HasAtMost}
@@ -27,6 +27,40 @@ tree-nodes setting t p derived =
 
 pub bounded : (flags : Flags) (t : Source) → HasAtMost flags t (node_bound flags.unicode_sets t)
 bounded flags t table p derived = tree-nodes (record { flags = flags; table = table }) t p derived
+
+-- ---- the bound by three counts
+
+-- The nodes of a reference by name beyond those of any other code point.
+nodes-referred : (sets : Bool) (m : ℕ) (t : Source) → nodes_at sets m t ≡ nodes_at sets 0 t + 2 * (m * cond (is_reference t) 1 0)
+nodes-referred sets m [] = omega arith
+nodes-referred sets m (c ∷ t) = by (is_reference (c ∷ t)) refl
+  where
+    other : (a b : Bool) → cond {A = ℕ} a 2 (cond b 5 1) ≡ cond a 2 (cond b 5 1) + 2 * (m * 0)
+    other true b = omega arith
+    other false true = omega arith
+    other false false = omega arith
+
+    here : (d : ℕ) → d ≡ 92 → is_reference (d ∷ t) ≡ true → nodes_at sets m (d ∷ t) ≡ nodes_at sets 0 (d ∷ t) + 2 * (m * cond (is_reference (d ∷ t)) 1 0)
+    here d same is =
+        subst (λ e. is_reference (e ∷ t) ≡ true → nodes_at sets m (e ∷ t) ≡ nodes_at sets 0 (e ∷ t) + 2 * (m * cond (is_reference (e ∷ t)) 1 0))
+        (sym same) (λ there. rw there (omega arith)) is
+
+    by : (b : Bool) → is_reference (c ∷ t) ≡ b → nodes_at sets m (c ∷ t) ≡ nodes_at sets 0 (c ∷ t) + 2 * (m * cond (is_reference (c ∷ t)) 1 0)
+    by true is = here c (eqb-true c 92 (and_left (c == 92) (is_at 107 t) is)) is
+    by false is = rw is (other (is_at bar (c ∷ t)) (is_at 91 (c ∷ t) && sets))
+
+total-referred : (sets : Bool) (m : ℕ) (t : Source) →
+    total (nodes_at sets m) t ≡ total (nodes_at sets 0) t + 2 * (m * positions is_reference t)
+total-referred sets m [] = omega arith
+total-referred sets m (c ∷ t) = omega (arith, nodes-referred sets m (c ∷ t), total-referred sets m t, distribute)
+  where
+    distribute : m * (cond {A = ℕ} (is_reference (c ∷ t)) 1 0 + positions is_reference t)
+        ≡ m * cond {A = ℕ} (is_reference (c ∷ t)) 1 0 + m * positions is_reference t
+    distribute = omega arith
+
+pub bound-counted : (sets : Bool) (t : Source) →
+    node_bound sets t ≡ 3 + total (nodes_at sets 0) t + 2 * (positions opens_name t * positions is_reference t)
+bound-counted sets t = omega (arith, total-referred sets (positions opens_name t) t)
 
 -- ---- how tight the bound is
 

@@ -17,9 +17,8 @@ use Rattle.regress_lexer.proofs.lemmas.Sources.{EachProduction, no_more, ◌also
 use Rattle.regress_classes.specs.Properties.{Property, of_points, of_strings, property_at}
 use Rattle.regress_classes.specs.ClassProductions.{complement, class_letter, class_at}
 use Rattle.regress_classes.specs.ClassSets.{class_set_at}
-use Rattle.regress_syntax.specs.Syntax.{Name, Atom, class, class_set, class_escape, grouping, modified, capture, look}
+use Rattle.regress_syntax.specs.Syntax.{Name, Atom, class, class_set, class_escape, grouping, modified, capture, look, groups_named}
 use Rattle.regress_syntax.specs.Names.{group_name_at}
-use Rattle.regress_syntax.specs.Meaning.{groups_named}
 use Rattle.regress_syntax.specs.Productions.{Context, Head, single, opens, angle_at, after_question_mark_at, group_at, has_names, has_name, character_at, property_atom, property_atom_at, number_reference_at, name_reference_at, escape_productions, escaped_by, escaped_at, brackets_at, atom_productions, atom_by, head_by}
 use Rattle.regress_parse.specs.TreeOf.{references, alternation, strings_or_points, tree_of_atom}
 use Rattle.regress_parse.specs.Bound.{opens_name, nodes_at}

@@ -7,8 +7,7 @@ use Rattle.regress_tree.specs.Reading.{Direction}
 use Rattle.regress_tree.specs.Tree.{Tree, Trees, no_trees, more_trees}
 use Rattle.regress_tree.specs.Visits.{nodes, nodes_in_list}
 use Rattle.regress_lexer.specs.Source.{Source, closing, bar}
-use Rattle.regress_syntax.specs.Syntax.{Name, Atom, Group, grouping, modified, capture, look, Pattern, Terms, Item, one, either, no_terms, more_terms, atom, group, opened_by, counts_of_terms, counts_of_item, counts_of_term}
-use Rattle.regress_syntax.specs.Meaning.{groups_named, direction_of_group}
+use Rattle.regress_syntax.specs.Syntax.{Name, Atom, Group, grouping, modified, capture, look, Pattern, Terms, Item, one, either, no_terms, more_terms, atom, group, opened_by, counts_of_terms, counts_of_item, counts_of_term, direction_of_group, groups_named}
 use Rattle.regress_syntax.specs.Productions.{Context, context_inside, single, opens, head_of_item, allows, head_at, optional_quantifier_at}
 use Rattle.regress_syntax.specs.Grammar.{IsPattern, AreTerms, IsItem}
 use Rattle.regress_syntax.proofs.lemmas.Productions.{head_at-ends, head_at-shortens, optional_quantifier_at-ends}

@@ -12,10 +12,10 @@ use Rattle.regress_base.specs.declared.types.Quantifier.{Quantifier}
 use Rattle.regress_tree.specs.Tree.{Tree, Trees, no_trees, more_trees}
 use Rattle.regress_tree.specs.WellFormed.{Capture, captures, captures_of_trees, HasGroups}
 use Rattle.regress_tree.proofs.lemmas.ReversedParts.{captures-reverse_trees}
-use Rattle.regress_syntax.specs.Syntax.{Name, Atom, literal, dot, anchor, boundary, class_escape, class, class_set, string_property, back_reference, Group, grouping, modified, capture, look, Pattern, Terms, Item, one, either, no_terms, more_terms, atom, group, opened_by, counts, counts_of_quantifier, counts_of_terms, counts_of_term, counts_of_item, names, names_of_group, names_of_terms, names_of_item}
-use Rattle.regress_syntax.specs.Meaning.{is_in_class, direction_of_group, referred}
+use Rattle.regress_syntax.specs.Syntax.{Name, Atom, literal, dot, anchor, boundary, class_escape, class, class_set, string_property, back_reference, Group, grouping, modified, capture, look, Pattern, Terms, Item, one, either, no_terms, more_terms, atom, group, opened_by, counts, counts_of_quantifier, counts_of_terms, counts_of_term, counts_of_item, names, names_of_group, names_of_terms, names_of_item, direction_of_group}
+use Rattle.regress_syntax.specs.Meaning.{is_in_class, referred}
 use Rattle.regress_parse.specs.Groups.{numbered, pattern_groups}
-use Rattle.regress_parse.specs.TreeOf.{in_direction, concatenation, tree_of_group, tree_of_quantified, references, alternation, tree_of_atom, tree_of_pattern, trees_of_terms, tree_of_item, tree_of}
+use Rattle.regress_parse.specs.TreeOf.{concatenation, tree_of_group, tree_of_quantified, references, alternation, tree_of_atom, tree_of_pattern, trees_of_terms, tree_of_item, tree_of, in_direction}
 use Rattle.regress_parse.specs.ClassParts.{class_parts}
 use Rattle.regress_parse.proofs.ClassTreeLemmas.{tree_of_class-parts}
 use Rattle.regress_parse.proofs.PartLemmas.{alternation-has, references-have, class_parts-have}

@@ -4,6 +4,7 @@ pub mod EscapeProductions
 pub mod ReaderLemmas
 pub mod GrammarLemmas
 pub mod CountLemmas
+mod FaultLemmas
 mod SettledLemmas
 mod DuplicateLemmas
 pub mod StringLemmas

@@ -15,13 +15,13 @@ use Rattle.regress_base.specs.declared.types.Quantifier.{Quantifier}
 use Rattle.regress_base.specs.Table.{class_of}
 use Rattle.regress_base.specs.Table.{denotes}
 use Rattle.regress_tree.specs.Tree.{Tree, Trees, leaf, no_trees, more_trees, empty, match_any, match_any_except_line_terminator, char, char_set, bracket, back_ref, string_set}
-use Rattle.regress_syntax.specs.Syntax.{Atom, literal, dot, anchor, boundary, class_escape, class, class_set, string_property, back_reference, Group, grouping, modified, capture, look, Name, Pattern, Terms, Item, one, either, no_terms, more_terms, atom, group, opened_by, counts_of_item, counts_of_term, counts_of_terms, names}
-use Rattle.regress_syntax.specs.Meaning.{is_in_class, longest_first, along, direction_of_group, group_steps, referred, any_reference, quantified_steps, atom_steps, pattern_steps, terms_steps, item_steps}
+use Rattle.regress_syntax.specs.Syntax.{Atom, literal, dot, anchor, boundary, class_escape, class, class_set, string_property, back_reference, Group, grouping, modified, capture, look, Name, Pattern, Terms, Item, one, either, no_terms, more_terms, atom, group, opened_by, counts_of_item, counts_of_term, counts_of_terms, names, direction_of_group}
+use Rattle.regress_syntax.specs.Meaning.{is_in_class, longest_first, along, group_steps, referred, any_reference, quantified_steps, atom_steps, pattern_steps, terms_steps, item_steps}
 use Rattle.regress_classes.specs.ClassProductions.{members_of}
 use Rattle.regress_classes.specs.ClassSets.{Value, has_strings}
 use Rattle.regress_parse.specs.ClassParts.{strings_part, bracket_part, empty_part}
 use Rattle.regress_parse.proofs.ClassTreeLemmas.{tree_of_class-parts}
-use Rattle.regress_parse.specs.TreeOf.{in_direction, concatenation, tree_of_group, tree_of_quantified, leaf_of_members, references, alternation, tree_of_class, tree_of_atom, tree_of_pattern, trees_of_terms, tree_of_item, tree_of}
+use Rattle.regress_parse.specs.TreeOf.{concatenation, tree_of_group, tree_of_quantified, leaf_of_members, references, alternation, tree_of_class, tree_of_atom, tree_of_pattern, trees_of_terms, tree_of_item, tree_of, in_direction}
 use Rattle.regress_parse.specs.Accepted.{Means}
 use Rattle.regress_tree.proofs.lemmas.Assertions.{Simulates-anchor, Simulates-boundary}
 use Rattle.regress_tree.proofs.lemmas.Classes.{agreeing_simulates, is_accepted-scalar}

@@ -1,8 +1,7 @@
 -- A source with an error that the scan finds is not accepted.
-use Rattle.std.proofs.Common.{◌≡◌, ℕ, suc, ◌+◌, ◌-◌, false, ◌++◌, take, drop, length, Some, Err, refl, sym, ap, subst, arith}
+use Rattle.std.proofs.Common.{◌≡◌, ℕ, suc, ◌+◌, ◌-◌, false, ◌++◌, take, drop, length, Some, refl, sym, ap, subst, arith}
 use Rattle.regress_base.specs.Table.{IsValidTable}
 use Rattle.regress_tree.specs.Setting.{Setting}
-use Rattle.regress_tree.specs.declared.ir.node.Regex.{Regex}
 use Rattle.regress_lexer.specs.declared.fault.FaultKind.{FaultKind}
 use Rattle.regress_lexer.specs.declared.fault.Fault.{Fault}
 use Rattle.regress_lexer.specs.declared.fault.Fault.TheVariants.{Rejected, Memory}
@@ -13,11 +12,7 @@ use Rattle.regress_syntax.specs.Scanning.{IsLocated, OnKindAt}
 use Rattle.regress_syntax.proofs.lemmas.Scan.{gives_tokens}
 use Rattle.regress_syntax.proofs.lemmas.FirstErrors.{Shows, left_within, shows_front, shows_none}
 use Rattle.regress_parse.specs.Accepted.{own_context}
-use Rattle.regress_parse.specs.Fault.{ReportsKindAt}
 use Rattle.regress_parse.specs.Settled.{NoneStartsWith, IsFinal}
-use Rattle.regress_parse.specs.Parsing.{HasMessageAndPosition}
-use Rattle.regress_parse.specs.declared.fault.PlacedFault.{PlacedFault}
-use Rattle.regress_parse.specs.declared.fault.PlacedFault.TheVariants.{Syntax as PlacedSyntax, Memory as PlacedMemory}
 
 none_begins : (setting : Setting) (flaw : Flaw) (t : Source) (left position : ℕ) → IsValidTable setting.table →
     remaining_at flaw setting.flags.unicode_sets plain 1 t ≡ Some left → position + left ≡ length t → is_at 91 (drop position t) ≡ false →
@@ -44,10 +39,3 @@ pub settled : (setting : Setting) (t : Source) (fault : Fault) → IsValidTable 
     OnKindAt fault (λ kind left. IsFinal setting t kind (length t - left))
 settled setting t (Rejected kind left) lawful located = located_settles setting t kind left lawful located
 settled setting t (Memory e) lawful located = tt
-
--- the same for the error with its position
-pub placed_settles : (n : ℕ) (fault : Fault) (placed : PlacedFault) (P : FaultKind → ℕ → Type 0) → HasMessageAndPosition n fault placed →
-    OnKindAt fault (λ kind left. P kind (n - left)) → ReportsKindAt {X = Regex} (Err placed) P
-placed_settles n fault (PlacedSyntax kind e position) P (left, is, text, here, within) settles =
-    subst (P kind) (sym here) (subst (λ f. OnKindAt f (λ kind left. P kind (n - left))) is settles)
-placed_settles n fault (PlacedMemory e) P placed settles = tt

@@ -9,8 +9,7 @@ use Rattle.regress_tree.specs.Tree.{tree}
 use Rattle.regress_tree.specs.Visits.{nodes}
 use Rattle.regress_tree.specs.Reading.{Direction}
 use Rattle.regress_lexer.specs.Source.{Source, Found, found_map, opening, closing, is_at}
-use Rattle.regress_syntax.specs.Syntax.{Atom, Group, grouping, Pattern, Item, atom, group}
-use Rattle.regress_syntax.specs.Meaning.{direction_of_group}
+use Rattle.regress_syntax.specs.Syntax.{Atom, Group, grouping, Pattern, Item, atom, group, direction_of_group}
 use Rattle.regress_syntax.specs.Productions.{Context, context_inside, Head, single, opens, head_of_item, group_allows, atom_allows, allows, head_at, optional_quantifier_at}
 use Rattle.regress_syntax.specs.Grammar.{IsPattern, IsItem}
 use Rattle.regress_parse.specs.Parsing.{atom_at, ReadsAtom}

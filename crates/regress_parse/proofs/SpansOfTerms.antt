@@ -11,7 +11,7 @@ use Rattle.regress_syntax.specs.Productions.{Context, Head, single, opens, head_
 use Rattle.regress_syntax.specs.Grammar.{AreTerms, IsItem}
 use Rattle.regress_syntax.proofs.lemmas.Productions.{no_head_at_end}
 use Rattle.regress_parse.specs.declared.span.Span.{Span}
-use Rattle.regress_parse.specs.Spans.{in_order, how_many, span_of_times, span_of_alternative, between, spans_of_terms, spans_of_item}
+use Rattle.regress_parse.specs.Spans.{in_tree_order, how_many, span_of_times, span_of_alternative, between, spans_of_terms, spans_of_item}
 use Rattle.regress_parse.specs.Recorded.{joined_in_reverse, RecordsAlternative, RecordsTerm}
 
 -- No item begins where the alternative ends.
@@ -24,7 +24,7 @@ no_item ctx (group kind p) t rest h = none_at_end ctx t (opens kind, h.0) h.1
 
 -- The spans of the next term are appended to the list, or set apart as a part of their own, by the direction.
 pub record SetApart (d : Direction) (now part now' : List Span) (parts parts' : List (Vec Span Global)) : Type 0 where
-  pub joined : (others : List Span) → now' ++ (others ++ joined_in_reverse parts') ≡ now ++ (in_order d part others ++ joined_in_reverse parts)
+  pub joined : (others : List Span) → now' ++ (others ++ joined_in_reverse parts') ≡ now ++ (in_tree_order d part others ++ joined_in_reverse parts)
 
 pub apart-forwards : (now part now' : List Span) (parts parts' : List (Vec Span Global)) → now' ≡ now ++ part → parts' ≡ parts →
     SetApart forwards now part now' parts parts'
@@ -64,7 +64,7 @@ module _ (whole : ℕ) (ctx : Context) (d : Direction) where
     pub part : List Span
     pub others : List Span
     pub added : now ≡ before ++ part
-    pub spans : left ≡ in_order d part others
+    pub spans : left ≡ in_tree_order d part others
     pub left_over : RemainingTerms rest many new others (count + 1)
 
   term-read : (rest : Source) (many : ℕ) (t : Source) (left : List Span) (count : ℕ) (before : List Span) (new : Source) (now : List Span) →

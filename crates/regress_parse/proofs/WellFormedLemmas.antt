@@ -19,14 +19,14 @@ use Rattle.regress_tree.proofs.lemmas.ReversedParts.{PartsAllowed-reverse_trees}
 use Rattle.regress_classes.specs.ClassProductions.{members_of}
 use Rattle.regress_classes.specs.ClassSets.{Value}
 use Rattle.regress_lexer.specs.Source.{Source, IsCodePoint}
-use Rattle.regress_syntax.specs.Syntax.{Name, is_named, Target, by_number, by_name, Atom, literal, dot, anchor, boundary, class_escape, class, class_set, string_property, back_reference, Group, grouping, modified, capture, look, Pattern, Terms, Item, one, either, no_terms, more_terms, atom, group, opened_by, counts, counts_of_terms, counts_of_term, counts_of_item, names}
-use Rattle.regress_syntax.specs.Meaning.{is_in_class, longest_first, direction_of_group, groups_named, referred}
+use Rattle.regress_syntax.specs.Syntax.{Name, is_named, Target, by_number, by_name, Atom, literal, dot, anchor, boundary, class_escape, class, class_set, string_property, back_reference, Group, grouping, modified, capture, look, Pattern, Terms, Item, one, either, no_terms, more_terms, atom, group, opened_by, counts, counts_of_terms, counts_of_term, counts_of_item, names, direction_of_group, groups_named}
+use Rattle.regress_syntax.specs.Meaning.{is_in_class, longest_first, referred}
 use Rattle.regress_syntax.specs.Productions.{Context, single, opens, context_inside, head_of_item, allows, optional_quantifier_at}
 use Rattle.regress_syntax.specs.Grammar.{IsPattern, AreTerms, IsItem}
 use Rattle.regress_classes.proofs.lemmas.ClassStrings.{OfCodePoints}
 use Rattle.regress_syntax.proofs.lemmas.NameEnds.{IsName}
 use Rattle.regress_syntax.proofs.lemmas.Productions.{head_at-ends, optional_quantifier_at-ends, optional_quantifier_at-ordered}
-use Rattle.regress_parse.specs.TreeOf.{in_direction, concatenation, tree_of_group, tree_of_quantified, leaf_of_members, references, alternation, tree_of_class, tree_of_atom, tree_of_pattern, trees_of_terms, tree_of_item, tree_of}
+use Rattle.regress_parse.specs.TreeOf.{concatenation, tree_of_group, tree_of_quantified, leaf_of_members, references, alternation, tree_of_class, tree_of_atom, tree_of_pattern, trees_of_terms, tree_of_item, tree_of, in_direction}
 use Rattle.regress_parse.specs.Accepted.{IsDerived, own_context}
 use Rattle.regress_parse.proofs.CodePointLemmas.{AreCodePoints, rest_of, after_found, IsGoodTarget, IsGoodAtom, IsGoodGroup, head_at-good}
 use Rattle.regress_parse.specs.ClassParts.{class_parts}

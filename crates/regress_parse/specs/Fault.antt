@@ -1,5 +1,6 @@
 -- What is reported of a rejected pattern.
-use Rattle.std.specs.Prelude.{◌≡◌, ℕ, ◌≤◌, List, [], ◌++◌, codes, string_bytes, Result, Ok, Err}
+use Rattle.std.specs.Prelude.{◌≡◌, ℕ, ◌<◌, ◌≤◌, List, [], ◌++◌, codes, string_bytes, Result, Ok, Err}
+use Rattle.regress_lexer.specs.FaultKinds.{number_of}
 use Rattle.regress_lexer.specs.declared.fault.FaultKind.{FaultKind}
 use Rattle.regress_lexer.specs.declared.fault.FaultKind.TheVariants.{UnbalancedParenthesis, TooDeep, TooManyGroups, TooManyLoops, IncompleteEscape, UnterminatedEscape, InvalidEscape, InvalidUnicodeEscape, InvalidBracedQuantifier, InvalidAtom, QuantifierNotAllowed, InvalidQuantifier, UnbalancedBracket, ReversedRange, InvalidRange, UnbalancedSet, InvalidSetRange, UnexpectedInIntersection, UnexpectedInSubtraction, EmptyOperand, IncompleteSetEscape, StringsWithoutBrace, UnbalancedStrings, InvalidSetCharacter, InvalidNegatedClass, PropertyWithoutBrace, InvalidProperty, InvalidGroupName, InvalidModifier, InvalidReference, UnknownName, DuplicateName}
 use Rattle.regress_parse.specs.declared.fault.ParseFault.{ParseFault}
@@ -8,39 +9,47 @@ use Rattle.regress_parse.specs.declared.fault.PlacedFault.{PlacedFault}
 use Rattle.regress_parse.specs.declared.fault.PlacedFault.TheVariants.{Syntax as PlacedSyntax, Memory as PlacedMemory}
 
 -- the text of each kind of syntax error, up to a name
-abbrev pub words : FaultKind → List ℕ
-words UnbalancedParenthesis = codes "Unbalanced parenthesis"
-words TooDeep = codes "Regular expression is too deeply nested"
-words TooManyGroups = codes "Capture group count limit exceeded"
-words TooManyLoops = codes "Loop count limit exceeded"
-words IncompleteEscape = codes "Incomplete escape"
-words UnterminatedEscape = codes "Unterminated escape"
-words InvalidEscape = codes "Invalid character escape"
-words InvalidUnicodeEscape = codes "Invalid unicode escape"
-words InvalidBracedQuantifier = codes "Invalid braced quantifier"
-words InvalidAtom = codes "Invalid atom character"
-words QuantifierNotAllowed = codes "Quantifier not allowed here"
-words InvalidQuantifier = codes "Invalid quantifier"
-words UnbalancedBracket = codes "Unbalanced bracket"
-words ReversedRange = codes "Range values reversed, start char code is greater than end char code."
-words InvalidRange = codes "Invalid character range"
-words UnbalancedSet = codes "Unbalanced class set bracket"
-words InvalidSetRange = codes "Invalid class set range"
-words UnexpectedInIntersection = codes "Unexpected character in class set intersection"
-words UnexpectedInSubtraction = codes "Unexpected character in class set subtraction"
-words EmptyOperand = codes "Empty class set operand"
-words IncompleteSetEscape = codes "Incomplete class set escape"
-words StringsWithoutBrace = codes "Invalid class set escape: expected {"
-words UnbalancedStrings = codes "Unbalanced class set string disjunction"
-words InvalidSetCharacter = codes "Invalid class set character"
-words InvalidNegatedClass = codes "Invalid negated class"
-words PropertyWithoutBrace = codes "Invalid character at property escape start"
-words InvalidProperty = codes "Invalid property name"
-words InvalidGroupName = codes "Invalid token at named capture group identifier"
-words InvalidModifier = codes "Invalid group modifier"
-words InvalidReference = codes "Invalid named backreference syntax"
-words (UnknownName name) = codes "Backreference to invalid named capture group: "
-words DuplicateName = codes "Duplicate capture group name"
+abbrev pub text_before_name : FaultKind → List ℕ
+text_before_name UnbalancedParenthesis = codes "Unbalanced parenthesis"
+text_before_name TooDeep = codes "Regular expression is too deeply nested"
+text_before_name TooManyGroups = codes "Capture group count limit exceeded"
+text_before_name TooManyLoops = codes "Loop count limit exceeded"
+text_before_name IncompleteEscape = codes "Incomplete escape"
+text_before_name UnterminatedEscape = codes "Unterminated escape"
+text_before_name InvalidEscape = codes "Invalid character escape"
+text_before_name InvalidUnicodeEscape = codes "Invalid unicode escape"
+text_before_name InvalidBracedQuantifier = codes "Invalid braced quantifier"
+text_before_name InvalidAtom = codes "Invalid atom character"
+text_before_name QuantifierNotAllowed = codes "Quantifier not allowed here"
+text_before_name InvalidQuantifier = codes "Invalid quantifier"
+text_before_name UnbalancedBracket = codes "Unbalanced bracket"
+text_before_name ReversedRange = codes "Range values reversed, start char code is greater than end char code."
+text_before_name InvalidRange = codes "Invalid character range"
+text_before_name UnbalancedSet = codes "Unbalanced class set bracket"
+text_before_name InvalidSetRange = codes "Invalid class set range"
+text_before_name UnexpectedInIntersection = codes "Unexpected character in class set intersection"
+text_before_name UnexpectedInSubtraction = codes "Unexpected character in class set subtraction"
+text_before_name EmptyOperand = codes "Empty class set operand"
+text_before_name IncompleteSetEscape = codes "Incomplete class set escape"
+text_before_name StringsWithoutBrace = codes "Invalid class set escape: expected {"
+text_before_name UnbalancedStrings = codes "Unbalanced class set string disjunction"
+text_before_name InvalidSetCharacter = codes "Invalid class set character"
+text_before_name InvalidNegatedClass = codes "Invalid negated class"
+text_before_name PropertyWithoutBrace = codes "Invalid character at property escape start"
+text_before_name InvalidProperty = codes "Invalid property name"
+text_before_name InvalidGroupName = codes "Invalid token at named capture group identifier"
+text_before_name InvalidModifier = codes "Invalid group modifier"
+text_before_name InvalidReference = codes "Invalid named backreference syntax"
+text_before_name (UnknownName name) = codes "Backreference to invalid named capture group: "
+text_before_name DuplicateName = codes "Duplicate capture group name"
+
+-- There is a kind of syntax error with this number.
+abbrev pub HasKind : (number : ℕ) → Type 0
+HasKind number = (0 < number) × (number ≤ 32)
+
+-- The text is that of each kind of syntax error with this number, up to a name.
+abbrev pub IsTextOf : (number : ℕ) → List ℕ → Type 0
+IsTextOf number text = (kind : FaultKind) → number ≡ number_of kind → text ≡ text_before_name kind
 
 -- the name at the end of the text, in UTF-8
 abbrev pub name_suffix : FaultKind → List ℕ
@@ -49,7 +58,7 @@ name_suffix other = []
 
 -- the whole text of a syntax error
 abbrev pub text_of : FaultKind → List ℕ
-text_of kind = words kind ++ name_suffix kind
+text_of kind = text_before_name kind ++ name_suffix kind
 
 -- The result is a syntax error only if P holds.
 abbrev pub RejectedOnlyIf : {X : Type 0} → Result X ParseFault → Type 0 → Type 0
@@ -67,26 +76,3 @@ ReportsKind (Err (Memory e)) P = Unit {0}
 abbrev pub without_position : PlacedFault → ParseFault
 without_position (PlacedSyntax kind e position) = Syntax e
 without_position (PlacedMemory e) = Memory e
-
--- the result, where an error has no kind and no position
-abbrev pub unplaced : {X : Type 0} → Result X PlacedFault → Result X ParseFault
-unplaced (Ok x) = Ok x
-unplaced (Err fault) = Err (without_position fault)
-
--- A syntax error has a kind and a position for which P holds.
-abbrev pub ReportsKindAt : {X : Type 0} → Result X PlacedFault → (FaultKind → (position : ℕ) → Type 0) → Type 0
-ReportsKindAt (Ok x) P = Unit {0}
-ReportsKindAt (Err (PlacedSyntax kind e position)) P = P kind position
-ReportsKindAt (Err (PlacedMemory e)) P = Unit {0}
-
--- A syntax error has the text of its kind.
-abbrev pub HasTextOfKind : {X : Type 0} → Result X PlacedFault → Type 0
-HasTextOfKind (Ok x) = Unit {0}
-HasTextOfKind (Err (PlacedSyntax kind e position)) = string_bytes e.text ≡ text_of kind
-HasTextOfKind (Err (PlacedMemory e)) = Unit {0}
-
--- The position of a syntax error is at most the length of the pattern.
-abbrev pub HasPositionWithin : {X : Type 0} → ℕ → Result X PlacedFault → Type 0
-HasPositionWithin length (Ok x) = Unit {0}
-HasPositionWithin length (Err (PlacedSyntax kind e position)) = position ≤ length
-HasPositionWithin length (Err (PlacedMemory e)) = Unit {0}

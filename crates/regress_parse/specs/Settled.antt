@@ -1,5 +1,6 @@
--- Syntax errors that no change after their position can mend, and where names in conflict are reported.
-use Rattle.std.specs.Prelude.{◌≡◌, ℕ, ◌+◌, ◌≤◌, false, ◌++◌, take, drop, length, Some}
+-- What syntax errors state of a source: which of them no change after their position can mend, and where names in conflict
+-- are reported.
+use Rattle.std.specs.Prelude.{◌≡◌, ℕ, ◌+◌, ◌≤◌, false, List, ◌++◌, take, drop, length, Some, string_bytes}
 use Rattle.regress_base.specs.Limits.{max_nesting_depth}
 use Rattle.regress_tree.specs.Setting.{Setting}
 use Rattle.regress_lexer.specs.declared.fault.FaultKind.{FaultKind}
@@ -8,7 +9,10 @@ use Rattle.regress_lexer.specs.Source.{Source, char, is_at}
 use Rattle.regress_syntax.specs.Paths.{are_tokens_apart}
 use Rattle.regress_syntax.specs.Scan.{plain, tokens, deepest}
 use Rattle.regress_syntax.specs.FirstErrors.{Flaw, kind_of, remaining_at, IsFirstDuplicate}
+use Rattle.regress_parse.specs.declared.fault.PlacedFault.{PlacedFault}
+use Rattle.regress_parse.specs.declared.fault.PlacedFault.TheVariants.{Syntax, Memory}
 use Rattle.regress_parse.specs.Accepted.{NoneIsAccepted, IsTrueOf, MayExceed}
+use Rattle.regress_parse.specs.Fault.{text_of}
 
 -- No source with this prefix is accepted.
 abbrev pub NoneStartsWith : Setting → Source → Type 0
@@ -37,3 +41,14 @@ pub record IsReported (setting : Setting) (source : Source) (kind : FaultKind) (
   pub within : position ≤ length source
   pub settled : IsFinal setting source kind position
   pub duplicate : IsAtFirstDuplicate setting source kind position
+
+-- A syntax error of a source that has no accepted pattern, with the text of its kind.
+pub record IsSyntaxError (setting : Setting) (source : Source) (kind : FaultKind) (message : List ℕ) (position : ℕ) : Type 0 where
+  pub rejected : NoneIsAccepted setting source
+  pub text : message ≡ text_of kind
+  pub reported : IsReported setting source kind position
+
+-- The fault is such a syntax error. Out of memory states nothing.
+abbrev pub IsFaultOf : Setting → Source → PlacedFault → Type 0
+IsFaultOf setting source (Syntax kind e position) = IsSyntaxError setting source kind (string_bytes e.text) position
+IsFaultOf setting source (Memory e) = Unit {0}

@@ -6,8 +6,7 @@ use Rattle.regress_tree.specs.Reading.{Direction, forwards, backwards}
 use Rattle.regress_tree.specs.Setting.{Setting}
 use Rattle.regress_tree.specs.Visits.{nodes}
 use Rattle.regress_lexer.specs.Source.{Source, closing, bar}
-use Rattle.regress_syntax.specs.Syntax.{Group, grouping, modified, capture, look, Pattern, Terms, Item, one, either, no_terms, more_terms, atom, group}
-use Rattle.regress_syntax.specs.Meaning.{direction_of_group}
+use Rattle.regress_syntax.specs.Syntax.{Group, grouping, modified, capture, look, Pattern, Terms, Item, one, either, no_terms, more_terms, atom, group, direction_of_group}
 use Rattle.regress_syntax.specs.Productions.{Context, context_inside}
 use Rattle.regress_syntax.specs.Grammar.{IsPattern, AreTerms, IsItem}
 use Rattle.regress_parse.specs.Accepted.{own_context, IsDerived}
@@ -49,10 +48,10 @@ how_many (more_terms x q xs) = 1 + how_many xs
 abbrev pub span_of_alternative : ℕ → Span → List Span
 span_of_alternative terms s = if terms == 1 then [] else s ∷ []
 
--- The spans of the first part and of the others, in the order of the tree: reversed where matching runs backwards.
-abbrev pub in_order : Direction → List Span → List Span → List Span
-in_order forwards first others = first ++ others
-in_order backwards first others = others ++ first
+-- What belongs to the first part and to the others, in the order of the tree: reversed where matching runs backwards.
+abbrev pub in_tree_order : {X : Type 0} → Direction → List X → List X → List X
+in_tree_order forwards first others = first ++ others
+in_tree_order backwards first others = others ++ first
 
 -- the length of the whole source, in code points
 module _ (whole : ℕ) where
@@ -74,7 +73,7 @@ module _ (whole : ℕ) where
     pub spans_of_terms : (ctx : Context) → Direction → (ts : Terms) (t rest : Source) → AreTerms ctx ts t rest → List Span
     spans_of_terms ctx d no_terms t rest ends = []
     spans_of_terms ctx d (more_terms x q xs) t rest (mid, after, item, times, others) =
-        in_order d (spans_of_item ctx d x t mid item ++ span_of_times q (between t after)) (spans_of_terms ctx d xs after rest others)
+        in_tree_order d (spans_of_item ctx d x t mid item ++ span_of_times q (between t after)) (spans_of_terms ctx d xs after rest others)
 
     -- Each node of an item without a body has the span of the item.
     pub spans_of_item : (ctx : Context) → Direction → (x : Item) (t rest : Source) → IsItem ctx x t rest → List Span

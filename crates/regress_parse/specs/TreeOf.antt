@@ -10,8 +10,8 @@ use Rattle.regress_tree.specs.Tree.{Leaf, empty, goal, char, char_set, match_any
 use Rattle.regress_tree.specs.Tree as tree
 use Rattle.regress_classes.specs.ClassProductions.{members_of}
 use Rattle.regress_classes.specs.ClassSets.{Value}
-use Rattle.regress_syntax.specs.Syntax.{Name, Atom, literal, dot, anchor, boundary, class_escape, class, class_set, string_property, back_reference, Group, grouping, modified, capture, look, Pattern, Terms, Item, one, either, no_terms, more_terms, atom, group, opened_by, counts_of_item, counts_of_terms, counts_of_term, names}
-use Rattle.regress_syntax.specs.Meaning.{is_in_class, longest_first, direction_of_group, referred}
+use Rattle.regress_syntax.specs.Syntax.{Name, Atom, literal, dot, anchor, boundary, class_escape, class, class_set, string_property, back_reference, Group, grouping, modified, capture, look, Pattern, Terms, Item, one, either, no_terms, more_terms, atom, group, opened_by, counts_of_item, counts_of_terms, counts_of_term, names, direction_of_group}
+use Rattle.regress_syntax.specs.Meaning.{is_in_class, longest_first, referred}
 
 -- A list of parts is reversed where matching runs backwards.
 abbrev pub in_direction : Direction → Trees → Trees

@@ -2,7 +2,7 @@
 ghost use Rattle.std.specs.Prelude.{◌≡◌, ◌+◌, ◌-◌, ◌*◌, ◌^◌, ◌<◌, ◌≤◌, length, min};
 ghost use Rattle.regress_parse.specs.Bound.{HasAtMost, opens_name, is_reference, positions, total, nodes_at, node_bound};
 
-use crate::positions::{named_groups, nodes_at};
+use crate::positions::{is_reference, nodes_at, opens_name};
 use regress_base::types::Flags;
 
 /// Returns an upper bound on the number of nodes of the tree that `try_parse` makes of `pattern`, whatever the table.
@@ -14,7 +14,7 @@ use regress_base::types::Flags;
 /// The result is defined for any list of code points, also for one that is no pattern.
 ///
 /// # Complexity
-/// Linear in the length of the pattern: each code point is visited twice. Nothing is allocated.
+/// Linear in the length of the pattern. Nothing is allocated.
 ///
 /// # Examples
 /// ```
@@ -27,18 +27,48 @@ pub fn node_bound(pattern: &[u32], flags: Flags) -> usize
     ensures value { result ≡ min (node_bound flags.unicode_sets pattern.now) (2 ^ 64 - 1) }
     ensures near { result ≤ 3 + 5 * length pattern.now + 2 * (positions opens_name pattern.now * positions is_reference pattern.now) }
 {
-    sum_nodes(pattern, flags.unicode_sets, named_groups(pattern))
+    let counts = count(pattern, flags.unicode_sets);
+    let referred = counts
+        .named
+        .saturating_mul(2)
+        .saturating_mul(counts.references);
+    counts.nodes.saturating_add(referred)
 }
 
-/// Returns how many nodes these code points make at most, or `usize::MAX`.
-fn sum_nodes(pattern: &[u32], sets: bool, named: usize) -> usize
-    ensures { result ≡ min (3 + total (nodes_at sets named) pattern.now) (2 ^ 64 - 1) }
+/// What bounds the number of nodes of a pattern.
+#[derive(Clone, Copy)]
+struct Counts {
+    /// The number of nodes where no group has a name, at most `usize::MAX`.
+    nodes: usize,
+    /// At least the number of named groups.
+    named: usize,
+    /// At least the number of references by name.
+    references: usize,
+}
+
+/// Counts nodes, named groups and references by name.
+fn count(pattern: &[u32], sets: bool) -> Counts
+    ensures nodes { result.nodes ≡ min (3 + total (nodes_at sets 0) pattern.now) (2 ^ 64 - 1) }
+    ensures named { result.named ≡ positions opens_name pattern.now }
+    ensures references { result.references ≡ positions is_reference pattern.now }
 {
     let mut nodes: usize = 3;
+    let mut named = 0;
+    let mut references = 0;
     let mut rest = pattern;
     while let [_, after @ ..] = rest {
-        nodes = nodes.saturating_add(nodes_at(rest, sets, named));
+        nodes = nodes.saturating_add(nodes_at(rest, sets));
+        if opens_name(rest) {
+            named += 1;
+        }
+        if is_reference(rest) {
+            references += 1;
+        }
         rest = after;
     }
-    nodes
+    Counts {
+        nodes,
+        named,
+        references,
+    }
 }

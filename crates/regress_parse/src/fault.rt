@@ -1,7 +1,7 @@
 //! Syntax errors with their texts.
 
-ghost use Rattle.std.specs.Prelude.{◌≡◌, alloc_error, string_bytes, IfOk};
-ghost use Rattle.regress_parse.specs.Fault.{words, text_of, without_position};
+ghost use Rattle.std.specs.Prelude.{◌≡◌, alloc_error, string_bytes, IfOk, MatchOption};
+ghost use Rattle.regress_parse.specs.Fault.{HasKind, IsTextOf, text_before_name, text_of, without_position};
 ghost use Rattle.regress_parse.specs.Parsing.{HasMessageAndPosition};
 ghost use Rattle.regress_parse.specs.declared.fault.ParseFault.TheVariants.{Memory};
 ghost use Rattle.regress_parse.specs.declared.fault.PlacedFault.TheVariants.{Memory as PlacedMemory};
@@ -118,50 +118,60 @@ pub(crate) fn position(alloc: Global, fault: Fault, length: usize) -> PlacedFaul
 fn report(alloc: Global, kind: &FaultKind) -> Result<Error, AllocError>
     ensures { IfOk result (λ error. string_bytes error.text ≡ text_of kind.now) }
 {
-    let mut text = String::from_str(alloc, words(kind))?;
+    let mut text = String::from_str(alloc, text_before_name(kind))?;
     if let FaultKind::UnknownName(name) = kind {
         text.push_str(name)?;
     }
     Ok(Error { text })
 }
 
-/// Returns the text for this kind of syntax error, up to a name.
-fn words(kind: &FaultKind) -> &'static str
-    ensures { result.now ≡ words kind.now }
+/// Returns the text of this kind of syntax error, up to a name.
+fn text_before_name(kind: &FaultKind) -> &'static str
+    ensures { result.now ≡ text_before_name kind.now }
 {
-    match kind {
-        FaultKind::UnbalancedParenthesis => "Unbalanced parenthesis",
-        FaultKind::TooDeep => "Regular expression is too deeply nested",
-        FaultKind::TooManyGroups => "Capture group count limit exceeded",
-        FaultKind::TooManyLoops => "Loop count limit exceeded",
-        FaultKind::IncompleteEscape => "Incomplete escape",
-        FaultKind::UnterminatedEscape => "Unterminated escape",
-        FaultKind::InvalidEscape => "Invalid character escape",
-        FaultKind::InvalidUnicodeEscape => "Invalid unicode escape",
-        FaultKind::InvalidBracedQuantifier => "Invalid braced quantifier",
-        FaultKind::InvalidAtom => "Invalid atom character",
-        FaultKind::QuantifierNotAllowed => "Quantifier not allowed here",
-        FaultKind::InvalidQuantifier => "Invalid quantifier",
-        FaultKind::UnbalancedBracket => "Unbalanced bracket",
-        FaultKind::ReversedRange =>
-            "Range values reversed, start char code is greater than end char code.",
-        FaultKind::InvalidRange => "Invalid character range",
-        FaultKind::UnbalancedSet => "Unbalanced class set bracket",
-        FaultKind::InvalidSetRange => "Invalid class set range",
-        FaultKind::UnexpectedInIntersection => "Unexpected character in class set intersection",
-        FaultKind::UnexpectedInSubtraction => "Unexpected character in class set subtraction",
-        FaultKind::EmptyOperand => "Empty class set operand",
-        FaultKind::IncompleteSetEscape => "Incomplete class set escape",
-        FaultKind::StringsWithoutBrace => "Invalid class set escape: expected {",
-        FaultKind::UnbalancedStrings => "Unbalanced class set string disjunction",
-        FaultKind::InvalidSetCharacter => "Invalid class set character",
-        FaultKind::InvalidNegatedClass => "Invalid negated class",
-        FaultKind::PropertyWithoutBrace => "Invalid character at property escape start",
-        FaultKind::InvalidProperty => "Invalid property name",
-        FaultKind::InvalidGroupName => "Invalid token at named capture group identifier",
-        FaultKind::InvalidModifier => "Invalid group modifier",
-        FaultKind::InvalidReference => "Invalid named backreference syntax",
-        FaultKind::UnknownName(_) => "Backreference to invalid named capture group: ",
-        FaultKind::DuplicateName => "Duplicate capture group name",
+    match text_of_number(kind.number()) {
+        Some(text) => text,
+        None => "",
+    }
+}
+
+/// Returns the text of the kind of syntax error with this number, up to a name; `None` if there is no such kind.
+pub fn text_of_number(number: u32) -> Option<&'static str>
+    ensures { MatchOption result (HasKind number → ⊥) (λ text. HasKind number × IsTextOf number text.now) }
+{
+    match number {
+        1 => Some("Unbalanced parenthesis"),
+        2 => Some("Regular expression is too deeply nested"),
+        3 => Some("Capture group count limit exceeded"),
+        4 => Some("Loop count limit exceeded"),
+        5 => Some("Incomplete escape"),
+        6 => Some("Unterminated escape"),
+        7 => Some("Invalid character escape"),
+        8 => Some("Invalid unicode escape"),
+        9 => Some("Invalid braced quantifier"),
+        10 => Some("Invalid atom character"),
+        11 => Some("Quantifier not allowed here"),
+        12 => Some("Invalid quantifier"),
+        13 => Some("Unbalanced bracket"),
+        14 => Some("Range values reversed, start char code is greater than end char code."),
+        15 => Some("Invalid character range"),
+        16 => Some("Unbalanced class set bracket"),
+        17 => Some("Invalid class set range"),
+        18 => Some("Unexpected character in class set intersection"),
+        19 => Some("Unexpected character in class set subtraction"),
+        20 => Some("Empty class set operand"),
+        21 => Some("Incomplete class set escape"),
+        22 => Some("Invalid class set escape: expected {"),
+        23 => Some("Unbalanced class set string disjunction"),
+        24 => Some("Invalid class set character"),
+        25 => Some("Invalid negated class"),
+        26 => Some("Invalid character at property escape start"),
+        27 => Some("Invalid property name"),
+        28 => Some("Invalid token at named capture group identifier"),
+        29 => Some("Invalid group modifier"),
+        30 => Some("Invalid named backreference syntax"),
+        31 => Some("Backreference to invalid named capture group: "),
+        32 => Some("Duplicate capture group name"),
+        _ => None,
     }
 }

@@ -36,8 +36,8 @@ pub(crate) struct PartContext<'a> {
 impl<'a> PartContext<'a> {
     ghost use Rattle.std.specs.Prelude.{◌≡◌};
     ghost use Rattle.regress_lexer.specs.Views.{source};
-    ghost use Rattle.regress_syntax.specs.Meaning.{direction_of_group};
     ghost use Rattle.regress_syntax.specs.Productions.{context_inside};
+    ghost use Rattle.regress_syntax.specs.Syntax.{direction_of_group};
     ghost use Rattle.regress_syntax.specs.Views.{group_of};
     ghost use Rattle.regress_parse.specs.Parsing.{context_in, direction_of};
     ghost use Rattle.regress_parse.specs.Recorded.{span_to};

@@ -1,5 +1,5 @@
 //! Parses a whole pattern into its tree.
-ghost use Rattle.std.specs.Prelude.{◌≡◌, ◌-◌, true, Bool, All, length, IfOk};
+ghost use Rattle.std.specs.Prelude.{◌≡◌, ◌-◌, true, Bool, All, length, IfOk, IfErr};
 ghost use Rattle.regress_unicode.specs.TableOf.{table_of};
 ghost use Rattle.regress_syntax.specs.SettingOf.{setting_of};
 ghost use Rattle.regress_tree.specs.Tree.{tree};
@@ -11,8 +11,8 @@ ghost use Rattle.regress_syntax.specs.Scanning.{NotesFirst, IsLocated, FailsAt};
 ghost use Rattle.regress_syntax.specs.Views.{context_of};
 ghost use Rattle.regress_parse.specs.TreeOf.{tree_of};
 ghost use Rattle.regress_parse.specs.Accepted.{IsAccepted, NoneIsAccepted, IsTrueOf, MayExceed, OneIsDerived, OfAccepted, Means};
-ghost use Rattle.regress_parse.specs.Fault.{RejectedOnlyIf, ReportsKind, ReportsKindAt, HasTextOfKind, unplaced, HasPositionWithin};
-ghost use Rattle.regress_parse.specs.Settled.{IsFinal, IsAtFirstDuplicate};
+ghost use Rattle.regress_parse.specs.Fault.{RejectedOnlyIf, ReportsKind};
+ghost use Rattle.regress_parse.specs.Settled.{IsFinal, IsAtFirstDuplicate, IsFaultOf};
 ghost use Rattle.regress_parse.specs.Parsing.{YieldsWhole, Reaches};
 ghost use Rattle.regress_parse.specs.Spans.{spans_of};
 ghost use Rattle.regress_parse.specs.Recorded.{HasSpans};
@@ -134,13 +134,7 @@ pub fn try_parse_with_position(
     // limits, and a syntax error only for one that it does not.
     ensures accepted { IfOk result (λ r. (p : Pattern)
         × IsAccepted (setting_of flags tables.now) pattern.now p × (tree r.node ≡ tree_of (table_of tables.now) p)) }
-    ensures rejected { RejectedOnlyIf (unplaced result) (NoneIsAccepted (setting_of flags tables.now) pattern.now) }
-    ensures text { HasTextOfKind result }
-    ensures reported { ReportsKindAt result (λ kind position. IsTrueOf (setting_of flags tables.now) pattern.now kind) }
-    ensures limits { ReportsKindAt result (λ kind position. MayExceed pattern.now kind) }
-    ensures position { HasPositionWithin (length pattern.now) result }
-    ensures settled { ReportsKindAt result (IsFinal (setting_of flags tables.now) pattern.now) }
-    ensures duplicate { ReportsKindAt result (IsAtFirstDuplicate (setting_of flags tables.now) pattern.now) }
+    ensures rejected { IfErr result (IsFaultOf (setting_of flags tables.now) pattern.now) }
     ensures only { OneIsDerived (setting_of flags tables.now) pattern.now }
 
     // Properties of the tree.
@@ -179,13 +173,7 @@ pub fn parse_with_spans(
         × (r.spans.items ≡ spans_of (setting_of flags tables.now) pattern.now p accepted.derived)) }
 
     // The contract of `try_parse_with_position`.
-    ensures rejected { RejectedOnlyIf (unplaced result) (NoneIsAccepted (setting_of flags tables.now) pattern.now) }
-    ensures text { HasTextOfKind result }
-    ensures reported { ReportsKindAt result (λ kind position. IsTrueOf (setting_of flags tables.now) pattern.now kind) }
-    ensures limits { ReportsKindAt result (λ kind position. MayExceed pattern.now kind) }
-    ensures position { HasPositionWithin (length pattern.now) result }
-    ensures settled { ReportsKindAt result (IsFinal (setting_of flags tables.now) pattern.now) }
-    ensures duplicate { ReportsKindAt result (IsAtFirstDuplicate (setting_of flags tables.now) pattern.now) }
+    ensures rejected { IfErr result (IsFaultOf (setting_of flags tables.now) pattern.now) }
     ensures only { OneIsDerived (setting_of flags tables.now) pattern.now }
     ensures meaning { let setting = setting_of flags tables.now in
         IfOk result (λ r. OfAccepted setting pattern.now (Means setting (tree r.regex.node))) }

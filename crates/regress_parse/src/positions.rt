@@ -1,7 +1,7 @@
 //! Counts the nodes that each code point of a pattern can make.
-ghost use Rattle.std.specs.Prelude.{◌≡◌, ◌-◌, ◌^◌, drop, min};
+ghost use Rattle.std.specs.Prelude.{◌≡◌, drop};
 ghost use Rattle.regress_lexer.specs.Source.{is_at};
-ghost use Rattle.regress_parse.specs.Bound.{opens_name, is_reference, positions, nodes_at};
+ghost use Rattle.regress_parse.specs.Bound.{opens_name, is_reference, nodes_at};
 
 /// Whether `c` is the code point at index `position`.
 fn occurs(c: char, source: &[u32], position: usize) -> bool
@@ -14,7 +14,7 @@ fn occurs(c: char, source: &[u32], position: usize) -> bool
 }
 
 /// Whether a named group begins here: a `(?<` that neither `=` nor `!` follows.
-fn opens_name(source: &[u32]) -> bool
+pub(crate) fn opens_name(source: &[u32]) -> bool
     ensures { result ≡ opens_name source.now }
 {
     occurs('(', source, 0)
@@ -25,37 +25,20 @@ fn opens_name(source: &[u32]) -> bool
 }
 
 /// Whether a reference by name may begin here.
-fn is_reference(source: &[u32]) -> bool
+pub(crate) fn is_reference(source: &[u32]) -> bool
     ensures { result ≡ is_reference source.now }
 {
     occurs('\\', source, 0) && occurs('k', source, 1)
 }
 
-/// Returns an upper bound on the number of named groups.
-pub(crate) fn named_groups(pattern: &[u32]) -> usize
-    ensures { result ≡ positions opens_name pattern.now }
-{
-    let mut found = 0;
-    let mut rest = pattern;
-    while let [_, after @ ..] = rest {
-        if opens_name(rest) {
-            found += 1;
-        }
-        rest = after;
-    }
-    found
-}
-
-/// Returns how many nodes the first code point makes at most, or `usize::MAX`.
-pub(crate) fn nodes_at(source: &[u32], sets: bool, named: usize) -> usize
-    ensures { result ≡ min (nodes_at sets named source.now) (2 ^ 64 - 1) }
+/// Returns how many nodes the first code point makes at most where no group has a name.
+pub(crate) fn nodes_at(source: &[u32], sets: bool) -> usize
+    ensures { result ≡ nodes_at sets 0 source.now }
 {
     if occurs('|', source, 0) {
         2
     } else if occurs('[', source, 0) && sets {
         5
-    } else if is_reference(source) {
-        named.saturating_mul(2).saturating_add(1)
     } else {
         1
     }

@@ -2,3 +2,4 @@ pub mod lemmas
 mod FirstSetLemmas
 mod AnchorLemmas
 mod RequiredLemmas
+mod LiteralLemmas

@@ -1,6 +1,7 @@
 //! The literal without which a tree has no match.
-ghost use Rattle.std.specs.Prelude.{◌≡◌, ◌⊎◌, IfSome};
+ghost use Rattle.std.specs.Prelude.{◌≡◌, ◌⊎◌, ◌<◌, IfSome, length};
 ghost use Rattle.regress_tree.specs.Tree.{tree, trees, cat};
+ghost use Rattle.regress_prefilter.specs.Literals.{bytes_in, literals, literals_of_trees, longer, longest};
 ghost use Rattle.regress_prefilter.specs.Required.{IsRequiredLiteral};
 
 use regress_tree::ir::Node;
@@ -14,7 +15,9 @@ use regress_tree::ir::Node;
 /// One pass over the tree, without allocations. The depth of recursion is the depth of the tree.
 #[cycle(required_literal)]
 pub fn required_literal(node: &Node) -> Option<&[u8]>
-    ensures { IfSome result (λ literal. IsRequiredLiteral literal.now (tree node.now)) }
+    ensures required { IfSome result (λ literal. IsRequiredLiteral literal.now (tree node.now)) }
+    ensures not_empty { IfSome result (λ literal. 0 < length literal.now) }
+    ensures longest { bytes_in result ≡ longest (literals (tree node.now)) }
 {
     match node {
         Node::Cat(parts) => longest_literal(parts),
@@ -29,7 +32,9 @@ pub fn required_literal(node: &Node) -> Option<&[u8]>
 /// Returns the longest literal that some part requires.
 #[cycle(required_literal)]
 fn longest_literal(parts: &[Node]) -> Option<&[u8]>
-    ensures { IfSome result (λ literal. IsRequiredLiteral literal.now (cat (trees parts.now))) }
+    ensures required { IfSome result (λ literal. IsRequiredLiteral literal.now (cat (trees parts.now))) }
+    ensures not_empty { IfSome result (λ literal. 0 < length literal.now) }
+    ensures longest { bytes_in result ≡ longest (literals_of_trees (trees parts.now)) }
 {
     let mut longest: Option<&[u8]> = None;
     for part in parts {
@@ -40,7 +45,8 @@ fn longest_literal(parts: &[Node]) -> Option<&[u8]>
 
 /// Returns the longer one of two literals, the first one if they are of the same length.
 fn longer<'a>(one: Option<&'a [u8]>, two: Option<&'a [u8]>) -> Option<&'a [u8]>
-    ensures { (result ≡ one.entry) ⊎ (result ≡ two.entry) }
+    ensures one_of { (result ≡ one.entry) ⊎ (result ≡ two.entry) }
+    ensures longer { bytes_in result ≡ longer (bytes_in one.entry) (bytes_in two.entry) }
 {
     match (one, two) {
         (Some(first), Some(second)) if first.len() >= second.len() => one,

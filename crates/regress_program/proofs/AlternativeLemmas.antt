@@ -8,7 +8,7 @@ use Rattle.regress_program.specs.declared.compiler.Compiler.{Compiler}
 use Rattle.regress_program.specs.Compiled.{matching, Code, Grown, Compiled}
 use Rattle.regress_program.specs.Pushed.{Pushed}
 use Rattle.regress_program.specs.Program.{split}
-use Rattle.regress_program.specs.Adds.{Adds, Tidies}
+use Rattle.regress_program.specs.Adds.{Adds, Covers, Tidies}
 use Rattle.regress_program.specs.Alternatives.{HasLeft, Waiting}
 use Rattle.regress_program.specs.Contents.{content}
 use Rattle.regress_program.proofs.AddLemmas.{IsPartOf, Longer, longer}
@@ -74,6 +74,8 @@ pub record Splitting (leaves : List Test) (old new : Compiler) (next : ℕ) (ent
   pub waiting : Waiting (code_in leaves old) (code_in leaves new) next entries whole rest
   pub adds : Adds (code_in leaves old) (code_in leaves new) (content whole)
   pub part : IsPartOf (content rest) (content whole)
+  pub covers : (later : Code) → Longer (code_in leaves new) later → Covers (code_in leaves old) later (content rest) →
+      Covers (code_in leaves old) later (content whole)
   pub has : HasLeaves leaves new.next_leaf (leaves_of rest)
   pub after : new.next_leaf + length (leaves_of rest) ≡ old.next_leaf + length (leaves_of whole)
 
@@ -84,4 +86,5 @@ pub record Joining (leaves : List Test) (old new : Compiler) (next entry : ℕ) 
   pub compiled : Compiled (code_in leaves old) (code_in leaves new) (matching joined) next entry
   pub adds : Adds (code_in leaves old) (code_in leaves new) (content whole)
   pub tidies : Tidies (code_in leaves old) (code_in leaves new) (content joined) next entry
+  pub covers : Covers (code_in leaves old) (code_in leaves new) (content whole)
   pub after : new.next_leaf ≡ old.next_leaf + length (leaves_of whole)

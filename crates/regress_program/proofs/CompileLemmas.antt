@@ -8,7 +8,7 @@ use Rattle.regress_tree.specs.Tree.{Tree}
 use Rattle.regress_tree.proofs.lemmas.Groups.{iteration-none}
 use Rattle.regress_program.specs.Compiled.{Matching, matching, Code, Grown, Compiled}
 use Rattle.regress_program.specs.Pushed.{Pushed}
-use Rattle.regress_program.specs.Program.{Op, accept, part, split, begin_loop, repeat, end_loop, unsets, begin_group, end_group, look, Routine, At, Out, goto, enter, reach, either, start, matcher_of, IsSolution}
+use Rattle.regress_program.specs.Program.{part, split, unsets, begin_group, end_group, start}
 use Rattle.regress_program.specs.Program as programs
 use Rattle.regress_program.specs.Shape.{IsPart}
 use Rattle.regress_program.specs.Stays.{IsReached}

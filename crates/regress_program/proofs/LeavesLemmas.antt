@@ -11,8 +11,8 @@ use Rattle.regress_prefilter.specs.OneCharacter.{takes_one}
 use Rattle.regress_tree.specs.Shapes.{is_zero}
 use Rattle.regress_tree.specs.Tree.{empty, goal, char, byte_sequence, byte_set, char_set, match_any, match_any_except_line_terminator, anchor, word_boundary, bracket, back_ref, string_set, loop_one, Tree, leaf, cat, alt, wrapped, tree, trees}
 use Rattle.regress_tree.specs.declared.ir.node.Node.{Node}
-use Rattle.regress_leaves.specs.Leaves.{has_one_outcome}
-use Rattle.regress_program.specs.LeavesOf.{HasLeaves, is_never, leaves_of, leaves_of_loop, leaves_of_parts, leaves_of_strings, leaves_of_wrapper, tree_of}
+use Rattle.regress_program.specs.LeavesOf.{HasLeaves, leaves_of, leaves_of_loop, leaves_of_parts, leaves_of_strings, leaves_of_wrapper, tree_of}
+use Rattle.regress_program.specs.Linear.{is_never}
 use Rattle.regress_program.specs.Views.{leaf_in}
 use Rattle.regress_program.proofs.ViewLemmas.{from_index}
 
@@ -70,24 +70,6 @@ has-room leaves from t has =
     omega (arith, within (map tree_of leaves) from t has.rest has.is, length-trees leaves, has.bound)
 
 -- ---- the leaves of a node
-
-pub sole-leaf : (t : Tree) → has_one_outcome t ≡ true → (t ≡ leaf empty → ⊥) → (t ≡ leaf goal → ⊥) → leaves_of t ≡ t ∷ []
-sole-leaf (leaf empty) is filled more = absurd (filled refl)
-sole-leaf (leaf goal) is filled more = absurd (more refl)
-sole-leaf (leaf (char c)) is filled more = refl
-sole-leaf (leaf (byte_sequence bytes)) is filled more = refl
-sole-leaf (leaf (byte_set members)) is filled more = refl
-sole-leaf (leaf (char_set members)) is filled more = refl
-sole-leaf (leaf match_any) is filled more = refl
-sole-leaf (leaf match_any_except_line_terminator) is filled more = refl
-sole-leaf (leaf (anchor kind multiline)) is filled more = refl
-sole-leaf (leaf (word_boundary invert unicode_icase)) is filled more = refl
-sole-leaf (leaf (bracket invert intervals)) is filled more = refl
-sole-leaf (leaf (back_ref group icase)) is filled more = refl
-sole-leaf (leaf (string_set ss icase)) is filled more = cc
-sole-leaf (cat parts) is filled more = cc
-sole-leaf (alt left right) is filled more = cc
-sole-leaf (wrapped w body) is filled more = cc
 
 pub one-leaf : (t : Tree) → takes_one t ≡ true → leaves_of t ≡ t ∷ []
 one-leaf (leaf empty) is = cc

@@ -7,6 +7,7 @@ mod CodeLemmas
 mod CompileLemmas
 mod CostLemmas
 mod CountLemmas
+mod CoverLemmas
 mod FlowLemmas
 mod KeepLemmas
 mod LeafLemmas
@@ -22,5 +23,5 @@ mod RoutineLemmas
 mod RunLemmas
 mod SizeLemmas
 mod SolveLemmas
-mod TurnLemmas
+mod IterationLemmas
 mod ViewLemmas

@@ -163,13 +163,7 @@ module _ (R : ℕ → Type 0) where
         (suc (place_of (length r.ops) (length bytes) r.direction (start setting bytes (Some r) s)))
         (start setting bytes (Some r) s) (is_program j r is).entry within (omega arith))
 
-    -- From any state of a routine whose range spares R, the outcomes keep the captures of the groups in R.
-    pub local : (i : ℕ) (r : Routine) → slice_get program i ≡ Some r → Spares R (range_at i) → (a : At) → a.pc < length r.ops →
-        a.state.position ≤ length bytes → All (KeepsIn R a.state.captures) (outs i a)
-    local i r is spares a lt within =
-        routine-keeps i r is spares (bodies-keep i) (suc (place_of (length r.ops) (length bytes) r.direction a)) a lt within (omega arith)
-
-    -- so do those of the whole routine
+    -- The outcomes of a whole routine whose range spares R keep the captures of the groups in R.
     pub local-matcher : (i : ℕ) (r : Routine) → slice_get program i ≡ Some r → Spares R (range_at i) → (s : MatchState) →
         s.position ≤ length bytes → All (KeepsIn R s.captures) (matcher_of setting bytes program outs i s)
     local-matcher i r is spares s within = bodies-keep (suc i) i r s (omega arith) is spares within

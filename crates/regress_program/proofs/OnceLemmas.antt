@@ -7,7 +7,7 @@ use Rattle.regress_tree.specs.Shapes.{some_node_in_list}
 use Rattle.regress_tree.specs.Tree as trees
 use Rattle.regress_tree.specs.WellFormed.{Capture, captures, captures_of_trees, Position, one_character, inside, root, last_of, HasGroups, IsAllowed, PartsAllowed, IsWellFormed}
 use Rattle.regress_program.specs.Contents.{Ids, no_ids, union, ids_in, content, content_of_parts}
-use Rattle.regress_program.specs.Linear.{changes_some, changes_some_of, has_back_reference, has_capturing_lookaround, is_back_ref, is_capturing_node}
+use Rattle.regress_program.specs.Linear.{changes_some, changes_some_of, has_back_reference, has_capturing_lookaround, is_back_ref, is_capturing_node, is_never, some_compiled_of}
 use Rattle.regress_program.proofs.lemmas.Tidy.{and_left, and_right, or_cases, or_left, or_right}
 
 -- how often a group occurs
@@ -267,11 +267,11 @@ mutual
   refers-tree (cat parts) = refers-parts parts
   refers-tree (alt left right) = ap₂ ◌||◌ (refers-tree left) (refers-tree right)
   refers-tree (wrapped (capture_group id name) body) = refers-tree body
-  refers-tree (wrapped (loop quantifier start end) body) = refers-tree body
-  refers-tree (wrapped (loop_one quantifier) body) = refers-tree body
+  refers-tree (wrapped (loop quantifier start end) body) = ap (λ b. not (is_never quantifier) && b) (refers-tree body)
+  refers-tree (wrapped (loop_one quantifier) body) = ap (λ b. not (is_never quantifier) && b) (refers-tree body)
   refers-tree (wrapped (lookaround negate backwards start end) body) = refers-tree body
 
-  refers-parts : (ts : Trees) → (content_of_parts ts).refers ≡ some_node_in_list is_back_ref ts
+  refers-parts : (ts : Trees) → (content_of_parts ts).refers ≡ some_compiled_of is_back_ref ts
   refers-parts no_trees = refl
   refers-parts (more_trees t ts) = ap₂ ◌||◌ (refers-tree t) (refers-parts ts)
 
@@ -313,8 +313,8 @@ mutual
   captures-tree (cat parts) = captures-parts parts
   captures-tree (alt left right) = ap₂ ◌||◌ (captures-tree left) (captures-tree right)
   captures-tree (wrapped (capture_group id name) body) = refl
-  captures-tree (wrapped (loop quantifier start end) body) = ap (λ b. nat_lt start end || b) (captures-tree body)
-  captures-tree (wrapped (loop_one quantifier) body) = captures-tree body
+  captures-tree (wrapped (loop quantifier start end) body) = ap (λ b. not (is_never quantifier) && (nat_lt start end || b)) (captures-tree body)
+  captures-tree (wrapped (loop_one quantifier) body) = ap (λ b. not (is_never quantifier) && b) (captures-tree body)
   captures-tree (wrapped (lookaround negate backwards start end) body) = refl
 
   captures-parts : (ts : Trees) → (content_of_parts ts).captures ≡ changes_some_of ts
@@ -327,11 +327,11 @@ mutual
   looks-tree (cat parts) = looks-parts parts
   looks-tree (alt left right) = ap₂ ◌||◌ (looks-tree left) (looks-tree right)
   looks-tree (wrapped (capture_group id name) body) = looks-tree body
-  looks-tree (wrapped (loop quantifier start end) body) = looks-tree body
-  looks-tree (wrapped (loop_one quantifier) body) = looks-tree body
+  looks-tree (wrapped (loop quantifier start end) body) = ap (λ b. not (is_never quantifier) && b) (looks-tree body)
+  looks-tree (wrapped (loop_one quantifier) body) = ap (λ b. not (is_never quantifier) && b) (looks-tree body)
   looks-tree (wrapped (lookaround negate backwards start end) body) =
       ap₂ (λ a b. (not negate && a) || b) (captures-tree body) (looks-tree body)
 
-  looks-parts : (ts : Trees) → (content_of_parts ts).looks ≡ some_node_in_list is_capturing_node ts
+  looks-parts : (ts : Trees) → (content_of_parts ts).looks ≡ some_compiled_of is_capturing_node ts
   looks-parts no_trees = refl
   looks-parts (more_trees t ts) = ap₂ ◌||◌ (looks-tree t) (looks-parts ts)

@@ -14,7 +14,7 @@ use Rattle.regress_program.specs.Pushed.{Pushed, preferred}
 use Rattle.regress_program.specs.Ranges.{changed_by, no_groups, ranges_of}
 use Rattle.regress_program.specs.Tidy.{BeginsUnset, IsTidy, IsTidyFrom, IsTidyRoutine, followers, has_no_back_reference, range_at, set_after}
 use Rattle.regress_program.proofs.AddLemmas.{is_of-part, is_routine-part, IsRoutinePart, routine-part, HasNoMore, IsPartOf, no_more-part, part-first, part-second, part-grouped, part-iteration, part-iterations, part-after, part-rest, adds-part, adds-none, adds-then, adds-push, adds-quiet, read-pushed, agree-first, agree-second, pushed-routines, pushed-ops, Longer, longer, longer-push}
-use Rattle.regress_program.proofs.lemmas.Tidy.{among-same, among-left, among-right, among-union, among-then, among-both, among-apart, among-twice, among-without, and_left, and_right, or_none, tidy-fewer, tidy-less, tidy-one, tidy-turn, tidy-two, tidy-none}
+use Rattle.regress_program.proofs.lemmas.Tidy.{among-same, among-left, among-right, among-union, among-then, among-both, among-apart, among-twice, among-without, and_left, and_right, or_none, tidy-fewer, tidy-less, tidy-one, tidy-both, tidy-two, tidy-none}
 use Rattle.regress_program.proofs.ChangedLemmas.{range-within}
 use Rattle.regress_program.proofs.CodeLemmas.{get-append-last, length-push, Extends-same, Extends-then, Extends-push, Extends-get, get-set-same, get-set-other}
 use Rattle.regress_program.proofs.RepeatLemmas.{Written}
@@ -243,31 +243,31 @@ module _ (f : Contents) (set : Ids) where
       tidy-less ranges ops n pc (union (union set f.changes) f.changes) (union set f.changes) (among-twice set f.changes) is
 
 -- the last iteration that is allowed
-pub holds_last : (a b c : Code) (f : Contents) (next turn body : ℕ) → Grown b c → Pushed a b (end_loop next) turn → Holds b c f turn body →
+pub holds_last : (a b c : Code) (f : Contents) (next last body : ℕ) → Grown b c → Pushed a b (end_loop next) last → Holds b c f last body →
     Holds a c (in_iterations f) next body
-holds_last a b c f next turn body more pushed is =
+holds_last a b c f next last body more pushed is =
     let whole = in_iterations f in
-    let grown = longer-push a b (end_loop next) turn pushed in
+    let grown = longer-push a b (end_loop next) last pushed in
     record {
-      adds = adds-then a b c whole more.ops more.routines (adds-quiet a b (end_loop next) turn whole pushed (λ none. refl) (λ ranges. refl) (refl, λ program. refl))
+      adds = adds-then a b c whole more.ops more.routines (adds-quiet a b (end_loop next) last whole pushed (λ none. refl) (λ ranges. refl) (refl, λ program. refl))
           (adds-part b c f whole (part-iterations f) is.adds);
       tidies = record {
         tidies = λ program ext ops agree set tidy n after.
             is.tidies.tidies program ext ops (agree-second a b c ops grown.ops agree) set (tidy-now f set tidy) n
-            (tidy-one (ranges_of program) ops n turn next (end_loop next) (union set f.changes)
-            (read-pushed a a b (end_loop next) turn ops (Extends-same a.ops) pushed (agree-first a b c ops more.ops agree)) refl tt after);
+            (tidy-one (ranges_of program) ops n last next (end_loop next) (union set f.changes)
+            (read-pushed a a b (end_loop next) last ops (Extends-same a.ops) pushed (agree-first a b c ops more.ops agree)) refl tt after);
       };
     }
 
 -- one more before it
-pub holds_more : (a b c e : Code) (greedy : Bool) (f : Contents) (next body turn body' : ℕ) → Grown a b → Grown c e →
-    Holds a b (in_iterations f) next body → Pushed b c (repeat greedy body next) turn → Holds c e f turn body' → Holds a e (in_iterations f) next body'
-holds_more a b c e greedy f next body turn body' grown more so_far pushed is =
+pub holds_more : (a b c e : Code) (greedy : Bool) (f : Contents) (next body last body' : ℕ) → Grown a b → Grown c e →
+    Holds a b (in_iterations f) next body → Pushed b c (repeat greedy body next) last → Holds c e f last body' → Holds a e (in_iterations f) next body'
+holds_more a b c e greedy f next body last body' grown more so_far pushed is =
     let whole = in_iterations f in
     let op = repeat greedy body next in
-    let turned = longer-push b c op turn pushed in
+    let extended = longer-push b c op last pushed in
     let to_c : Adds a c whole =
-    adds-then a b c whole turned.ops turned.routines so_far.adds (adds-quiet b c op turn whole pushed (λ none. refl) (λ ranges. refl) (refl, λ program. refl)) in
+    adds-then a b c whole extended.ops extended.routines so_far.adds (adds-quiet b c op last whole pushed (λ none. refl) (λ ranges. refl) (refl, λ program. refl)) in
     record {
       adds = adds-then a c e whole more.ops more.routines to_c (adds-part c e f whole (part-iterations f) is.adds);
       tidies = record {
@@ -275,9 +275,9 @@ holds_more a b c e greedy f next body turn body' grown more so_far pushed is =
             let ranges = ranges_of program in
             let before = agree-first a c e ops more.ops agree in
             let to_e = Extends-then c.routines e.routines program more.routines ext in
-            is.tidies.tidies program ext ops (agree-second a c e ops (Extends-then a.ops b.ops c.ops grown.ops turned.ops) agree) set (tidy-now f set tidy) n
-            (tidy-two ranges ops n turn body next op (union set f.changes) (read-pushed a b c op turn ops grown.ops pushed before) refl tt
-            ((tidies_later a b c whole next body turned so_far.tidies).tidies program to_e ops before (union set f.changes) (tidy-again f set tidy) n
+            is.tidies.tidies program ext ops (agree-second a c e ops (Extends-then a.ops b.ops c.ops grown.ops extended.ops) agree) set (tidy-now f set tidy) n
+            (tidy-two ranges ops n last body next op (union set f.changes) (read-pushed a b c op last ops grown.ops pushed before) refl tt
+            ((tidies_later a b c whole next body extended so_far.tidies).tidies program to_e ops before (union set f.changes) (tidy-again f set tidy) n
             (tidy-twice f set ranges ops n next after))
             after);
       };
@@ -303,8 +303,8 @@ holds_optional a b c greedy f next body at grown so_far pushed =
 
 -- ---- any number of optional iterations
 
-module _ (a b c e g : Code) (greedy : Bool) (f : Contents) (next turn body at : ℕ) (more : Grown b c) (holds : Pushed a b accept turn)
-    (is : Holds b c f turn body) (written : Written c e turn (repeat greedy body next)) (begun : Pushed e g (begin_loop greedy body next) at) where
+module _ (a b c e g : Code) (greedy : Bool) (f : Contents) (next last body at : ℕ) (more : Grown b c) (holds : Pushed a b accept last)
+    (is : Holds b c f last body) (written : Written c e last (repeat greedy body next)) (begun : Pushed e g (begin_loop greedy body next) at) where
   abbrev whole : Contents
   whole = in_iterations f
 
@@ -312,27 +312,27 @@ module _ (a b c e g : Code) (greedy : Bool) (f : Contents) (next turn body at : 
   again_op = repeat greedy body next
 
   count : length e.ops ≡ length c.ops
-  count = ap length written.ops ∙ length-set c.ops turn again_op
+  count = ap length written.ops ∙ length-set c.ops last again_op
 
   first : length b.ops ≡ length a.ops + 1
   first = ap length holds.ops ∙ length-push a.ops accept
 
-  rewritten : (i : ℕ) → i ≢ turn → slice_get e.ops i ≡ slice_get c.ops i
-  rewritten i other = ap (λ xs. slice_get xs i) written.ops ∙ get-set-other c.ops turn i again_op other
+  rewritten : (i : ℕ) → i ≢ last → slice_get e.ops i ≡ slice_get c.ops i
+  rewritten i other = ap (λ xs. slice_get xs i) written.ops ∙ get-set-other c.ops last i again_op other
 
-  at_turn : slice_get e.ops turn ≡ Some again_op
-  at_turn =
-      ap (λ xs. slice_get xs turn) written.ops
-      ∙ get-set-same c.ops turn again_op (omega (arith, first, more.ops.grown, holds.at_end))
+  at_last : slice_get e.ops last ≡ Some again_op
+  at_last =
+      ap (λ xs. slice_get xs last) written.ops
+      ∙ get-set-same c.ops last again_op (omega (arith, first, more.ops.grown, holds.at_end))
 
   body_routines : Extends c.routines e.routines
   body_routines = subst (λ rs. Extends c.routines rs) (sym written.routines) (Extends-same c.routines)
 
   adds-body : Adds a e whole
   adds-body = record {
-    ops = λ i op low found. elim (cases_eq i turn) [
+    ops = λ i op low found. elim (cases_eq i last) [
       | inl here ↦
-          (let same : again_op ≡ op = same_Some again_op op (sym at_turn ∙ ap (slice_get e.ops) (sym here) ∙ found) in
+          (let same : again_op ≡ op = same_Some again_op op (sym at_last ∙ ap (slice_get e.ops) (sym here) ∙ found) in
           subst (λ o. IsOf e.routines whole o) same
           (record {
             plain = λ none. refl;
@@ -366,18 +366,18 @@ module _ (a b c e g : Code) (greedy : Bool) (f : Contents) (next turn body at : 
     to_c : Extends c.routines program
     to_c = Extends-then c.routines e.routines program body_routines (Extends-then e.routines g.routines program begun_routines ext)
 
-    read_turn : slice_get ops turn ≡ Some again_op
-    read_turn = before turn (omega (arith, holds.at_end)) (omega (arith, holds.at_end, first, count, more.ops.grown)) ∙ at_turn
+    read_last : slice_get ops last ≡ Some again_op
+    read_last = before last (omega (arith, holds.at_end)) (omega (arith, holds.at_end, first, count, more.ops.grown)) ∙ at_last
 
-    turns : (set : Ids) → whole.tidy set → (n : ℕ) → IsTidyFrom (ranges_of program) ops n next (union set f.changes) →
-        IsTidyFrom (ranges_of program) ops n turn (union set f.changes)
-    turns set tidy zero after = tt
-    turns set tidy (suc n) after =
+    continues : (set : Ids) → whole.tidy set → (n : ℕ) → IsTidyFrom (ranges_of program) ops n next (union set f.changes) →
+        IsTidyFrom (ranges_of program) ops n last (union set f.changes)
+    continues set tidy zero after = tt
+    continues set tidy (suc n) after =
         let ranges = ranges_of program in
         let fewer = tidy-fewer ranges ops n next (union set f.changes) after in
-        tidy-turn ranges ops n turn body next again_op (union set f.changes) read_turn refl tt
+        tidy-both ranges ops n last body next again_op (union set f.changes) read_last refl tt
         (is.tidies.tidies program to_c ops inner (union set f.changes) (tidy-next f set tidy) n
-        (tidy-twice f set ranges ops n turn (turns set tidy n fewer)))
+        (tidy-twice f set ranges ops n last (continues set tidy n fewer)))
         fewer
 
     begins : (set : Ids) → whole.tidy set → (n : ℕ) → IsTidyFrom (ranges_of program) ops n next (union set f.changes) →
@@ -389,11 +389,11 @@ module _ (a b c e g : Code) (greedy : Bool) (f : Contents) (next turn body at : 
         (record {
           grown = omega (arith, first, more.ops.grown, count);
           same = λ i lt.
-              rewritten i (λ same. omega (arith, same, lt, holds.at_end)) ∙ more.ops.same i (omega (arith, lt, first)) ∙ (pushed-ops a b accept turn holds).same i lt;
+              rewritten i (λ same. omega (arith, same, lt, holds.at_end)) ∙ more.ops.same i (omega (arith, lt, first)) ∙ (pushed-ops a b accept last holds).same i lt;
         })
         begun agree)
         refl tt
-        (is.tidies.tidies program to_c ops inner set (tidy-now f set tidy) n (turns set tidy n after))
+        (is.tidies.tidies program to_c ops inner set (tidy-now f set tidy) n (continues set tidy n after))
         (tidy-less ranges ops n next set (union set f.changes) (among-left set f.changes) after)
 
   pub holds_any_number : Holds a g (in_iterations f) next at

@@ -10,74 +10,74 @@ use Rattle.regress_tree.specs.Setting.{Setting}
 use Rattle.regress_tree.specs.Steps.{◌then_◌}
 use Rattle.regress_tree.proofs.lemmas.Outcomes.{flat_map-then}
 use Rattle.regress_program.specs.Compiled.{Extends, World, Solved, Goes, Matching, optional, any_number, extra, after_iterations, repeated, Code, total, Grown, Compiled}
-use Rattle.regress_program.specs.Iterates.{Turns, Iterates}
+use Rattle.regress_program.specs.Iterates.{Continues, Iterates}
 use Rattle.regress_program.specs.Pushed.{Pushed}
 use Rattle.regress_program.specs.Program.{Op, accept, begin_loop, repeat, end_loop, Out}
 use Rattle.regress_program.specs.Shape.{Fits, AllFit, IsProgram}
 use Rattle.regress_program.specs.Stays.{Stays}
 use Rattle.regress_program.proofs.CodeLemmas.{get-append-below, get-set-same, get-set-other, length-push, Extends-same, earlier, Solved-fewer, solved_at, Fits-later, Grown-same, Grown-then, Grown-push, Solved-first, Solved-second, pushed_at}
 use Rattle.regress_program.proofs.CompileLemmas.{compiled_nothing, compiled_same, compiled_then}
-use Rattle.regress_program.proofs.TurnLemmas.{Turns-less, Turns-more, Turns-last, Turns-all, Goes-begin, up_to-min}
+use Rattle.regress_program.proofs.IterationLemmas.{Continues-less, Continues-more, Continues-last, Continues-all, Goes-begin, up_to-min}
 use Rattle.regress_program.proofs.lemmas.Onward.{Stays-up_to}
 
 -- ---- a finite number of optional iterations
 
--- At `turn` an iteration has ended, and at most n more may follow.
-record Ended (a b : Code) (greedy : Bool) (f : Matching) (next turn n : ℕ) : Type 0 where
+-- At `last` an iteration has ended, and at most n more may follow.
+record Ended (a b : Code) (greedy : Bool) (f : Matching) (next last n : ℕ) : Type 0 where
   grown : Grown a b
-  begins : turn < length b.ops
-  turns : (d : Direction) (w : World b.routines) (out : Out) → Solved w d out b.ops (length a.ops) (length b.ops) →
-      Turns w.bytes d out greedy (f d w.setting w.bytes) next turn n (length w.bytes + 1)
+  begins : last < length b.ops
+  continues : (d : Direction) (w : World b.routines) (out : Out) → Solved w d out b.ops (length a.ops) (length b.ops) →
+      Continues w.bytes d out greedy (f d w.setting w.bytes) next last n (length w.bytes + 1)
 
-iterates : (a b c : Code) (greedy : Bool) (f : Matching) (next turn body n : ℕ) → Ended a b greedy f next turn n → Compiled b c f turn body →
+iterates : (a b c : Code) (greedy : Bool) (f : Matching) (next last body n : ℕ) → Ended a b greedy f next last n → Compiled b c f last body →
     Iterates a c greedy f next body n
-iterates a b c greedy f next turn body n ended is = record {
+iterates a b c greedy f next last body n ended is = record {
   grown = Grown-then a b c ended.grown is.grown;
   begins = is.begins;
   stays = is.stays;
-  turn = turn;
-  turns = λ d w out solved. ended.turns d (earlier is.grown.routines w) out (Solved-first ended.grown is.grown w d out solved);
+  last = last;
+  continues = λ d w out solved. ended.continues d (earlier is.grown.routines w) out (Solved-first ended.grown is.grown w d out solved);
   means = λ d w out solved. is.means d w out (Solved-second ended.grown is.grown w d out solved);
 }
 
 -- the last iteration that is allowed
-pub iterates_last : (a b c : Code) (greedy : Bool) (f : Matching) (next turn body : ℕ) → next < length a.ops → Pushed a b (end_loop next) turn →
-    Compiled b c f turn body → Iterates a c greedy f next body 0
-iterates_last a b c greedy f next turn body below pushed is =
+pub iterates_last : (a b c : Code) (greedy : Bool) (f : Matching) (next last body : ℕ) → next < length a.ops → Pushed a b (end_loop next) last →
+    Compiled b c f last body → Iterates a c greedy f next body 0
+iterates_last a b c greedy f next last body below pushed is =
     let len : length b.ops ≡ length a.ops + 1 = ap length pushed.ops ∙ length-push a.ops (end_loop next) in
-    iterates a b c greedy f next turn body 0
+    iterates a b c greedy f next last body 0
     (record {
-      grown = Grown-push a b (end_loop next) turn pushed below;
+      grown = Grown-push a b (end_loop next) last pushed below;
       begins = omega (arith, len, pushed.at_end);
-      turns = λ d w out solved.
-          Turns-last w.bytes d out greedy (f d w.setting w.bytes) next turn (length w.bytes + 1)
-          (λ s inside. pushed_at (Grown-same a) (end_loop next) turn pushed w d out solved s inside);
+      continues = λ d w out solved.
+          Continues-last w.bytes d out greedy (f d w.setting w.bytes) next last (length w.bytes + 1)
+          (λ s inside. pushed_at (Grown-same a) (end_loop next) last pushed w d out solved s inside);
     })
     is
 
 -- one more before it
-pub iterates_more : (a b c e : Code) (greedy : Bool) (f : Matching) (next body turn body' n : ℕ) → next < length a.ops →
-    Iterates a b greedy f next body n → Pushed b c (repeat greedy body next) turn → Compiled c e f turn body' →
+pub iterates_more : (a b c e : Code) (greedy : Bool) (f : Matching) (next body last body' n : ℕ) → next < length a.ops →
+    Iterates a b greedy f next body n → Pushed b c (repeat greedy body next) last → Compiled c e f last body' →
     Iterates a e greedy f next body' (n + 1)
-iterates_more a b c e greedy f next body turn body' n below so_far pushed is =
+iterates_more a b c e greedy f next body last body' n below so_far pushed is =
     let len : length c.ops ≡ length b.ops + 1 = ap length pushed.ops ∙ length-push b.ops (repeat greedy body next) in
-    let grown = Grown-push b c (repeat greedy body next) turn pushed (omega (arith, so_far.begins), omega (arith, below, so_far.grown.ops.grown)) in
-    iterates a c e greedy f next turn body' (n + 1)
+    let grown = Grown-push b c (repeat greedy body next) last pushed (omega (arith, so_far.begins), omega (arith, below, so_far.grown.ops.grown)) in
+    iterates a c e greedy f next last body' (n + 1)
     (record {
       grown = Grown-then a b c so_far.grown grown;
       begins = omega (arith, len, pushed.at_end);
-      turns = λ d w out solved.
+      continues = λ d w out solved.
           let L = length w.bytes + 1 in
           let F = f d w.setting w.bytes in
           let before = Solved-first so_far.grown grown w d out solved in
           let w' = earlier grown.routines w in
-          let more : Turns w.bytes d out greedy F next turn (suc n) (L + 1) =
-          Turns-more w.bytes d out greedy F (so_far.stays d w.setting w.bytes) next so_far.turn body n L
-          (so_far.turns d w' out before) (so_far.means d w' out before) turn
-          (λ s inside. pushed_at so_far.grown (repeat greedy body next) turn pushed w d out solved s inside) in
+          let more : Continues w.bytes d out greedy F next last (suc n) (L + 1) =
+          Continues-more w.bytes d out greedy F (so_far.stays d w.setting w.bytes) next so_far.last body n L
+          (so_far.continues d w' out before) (so_far.means d w' out before) last
+          (λ s inside. pushed_at so_far.grown (repeat greedy body next) last pushed w d out solved s inside) in
           let next_number : suc n ≡ n + 1 = omega arith in
-          subst (λ (k : ℕ). Turns w.bytes d out greedy F next turn k L) next_number
-          (Turns-less w.bytes d out greedy F next turn (suc n) (L + 1) L (omega arith) more);
+          subst (λ (k : ℕ). Continues w.bytes d out greedy F next last k L) next_number
+          (Continues-less w.bytes d out greedy F next last (suc n) (L + 1) L (omega arith) more);
     })
     is
 
@@ -97,8 +97,8 @@ compiled_optional a b c greedy f next body at n below so_far pushed =
           let w' = earlier grown.routines w in
           let next_number : suc n ≡ n + 1 = omega arith in
           subst (λ (k : ℕ). Goes w.bytes out next at (up_to greedy k F)) next_number
-          (Goes-begin w.bytes d out greedy F (so_far.stays d w.setting w.bytes) next so_far.turn body n (length w.bytes + 1)
-          (so_far.turns d w' out before) (so_far.means d w' out before) at (omega arith)
+          (Goes-begin w.bytes d out greedy F (so_far.stays d w.setting w.bytes) next so_far.last body n (length w.bytes + 1)
+          (so_far.continues d w' out before) (so_far.means d w' out before) at (omega arith)
           (λ s inside. pushed_at so_far.grown (begin_loop greedy body next) at pushed w d out solved s inside));
     }
 
@@ -110,23 +110,23 @@ pub record Written (old new : Code) (at : ℕ) (op : Op) : Type 0 where
   pub ops : new.ops ≡ set old.ops at op
   pub left : new.left ≡ old.left
 
-module _ (a b c e g : Code) (greedy : Bool) (f : Matching) (next turn body at : ℕ) (below : next < length a.ops) (holds : Pushed a b accept turn)
-    (is : Compiled b c f turn body) (written : Written c e turn (repeat greedy body next)) (begun : Pushed e g (begin_loop greedy body next) at) where
+module _ (a b c e g : Code) (greedy : Bool) (f : Matching) (next last body at : ℕ) (below : next < length a.ops) (holds : Pushed a b accept last)
+    (is : Compiled b c f last body) (written : Written c e last (repeat greedy body next)) (begun : Pushed e g (begin_loop greedy body next) at) where
   start_length : length b.ops ≡ length a.ops + 1
   start_length = ap length holds.ops ∙ length-push a.ops accept
 
   same_length : length e.ops ≡ length c.ops
-  same_length = ap length written.ops ∙ length-set c.ops turn (repeat greedy body next)
+  same_length = ap length written.ops ∙ length-set c.ops last (repeat greedy body next)
 
   within : length a.ops + 1 ≤ length c.ops
   within = omega (arith, start_length, is.grown.ops.grown)
 
-  unwritten : (i : ℕ) → i ≢ turn → slice_get e.ops i ≡ slice_get c.ops i
-  unwritten i other = ap (λ xs. slice_get xs i) written.ops ∙ get-set-other c.ops turn i (repeat greedy body next) other
+  unwritten : (i : ℕ) → i ≢ last → slice_get e.ops i ≡ slice_get c.ops i
+  unwritten i other = ap (λ xs. slice_get xs i) written.ops ∙ get-set-other c.ops last i (repeat greedy body next) other
 
-  at_turn : slice_get e.ops turn ≡ Some (repeat greedy body next)
-  at_turn =
-      ap (λ xs. slice_get xs turn) written.ops ∙ get-set-same c.ops turn (repeat greedy body next) (omega (arith, within, holds.at_end))
+  at_last : slice_get e.ops last ≡ Some (repeat greedy body next)
+  at_last =
+      ap (λ xs. slice_get xs last) written.ops ∙ get-set-same c.ops last (repeat greedy body next) (omega (arith, within, holds.at_end))
 
   routines_grown : Extends a.routines e.routines
   routines_grown =
@@ -136,9 +136,9 @@ module _ (a b c e g : Code) (greedy : Bool) (f : Matching) (next turn body at : 
   looped_fit : AllFit e.routines e.ops (length a.ops) (length e.ops)
   looped_fit i op low high found =
       subst (λ rs. Fits rs (length e.ops) i op) (sym written.routines)
-      (elim (cases_eq i turn) [
+      (elim (cases_eq i last) [
         | inl here ↦
-            (let same : repeat greedy body next ≡ op = same_Some (repeat greedy body next) op (sym at_turn ∙ ap (slice_get e.ops) (sym here) ∙ found) in
+            (let same : repeat greedy body next ≡ op = same_Some (repeat greedy body next) op (sym at_last ∙ ap (slice_get e.ops) (sym here) ∙ found) in
             subst (λ o. Fits c.routines (length e.ops) i o) same (omega (arith, is.begins, same_length), omega (arith, below, here, holds.at_end)))
         | inr other ↦
             Fits-later c.routines c.routines (Extends-same c.routines) (length c.ops) (length e.ops) i (omega (arith, same_length)) op
@@ -166,18 +166,18 @@ module _ (a b c e g : Code) (greedy : Bool) (f : Matching) (next turn body at : 
     kept : Extends c.routines e.routines
     kept = subst (λ rs. Extends c.routines rs) (sym written.routines) (Extends-same c.routines)
 
-    one_iteration : Goes w.bytes out turn body (f d w.setting w.bytes)
+    one_iteration : Goes w.bytes out last body (f d w.setting w.bytes)
     one_iteration =
         is.means d (earlier kept w) out
         (Solved-fewer kept w d out e.ops c.ops (length a.ops) (length e.ops) (length b.ops) (length c.ops)
         (omega (arith, start_length)) (omega (arith, same_length)) (λ i le lt. unwritten i (omega (arith, le, start_length, holds.at_end))) solved)
 
-    all_iterations : (n : ℕ) → Turns w.bytes d out greedy (f d w.setting w.bytes) next turn n n
+    all_iterations : (n : ℕ) → Continues w.bytes d out greedy (f d w.setting w.bytes) next last n n
     all_iterations n =
-        Turns-all w.bytes d out greedy (f d w.setting w.bytes) (is.stays d w.setting w.bytes) next turn body one_iteration
+        Continues-all w.bytes d out greedy (f d w.setting w.bytes) (is.stays d w.setting w.bytes) next last body one_iteration
         (λ s inside.
-        solved_at w d out e.ops (length a.ops) (length e.ops) turn (repeat greedy body next) solved
-        (omega (arith, holds.at_end)) (omega (arith, within, same_length, holds.at_end)) at_turn s inside)
+        solved_at w d out e.ops (length a.ops) (length e.ops) last (repeat greedy body next) solved
+        (omega (arith, holds.at_end)) (omega (arith, within, same_length, holds.at_end)) at_last s inside)
         n
 
   pub compiled_any_number : Compiled a g (any_number greedy f) next at
@@ -195,7 +195,7 @@ module _ (a b c e g : Code) (greedy : Bool) (f : Matching) (next turn body at : 
             let n = length w.bytes in
             let next_number : suc n ≡ n + 1 = omega arith in
             subst (λ (k : ℕ). Goes w.bytes out next at (up_to greedy k F)) next_number
-            (Goes-begin w.bytes d out greedy F (is.stays d w.setting w.bytes) next turn body n n
+            (Goes-begin w.bytes d out greedy F (is.stays d w.setting w.bytes) next last body n n
             (all_iterations d w' out before n) (one_iteration d w' out before) at (omega arith)
             (λ s inside. pushed_at looped (begin_loop greedy body next) at begun w d out solved s inside));
       }

@@ -14,7 +14,7 @@ use Rattle.regress_tree.specs.Tree.{Tree, leaf, string_set}
 use Rattle.regress_tree.proofs.lemmas.Outcomes.{flat_map-stay}
 use Rattle.regress_program.specs.Compiled.{Extends, World, Solved, Matching, matching, looking, strings, Code, total, Grown, Compiled, HasRoutine}
 use Rattle.regress_program.specs.Pushed.{Pushed}
-use Rattle.regress_program.specs.Program.{Op, accept, part, split, look, Routine, At, Out, goto, reach, start, outcomes_by, outcomes_at, matcher_of}
+use Rattle.regress_program.specs.Program.{accept, split, look, Routine, At, Out, goto, reach, start, matcher_of}
 use Rattle.regress_program.specs.Program as programs
 use Rattle.regress_program.specs.Shape.{Fits, AllFit, IsRoutine, IsProgram}
 use Rattle.regress_program.specs.Stays.{IsReached}

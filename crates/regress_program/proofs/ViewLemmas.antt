@@ -9,7 +9,7 @@ use Rattle.regress_tree.specs.declared.ir.node.Node.{Node}
 use Rattle.regress_leaves.specs.Leaves.{has_one_outcome}
 use Rattle.regress_leaves.specs.declared.test.Test.{Test}
 use Rattle.regress_program.specs.Compiled.{World, matching, strings, Code, Compiled, HasRoutine, IsPattern}
-use Rattle.regress_program.specs.Program.{Op, part, split, Routine, matcher_of}
+use Rattle.regress_program.specs.Program.{part, split, Routine, matcher_of}
 use Rattle.regress_program.specs.Program as programs
 use Rattle.regress_program.specs.Pushed.{Pushed}
 use Rattle.regress_program.specs.Shape.{IsPart, IsProgram}

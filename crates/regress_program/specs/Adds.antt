@@ -1,5 +1,5 @@
 -- What compiled instructions keep of what a part of a pattern contains.
-use Rattle.std.specs.Prelude.{◌≡◌, ℕ, ◌≤◌, ◌<◌, false, List, length, slice_get, Some}
+use Rattle.std.specs.Prelude.{◌≡◌, ℕ, ◌≤◌, ◌<◌, Bool, false, List, [], length, slice_get, Some}
 use Rattle.regress_program.specs.declared.ranges.GroupRange.{GroupRange}
 use Rattle.regress_program.specs.Compiled.{Extends, Code}
 use Rattle.regress_program.specs.Contents.{Ids, union, AreWithin, Contents, alone}
@@ -59,3 +59,30 @@ pub record HoldsRoutine (old new : Code) (c : Contents) (i : ℕ) : Type 0 where
   pub within : (program : List Routine) → Extends new.routines program → (start end : ℕ) → AreWithin start end c.changes →
       IsRangeWithin start end (range_at (ranges_of program) i)
   pub spares : c.captures ≡ false → (program : List Routine) → Extends new.routines program → is_capturing (slice_get program i) ≡ false
+
+-- ---- all that a part contains has been added
+
+-- None of the instructions that have been added passes the test.
+abbrev pub OpsLack : (test : Op → Bool) → (old new : List Op) → Type 0
+OpsLack test old new = (i : ℕ) (op : Op) → length old ≤ i → slice_get new i ≡ Some op → test op ≡ false
+
+-- The same for those of the routines that have been added.
+abbrev pub RoutinesLack : (test : Op → Bool) → (old new : List Routine) → Type 0
+RoutinesLack test old new = (i : ℕ) (r : Routine) → length old ≤ i → slice_get new i ≡ Some r → OpsLack test [] r.ops
+
+pub record CodeLacks (test : Op → Bool) (old new : Code) : Type 0 where
+  pub ops : OpsLack test old.ops new.ops
+  pub routines : RoutinesLack test old.routines new.routines
+
+-- Whatever the part contains is among what has been added.
+pub record Covers (old new : Code) (c : Contents) : Type 0 where
+  pub refers : CodeLacks is_back_reference old new → c.refers ≡ false
+  pub captures : OpsLack changes_captures old.ops new.ops → c.captures ≡ false
+  pub looks : (program : List Routine) → Extends new.routines program → CodeLacks (is_capturing_lookaround program) old new → c.looks ≡ false
+
+-- Whatever the part contains is in the routine i, or in a routine that it refers to.
+pub record CoversRoutine (old new : Code) (c : Contents) (i : ℕ) : Type 0 where
+  pub refers : RoutinesLack is_back_reference old.routines new.routines → c.refers ≡ false
+  pub captures : (program : List Routine) → Extends new.routines program → is_capturing (slice_get program i) ≡ false → c.captures ≡ false
+  pub looks : (program : List Routine) → Extends new.routines program →
+      RoutinesLack (is_capturing_lookaround program) old.routines new.routines → c.looks ≡ false

@@ -6,7 +6,7 @@ use Rattle.regress_leaves.specs.declared.test.Test.{Test}
 use Rattle.regress_prefilter.specs.OneCharacter.{takes_one}
 use Rattle.regress_tree.specs.Repetition.{iteration}
 use Rattle.regress_tree.specs.Tree.{Tree}
-use Rattle.regress_program.specs.Adds.{Holds, HoldsRoutine}
+use Rattle.regress_program.specs.Adds.{Covers, CoversRoutine, Holds, HoldsRoutine}
 use Rattle.regress_program.specs.Compiled.{Matching, matching, repeated, Code, Compiled, HasRoutine}
 use Rattle.regress_program.specs.Contents.{Contents, nothing, in_iteration, in_iterations}
 use Rattle.regress_program.specs.LeavesOf.{HasLeaves}
@@ -28,22 +28,25 @@ pub record Coded (old new : Compiler) (entry : ℕ) (Means : List Test → Type 
   pub means : (leaves : List Test) → Means leaves
 
 -- With these leaves, the instructions that have been added match f from `entry` on, and then go on at `next`. They are of
--- the part c of the pattern, and tidy from `entry` on if it is. They name n leaves from `from` on.
+-- the part c of the pattern, have all that it contains, and are tidy from `entry` on if it is. They name n leaves from
+-- `from` on.
 pub record EmitsWith (leaves : List Test) (old new : Compiler) (from n : ℕ) (f : Matching) (c : Contents) (next entry : ℕ) : Type 0 where
   pub after : new.next_leaf ≡ from + n
   pub compiled : Compiled (code_in leaves old) (code_in leaves new) f next entry
   pub holds : Holds (code_in leaves old) (code_in leaves new) c next entry
+  pub covers : Covers (code_in leaves old) (code_in leaves new) c
 
 -- This holds with leaves that are these trees from `from` on.
 abbrev pub Emits : (old new : Compiler) → (from : ℕ) → List Tree → Matching → Contents → (next entry : ℕ) → Type 0
 Emits old new from ts f c next entry =
     Coded old new entry (λ leaves. HasLeaves leaves from ts → EmitsWith leaves old new from (length ts) f c next entry)
 
--- The same for a number of copies. Without any, no leaf is named.
+-- The same for a number of copies. Without any, no leaf is named, and nothing that the part contains is added.
 pub record CopiesWith (leaves : List Test) (old new : Compiler) (from n copies : ℕ) (f : Matching) (c : Contents) (next entry : ℕ) : Type 0 where
   pub after : 0 < copies → new.next_leaf ≡ from + n
   pub compiled : Compiled (code_in leaves old) (code_in leaves new) f next entry
   pub holds : Holds (code_in leaves old) (code_in leaves new) c next entry
+  pub covers : 0 < copies → Covers (code_in leaves old) (code_in leaves new) c
 
 abbrev pub EmitsCopies : (old new : Compiler) → (from : ℕ) → List Tree → (copies : ℕ) → Matching → Contents → (next entry : ℕ) → Type 0
 EmitsCopies old new from ts copies f c next entry =
@@ -70,11 +73,12 @@ pub record EmitsOne (old new : Compiler) (op : List Test → Op) (at : ℕ) : Ty
   pub means : (leaves : List Test) → Pushed (code_in leaves old) (code_in leaves new) (op leaves) at
 
 -- With these leaves, the last routine has been added, which matches f in the direction d. It changes only groups that the
--- part c changes, and what has been added is of the part. It names n leaves.
+-- part c changes, and what has been added is of the part, and has all that it contains. It names n leaves.
 pub record RoutineWith (leaves : List Test) (old new : Compiler) (n : ℕ) (f : Matching) (c : Contents) (d : Direction) (i : ℕ) : Type 0 where
   pub after : new.next_leaf ≡ old.next_leaf + n
   pub has : HasRoutine (code_in leaves old) (code_in leaves new) f d i
   pub holds : HoldsRoutine (code_in leaves old) (code_in leaves new) c i
+  pub covers : CoversRoutine (code_in leaves old) (code_in leaves new) c i
 
 -- This holds with leaves that are these trees from the next one on.
 pub record EmitsRoutine (old new : Compiler) (ts : List Tree) (f : Matching) (c : Contents) (d : Direction) (i : ℕ) : Type 0 where

@@ -1,6 +1,8 @@
 -- What a part of a pattern contains: back references, the groups that it changes, and lookarounds that capture.
 use Rattle.std.specs.Prelude.{◌≡◌, ℕ, ◌≤◌, ◌<◌, ◌==◌, Bool, true, false, not, ◌&&◌, ◌||◌, nat_le, nat_lt}
+use Rattle.regress_base.specs.declared.types.Quantifier.{Quantifier}
 use Rattle.regress_tree.specs.Tree.{Leaf, back_ref, Wrapper, capture_group, loop, loop_one, lookaround, Tree, Trees, leaf, cat, alt, wrapped, no_trees, more_trees}
+use Rattle.regress_program.specs.Linear.{is_never}
 
 -- a set of ids of groups
 abbrev pub Ids : Type 0
@@ -97,6 +99,14 @@ in_iterations a = record {
   tidy = λ set. (before : Ids) → AreAmong before (union set a.changes) → a.tidy before;
 }
 
+-- a loop of such iterations, which has no instruction if it has none of them
+abbrev pub in_loop : Quantifier → Contents → Contents
+in_loop q a = record a {
+  refers = not (is_never q) && a.refers;
+  captures = not (is_never q) && a.captures;
+  looks = not (is_never q) && a.looks;
+}
+
 -- mandatory iterations of a, and then b
 abbrev pub after_all : Contents → Contents → Contents
 after_all a b = record {
@@ -133,8 +143,8 @@ content_of_leaf l = nothing
 
 abbrev pub content_of_wrapper : Wrapper → Contents → Contents
 content_of_wrapper (capture_group id name) a = grouped id a
-content_of_wrapper (loop quantifier start end) a = in_iterations (in_iteration start end a)
-content_of_wrapper (loop_one quantifier) a = in_iterations (in_iteration 0 0 a)
+content_of_wrapper (loop quantifier start end) a = in_loop quantifier (in_iterations (in_iteration start end a))
+content_of_wrapper (loop_one quantifier) a = in_loop quantifier (in_iterations (in_iteration 0 0 a))
 content_of_wrapper (lookaround negate backwards start end) a = in_lookaround negate a
 
 abbrev mutual

@@ -1,14 +1,10 @@
 -- The leaves of a tree, in the order in which its instructions are compiled.
-use Rattle.std.specs.Prelude.{◌≡◌, ℕ, ◌≤◌, ◌==◌, ◌&&◌, Bool, if◌then◌else◌, List, [], ◌∷◌, ◌++◌, drop, length, map}
+use Rattle.std.specs.Prelude.{◌≡◌, ℕ, ◌≤◌, Bool, if◌then◌else◌, List, [], ◌∷◌, ◌++◌, drop, length, map}
 use Rattle.regress_base.specs.declared.types.Quantifier.{Quantifier}
 use Rattle.regress_leaves.specs.declared.test.Test.{Test}
 use Rattle.regress_prefilter.specs.OneCharacter.{takes_one}
-use Rattle.regress_tree.specs.Shapes.{is_zero}
 use Rattle.regress_tree.specs.Tree.{Leaf, empty, goal, string_set, Wrapper, loop, loop_one, Tree, Trees, leaf, cat, alt, wrapped, no_trees, more_trees, tree}
-
--- The loop has no iterations, and so no instructions.
-abbrev pub is_never : Quantifier → Bool
-is_never q = (q.min == 0) && is_zero q.max
+use Rattle.regress_program.specs.Linear.{is_never}
 
 -- each string is a leaf, the last one first
 abbrev pub leaves_of_strings : List (List ℕ) → (icase : Bool) → List Tree

@@ -1,30 +1,54 @@
 -- Linear programs: those without back references, and in which no lookaround that succeeds changes captures.
-use Rattle.std.specs.Prelude.{if◌then◌else◌, Bool, true, false, not, ◌&&◌, ◌||◌, List, nat_lt, slice_get, Option, Some, None}
+use Rattle.std.specs.Prelude.{◌==◌, if◌then◌else◌, Bool, true, false, not, ◌&&◌, ◌||◌, List, nat_lt, slice_get, Option, Some, None}
 use Rattle.std.specs.List.{list_all, list_any}
-use Rattle.regress_tree.specs.Shapes.{some_node}
-use Rattle.regress_tree.specs.Tree.{back_ref, capture_group, loop, loop_one, lookaround, Tree, Trees, leaf, cat, alt, wrapped, no_trees, more_trees}
+use Rattle.regress_base.specs.declared.types.Quantifier.{Quantifier}
+use Rattle.regress_tree.specs.Shapes.{is_zero}
+use Rattle.regress_tree.specs.Tree.{back_ref, Wrapper, capture_group, loop, loop_one, lookaround, Tree, Trees, leaf, cat, alt, wrapped, no_trees, more_trees}
 use Rattle.regress_program.specs.declared.nonlinear.Nonlinear.{Nonlinear}
 use Rattle.regress_program.specs.declared.nonlinear.Nonlinear.TheVariants.{BackReference, CapturingLookaround}
 use Rattle.regress_program.specs.Program.{Op, part, unsets, end_group, look, Routine}
+
+-- The loop has no iterations, so it has no instructions.
+abbrev pub is_never : Quantifier → Bool
+is_never q = (q.min == 0) && is_zero q.max
+
+-- the node is such a loop
+abbrev pub never_runs : Wrapper → Bool
+never_runs (loop quantifier start end) = is_never quantifier
+never_runs (loop_one quantifier) = is_never quantifier
+never_runs w = false
+
+module _ (test : Tree → Bool) where
+  -- Some node outside of loops without iterations passes the test.
+  abbrev mutual
+    pub some_compiled : Tree → Bool
+    some_compiled (leaf l) = test (leaf l)
+    some_compiled (cat parts) = test (cat parts) || some_compiled_of parts
+    some_compiled (alt left right) = test (alt left right) || (some_compiled left || some_compiled right)
+    some_compiled (wrapped w body) = not (never_runs w) && (test (wrapped w body) || some_compiled body)
+
+    pub some_compiled_of : Trees → Bool
+    some_compiled_of no_trees = false
+    some_compiled_of (more_trees t ts) = some_compiled t || some_compiled_of ts
 
 -- the tree is a back reference
 abbrev pub is_back_ref : Tree → Bool
 is_back_ref (leaf (back_ref group icase)) = true
 is_back_ref t = false
 
--- The tree has a back reference.
+-- The tree has a back reference, other than in a loop without iterations.
 abbrev pub has_back_reference : Tree → Bool
-has_back_reference = some_node is_back_ref
+has_back_reference = some_compiled is_back_ref
 
--- The part has a capture group, or a loop around one, other than in a lookaround.
+-- The part has a capture group, or a loop around one, other than in a lookaround or in a loop without iterations.
 abbrev mutual
   pub changes_some : Tree → Bool
   changes_some (leaf l) = false
   changes_some (cat parts) = changes_some_of parts
   changes_some (alt left right) = changes_some left || changes_some right
   changes_some (wrapped (capture_group id name) body) = true
-  changes_some (wrapped (loop quantifier start end) body) = nat_lt start end || changes_some body
-  changes_some (wrapped (loop_one quantifier) body) = changes_some body
+  changes_some (wrapped (loop quantifier start end) body) = not (is_never quantifier) && (nat_lt start end || changes_some body)
+  changes_some (wrapped (loop_one quantifier) body) = not (is_never quantifier) && changes_some body
   changes_some (wrapped (lookaround negate backwards start end) body) = false
 
   pub changes_some_of : Trees → Bool
@@ -36,9 +60,20 @@ abbrev pub is_capturing_node : Tree → Bool
 is_capturing_node (wrapped (lookaround negate backwards start end) body) = not negate && changes_some body
 is_capturing_node t = false
 
--- The tree has such a lookaround.
+-- The tree has such a lookaround, other than in a loop without iterations.
 abbrev pub has_capturing_lookaround : Tree → Bool
-has_capturing_lookaround = some_node is_capturing_node
+has_capturing_lookaround = some_compiled is_capturing_node
+
+-- The tree is linear: it has neither.
+abbrev pub is_linear_tree : Tree → Bool
+is_linear_tree t = not (has_back_reference t) && not (has_capturing_lookaround t)
+
+-- Why the tree is not linear: it has a back reference, or if not, a lookaround that captures; none if it is linear.
+abbrev pub reason_of : Tree → Option Nonlinear
+reason_of t =
+    if has_back_reference t then Some BackReference
+    else if has_capturing_lookaround t then Some CapturingLookaround
+    else None
 
 -- the instruction is a back reference
 abbrev pub is_back_reference : Op → Bool

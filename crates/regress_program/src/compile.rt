@@ -1,12 +1,12 @@
 //! Compiles patterns into programs.
-ghost use Rattle.std.specs.Prelude.{◌≡◌, ◌≤◌, ◌<◌, Err, IfOk, IfErr, false, length, min, true};
+ghost use Rattle.std.specs.Prelude.{◌≡◌, ◌≤◌, ◌<◌, Err, IfOk, IfErr, length, min, not, true};
 ghost use Rattle.regress_tree.specs.Tree.{tree, trees, cat};
 ghost use Rattle.regress_tree.specs.WellFormed.{IsWellFormed, captures};
 ghost use Rattle.regress_program.specs.CodeOf.{Emits, Spends};
 ghost use Rattle.regress_program.specs.Compiled.{matching, IsPattern, total};
 ghost use Rattle.regress_program.specs.Contents.{content, content_of_parts};
 ghost use Rattle.regress_program.specs.LeavesOf.{leaves_of, leaves_of_parts};
-ghost use Rattle.regress_program.specs.Linear.{has_back_reference, has_capturing_lookaround, is_linear};
+ghost use Rattle.regress_program.specs.Linear.{has_back_reference, is_linear, is_linear_tree};
 ghost use Rattle.regress_program.specs.Search.{flags_of, groups_of, instructions_of, is_known_tidy, routines_of};
 ghost use Rattle.regress_program.specs.Shape.{IsForwards, IsProgram};
 ghost use Rattle.regress_program.specs.Size.{program_size, size, size_of_parts};
@@ -34,8 +34,8 @@ fn compile(
     ensures program { IfOk result (λ parts. IsProgram (program_in parts.0.items parts.1.items)) }
     ensures means { IfOk result (λ parts. IsPattern (program_in parts.0.items parts.1.items) (tree node.now)) }
     ensures forwards { IfOk result (λ parts. IsForwards (program_in parts.0.items parts.1.items)) }
-    ensures plain { IfOk result (λ parts. has_back_reference (tree node.now) ≡ false → has_no_back_reference (program_in parts.0.items parts.1.items) ≡ true) }
-    ensures linear { IfOk result (λ parts. has_back_reference (tree node.now) ≡ false → has_capturing_lookaround (tree node.now) ≡ false → is_linear (program_in parts.0.items parts.1.items) ≡ true) }
+    ensures plain { IfOk result (λ parts. has_no_back_reference (program_in parts.0.items parts.1.items) ≡ not (has_back_reference (tree node.now))) }
+    ensures linear { IfOk result (λ parts. is_linear (program_in parts.0.items parts.1.items) ≡ is_linear_tree (tree node.now)) }
     ensures tidy { IfOk result (λ parts. IsWellFormed (tree node.now) → IsTidy (program_in parts.0.items parts.1.items)) }
     ensures size { IfOk result (λ parts. total (program_in parts.0.items parts.1.items) ≡ program_size (tree node.now)) }
     ensures within { IfOk result (λ parts. total (program_in parts.0.items parts.1.items) ≤ limit) }
@@ -69,8 +69,8 @@ impl Program {
         ensures pattern { IfOk result (λ p. IsPattern (routines_of p) (tree regex.now.node)) }
         ensures flags { IfOk result (λ p. flags_of p ≡ regex.now.flags) }
         ensures groups { IfOk result (λ p. groups_of p ≡ min (length (captures (tree regex.now.node))) usize.MAX) }
-        ensures plain { IfOk result (λ p. has_back_reference (tree regex.now.node) ≡ false → has_no_back_reference (routines_of p) ≡ true) }
-        ensures linear { IfOk result (λ p. has_back_reference (tree regex.now.node) ≡ false → has_capturing_lookaround (tree regex.now.node) ≡ false → is_linear (routines_of p) ≡ true) }
+        ensures plain { IfOk result (λ p. has_no_back_reference (routines_of p) ≡ not (has_back_reference (tree regex.now.node))) }
+        ensures linear { IfOk result (λ p. is_linear (routines_of p) ≡ is_linear_tree (tree regex.now.node)) }
         ensures tidy { IfOk result (λ p. IsWellFormed (tree regex.now.node) → IsTidy (routines_of p)) }
         ensures known { IfOk result (λ p. IsWellFormed (tree regex.now.node) → is_known_tidy p ≡ true) }
         ensures size { IfOk result (λ p. instructions_of p ≡ program_size (tree regex.now.node)) }

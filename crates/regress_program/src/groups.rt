@@ -29,7 +29,7 @@ impl Counter {
 ///
 /// # Complexity
 /// Linear in the number of nodes of the tree.
-pub fn group_count(node: &Node) -> usize
+pub(crate) fn group_count(node: &Node) -> usize
     ensures { result ≡ min (length (captures (tree node.now))) usize.MAX }
 {
     let mut counter = Counter { groups: 0 };

@@ -4,8 +4,9 @@ ghost use Rattle.regress_prefilter.specs.OneCharacter.{takes_one};
 ghost use Rattle.regress_tree.specs.Tree.{loop_one, tree, wrapped};
 ghost use Rattle.regress_program.specs.CodeOf.{iterating, iteration_of, looping, loop_of, iteration_size, Emits, EmitsCopies, Spends};
 ghost use Rattle.regress_program.specs.Compiled.{matching, optional, any_number};
-ghost use Rattle.regress_program.specs.Contents.{content};
-ghost use Rattle.regress_program.specs.LeavesOf.{is_never, leaves_of, leaves_of_loop};
+ghost use Rattle.regress_program.specs.Contents.{content, in_loop};
+ghost use Rattle.regress_program.specs.LeavesOf.{leaves_of, leaves_of_loop};
+ghost use Rattle.regress_program.specs.Linear.{is_never};
 ghost use Rattle.regress_program.specs.Size.{size, size_of_characters, size_of_optional, size_of_extra, size_of_loop};
 ghost use Rattle.regress_program.specs.declared.fault.CompileFault.TheVariants.{TooLong};
 
@@ -46,7 +47,7 @@ impl Compiler {
         requires greedy { iterations.greedy ≡ quantifier.greedy }
         requires first { iterations.first_leaf ≡ self.old.next_leaf }
         ensures emits { IfOk result (Emits self.old self.new iterations.first_leaf (leaves_of_loop quantifier (leaves_of (tree body.now)))
-            (looping iterations quantifier (matching (tree body.now))) (loop_of iterations (content (tree body.now))) next) }
+            (looping iterations quantifier (matching (tree body.now))) (in_loop quantifier (loop_of iterations (content (tree body.now)))) next) }
         ensures spends { IfOk result (λ _. Spends self.old self.new (size_of_loop quantifier (iteration_size iterations (tree body.now)))) }
         ensures too_long { IfErr result (λ fault. fault ≡ TooLong → self.old.left < size_of_loop quantifier (iteration_size iterations (tree body.now))) }
     {

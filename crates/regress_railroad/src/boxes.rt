@@ -90,13 +90,34 @@ pub(crate) fn framed(
     label: String,
     body: Diagram,
 ) -> Result<Diagram, AllocError> {
-    let inner = body.extent;
-    let width = inner.width.max(text_width(columns(&label)));
-    let extent = Extent {
-        width: width.saturating_add(2 * PADDING),
-        above: inner.above.saturating_add(NOTE + 4),
-        below: inner.below.saturating_add(GAP),
-    };
+    let extent = frame_extent(body.extent, &label);
     let body = Box::new(alloc, body)?;
     Ok(Diagram::new(Shape::Frame { kind, label, body }, extent))
+}
+
+/// Returns a frame that hangs below the line, since what is in it consumes nothing.
+pub(crate) fn hung(
+    alloc: Global,
+    kind: FrameKind,
+    label: String,
+    body: Diagram,
+) -> Result<Diagram, AllocError> {
+    let frame = frame_extent(body.extent, &label);
+    let extent = Extent {
+        width: frame.width,
+        above: 0,
+        below: frame.height().saturating_add(GAP),
+    };
+    let body = Box::new(alloc, body)?;
+    Ok(Diagram::new(Shape::Hung { kind, label, body }, extent))
+}
+
+/// Returns the extent of a frame around a body with this extent.
+pub(crate) fn frame_extent(body: Extent, label: &str) -> Extent {
+    let width = body.width.max(text_width(columns(label)));
+    Extent {
+        width: width.saturating_add(2 * PADDING),
+        above: body.above.saturating_add(NOTE + 4),
+        below: body.below.saturating_add(GAP),
+    }
 }

@@ -134,6 +134,12 @@ pub(crate) enum Shape {
         label: String,
         body: Box<Diagram>,
     },
+    /// A frame below the line.
+    Hung {
+        kind: FrameKind,
+        label: String,
+        body: Box<Diagram>,
+    },
 }
 
 impl Diagram {

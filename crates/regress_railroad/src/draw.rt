@@ -1,12 +1,14 @@
 //! Draws a diagram on a sheet.
 ghost use Rattle.std.specs.Prelude.{◌≡◌, OnOk};
 
-use crate::boxes::track_step;
+use crate::boxes::{frame_extent, track_step};
 use crate::diagram::{Diagram, Extent, Iterations, NO_EXTENT, Point, Shape, clear};
 use crate::parts::{draw_box, draw_end, draw_frame, draw_iterations, draw_sides, middle};
 use crate::row::row_step;
 use crate::style::{GAP, RADIUS};
-use crate::ways::{Drawn, draw_branch, draw_fork, draw_line, draw_way_back, draw_way_up};
+use crate::ways::{
+    Drawn, draw_branch, draw_fork, draw_line, draw_thread, draw_way_back, draw_way_up,
+};
 use regress_svg::{Element, Sheet};
 
 /// Draws a part whose connecting line enters at a point, in a group of its own if it has classes for its spans.
@@ -51,6 +53,17 @@ fn draw_shape(diagram: &Diagram, at: Point, sheet: &mut Sheet) -> Drawn
             draw_frame(*kind, label, title, extent, at, sheet)?;
             draw_sides(body.extent, extent, at, sheet)?;
             draw(body, middle(body.extent.width, extent, at), sheet)?;
+            sheet.close_group()
+        }
+        Shape::Hung { kind, label, body } => {
+            let frame = frame_extent(body.extent, label);
+            let inside = at.down(GAP).down(frame.above);
+            draw_line(at, at.right(extent.width), sheet)?;
+            draw_thread(at.right(extent.width / 2), sheet)?;
+            sheet.open_group("framed")?;
+            draw_frame(*kind, label, title, frame, inside, sheet)?;
+            draw_sides(body.extent, frame, inside, sheet)?;
+            draw(body, middle(body.extent.width, frame, inside), sheet)?;
             sheet.close_group()
         }
     }

@@ -1,17 +1,18 @@
 //! Lays out a tree as a diagram.
 
-use crate::boxes::{boxed, framed, loop_around, set_box, tracks};
+use crate::boxes::{boxed, framed, hung, loop_around, set_box, tracks};
 use crate::diagram::{BoxKind, Diagram, FrameKind, Iterations};
 use crate::row::{Piece, Row};
 use crate::source::{Source, excerpt};
 use regress_base::codepointset::CodePointSet;
 use regress_base::types::Quantifier;
 use regress_labels::{
-    Character, Label, anchor_words, group_names, group_text, iterations_text, lookaround_words,
+    Character, Label, anchor_words, columns, group_text, iterations_text, lookaround_words,
     name_of, only_character, set_label, set_of, strings_label,
 };
 use regress_parse::Span;
 use regress_tree::ir::Node;
+use regress_words::{is_one_atom, literal};
 use std::alloc::{AllocError, Global};
 use std::{mem, slice};
 
@@ -19,7 +20,6 @@ use std::{mem, slice};
 #[derive(Drop)]
 struct Setting<'a> {
     alloc: Global,
-    names: &'a [Option<String>],
     source: Source<'a>,
     /// The spans of the remaining nodes, in postorder.
     spans: slice::Iter<'a, Span>,
@@ -34,10 +34,8 @@ pub(crate) fn layout(
     source: Source<'_>,
     spans: &[Span],
 ) -> Result<Diagram, AllocError> {
-    let names = group_names(alloc, node)?;
     let mut setting = Setting {
         alloc,
-        names: &names,
         source,
         spans: spans.iter(),
         reversed: false,
@@ -73,8 +71,13 @@ fn add(node: &Node, setting: &mut Setting<'_>, pieces: &mut Pieces) -> Result<()
     }
     let piece = piece(node, setting)?;
     let span = setting.spans.next().copied();
-    if let Some(piece) = piece {
-        pieces.push((piece, span))?;
+    match piece {
+        Some(Piece::Part(mut part)) => {
+            part.title = setting.source.title_of(setting.alloc, span, node)?;
+            pieces.push((Piece::Part(part), span))?;
+        }
+        Some(piece) => pieces.push((piece, span))?,
+        None => {}
     }
     Ok(())
 }
@@ -85,15 +88,24 @@ fn piece(node: &Node, setting: &mut Setting<'_>) -> Result<Option<Piece>, AllocE
     let alloc = setting.alloc;
     let part = match node {
         Node::Alt(..) if is_reference_by_name(node, setting) => references(node, setting)?,
+        Node::Alt(..) if is_set(node, setting)? => written_box(node, setting)?,
         Node::Alt(..) => lay_out_tracks(node, setting)?,
         Node::CaptureGroup { id, contents, .. } => {
             let group = u32::from(*id) + 1;
-            let label = group_text(alloc, "group ", group, name_of(group, setting.names))?;
+            let label = group_text(
+                alloc,
+                "group ",
+                group,
+                name_of(group, setting.source.written.names),
+            )?;
             framed(alloc, FrameKind::Group, label, lay_out(contents, setting)?)?
         }
         Node::Loop { loopee, quant, .. } | Node::Loop1CharBody { loopee, quant } => {
             let body = lay_out(loopee, setting)?;
-            loop_around(alloc, iterations(alloc, quant)?, taken(quant, body))?
+            match quant.max {
+                Some(0) => nothing(setting)?,
+                _ => loop_around(alloc, iterations(alloc, quant)?, body)?,
+            }
         }
         Node::LookaroundAssertion {
             negate,
@@ -154,17 +166,51 @@ fn is_reference_by_name(node: &Node, setting: &Setting<'_>) -> bool {
     }
 }
 
-/// Returns a box for a reference by name to several groups, and skips the spans of the nodes inside it.
-fn references(node: &Node, setting: &mut Setting<'_>) -> Result<Diagram, AllocError> {
-    let mut text = String::new(setting.alloc);
+/// Returns whether alternatives are written as one class or property: all of its nodes have the same span.
+fn is_set(node: &Node, setting: &Setting<'_>) -> Result<bool, AllocError> {
+    match setting.spans.as_slice() {
+        [first, second, ..] if first == second => {
+            is_one_atom(node, *first, setting.source.written)
+        }
+        _ => Ok(false),
+    }
+}
+
+/// Returns a box for alternatives that are written as one class or property, and skips the spans of the nodes inside.
+fn written_box(node: &Node, setting: &mut Setting<'_>) -> Result<Diagram, AllocError> {
+    let pattern = setting.source.written.pattern;
+    let text = excerpt(setting.alloc, pattern, next_span(setting))?;
     let mut rest = node;
-    while let Node::Alt(left, right) = rest {
-        push_group(left, setting, &mut text)?;
-        text.push_str(" or ")?;
+    while let Node::Alt(_, right) = rest {
         skip_spans(2, setting);
         rest = right;
     }
-    push_group(rest, setting, &mut text)?;
+    Ok(property_box(text.unwrap_or(String::new(setting.alloc)), ""))
+}
+
+/// The maximum number of groups that a reference by name lists.
+const LISTED_GROUPS: usize = 4;
+
+/// Returns a box for a reference by name to several groups, and skips the spans of the nodes inside it.
+fn references(node: &Node, setting: &mut Setting<'_>) -> Result<Diagram, AllocError> {
+    let mut text = String::new(setting.alloc);
+    let mut count = 0_usize;
+    let mut rest = node;
+    while let Node::Alt(left, right) = rest {
+        if count < LISTED_GROUPS {
+            push_group(left, setting, &mut text)?;
+            text.push_str(" or ")?;
+        }
+        count = count.saturating_add(1);
+        skip_spans(2, setting);
+        rest = right;
+    }
+    if count > LISTED_GROUPS {
+        let more = count - LISTED_GROUPS + 1;
+        text.push_str(&format!(in setting.alloc; "{more} more")?)?;
+    } else {
+        push_group(rest, setting, &mut text)?;
+    }
     Ok(reference_box(text, is_caseless(rest)))
 }
 
@@ -173,7 +219,7 @@ fn push_group(node: &Node, setting: &Setting<'_>, text: &mut String) -> Result<(
     let Node::BackRef { group, .. } = node else {
         return Ok(());
     };
-    let name = name_of(*group, setting.names);
+    let name = name_of(*group, setting.source.written.names);
     text.push_str(&group_text(setting.alloc, "", *group, name)?)
 }
 
@@ -181,12 +227,22 @@ fn is_caseless(node: &Node) -> bool {
     matches!(node, Node::BackRef { icase: true, .. })
 }
 
-/// Returns the body of a loop that is drawn: a bare line if no iteration is possible.
-fn taken(quant: &Quantifier, body: Diagram) -> Diagram {
-    match quant.max {
-        Some(0) => Diagram::line(),
-        _ => body,
-    }
+/// Returns a box for a loop without iterations, which matches the empty text.
+fn nothing(setting: &Setting<'_>) -> Result<Diagram, AllocError> {
+    let written = excerpt(
+        setting.alloc,
+        setting.source.written.pattern,
+        next_span(setting),
+    )?;
+    let label = match written {
+        Some(text) => Label {
+            front: "nothing for",
+            text,
+            after: "",
+        },
+        None => Label::words(setting.alloc, "nothing"),
+    };
+    Ok(boxed(BoxKind::Position, label))
 }
 
 /// Returns the lines of a loop.
@@ -195,7 +251,7 @@ fn iterations(alloc: Global, quant: &Quantifier) -> Result<Iterations, AllocErro
         Some(max) => max > 1,
         None => true,
     };
-    let none = quant.min == 0 && quant.max != Some(0);
+    let none = quant.min == 0;
     let label = iterations_text(alloc, quant)?;
     Ok(Iterations { again, none, label })
 }
@@ -212,7 +268,7 @@ fn lookaround(
         FrameKind::Around
     };
     let label = String::from_str(alloc, lookaround_words(negate, backwards))?;
-    framed(alloc, kind, label, body)
+    hung(alloc, kind, label, body)
 }
 
 /// Returns the piece of a leaf.
@@ -225,7 +281,10 @@ fn leaf(node: &Node, setting: &Setting<'_>) -> Result<Option<Piece>, AllocError>
         Node::StringSet {
             alternatives,
             icase,
-        } => Piece::Part(set_box(alloc, strings_label(alloc, alternatives, *icase)?)),
+        } => {
+            let label = strings_label(alloc, alternatives, *icase)?;
+            Piece::Part(set_or_source(label, setting)?)
+        }
         Node::BackRef { group, icase } => Piece::Part(reference(*group, *icase, setting)?),
         Node::Goal => Piece::Part(Diagram::end()),
         _ => return Ok(words(alloc, node)),
@@ -249,7 +308,12 @@ fn words(alloc: Global, node: &Node) -> Option<Piece> {
 }
 
 fn reference(group: u32, icase: bool, setting: &Setting<'_>) -> Result<Diagram, AllocError> {
-    let text = group_text(setting.alloc, "", group, name_of(group, setting.names))?;
+    let text = group_text(
+        setting.alloc,
+        "",
+        group,
+        name_of(group, setting.source.written.names),
+    )?;
     Ok(reference_box(text, icase))
 }
 
@@ -267,42 +331,65 @@ fn reference_box(text: String, icase: bool) -> Diagram {
     boxed(BoxKind::Reference, label)
 }
 
-/// Returns the source text of the next node if it is a property, such as `\p{Script=Greek}`.
-fn property(setting: &Setting<'_>) -> Result<Option<String>, AllocError> {
-    let Some(text) = excerpt(setting.alloc, setting.source.pattern, next_span(setting))? else {
+/// The width in columns from which a list of members gives way to a shorter source text.
+const LONG: u32 = 18;
+
+/// Returns the source text of the next node, if it is shown in place of a list of this width: a property, or a class
+/// that is shorter than the list.
+fn shown_source(width: u32, setting: &Setting<'_>) -> Result<Option<String>, AllocError> {
+    let pattern = setting.source.written.pattern;
+    let Some(text) = excerpt(setting.alloc, pattern, next_span(setting))? else {
         return Ok(None);
     };
     let is_property = text.starts_with("\\p") || text.starts_with("\\P");
-    Ok(if is_property { Some(text) } else { None })
+    let is_shorter = width > LONG && columns(&text) < width && !text.ends_with('…');
+    Ok(if is_property || is_shorter {
+        Some(text)
+    } else {
+        None
+    })
 }
 
-fn property_box(text: String) -> Diagram {
-    let label = Label {
-        front: "",
-        text,
-        after: "",
-    };
-    boxed(BoxKind::Set, label)
+fn property_box(text: String, after: &'static str) -> Diagram {
+    let front = "";
+    boxed(BoxKind::Set, Label { front, text, after })
+}
+
+/// Returns the box of a set: with its source text, or with a list of its members.
+fn set_or_source(label: Option<Label>, setting: &Setting<'_>) -> Result<Diagram, AllocError> {
+    let width = label.as_ref().map_or(0, |label| label.columns());
+    match shown_source(width, setting)? {
+        Some(text) => Ok(property_box(text, either_case(setting))),
+        None => Ok(set_box(setting.alloc, label)),
+    }
+}
+
+/// Returns the words for a source text that is matched in either case.
+fn either_case(setting: &Setting<'_>) -> &'static str {
+    match next_span(setting) {
+        Some(span) if setting.source.written.scan.ignores_case(span.start) => "either case",
+        _ => "",
+    }
 }
 
 /// Returns the piece of a set.
 fn set(node: &Node, setting: &Setting<'_>) -> Result<Option<Piece>, AllocError> {
-    if let Node::Bracket(_) = node
-        && let Some(text) = property(setting)?
+    if let Some(span) = next_span(setting)
+        && let Some(character) = literal(node, span, setting.source.written)?
     {
-        return Ok(Some(Piece::Part(property_box(text))));
+        return Ok(Some(Piece::Character(character)));
     }
     Ok(match set_of(setting.alloc, node)? {
-        Some((negated, set)) => Some(set_piece(setting.alloc, negated, set)?),
+        Some((negated, set)) => Some(set_piece(negated, set, setting)?),
         None => None,
     })
 }
 
 /// Returns the piece of a set or, if `negated`, of its complement. A set of one character is that character.
-fn set_piece(alloc: Global, negated: bool, set: CodePointSet) -> Result<Piece, AllocError> {
+fn set_piece(negated: bool, set: CodePointSet, setting: &Setting<'_>) -> Result<Piece, AllocError> {
     if !negated && let Some(character) = only_character(set.intervals()) {
         return Ok(Piece::Character(character));
     }
-    let label = set_label(alloc, negated, set)?;
-    Ok(Piece::Part(set_box(alloc, label)))
+    let label = set_label(setting.alloc, negated, set)?;
+    Ok(Piece::Part(set_or_source(label, setting)?))
 }

@@ -9,10 +9,11 @@ use crate::parts::{draw_circle, draw_text};
 use crate::source::Source;
 use crate::style::{MARGIN, STYLE, text_width};
 use crate::ways::{Drawn, draw_line};
-use regress_labels::{columns, flags_text};
+use regress_labels::{columns, flags_text, group_names};
 use regress_parse::Span;
 use regress_svg::{Element, Sheet};
 use regress_tree::ir::Regex;
+use regress_words::scanned;
 use std::alloc::{AllocError, Global};
 
 /// Where the flags are written: in the margin above the diagram.
@@ -25,10 +26,10 @@ const FLAGS_AT: Point = Point {
 /// other files.
 ///
 /// The diagram reads from left to right: the parts of a sequence are matched in order, and of branches one above the
-/// other one is taken. Lines that lead back are further iterations of a loop, and lines above a box bypass it. Names of
-/// groups and characters of the pattern are text; invisible characters are shown by their numbers, as `U+000A`. A long
-/// set is cut off, with the number of omitted items. Parts of a lookbehind are in the order of the pattern. The flags are
-/// in the upper left corner.
+/// other one is taken. Lines that lead back are further iterations of a loop, and lines above a box bypass it. A
+/// lookaround consumes nothing, and hangs below the line. Names of groups and characters of the pattern are text;
+/// invisible characters are shown by their numbers, as `U+000A`. A long set is cut off, with the number of omitted
+/// items. Parts of a lookbehind are in the order of the pattern. The flags are in the upper left corner.
 ///
 /// # Errors
 /// Returns [`AllocError`] if an allocation fails. `regex` is only read.
@@ -43,8 +44,8 @@ pub fn svg(alloc: Global, regex: &Regex) -> Result<String, AllocError>
 }
 
 /// Returns the diagram of [`svg`] for a parsed tree, with titles: pointing at a box, a frame or a loop shows the part
-/// of the pattern that it came from, up to 60 code points. A property is shown as it is written, and a reference by name
-/// to several groups as one box.
+/// of the pattern that it came from, up to 60 code points, and in words what it matches. A property, and a class that is
+/// shorter than the list of its members, is shown as it is written, and a reference by name to several groups as one box.
 ///
 /// `pattern` is the parsed pattern as code points, and `spans` are the spans that `try_parse_with_spans` returns for
 /// it. A node without a span, or with one that is not inside the pattern, has no such title.
@@ -62,13 +63,12 @@ pub fn svg_with_titles(
 ) -> Result<String, AllocError>
     ensures { IfOk result (λ text. IsDocument (string_bytes text)) }
 {
-    let marked = false;
-    picture(alloc, regex, Source { pattern, marked }, spans)
+    picture(alloc, regex, pattern, spans, false)
 }
 
 /// Returns the diagram of [`svg_with_titles`] with a class for each span, so that a page's style sheet can mark what
 /// has it: a box, a frame, a loop or alternatives are in a group of the class `m`, and `s0-4` for a node with the span
-/// 0..4. A box of several characters has the class of each.
+/// 0..4. The boxes of characters one after the other have the class of the span of all.
 ///
 /// # Errors
 /// Returns [`AllocError`] if an allocation fails. The arguments are only read.
@@ -83,39 +83,55 @@ pub fn svg_with_marks(
 ) -> Result<String, AllocError>
     ensures { IfOk result (λ text. IsDocument (string_bytes text)) }
 {
-    let marked = true;
-    picture(alloc, regex, Source { pattern, marked }, spans)
+    picture(alloc, regex, pattern, spans, true)
 }
 
 fn picture(
     alloc: Global,
     regex: &Regex,
-    source: Source<'_>,
+    pattern: &[u32],
     spans: &[Span],
+    marked: bool,
 ) -> Result<String, AllocError>
     ensures { IfOk result (λ text. IsDocument (string_bytes text)) }
 {
-    let diagram = layout(alloc, &regex.node, source, spans)?;
+    let diagram = laid_out(alloc, regex, pattern, spans, marked)?;
     let extent = diagram.extent;
-    let margins = 2 * MARGIN;
     let flags = flags_text(alloc, regex.flags)?;
+    let top = if flags.is_empty() { MARGIN / 2 } else { MARGIN };
     let width = extent
         .width
         .max(text_width(columns(&flags)))
-        .saturating_add(margins);
-    let height = extent
-        .above
-        .saturating_add(extent.below)
-        .saturating_add(margins);
+        .saturating_add(2 * MARGIN);
+    let height = extent.height().saturating_add(top + MARGIN / 2);
     let mut sheet = Sheet::new(alloc, width, height)?;
     draw_paper(width, height, &mut sheet)?;
     draw_text("small", &flags, FLAGS_AT, &mut sheet)?;
     let start = Point {
         x: MARGIN,
-        y: extent.above.saturating_add(MARGIN),
+        y: extent.above.saturating_add(top),
     };
     draw_whole(&diagram, start, &mut sheet)?;
     sheet.finish()
+}
+
+/// Returns the diagram of a pattern.
+fn laid_out(
+    alloc: Global,
+    regex: &Regex,
+    pattern: &[u32],
+    spans: &[Span],
+    marked: bool,
+) -> Result<Diagram, AllocError> {
+    let names = group_names(alloc, &regex.node)?;
+    let scan = scanned(alloc, pattern, regex.flags)?;
+    let written = regress_words::Source {
+        alloc,
+        pattern,
+        names: &names,
+        scan: &scan,
+    };
+    layout(alloc, &regex.node, Source { written, marked }, spans)
 }
 
 /// Draws the background, and the title and description of the whole.
@@ -125,7 +141,8 @@ fn draw_paper(width: u32, height: u32, sheet: &mut Sheet) -> Drawn
     sheet.draw(Element::Title("Railroad diagram of a regular expression"))?;
     sheet.draw(Element::Description(
         "Follow the lines from left to right. A box is what is matched. Of branches one above the other, one is taken. \
-         A line that leads back below is a further iteration of a loop, and a line above bypasses it.",
+         A line that leads back below is a further iteration of a loop, and a line above bypasses it. What hangs below \
+         the line has to match, or must not match, at that place, and consumes nothing.",
     ))?;
     sheet.draw(Element::Style(STYLE))?;
     sheet.draw(Element::Rectangle {

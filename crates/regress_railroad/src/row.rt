@@ -2,12 +2,12 @@
 
 use crate::boxes::literal;
 use crate::diagram::{Diagram, Extent, NO_EXTENT, Shape, clear};
-use crate::source::{Source, excerpt, joined};
+use crate::source::{Source, joined};
 use crate::style::{GAP, LIST_WIDTH, RADIUS};
-use regress_labels::{Character, columns_of, is_seen, push_symbol};
+use regress_labels::{Character, columns_of, joins_emoji, push_symbol_after};
 use regress_parse::Span;
+use regress_words::TextEnd;
 use std::alloc::{AllocError, Global};
-use std::fmt::Write;
 use std::mem;
 
 /// The maximum width of a box of characters, in columns. Longer text continues in the next box.
@@ -21,20 +21,23 @@ pub(crate) enum Piece {
     Part(Diagram),
 }
 
-/// A sequence that is being assembled. Adjacent characters become one box.
+/// A sequence that is being assembled. Adjacent characters become one box, or several if they are many.
 #[derive(Drop)]
 pub(crate) struct Row<'a> {
     alloc: Global,
     source: Source<'a>,
     parts: Vec<Diagram>,
-    /// The characters that are not boxed yet.
-    text: String,
-    /// Their span in the pattern.
+    /// The characters of the text at the end.
+    text: Vec<Character>,
+    end: TextEnd,
+    /// Its span in the pattern.
     span: Option<Span>,
+    /// The index of its first part.
+    first: usize,
+    /// The index of its first character that is not boxed yet.
+    boxed: usize,
+    /// The width of its characters that are not boxed yet.
     columns: u32,
-    either_case: bool,
-    /// The classes for the spans of the next part.
-    marks: Option<String>,
 }
 
 impl<'a> Row<'a> {
@@ -43,86 +46,118 @@ impl<'a> Row<'a> {
             alloc,
             source,
             parts: Vec::new(alloc),
-            text: String::new(alloc),
+            text: Vec::new(alloc),
+            end: TextEnd::new(),
             span: None,
+            first: 0,
+            boxed: 0,
             columns: 0,
-            either_case: false,
-            marks: None,
         }
     }
 
     /// Adds a piece with its span in the pattern.
     pub(crate) fn push(&mut self, piece: Piece, span: Option<Span>) -> Result<(), AllocError> {
         match piece {
-            Piece::Character(character) => self.push_character(character, span)?,
+            Piece::Character(character) => self.push_character(character, span),
             Piece::Text(text) => {
                 for c in text.chars() {
                     self.push_character(Character::plain(u32::from(c)), span)?;
                 }
+                Ok(())
             }
             Piece::Part(part) => {
-                self.box_text()?;
-                self.mark(span)?;
+                self.end_text()?;
                 self.push_part(part, span)?;
+                self.first = self.parts.len();
+                Ok(())
             }
         }
-        Ok(())
     }
 
+    /// Adds a part, with the class of its span.
     fn push_part(&mut self, mut part: Diagram, span: Option<Span>) -> Result<(), AllocError> {
-        part.title = excerpt(self.alloc, self.source.pattern, span)?;
-        part.marks = self.marks.take();
+        part.marks = self.marks(span)?;
         Ok(self.parts.push(part)?)
     }
 
-    /// Adds the class of a span to those of the next part.
-    fn mark(&mut self, span: Option<Span>) -> Result<(), AllocError> {
+    /// Returns the classes of a span.
+    fn marks(&self, span: Option<Span>) -> Result<Option<String>, AllocError> {
         let Some(Span { start, end }) = span else {
-            return Ok(());
+            return Ok(None);
         };
         if !self.source.marked || start == end {
-            return Ok(());
+            return Ok(None);
         }
-        let mut marks = match self.marks.take() {
-            Some(marks) => marks,
-            None => String::from_str(self.alloc, "m")?,
-        };
-        write!(marks, " s{start}-{end}")?;
-        self.marks = Some(marks);
-        Ok(())
+        Ok(Some(format!(in self.alloc; "m s{start}-{end}")?))
     }
 
-    /// Adds a character. An invisible one has a box of its own.
+    /// Adds a character, to the text at the end if it continues it.
     fn push_character(&mut self, next: Character, span: Option<Span>) -> Result<(), AllocError> {
-        let Character { c, either_case } = next;
-        let alone = c != 0x20 && !is_seen(c);
-        if alone || self.columns >= LITERAL_COLUMNS || self.either_case != either_case {
+        if !self.source.are_adjacent(self.span, span) || !self.end.joins(next) {
+            self.end_text()?;
+        } else if self.columns >= LITERAL_COLUMNS && !self.joins_last(next) {
             self.box_text()?;
         }
-        self.either_case = either_case;
-        self.columns = self.columns.saturating_add(columns_of(c));
+        self.columns = self.columns.saturating_add(columns_of(next.c));
         self.span = joined(self.span, span);
-        self.mark(span)?;
-        push_symbol(c, self.alloc, &mut self.text)?;
-        if alone { self.box_text() } else { Ok(()) }
+        self.end = self.end.with(next);
+        Ok(self.text.push(next)?)
     }
 
-    /// Boxes the pending characters.
+    fn joins_last(&self, next: Character) -> bool {
+        self.text
+            .last()
+            .is_some_and(|last| joins_emoji(last.c, next.c))
+    }
+
+    /// Boxes the characters that are not boxed yet.
     fn box_text(&mut self) -> Result<(), AllocError> {
-        if self.text.is_empty() {
+        let rest = self.text.get(self.boxed..).unwrap_or(&[]);
+        if rest.is_empty() {
             return Ok(());
         }
-        let empty = String::new(self.alloc);
-        let text = mem::replace(&mut self.text, empty);
+        let mut text = String::new(self.alloc);
+        let mut before = 0;
+        for one in rest {
+            push_symbol_after(before, one.c, self.alloc, &mut text)?;
+            before = one.c;
+        }
+        let either_case = rest.iter().any(|one| one.either_case);
+        self.boxed = self.text.len();
         self.columns = 0;
+        Ok(self.parts.push(literal(text, either_case))?)
+    }
+
+    /// Ends the text: each of its boxes has its title and the class of its span.
+    fn end_text(&mut self) -> Result<(), AllocError> {
+        self.box_text()?;
         let span = self.span.take();
-        self.push_part(literal(text, self.either_case), span)
+        let text = mem::replace(&mut self.text, Vec::new(self.alloc));
+        if !text.is_empty() {
+            let title = self.source.title(self.alloc, span, &text)?;
+            let marks = self.marks(span)?;
+            for part in self.parts.iter_mut().skip(self.first) {
+                part.title = copied(self.alloc, title.as_ref())?;
+                part.marks = copied(self.alloc, marks.as_ref())?;
+            }
+        }
+        self.end = TextEnd::new();
+        self.first = self.parts.len();
+        self.boxed = 0;
+        Ok(())
     }
 
     /// Returns the diagram.
     pub(crate) fn finish(mut self) -> Result<Diagram, AllocError> {
-        self.box_text()?;
+        self.end_text()?;
         arranged(self.alloc, self.parts)
+    }
+}
+
+fn copied(alloc: Global, text: Option<&String>) -> Result<Option<String>, AllocError> {
+    match text {
+        Some(text) => Ok(Some(String::from_str(alloc, text)?)),
+        None => Ok(None),
     }
 }
 

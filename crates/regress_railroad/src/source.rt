@@ -1,6 +1,9 @@
 //! Excerpts of a pattern's source text.
 
+use regress_labels::Character;
 use regress_parse::Span;
+use regress_tree::ir::Node;
+use regress_words::{shown, text_words, words};
 use std::alloc::{AllocError, Global};
 
 /// The maximum length of a title in code points. Parts are nested, so that whole texts could take quadratic space.
@@ -9,12 +12,58 @@ const TITLE_LENGTH: usize = 60;
 /// The pattern that a diagram shows.
 #[derive(Clone, Copy)]
 pub(crate) struct Source<'a> {
-    pub(crate) pattern: &'a [u32],
+    pub(crate) written: regress_words::Source<'a>,
     /// Whether the parts of the diagram have classes for their spans.
     pub(crate) marked: bool,
 }
 
-/// Returns the part of a pattern at a span, cut off if it is long; `None` if it is empty or not inside the pattern.
+impl Source<'_> {
+    /// Returns whether the characters at two spans are shown as one text: if groups have modifiers, only if nothing is
+    /// between them.
+    pub(crate) fn are_adjacent(&self, first: Option<Span>, second: Option<Span>) -> bool {
+        match (first, second) {
+            (Some(first), Some(second)) => {
+                first.end == second.start || self.written.scan.modifiers.is_empty()
+            }
+            _ => true,
+        }
+    }
+
+    /// Returns the title of a text: what is written, and in words what it matches. `None` if it is not written.
+    pub(crate) fn title(
+        &self,
+        alloc: Global,
+        span: Option<Span>,
+        text: &[Character],
+    ) -> Result<Option<String>, AllocError> {
+        let Some(mut title) = excerpt(alloc, self.written.pattern, span)? else {
+            return Ok(None);
+        };
+        title.push_str("\n")?;
+        title.push_str(&text_words(alloc, text)?)?;
+        Ok(Some(title))
+    }
+
+    /// Returns the title of a node: what is written of it, and in words what it is.
+    pub(crate) fn title_of(
+        &self,
+        alloc: Global,
+        span: Option<Span>,
+        node: &Node,
+    ) -> Result<Option<String>, AllocError> {
+        let Some(mut title) = excerpt(alloc, self.written.pattern, span)? else {
+            return Ok(None);
+        };
+        if let Some(span) = span {
+            title.push_str("\n")?;
+            title.push_str(&words(node, span, self.written)?)?;
+        }
+        Ok(Some(title))
+    }
+}
+
+/// Returns the part of a pattern at a span as it is shown, cut off if it is long; `None` if it is empty or not inside the
+/// pattern. Invisible characters are shown by their numbers, as `U+000A`, except spaces and those that join emoji.
 ///
 /// # Errors
 /// Returns [`AllocError`] if an allocation fails.
@@ -26,10 +75,7 @@ pub fn excerpt(
     let Some(part @ [_, ..]) = span.and_then(|span| pattern.get(span.start..span.end)) else {
         return Ok(None);
     };
-    let mut text = String::new(alloc);
-    for c in part.iter().take(TITLE_LENGTH) {
-        text.push(char::from_u32(*c).unwrap_or(char::REPLACEMENT_CHARACTER))?;
-    }
+    let mut text = shown(alloc, part.get(..TITLE_LENGTH).unwrap_or(part))?;
     if part.len() > TITLE_LENGTH {
         text.push('…')?;
     }

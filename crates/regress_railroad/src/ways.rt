@@ -2,7 +2,7 @@
 ghost use Rattle.std.specs.Prelude.{◌≡◌, OnOk};
 
 use crate::diagram::{Extent, Point};
-use crate::style::RADIUS;
+use crate::style::{GAP, RADIUS};
 use regress_svg::{Element, PathCommand, Sheet};
 use std::alloc::AllocError;
 
@@ -57,6 +57,14 @@ pub(crate) fn draw_line(from: Point, to: Point, sheet: &mut Sheet) -> Drawn
         return Ok(());
     }
     draw_path("line", from, &[PathCommand::Horizontal { x: to.x }], sheet)
+}
+
+/// Draws the vertical line from which a frame hangs.
+pub(crate) fn draw_thread(from: Point, sheet: &mut Sheet) -> Drawn
+    ensures { OnOk result (sheet.new.depth ≡ sheet.old.depth) }
+{
+    let y = from.down(GAP).y;
+    draw_path("thread", from, &[PathCommand::Vertical { y }], sheet)
 }
 
 /// Draws a line round a corner.

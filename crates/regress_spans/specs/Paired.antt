@@ -1,18 +1,17 @@
 -- Each node of a tree beside its span, in postorder. It is defined along the grammar's derivation of the pattern, as
 -- `Spans` is: each span is beside the tree that the same production makes.
 use Rattle.std.specs.Prelude.{ℕ, ◌+◌, List, [], ◌∷◌, ◌++◌, length, map}
-use Rattle.regress_tree.specs.Reading.{Direction, forwards, backwards}
+use Rattle.regress_tree.specs.Reading.{Direction, forwards}
 use Rattle.regress_tree.specs.Setting.{Setting}
 use Rattle.regress_tree.specs.Tree.{goal, Tree, Trees, leaf, cat, alt, wrapped, no_trees, more_trees}
 use Rattle.regress_lexer.specs.Source.{Source, closing, bar}
-use Rattle.regress_syntax.specs.Syntax.{Pattern, Terms, Item, one, either, no_terms, more_terms, atom, group, opened_by, counts_of_item, counts_of_terms, counts_of_term}
-use Rattle.regress_syntax.specs.Meaning.{direction_of_group}
+use Rattle.regress_syntax.specs.Syntax.{Pattern, Terms, Item, one, either, no_terms, more_terms, atom, group, opened_by, counts_of_item, counts_of_terms, counts_of_term, direction_of_group}
 use Rattle.regress_syntax.specs.Productions.{Context, context_inside}
 use Rattle.regress_syntax.specs.Grammar.{IsPattern, AreTerms, IsItem}
 use Rattle.regress_parse.specs.Accepted.{own_context, IsDerived}
 use Rattle.regress_parse.specs.TreeOf.{concatenation, tree_of_quantified, tree_of_atom, tree_of_pattern, trees_of_terms, tree_of_item, tree_of}
 use Rattle.regress_parse.specs.declared.span.Span.{Span}
-use Rattle.regress_parse.specs.Spans.{span_of_times, span_of_group, how_many, span_of_alternative, between}
+use Rattle.regress_parse.specs.Spans.{in_tree_order, span_of_times, span_of_group, how_many, span_of_alternative, between}
 
 -- the nodes of a tree in postorder, each as the tree at it: the children from left to right, and then the node itself
 abbrev mutual
@@ -29,11 +28,6 @@ abbrev mutual
 -- a tree beside its span, if a production makes a node of its own
 abbrev pub beside : Tree → List Span → List (Tree × Span)
 beside t = map (λ s. (t, s))
-
--- The nodes of the first part and of the others, in the order of the tree: reversed where matching runs backwards.
-abbrev pub in_tree_order : Direction → List (Tree × Span) → List (Tree × Span) → List (Tree × Span)
-in_tree_order forwards first others = first ++ others
-in_tree_order backwards first others = others ++ first
 
 -- the length of the whole source, in code points
 module _ (whole : ℕ) where

@@ -1,5 +1,5 @@
 //! Parses a pattern, with spans.
-ghost use Rattle.std.specs.Prelude.{◌≡◌, length, zip, All, AllPairs, IfOk};
+ghost use Rattle.std.specs.Prelude.{◌≡◌, length, zip, All, AllPairs, IfOk, IfErr};
 ghost use Rattle.regress_unicode.specs.TableOf.{table_of};
 ghost use Rattle.regress_tree.specs.Tree.{tree};
 ghost use Rattle.regress_tree.specs.Visits.{nodes};
@@ -7,11 +7,10 @@ ghost use Rattle.regress_tree.specs.WellFormed.{IsWellFormed};
 ghost use Rattle.regress_lexer.specs.Source.{IsCodePoint};
 ghost use Rattle.regress_syntax.specs.Syntax.{Pattern};
 ghost use Rattle.regress_syntax.specs.SettingOf.{setting_of};
-ghost use Rattle.regress_parse.specs.Accepted.{IsAccepted, NoneIsAccepted, IsTrueOf, MayExceed, OneIsDerived, OfAccepted, Means};
-ghost use Rattle.regress_parse.specs.Fault.{RejectedOnlyIf, ReportsKindAt, HasTextOfKind, unplaced, HasPositionWithin};
-ghost use Rattle.regress_parse.specs.Settled.{IsFinal, IsAtFirstDuplicate};
+ghost use Rattle.regress_parse.specs.Accepted.{IsAccepted, OneIsDerived, OfAccepted, Means};
 ghost use Rattle.regress_parse.specs.TreeOf.{tree_of};
 ghost use Rattle.regress_parse.specs.Spans.{IsWithin, IsInsideOrApart, spans_of};
+ghost use Rattle.regress_parse.specs.Settled.{IsFaultOf};
 ghost use Rattle.regress_spans.specs.Paired.{postorder, spanned_of};
 
 use regress_base::types::Flags;
@@ -79,13 +78,7 @@ pub fn try_parse_with_spans(
     ensures nested { IfOk result (λ r. AllPairs IsInsideOrApart r.spans.items) }
 
     // The contract of `try_parse_with_position`.
-    ensures rejected { RejectedOnlyIf (unplaced result) (NoneIsAccepted (setting_of flags tables.now) pattern.now) }
-    ensures text { HasTextOfKind result }
-    ensures reported { ReportsKindAt result (λ kind position. IsTrueOf (setting_of flags tables.now) pattern.now kind) }
-    ensures limits { ReportsKindAt result (λ kind position. MayExceed pattern.now kind) }
-    ensures position { HasPositionWithin (length pattern.now) result }
-    ensures settled { ReportsKindAt result (IsFinal (setting_of flags tables.now) pattern.now) }
-    ensures duplicate { ReportsKindAt result (IsAtFirstDuplicate (setting_of flags tables.now) pattern.now) }
+    ensures rejected { IfErr result (IsFaultOf (setting_of flags tables.now) pattern.now) }
     ensures only { OneIsDerived (setting_of flags tables.now) pattern.now }
     ensures meaning { let setting = setting_of flags tables.now in
         IfOk result (λ r. OfAccepted setting pattern.now (Means setting (tree r.regex.node))) }

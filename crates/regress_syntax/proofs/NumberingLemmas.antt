@@ -14,8 +14,7 @@ use Rattle.std.specs.Ordering.{nat_cmp, is_lt, is_eq, ordering_index, ordering_r
 use Rattle.std.specs.declared.cmp.Ordering.{Ordering}
 use Rattle.std.specs.declared.cmp.Ordering.TheVariants.{Less, Equal, Greater}
 use Rattle.std.specs.declared.alloc.Global.{Global}
-use Rattle.regress_syntax.specs.Syntax.{Name}
-use Rattle.regress_syntax.specs.Meaning.{groups_named}
+use Rattle.regress_syntax.specs.Syntax.{Name, groups_named}
 use Rattle.regress_syntax.specs.Productions.{has_names}
 use Rattle.regress_syntax.specs.Numbering.{names_of, numbered, order_of, name_order, AreSortedByName}
 use Rattle.regress_syntax.specs.Scanning.{name_and_number, is_before}

@@ -6,10 +6,9 @@ use Rattle.regress_lexer.specs.Digits.{is_decimal, number, front, after}
 use Rattle.regress_lexer.specs.Escapes.{begins_with_digit}
 use Rattle.regress_lexer.specs.Quantifiers.{count_at}
 use Rattle.regress_lexer.proofs.lemmas.Digits.{front_digit}
-use Rattle.regress_syntax.specs.Meaning.{groups_named}
 use Rattle.regress_syntax.specs.Names.{group_name_at}
 use Rattle.regress_syntax.specs.Productions.{Context, has_name, name_reference_at}
-use Rattle.regress_syntax.specs.Syntax.{Name, is_named, by_name, back_reference}
+use Rattle.regress_syntax.specs.Syntax.{Name, is_named, by_name, back_reference, groups_named}
 
 -- A saturating count decides whether a number is at most the number of groups.
 pub count-is : (t : Source) → begins_with_digit t ≡ true →

@@ -15,7 +15,7 @@ use Rattle.regress_base.specs.Table.{Table, denotes, is_in_closure}
 use Rattle.regress_tree.specs.Assertions.{is_line_terminator, is_word_character, at_anchor, differ, at_boundary}
 use Rattle.regress_tree.specs.Repetition.{repeat_matcher}
 use Rattle.regress_classes.specs.ClassProductions.{members_of}
-use Rattle.regress_syntax.specs.Syntax.{Name, is_named, Target, by_number, by_name, Atom, literal, dot, anchor, boundary, class_escape, class, class_set, string_property, back_reference, Group, grouping, modified, capture, look, Pattern, Terms, Item, one, either, no_terms, more_terms, atom, group, opened_by, counts_of_item, counts_of_terms, counts_of_term, names}
+use Rattle.regress_syntax.specs.Syntax.{Name, Target, by_number, by_name, Atom, literal, dot, anchor, boundary, class_escape, class, class_set, string_property, back_reference, Group, grouping, modified, capture, look, Pattern, Terms, Item, one, either, no_terms, more_terms, atom, group, opened_by, counts_of_item, counts_of_terms, counts_of_term, names, groups_named, direction_of_group}
 
 -- A character matches the literal c: it is equal to c or, with the flag i, has the same canonical form (ECMA-262,
 -- Canonicalize).
@@ -42,25 +42,12 @@ abbrev pub along : Direction → Matcher → Matcher → Matcher
 along forwards f g = f then_ g
 along backwards f g = g then_ f
 
--- the direction in which the body of a group is matched
-abbrev pub direction_of_group : Group → Direction → Direction
-direction_of_group grouping d = d
-direction_of_group (modified change) d = d
-direction_of_group (capture name) d = d
-direction_of_group (look negate direction) d = direction
-
 -- a group around a body, where n capture groups were opened before it
 abbrev pub group_steps : ℕ → Group → Matcher → Matcher
 group_steps n grouping body = body
 group_steps n (modified change) body = body
 group_steps n (capture name) body = Steps.capture n body
 group_steps n (look negate direction) body = Lookaround.lookaround_matcher negate body
-
--- the numbers of the groups with this name, in a list whose first group has number n
-abbrev pub groups_named : Name → ℕ → List (Option Name) → List ℕ
-groups_named name n [] = []
-groups_named name n (other ∷ names) =
-    if is_named name other then n ∷ groups_named name (n + 1) names else groups_named name (n + 1) names
 
 -- The numbers, from 1, of the groups that a reference names, in ascending order. The list has the names of all groups
 -- of the pattern.

@@ -8,8 +8,7 @@ use Rattle.std.specs.declared.cmp.Ordering.TheVariants.{Greater}
 use Rattle.std.specs.declared.alloc.Global.{Global}
 use Rattle.regress_lexer.specs.Source.{Source, Found}
 use Rattle.regress_lexer.specs.Digits.{is_decimal, number, front, after}
-use Rattle.regress_syntax.specs.Syntax.{Name}
-use Rattle.regress_syntax.specs.Meaning.{groups_named}
+use Rattle.regress_syntax.specs.Syntax.{Name, groups_named}
 
 -- the name of each group
 abbrev pub names_of : List (Option (Vec ℕ Global)) → List (Option Name)

@@ -1,5 +1,5 @@
 -- The syntax tree of a pattern.
-use Rattle.std.specs.Prelude.{ℕ, ◌+◌, max, Bool, false, List, [], ◌∷◌, ◌++◌, Option, Some, None}
+use Rattle.std.specs.Prelude.{ℕ, ◌+◌, max, Bool, false, List, [], ◌∷◌, ◌++◌, Option, Some, None, if◌then◌else◌}
 use Rattle.std.specs.Str.{bytes_eq}
 use Rattle.regress_base.specs.Intervals.{Bounds}
 use Rattle.regress_base.specs.declared.charclasses.CharacterClassType.{CharacterClassType}
@@ -18,6 +18,12 @@ Name = List ℕ
 abbrev pub is_named : Name → Option Name → Bool
 is_named name None = false
 is_named name (Some other) = bytes_eq other name
+
+-- the numbers of the groups with this name, in a list whose first group has number n (ECMA-262, GroupSpecifiersThatMatch)
+abbrev pub groups_named : Name → ℕ → List (Option Name) → List ℕ
+groups_named name n [] = []
+groups_named name n (other ∷ names) =
+    if is_named name other then n ∷ groups_named name (n + 1) names else groups_named name (n + 1) names
 
 -- the groups that a backreference names: one group by its number, from 1, or all groups of a name
 pub data Target : Type 0 where
@@ -83,6 +89,13 @@ opened_by grouping = 0
 opened_by (modified change) = 0
 opened_by (capture name) = 1
 opened_by (look negate direction) = 0
+
+-- the direction in which the body of a group is matched
+abbrev pub direction_of_group : Group → Direction → Direction
+direction_of_group grouping d = d
+direction_of_group (modified change) d = d
+direction_of_group (capture name) d = d
+direction_of_group (look negate direction) d = direction
 
 -- the count of a parenthesis, without what is inside
 abbrev pub counts_of_group : Group → Counts

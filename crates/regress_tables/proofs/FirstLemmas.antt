@@ -18,7 +18,7 @@ use Rattle.regress_tables.specs.declared.slots.Slot.TheVariants as slots
 use Rattle.regress_tables.specs.declared.table.Table.{Table}
 use Rattle.regress_tables.specs.declared.walker.Walker.{Walker}
 use Rattle.regress_tables.specs.Evaluated.{CanFill}
-use Rattle.regress_tables.specs.Searchable.{IsFirst, IsSearchable, Solves, captures_in, outcomes_in, program_in, subject_of, width_at}
+use Rattle.regress_tables.specs.Searchable.{IsFirstOutcome, IsSearchable, Solves, captures_in, outcomes_in, program_in, subject_of, width_at}
 use Rattle.regress_tables.specs.Slots.{AreInside, IsClean, capture_in, is_set, resolved, set_groups}
 use Rattle.regress_program.specs.Contents.{no_ids}
 use Rattle.regress_program.specs.Ranges.{ranges_of}
@@ -151,11 +151,6 @@ width-of program index r is = ap width is
 
 -- ---- slots that are unset
 
-unset-at : (n id : ℕ) → id < n → slice_get (replicate n slots.Unset) id ≡ Some slots.Unset
-unset-at zero id lt = absurd (omega (arith, lt))
-unset-at (suc n) zero lt = refl
-unset-at (suc n) (suc id) lt = unset-at n id (omega (arith, lt))
-
 none-inside : (n id routine position : ℕ) → slice_get (replicate n slots.Unset) id ≡ Some (slots.Inside routine position) → ⊥
 none-inside zero id routine position is = cc
 none-inside (suc n) zero routine position is = cc
@@ -197,7 +192,7 @@ Walks f i t w v ended = (outs : ℕ → Out) → Solves f outs → IsFull t → 
 
 module _ (f : Filled) (index n position : ℕ) (r : Routine) (t : Table) (at : TableAt f index r t) (within : position ≤ length f.input.text.now) where
   -- Where the bit is not set, the routine has no outcome.
-  pub first-none : (bit : Bool) → bit ≡ cell t r.entry true position → bit ≡ false → IsFirst f index n position None
+  pub first-none : (bit : Bool) → bit ≡ cell t r.entry true position → bit ≡ false → IsFirstOutcome f index n position None
   first-none bit is none outs solves =
       entry-none (subject_of f).setting f.input.text.now (program_in f) outs index n position r t at.is (at.right outs solves) at.full at.entry
       (omega (arith, within, at.of.text)) (sym is ∙ none)

@@ -11,7 +11,7 @@ use Rattle.regress_tables.specs.declared.first.FirstOutcome.{FirstOutcome}
 use Rattle.regress_tables.specs.declared.filled.Filled.{Filled}
 use Rattle.regress_tables.specs.declared.slots.Slot.{Slot}
 use Rattle.regress_tables.specs.declared.slots.Slot.TheVariants as slots
-use Rattle.regress_tables.specs.Searchable.{AreFound, AreResolved, AreTaken, IsEnd, IsFirst, Solves, captures_in, width_at}
+use Rattle.regress_tables.specs.Searchable.{AreFound, AreResolved, AreTaken, IsEnd, IsFirstOutcome, Solves, captures_in, width_at}
 use Rattle.regress_tables.specs.Slots.{AreInside, resolved, resolved_from, value}
 use Rattle.regress_program.proofs.lemmas.Totals.{total-more}
 
@@ -52,7 +52,7 @@ replicate-get zero x y i is = cc
 replicate-get (suc n) x y zero is = cc
 replicate-get (suc n) x y (suc i) is = replicate-get n x y i is
 
-pub found_some : (f : Filled) (routine position n : ℕ) (o : FirstOutcome) → IsFirst f routine n position (Some o) → IsEnd f routine n o → AreFound f routine position o.slots.items
+pub found_some : (f : Filled) (routine position n : ℕ) (o : FirstOutcome) → IsFirstOutcome f routine n position (Some o) → IsEnd f routine n o → AreFound f routine position o.slots.items
 found_some f routine position n o first ends = record {
   captures = λ outs solves id s is.
       let of = captures_in f outs n in
@@ -62,7 +62,7 @@ found_some f routine position n o first ends = record {
   inside = ends.captures;
 }
 
-pub found_none : (f : Filled) (routine position n : ℕ) (found : List Slot) → IsFirst f routine n position None → found ≡ replicate n slots.Unset → length found ≡ n →
+pub found_none : (f : Filled) (routine position n : ℕ) (found : List Slot) → IsFirstOutcome f routine n position None → found ≡ replicate n slots.Unset → length found ≡ n →
     AreFound f routine position found
 found_none f routine position n found first is count = record {
   captures = λ outs solves id s at.

@@ -2,7 +2,7 @@
 use Rattle.std.specs.Prelude.{ℕ, ◌+◌, ◌*◌, ◌-◌, List, length, Option, Some, None}
 use Rattle.regress_found.specs.declared.found.Match.{Match}
 use Rattle.regress_program.specs.Compiled.{total}
-use Rattle.regress_found.specs.Found.{start_of, state_of}
+use Rattle.regress_found.specs.Found.{state_of}
 use Rattle.regress_program.specs.Ranges.{inner_groups}
 use Rattle.regress_code.specs.Code.{code_routines}
 use Rattle.regress_code.specs.declared.code.Code.{Code}
@@ -23,9 +23,3 @@ per_character code =
 abbrev pub steps_up_to : (instructions : ℕ) (text : List ℕ) (origin : ℕ) → Option Match → ℕ
 steps_up_to instructions text origin (Some m) = (2 * instructions + 1) * ((state_of m).position + 1 - origin)
 steps_up_to instructions text origin None = length text + 1 - origin
-
--- The positions that a search tries, at least: those from `origin` up to the start of the match, or up to the end of
--- the text.
-abbrev pub positions_tried : (text : List ℕ) (origin : ℕ) → Option Match → ℕ
-positions_tried text origin (Some m) = start_of m + 1 - origin
-positions_tried text origin None = length text + 1 - origin

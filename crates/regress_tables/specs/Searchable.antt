@@ -47,9 +47,9 @@ abbrev pub Solves : Filled → (ℕ → Out) → Type 0
 Solves f outs = IsSolution (subject_of f).setting f.input.text.now (program_in f) outs
 
 -- It is the first outcome of the routine, or there is none.
-abbrev pub IsFirst : Filled → (index n position : ℕ) → Option FirstOutcome → Type 0
-IsFirst f index n position None = (outs : ℕ → Out) → Solves f outs → outcomes_in f outs index n position ≡ []
-IsFirst f index n position (Some o) = (outs : ℕ → Out) → Solves f outs → (rest : List MatchState) ×
+abbrev pub IsFirstOutcome : Filled → (index n position : ℕ) → Option FirstOutcome → Type 0
+IsFirstOutcome f index n position None = (outs : ℕ → Out) → Solves f outs → outcomes_in f outs index n position ≡ []
+IsFirstOutcome f index n position (Some o) = (outs : ℕ → Out) → Solves f outs → (rest : List MatchState) ×
     (outcomes_in f outs index n position ≡ record { position = o.end; captures = resolved (captures_in f outs n) o.slots.items } ∷ rest)
 
 -- The outcome ends inside the text, and lookarounds of earlier routines have set its groups.

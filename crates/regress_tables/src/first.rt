@@ -2,7 +2,7 @@
 ghost use Rattle.std.specs.Prelude.{◌≡◌, ◌≤◌, ◌<◌, ◌+◌, ◌-◌, ◌*◌, IfOk, IfSome, None, Some, length, slice_get};
 ghost use Rattle.regress_tree.specs.Reading.{forwards};
 ghost use Rattle.regress_program.specs.Program.{Routine as Code};
-ghost use Rattle.regress_tables.specs.Searchable.{IsEnd, IsFirst, IsSearchable, program_in, width_at};
+ghost use Rattle.regress_tables.specs.Searchable.{IsEnd, IsFirstOutcome, IsSearchable, program_in, width_at};
 
 use crate::evaluate::Input;
 use crate::filled::Filled;
@@ -36,7 +36,7 @@ pub(crate) fn first_outcome(
     requires searchable { IsSearchable filled }
     requires index { index < length (program_in filled) }
     requires position { position ≤ length filled.input.text.now }
-    ensures first { IfOk result (IsFirst filled.entry index groups position) }
+    ensures first { IfOk result (IsFirstOutcome filled.entry index groups position) }
     ensures end { IfOk result (λ first. IfSome first (IsEnd filled.entry index groups)) }
     ensures steps { IfOk result (λ _. steps.new ≤ steps.old + 2 * width_at (program_in filled.entry) index * (length filled.entry.input.text.now + 1)) }
     ensures none { IfOk result (λ first. first ≡ None → steps.new ≡ steps.old) }

@@ -2,8 +2,9 @@
 ghost use Rattle.std.specs.Prelude.{◌≡◌, ◌≤◌, ◌<◌, ◌+◌, ◌-◌, ◌*◌, ℕ, IfOk, IfSome, length};
 ghost use Rattle.regress_program.specs.Compiled.{total};
 ghost use Rattle.regress_found.specs.Found.{Finds, state_of};
+ghost use Rattle.regress_found.specs.Tried.{positions_tried};
 ghost use Rattle.regress_program.specs.Program.{Out};
-ghost use Rattle.regress_tables.specs.Search.{positions_tried, steps_up_to};
+ghost use Rattle.regress_tables.specs.Search.{steps_up_to};
 ghost use Rattle.regress_tables.specs.Searchable.{IsSearchable, Solves, outcomes_in, program_in};
 
 use crate::filled::Filled;

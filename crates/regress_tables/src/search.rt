@@ -3,9 +3,10 @@ ghost use Rattle.std.specs.Prelude.{◌≡◌, ◌≤◌, ◌<◌, ◌+◌, ◌*
 ghost use Rattle.regress_tree.specs.Tree.{Tree};
 ghost use Rattle.regress_program.specs.Compiled.{IsPattern, total};
 ghost use Rattle.regress_found.specs.Found.{Finds};
+ghost use Rattle.regress_found.specs.Tried.{positions_tried};
 ghost use Rattle.regress_program.specs.Program.{IsSolution, Out};
 ghost use Rattle.regress_code.specs.Code.{code_routines, outcomes_from, setting_with, tree_outcomes_from};
-ghost use Rattle.regress_tables.specs.Search.{per_character, positions_tried};
+ghost use Rattle.regress_tables.specs.Search.{per_character};
 ghost use Rattle.regress_tables.specs.TextSearch.{searched_code, searched_tables, searched_text};
 
 use crate::found::Search;

@@ -3,11 +3,12 @@ ghost use Rattle.std.specs.Prelude.{◌≡◌, ◌≤◌, ◌+◌, ◌*◌, ℕ,
 ghost use Rattle.regress_tree.specs.Tree.{Tree};
 ghost use Rattle.regress_program.specs.Compiled.{IsPattern, total};
 ghost use Rattle.regress_found.specs.Found.{Finds, state_of};
+ghost use Rattle.regress_found.specs.Tried.{positions_tried};
 ghost use Rattle.regress_program.specs.Program.{IsSolution, Out};
 ghost use Rattle.regress_program.specs.Ranges.{inner_groups};
 ghost use Rattle.regress_code.specs.Code.{code_routines, outcomes_from, setting_with, tree_outcomes_from};
 ghost use Rattle.regress_tables.specs.Filled.{AreFilled};
-ghost use Rattle.regress_tables.specs.Search.{capturing_steps, positions_tried, steps_up_to};
+ghost use Rattle.regress_tables.specs.Search.{capturing_steps, steps_up_to};
 ghost use Rattle.regress_tables.specs.TextSearch.{searched_code, searched_size, searched_tables, searched_text};
 
 use crate::evaluate::Input;

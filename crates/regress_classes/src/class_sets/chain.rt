@@ -64,7 +64,7 @@ impl Chain {
     }
 
     /// Returns what all operands keep of the first one, the last operand included.
-    pub(super) fn close(self, last: Value) -> Result<Value, AllocError>
+    pub(super) fn finish(self, last: Value) -> Result<Value, AllocError>
         ensures { IfOk result (λ held. (v b : Written) → IsChain self v → IsValue last b → IsValue held (applied self.operator v b)) }
     {
         let Chain {

@@ -188,14 +188,7 @@ module _ (R : ℕ → Type 0) where
         (agrees-at j r is (λ k q u v lt' is' w both. agree-before n k q u v (omega (arith, lt, lt')) is' w both)
         r.entry true [] s t (is_program j r is).entry within agree)
 
-    -- From two places of a routine that agree, the outcomes agree.
-    pub agreement : (i : ℕ) (r : Routine) → slice_get program i ≡ Some r → (pc : ℕ) (moved : Bool) (begins : List ℕ) (s t : MatchState) →
-        pc < length r.ops → s.position ≤ length bytes → Agree R s t →
-        AgreeAll R (outs i (record { pc = pc; moved = moved; state = s; begins = begins }))
-        (outs i (record { pc = pc; moved = moved; state = t; begins = begins }))
-    agreement i r is = agrees-at i r is (agree-before i)
-
-    -- So do those of the whole routine.
+    -- From states that agree, so do the outcomes of a whole routine.
     pub agreement-matcher : (i : ℕ) (r : Routine) → slice_get program i ≡ Some r → (s t : MatchState) → s.position ≤ length bytes → Agree R s t →
         AgreeAll R (matcher_of setting bytes program outs i s) (matcher_of setting bytes program outs i t)
     agreement-matcher i r is s t within agree = agree-before (suc i) i r s t (omega arith) is within agree

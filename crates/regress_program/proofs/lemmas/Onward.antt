@@ -211,8 +211,8 @@ module _ (bytes : List ℕ) (d : Direction) where
   pub Stays-repeat : (bound : ℕ) (q : Quantifier) (start end : ℕ) (f : Matcher) → Stays bytes d f → Stays bytes d (repeat_matcher bound q start end f)
   unfolding repeat_matcher
   Stays-repeat bound q start end f on =
-      let turned = Stays-iteration f on start end in
-      Stays-then bytes d _ _ (Stays-iterations _ turned q.min) (Stays-up_to _ turned q.greedy (extra_iterations bound q))
+      let iterated = Stays-iteration f on start end in
+      Stays-then bytes d _ _ (Stays-iterations _ iterated q.min) (Stays-up_to _ iterated q.greedy (extra_iterations bound q))
 
 -- ---- trees
 

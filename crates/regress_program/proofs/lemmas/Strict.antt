@@ -3,9 +3,10 @@ use Rattle.std.proofs.Common.{◌≡◌, ℕ, zero, suc, ◌+◌, ◌<◌, inl, 
 use Rattle.std.proofs.lemmas.List.{length-append}
 use Rattle.std.specs.Prelude.{if◌then◌else◌, is_none}
 use Rattle.std.specs.List.{list_all, list_any}
+use Rattle.regress_tree.specs.Tree.{Tree}
 use Rattle.regress_program.specs.declared.nonlinear.Nonlinear.TheVariants.{BackReference, CapturingLookaround}
 use Rattle.regress_program.specs.declared.ranges.GroupRange.{GroupRange}
-use Rattle.regress_program.specs.Linear.{changes_captures, has_reason, is_back_reference, is_capturing, is_capturing_lookaround, is_linear, is_linear_op, is_reason, reason}
+use Rattle.regress_program.specs.Linear.{changes_captures, has_back_reference, has_capturing_lookaround, has_reason, is_back_reference, is_capturing, is_capturing_lookaround, is_linear, is_linear_op, is_linear_tree, is_reason, reason, reason_of}
 use Rattle.regress_program.specs.Program.{Op, accept, fail, part, split, begin_loop, repeat, end_loop, unsets, begin_group, end_group, look, Routine}
 use Rattle.regress_program.specs.Ranges.{IsIn, captured_by, captured_by_all, captured_in, changed_by, changed_by_all, hull, inner_groups, no_groups, ranges_after, ranges_of}
 use Rattle.regress_program.specs.Tidy.{BeginsUnset, IsTidy, IsTidyFrom, has_no_back_reference, is_tabled, range_at, set_after, table_groups}
@@ -205,3 +206,22 @@ tabled-captures tidy program is =
     let none = no-references (has_reason program BackReference) (has_reason program CapturingLookaround) is in
     ap₂ (λ (a b : Bool). if a && (b || tidy) then Some (inner_groups program) else None) (no-back_reference program ∙ ap not none)
     (linear-reason program ∙ ap is_none is)
+
+-- ---- by the tree
+
+same-reason : (a b p l : Bool) → not a ≡ not p → is_none (if a then Some BackReference else if b then Some CapturingLookaround else None) ≡ (not p && not l) →
+    (if a then Some BackReference else if b then Some CapturingLookaround else None)
+    ≡ (if p then Some BackReference else if l then Some CapturingLookaround else None)
+same-reason true b true l plain linear = refl
+same-reason true b false l plain linear = cc
+same-reason false b true l plain linear = cc
+same-reason false true false true plain linear = refl
+same-reason false true false false plain linear = cc
+same-reason false false false true plain linear = cc
+same-reason false false false false plain linear = refl
+
+pub reason-tree : (program : List Routine) (t : Tree) → has_no_back_reference program ≡ not (has_back_reference t) →
+    is_linear program ≡ is_linear_tree t → reason program ≡ reason_of t
+reason-tree program t plain linear =
+    same-reason (has_reason program BackReference) (has_reason program CapturingLookaround) (has_back_reference t) (has_capturing_lookaround t)
+    (sym (no-back_reference program) ∙ plain) (sym (linear-reason program) ∙ linear)

@@ -138,10 +138,10 @@ module _ (ranges : List GroupRange) (ops : List Op) where
       by (suc i) to e = cc
 
   -- the same, where the instructions after it are tidy for one step less
-  pub tidy-turn : (n at first second : ℕ) (op : Op) (set : Ids) → slice_get ops at ≡ Some op → followers op ≡ first ∷ second ∷ [] → BeginsUnset ranges op set →
+  pub tidy-both : (n at first second : ℕ) (op : Op) (set : Ids) → slice_get ops at ≡ Some op → followers op ≡ first ∷ second ∷ [] → BeginsUnset ranges op set →
       IsTidyFrom ranges ops n first (set_after ranges op set) → IsTidyFrom ranges ops n second (set_after ranges op set) →
       IsTidyFrom ranges ops (suc n) at set
-  tidy-turn n at first second op set here follow begins one two other there =
+  tidy-both n at first second op set here follow begins one two other there =
       let same : op ≡ other = same_Some op other (sym here ∙ there) in
       subst (λ o. BeginsUnset ranges o set × ((i to : ℕ) → slice_get (followers o) i ≡ Some to → IsTidyFrom ranges ops n to (set_after ranges o set))) same
       (begins, λ i to follows. by i to (sym (ap (λ os. slice_get os i) follow) ∙ follows))
@@ -155,7 +155,7 @@ module _ (ranges : List GroupRange) (ops : List Op) where
       IsTidyFrom ranges ops n first (set_after ranges op set) → IsTidyFrom ranges ops n second (set_after ranges op set) → IsTidyFrom ranges ops n at set
   tidy-two zero at first second op set here follow begins one two = tt
   tidy-two (suc n) at first second op set here follow begins one two =
-      tidy-turn n at first second op set here follow begins (tidy-fewer n first (set_after ranges op set) one)
+      tidy-both n at first second op set here follow begins (tidy-fewer n first (set_after ranges op set) one)
       (tidy-fewer n second (set_after ranges op set) two)
 
   -- an instruction that none follows

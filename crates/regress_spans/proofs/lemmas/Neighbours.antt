@@ -7,14 +7,13 @@ use Rattle.regress_base.specs.declared.types.Quantifier.{Quantifier}
 use Rattle.regress_tree.specs.Reading.{Direction, forwards, backwards}
 use Rattle.regress_tree.specs.Setting.{Setting}
 use Rattle.regress_lexer.specs.Source.{Source, closing, bar}
-use Rattle.regress_syntax.specs.Syntax.{Group, grouping, modified, capture, look, Pattern, Terms, Item, one, either, no_terms, more_terms, atom, group}
-use Rattle.regress_syntax.specs.Meaning.{direction_of_group}
+use Rattle.regress_syntax.specs.Syntax.{Group, grouping, modified, capture, look, Pattern, Terms, Item, one, either, no_terms, more_terms, atom, group, direction_of_group}
 use Rattle.regress_syntax.specs.Productions.{Context, context_inside, head_of_item, allows}
 use Rattle.regress_syntax.specs.Grammar.{IsPattern, AreTerms, IsItem}
 use Rattle.regress_syntax.proofs.lemmas.Productions.{optional_quantifier_at-shortens}
 use Rattle.regress_parse.specs.Accepted.{own_context, IsDerived}
 use Rattle.regress_parse.specs.declared.span.Span.{Span}
-use Rattle.regress_parse.specs.Spans.{IsWithin, IsInsideOrApart, is_inside, ends_before, begins_after, span_of_times, span_of_group, how_many, span_of_alternative, in_order, between, spans_of_pattern, spans_of_terms, spans_of_item, spans_of}
+use Rattle.regress_parse.specs.Spans.{IsWithin, IsInsideOrApart, is_inside, ends_before, begins_after, span_of_times, span_of_group, how_many, span_of_alternative, in_tree_order, between, spans_of_pattern, spans_of_terms, spans_of_item, spans_of}
 use Rattle.regress_spans.proofs.lemmas.Nesting.{AllBetween, itself, wider, item-shortens, item-within, inner-within, term-within, terms-within, alternative-within, alternatives-within, pattern-within}
 
 -- ---- lists of spans
@@ -78,7 +77,7 @@ copies : (n : ℕ) (s : Span) → IsWithin s s → Nest (replicate n s)
 copies zero s w = tt
 copies (suc n) s w = (All-replicate (IsInsideOrApart s) n s (is_inside w), copies n s w)
 
-joined_in_reverse : (d : Direction) (xs ys : List Span) → Across IsBefore xs ys → Across IsSuffix ys xs → Nest xs → Nest ys → Nest (in_order d xs ys)
+joined_in_reverse : (d : Direction) (xs ys : List Span) → Across IsBefore xs ys → Across IsSuffix ys xs → Nest xs → Nest ys → Nest (in_tree_order d xs ys)
 joined_in_reverse forwards xs ys to back h k =
     joined xs ys (All-weaker _ _ (λ x all. All-weaker (IsBefore x) (IsInsideOrApart x) (λ y lt. ends_before lt) ys all) xs to) h k
 joined_in_reverse backwards xs ys to back h k =

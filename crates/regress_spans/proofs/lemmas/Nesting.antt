@@ -6,14 +6,13 @@ use Rattle.regress_base.specs.declared.types.Quantifier.{Quantifier}
 use Rattle.regress_tree.specs.Reading.{Direction, forwards, backwards}
 use Rattle.regress_tree.specs.Setting.{Setting}
 use Rattle.regress_lexer.specs.Source.{Source, closing, bar}
-use Rattle.regress_syntax.specs.Syntax.{Group, grouping, modified, capture, look, Pattern, Terms, Item, one, either, no_terms, more_terms, atom, group}
-use Rattle.regress_syntax.specs.Meaning.{direction_of_group}
+use Rattle.regress_syntax.specs.Syntax.{Group, grouping, modified, capture, look, Pattern, Terms, Item, one, either, no_terms, more_terms, atom, group, direction_of_group}
 use Rattle.regress_syntax.specs.Productions.{Context, context_inside, single, opens, head_of_item, allows}
 use Rattle.regress_syntax.specs.Grammar.{IsPattern, AreTerms, IsItem}
 use Rattle.regress_syntax.proofs.lemmas.Productions.{head_at-shortens, optional_quantifier_at-shortens}
 use Rattle.regress_parse.specs.Accepted.{own_context, IsDerived}
 use Rattle.regress_parse.specs.declared.span.Span.{Span}
-use Rattle.regress_parse.specs.Spans.{IsWithin, span_of_times, span_of_group, how_many, span_of_alternative, in_order, between, spans_of_pattern, spans_of_terms, spans_of_item, spans_of}
+use Rattle.regress_parse.specs.Spans.{IsWithin, span_of_times, span_of_group, how_many, span_of_alternative, in_tree_order, between, spans_of_pattern, spans_of_terms, spans_of_item, spans_of}
 
 -- ---- the rest of a derivation is no longer than its source
 
@@ -63,7 +62,7 @@ module _ (whole : ℕ) where
       All-weaker (IsWithin (between whole mid after)) (IsWithin (between whole t rest))
       (λ s h. record { start = omega (arith, h.start, front); ordered = h.ordered; end = omega (arith, h.end, back) }) ss
 
-  ordered : (t rest : Source) (d : Direction) (xs ys : List Span) → AllBetween t rest xs → AllBetween t rest ys → AllBetween t rest (in_order d xs ys)
+  ordered : (t rest : Source) (d : Direction) (xs ys : List Span) → AllBetween t rest xs → AllBetween t rest ys → AllBetween t rest (in_tree_order d xs ys)
   ordered t rest forwards xs ys h k = both t rest xs ys h k
   ordered t rest backwards xs ys h k = both t rest ys xs k h
 

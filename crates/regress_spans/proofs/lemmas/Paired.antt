@@ -10,15 +10,14 @@ use Rattle.regress_tree.specs.Setting.{Setting}
 use Rattle.regress_tree.specs.Tree.{empty, goal, Tree, Trees, leaf, cat, alt, wrapped, no_trees, more_trees, append_trees, reverse_trees}
 use Rattle.regress_tree.specs.Visits.{nodes, nodes_in_list}
 use Rattle.regress_lexer.specs.Source.{Source, closing, bar}
-use Rattle.regress_syntax.specs.Syntax.{Name, Group, grouping, modified, capture, look, Pattern, Terms, Item, one, either, no_terms, more_terms, atom, group, opened_by, counts_of_item, counts_of_terms, counts_of_term}
-use Rattle.regress_syntax.specs.Meaning.{direction_of_group}
+use Rattle.regress_syntax.specs.Syntax.{Name, Group, grouping, modified, capture, look, Pattern, Terms, Item, one, either, no_terms, more_terms, atom, group, opened_by, counts_of_item, counts_of_terms, counts_of_term, direction_of_group}
 use Rattle.regress_syntax.specs.Productions.{Context, context_inside}
 use Rattle.regress_syntax.specs.Grammar.{IsPattern, AreTerms, IsItem}
 use Rattle.regress_parse.specs.Accepted.{own_context, IsDerived}
-use Rattle.regress_parse.specs.TreeOf.{in_direction, concatenation, tree_of_group, tree_of_quantified, tree_of_atom, tree_of_pattern, trees_of_terms, tree_of_item, tree_of}
+use Rattle.regress_parse.specs.TreeOf.{concatenation, tree_of_group, tree_of_quantified, tree_of_atom, tree_of_pattern, trees_of_terms, tree_of_item, tree_of, in_direction}
 use Rattle.regress_parse.specs.declared.span.Span.{Span}
-use Rattle.regress_parse.specs.Spans.{span_of_times, span_of_group, how_many, span_of_alternative, in_order, between, spans_of_pattern, spans_of_terms, spans_of_item, spans_of}
-use Rattle.regress_spans.specs.Paired.{postorder, postorder_of_list, beside, in_tree_order, spanned_of_pattern, spanned_of_terms, spanned_of_item, spanned_of}
+use Rattle.regress_parse.specs.Spans.{span_of_times, span_of_group, how_many, span_of_alternative, in_tree_order, between, spans_of_pattern, spans_of_terms, spans_of_item, spans_of}
+use Rattle.regress_spans.specs.Paired.{postorder, postorder_of_list, beside, spanned_of_pattern, spanned_of_terms, spanned_of_item, spanned_of}
 
 abbrev pub tree_at : Tree × Span → Tree
 tree_at x = x.0
@@ -125,7 +124,7 @@ trees-in_order backwards t ts xs ys e1 e2 =
     ∙ sym (postorder-append (reverse_trees ts) (more_trees t no_trees))
 
 spans-in_order : (d : Direction) (xs ys : List (Tree × Span)) (ss others : List Span) → map span_at xs ≡ ss → map span_at ys ≡ others →
-    map span_at (in_tree_order d xs ys) ≡ in_order d ss others
+    map span_at (in_tree_order d xs ys) ≡ in_tree_order d ss others
 spans-in_order forwards xs ys ss others e1 e2 = both span_at xs ys ss others e1 e2
 spans-in_order backwards xs ys ss others e1 e2 = both span_at ys xs others ss e2 e1
 

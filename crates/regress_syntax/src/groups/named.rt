@@ -4,7 +4,7 @@ ghost use Rattle.std.specs.List.{prefix_len};
 ghost use Rattle.std.specs.List.Sorted.{IsPartitionPoint};
 ghost use Rattle.std.specs.Ordering.{is_lt, is_eq};
 ghost use Rattle.regress_base.specs.Limits.{max_capture_groups};
-ghost use Rattle.regress_syntax.specs.Meaning.{groups_named};
+ghost use Rattle.regress_syntax.specs.Syntax.{groups_named};
 ghost use Rattle.regress_syntax.specs.Numbering.{names_of, name_order, AreSortedByName};
 ghost use Rattle.regress_syntax.specs.Productions.{has_names};
 ghost use Rattle.regress_syntax.specs.Views.{names_in};

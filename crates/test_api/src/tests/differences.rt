@@ -47,6 +47,8 @@ fn constructs_that_differ_are_reported(rt: HostRuntime) -> Result<(), Fail> {
     };
     let cases = [
         ("[k]", icase, CaseClosure, 0, 3),
+        ("[\u{DF}]", icase, CaseClosure, 0, 3),
+        ("[^\u{1FB3}]", icase, CaseClosure, 0, 4),
         ("x\\w", icase, CaseClosure, 1, 3),
         ("[\\W]", unicode, CaseClosure, 0, 4),
         ("\\P{Lu}", sets(true), CaseClosure, 0, 6),
@@ -85,6 +87,7 @@ fn constructs_that_agree_are_not_reported(rt: HostRuntime) -> Result<(), Fail> {
         // with i: class escapes, and classes without characters whose case variants depend on u
         ("\\d\\D\\s\\S", icase),
         ("[0-9a-f][^\"\\s][^,]", icase),
+        ("[\u{C0}-\u{C4}][^\u{430}-\u{44F}]", icase),
         ("[k-s]\\w\\W[^\\w]", unicode),
         ("(?=.)(?<!\\b)", icase),
         ("[k]\\w", Flags::default()),

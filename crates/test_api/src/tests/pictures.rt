@@ -33,7 +33,7 @@ fn a_pattern_is_explained_and_drawn_part_by_part(rt: HostRuntime) -> Result<(), 
     let parsed = try_parse_with_spans(alloc, &points, Flags::default(), &tables)?;
     let text = explain(alloc, &points, &parsed)?;
     let lines =
-        "0..6  \\d{4}-  one after the other:\n0..5    \\d{4}  exactly 4 times:\n0..2      \\d  a digit, 0 to 9\n5..6    -  the character \"-\"\n";
+        "Matches 5 characters, with \"-\" in them.\n0..5  \\d{4}  exactly 4 times: a digit (0-9)\n5..6  -  a hyphen (-)\n";
     assert_eq!(rt; text.as_str(), lines);
     let picture = svg_with_marks(alloc, &parsed.regex, &points, &parsed.spans)?;
     for class in ["s0-2", "s0-5", "s5-6"] {
@@ -53,16 +53,20 @@ fn a_page_shows_a_pattern_its_diagram_its_explanation_and_the_matches(
     let matched = Matched {
         text: "from 2024-05 to 2025-01",
         ranges: &[5..12, 16..23],
+        captures: &[Some(5..9), Some(10..12), None, Some(21..23)],
     };
     let page = page(alloc, &points, &parsed, Some(matched))?;
     assert!(rt; page.starts_with("<!DOCTYPE html><html lang=\"en\">"));
     assert!(rt; page.ends_with("</main></body></html>"));
     for text in [
-        "<span class=\"m s8-10\">\\d</span>",
+        "<span class=\"m s8-10\" id=\"p8-10\">\\d</span>",
         "<svg xmlns=\"http://www.w3.org/2000/svg\"",
         "<g class=\"m s8-10\">",
-        "exactly 4 times:",
+        "exactly 4 times: a digit (0-9)",
         "from <mark>2024-05</mark> to <mark>2025-01</mark></p>",
+        "<tr><th>match</th><th>group 1 &quot;year&quot;</th><th>group 2</th></tr>",
+        "<tr><td>2024-05</td><td>2024</td><td>05</td></tr>",
+        "<tr><td>2025-01</td><td><small>unset</small></td><td>01</td></tr>",
     ] {
         assert!(rt; page.contains(text));
     }
@@ -91,6 +95,7 @@ fn no_part_of_a_pattern_or_text_is_markup_in_a_page(rt: HostRuntime) -> Result<(
     let matched = Matched {
         text: "</style>é",
         ranges: &[0..9, 8..10, 8..10],
+        captures: &[],
     };
     let page = page(alloc, &points, &parsed, Some(matched))?;
     assert!(rt; page.contains("&lt;script&gt;"));

@@ -7,7 +7,7 @@ use regress_front::types::Flags;
 use regress_front::unicode::Tables;
 use regress_front::util::code_points;
 use regress_leaves::known::Known;
-use regress_match::{Limits, Match, Matcher, Outcome};
+use regress_match::{Limits, Matcher, Outcome};
 use regress_tables::Linear;
 use std::test::Fail;
 
@@ -100,26 +100,6 @@ fn all_matches_are_listed(rt: HostRuntime) -> Result<(), Fail> {
         None => assert!(rt; false, "it is linear"),
     }
     assert_eq!(rt; ends.as_slice(), [2, 5].as_slice());
-    Ok(())
-}
-
-#[test]
-fn a_closure_is_called_on_each_match(rt: HostRuntime) -> Result<(), Fail> {
-    use std::sync::Arc;
-    let alloc = rt.alloc();
-    let tables = Arc::new(alloc, Tables::small(alloc)?)?;
-    let points = code_points(alloc, "a+")?;
-    let regex = try_parse(alloc, &points, Flags::default(), &tables)?;
-    let matcher = Matcher::new(alloc, regex, &tables, Limits::default())?;
-    let mut count = 0_usize;
-    let all = matcher.for_each_match(
-        alloc,
-        "aabxa",
-        0,
-        &mut |_found: &Match| count = count.wrapping_add(1),
-    )?;
-    assert!(rt; all);
-    assert_eq!(rt; count, 2);
     Ok(())
 }
 

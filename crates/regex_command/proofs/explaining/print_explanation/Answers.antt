@@ -16,4 +16,5 @@ pub returns-clause-explained : goal.returns-clause-explained
 returns-clause-explained g c =
     unexplained c.args.pattern.flags c.deref.result.now _ (table_of c.in_ok-tables.tables) (c.deref.ensures.value ∙ c.in_ok-points.ensures.characters)
     c.in_ok-tables.ensures (asked_form c.args.form) (g.W.Write.contents c.args.out.now) _ c.reject.result c.reject.ensures
-    (rejected_by c.try_parse_with_spans.result _ _ c.in-Err.is c.try_parse_with_spans.ensures.rejected)
+    (rejected_by (record { flags = c.args.pattern.flags; table = table_of c.in_ok-tables.tables }) c.deref.result.now c.in-Err.fault
+    c.in-Err.ensures.rejected)

@@ -15,4 +15,5 @@ pub returns-clause-reported : goal.returns-clause-reported
 returns-clause-reported g c =
     rejects c.args.pattern.flags c.deref.result.now _ (table_of c.in_ok-tables.tables) (c.deref.ensures.value ∙ c.in_ok-points.ensures.characters)
     c.in_ok-tables.ensures (g.W.Write.contents c.args.out.now) _ c.reject.result c.reject.ensures
-    (rejected_by c.differences.result _ _ c.in-Err.is c.differences.ensures.rejected)
+    (rejected_by (record { flags = c.args.pattern.flags; table = table_of c.in_ok-tables.tables }) c.deref.result.now c.in-Err.fault
+    c.in-Err.ensures.rejected)

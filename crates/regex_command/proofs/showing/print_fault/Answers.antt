@@ -5,14 +5,14 @@ use Rattle.regex_command.proofs.showing.print_fault.Goals as goal
 
 pub returns-in-Text-clause-shown : goal.returns-in-Text-clause-shown
 returns-in-Text-clause-shown g c =
-    (refl, unwritten c.args.request.format (requested c.args.request) (g.W.Write.contents c.args.out.now) c.requires.none (inl c.in-Text.is))
+    (refl, unwritten c.args.request.format (requested c.args.request) (g.W.Write.contents c.args.out.now) c.requires.rejected (inl c.in-Text.is))
 
 pub returns-in-Text-clause-quiet_fault : goal.returns-in-Text-clause-quiet_fault
 returns-in-Text-clause-quiet_fault g c = quiet_otherwise c.args.request.format _ (inl c.in-Text.is)
 
 pub returns-in-Svg-clause-shown : goal.returns-in-Svg-clause-shown
 returns-in-Svg-clause-shown g c =
-    (refl, unwritten c.args.request.format (requested c.args.request) (g.W.Write.contents c.args.out.now) c.requires.none (inr c.in-Svg.is))
+    (refl, unwritten c.args.request.format (requested c.args.request) (g.W.Write.contents c.args.out.now) c.requires.rejected (inr c.in-Svg.is))
 
 pub returns-in-Svg-clause-quiet_fault : goal.returns-in-Svg-clause-quiet_fault
 returns-in-Svg-clause-quiet_fault g c = quiet_otherwise c.args.request.format _ (inr c.in-Svg.is)

@@ -23,7 +23,5 @@ returns-clause-tree c =
 
 pub returns-in_err-regex-clause-failed : goal.returns-in_err-regex-clause-failed
 returns-in_err-regex-clause-failed c =
-    let parsed = c.try_parse_with_position.ensures in
     failed (setting_of c.args.flags c.args.tables.now) c.args.points.now c.try_parse_with_position.result c.in_err-regex.field-0.0
-    c.from_residual.result c.from_residual.ensures c.in_err-regex.was parsed.rejected parsed.text parsed.reported parsed.limits
-    parsed.position parsed.settled parsed.duplicate
+    c.from_residual.result c.from_residual.ensures c.in_err-regex.was c.try_parse_with_position.ensures.rejected

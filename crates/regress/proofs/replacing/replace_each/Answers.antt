@@ -32,8 +32,8 @@ loop-found-preserved g c = record {
       c.loop-found-test.true c.found-item.is c.requires.inside c.loop-found.invariant.before);
 }
 
-pub returns : goal.returns
-returns g c =
+pub returns-clause-replaced : goal.returns-clause-replaced
+returns-clause-replaced g c =
     rw (c.in_ok-push_str-3.ensures.bytes, c.range_from.ensures.value)
     (all_replaced g.F.FnMut c.args.text.now c.args.matches.now c.args.replacer c.loop-found.replacer c.loop-found.found-index c.loop-found.from
     (string_bytes c.loop-found.out) c.loop-found.invariant.replaced (omega (arith, c.loop-found-test.false)))

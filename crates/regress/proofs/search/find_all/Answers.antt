@@ -1,3 +1,4 @@
+use Rattle.std.proofs.Common.{refl}
 use Rattle.regress_match.specs.Matcher.{factor_of}
 use Rattle.regress_match.specs.Pattern.{matcher_outcomes, matcher_setting, matcher_tree}
 use Rattle.regress_replace.proofs.lemmas.Found.{AreAllMatches-in_order, AreAllMatches-inside}
@@ -16,3 +17,6 @@ returns-in-Some-clause-order c =
 
 pub returns-in-None-clause-linear : goal.returns-in-None-clause-linear
 returns-in-None-clause-linear c = λ _. never_none (factor_of c.args.matcher.now) _ c.in_ok-all.ensures.linear c.in-None.is
+
+pub returns-in-None-clause-costs : goal.returns-in-None-clause-costs
+returns-in-None-clause-costs c = λ _. c.in_ok-all.ensures.costs (rw c.in-None.is refl)

@@ -1,5 +1,4 @@
 use Rattle.regress_syntax.specs.SettingOf.{setting_of}
-use Rattle.regress_parse.proofs.lemmas.Reported.{all_reported}
 use Rattle.regress_capi.proofs.DifferencesLemmas.{differences-are}
 use Rattle.regress_capi.proofs.differing.find_differences.Goals as goal
 
@@ -7,9 +6,3 @@ pub returns-clause-listed : goal.returns-clause-listed
 returns-clause-listed c =
     differences-are (setting_of c.args.flags c.args.tables.now) c.args.pattern.now (λ v. v.items) c.differences.result
     c.differences.ensures.listed c.differences.ensures.comparable
-
-pub returns-clause-reported : goal.returns-clause-reported
-returns-clause-reported c =
-    let known = c.differences.ensures in
-    all_reported (setting_of c.args.flags c.args.tables.now) c.args.pattern.now c.differences.result
-    known.reported known.limits known.position known.settled known.duplicate

@@ -13,5 +13,5 @@ returns-in-Ok c = record {
 
 pub returns-in-Err : goal.returns-in-Err
 returns-in-Err c = record {
-  status = rw c.of_fault.ensures (differences-fault (Unit {0}) c.in-Err.fault c.in-Err.ensures.rejected c.in-Err.ensures.reported);
+  status = rw c.of_fault.ensures (differences-fault c.in-Err.fault c.in-Err.ensures.rejected);
 }

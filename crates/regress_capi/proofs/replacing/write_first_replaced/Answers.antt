@@ -1,8 +1,10 @@
-use Rattle.std.proofs.Common.{string_bytes, subst}
-use Rattle.std.specs.Prelude.{IfOk}
+use Rattle.std.proofs.Common.{◌≡◌, string_bytes, subst}
+use Rattle.std.specs.Prelude.{IfErr, IfOk}
+use Rattle.regress.specs.Costs.{IsTooCostly}
+use Rattle.regress.specs.declared.failure.SearchError.TheVariants.{OutOfSteps}
 use Rattle.regress_capi.specs.ReplaceResults.{HasFirstReplaced}
 use Rattle.regress_capi.specs.SearchResults.{bad}
-use Rattle.regress_capi.proofs.ReplaceLemmas.{text-reports}
+use Rattle.regress_capi.proofs.ReplaceLemmas.{costly, text-reports}
 use Rattle.regress_capi.proofs.replacing.write_first_replaced.Goals as goal
 
 pub returns-in-Some : goal.returns-in-Some
@@ -11,7 +13,9 @@ returns-in-Some c = record {
       text-reports (λ out. string_bytes out) c.replace.result (c.in-Some.ensures.2, c.in-Some.ensures.3)
       (subst (λ t. IfOk c.replace.result (λ out. HasFirstReplaced c.args.regex.now c.args.replaced.text.now t (string_bytes out))) c.in-Some.ensures.1
       (subst (λ t. IfOk c.replace.result (λ out. HasFirstReplaced c.args.regex.now t c.in-Some.template.now (string_bytes out))) c.in-Some.ensures.0
-      c.replace.ensures))
+      c.replace.ensures.replaced))
+      (subst (λ t. IfErr c.replace.result (λ error. error ≡ OutOfSteps → IsTooCostly c.args.regex.now t 0)) c.in-Some.ensures.0
+      (costly c.replace.result c.replace.ensures.linear c.replace.ensures.bounded c.replace.ensures.costs))
       c.report.ensures;
 }
 

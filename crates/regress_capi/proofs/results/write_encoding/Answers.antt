@@ -21,5 +21,5 @@ pub returns-in-Err : goal.returns-in-Err
 returns-in-Err c = record {
   status =
       rw c.of_fault.ensures
-      (words-fault (Unit {0}) c.in-Err.fault (c.is_request.ensures.0 (cc)) c.in-Err.ensures.rejected c.in-Err.ensures.reported);
+      (words-fault c.in-Err.fault (c.is_request.ensures.0 (cc)) c.in-Err.ensures.rejected);
 }

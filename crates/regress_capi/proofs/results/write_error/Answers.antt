@@ -19,8 +19,7 @@ returns-in-Err-Syntax c = record {
   status =
       rw c.of_text.ensures
       (fault-given c.copy_to-fits.result c.in-Err-Syntax.kind _ _ c.as_bytes-bytes.result.now (c.is_request.ensures.0 (cc))
-      (rw c.in-Err-Syntax.field-0-is at c.in-Err-Syntax.ensures.rejected) (rw c.in-Err-Syntax.field-0-is at c.in-Err-Syntax.ensures.reported)
-      (rw c.in-Err-Syntax.field-0-is at c.in-Err-Syntax.ensures.text) (first_of (search rules, first_of (cc, grind (arith, common_steps))))
+      (rw c.in-Err-Syntax.field-0-is at c.in-Err-Syntax.ensures.rejected) (first_of (search rules, first_of (cc, grind (arith, common_steps))))
       c.copy_to-fits.ensures);
 }
 

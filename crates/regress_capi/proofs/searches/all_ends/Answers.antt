@@ -1,28 +1,24 @@
-use Rattle.std.proofs.Common.{Some, subst, sym}
-use Rattle.regress.specs.Compiled.{outcomes_of}
+use Rattle.std.proofs.Common.{Some, subst, sym, ◌∙◌}
+use Rattle.std.proofs.lemmas.Result.{err_from_is_err_and}
 use Rattle.regress.specs.Searched.{Advances}
-use Rattle.regress_capi.proofs.SearchLemmas.{HasEnds, all-ends, more-ends, no-ends}
+use Rattle.regress_capi.proofs.SearchLemmas.{HasEnds, all-ends, ends-late, more-ends, no-ends}
 use Rattle.regress_capi.proofs.searches.all_ends.Goals as goal
 
 pub loop-found-init : goal.loop-found-init
 loop-found-init c =
-    let text = c.args.text.now in
-    let at = outcomes_of c.args.regex.now text in
     let made = c.find_from-found-items.ensures in
-    subst (λ m. HasEnds text at c.args.from m c.new-ends.result.items) (sym c.into_iter-found-iterator.ensures.into_iter_gives)
-    (no-ends text at c.args.from c.find_from-found-items.result c.new-ends.result.items made.text made.outcomes made.failed made.from
-    c.new-ends.ensures.items)
+    subst (λ m. HasEnds c.args.regex.now c.args.text.now c.args.from m c.new-ends.result.items) (sym c.into_iter-found-iterator.ensures.into_iter_gives)
+    (no-ends c.args.regex.now c.args.text.now c.args.from c.find_from-found-items.result c.new-ends.result.items made.text made.outcomes made.matcher
+    made.limit made.remaining made.failed made.from c.new-ends.ensures.items)
 
 pub loop-found-preserved : goal.loop-found-preserved
 loop-found-preserved c =
-    let text = c.args.text.now in
-    let at = outcomes_of c.args.regex.now text in
     let now = c.loop-found.found-iterator in
     let new = c.next.new.self in
-    more-ends text at c.args.from now c.loop-found.ends.items c.loop-found.invariant new c.in_ok-found.found c.push_ends.new.ends.items
-    (subst (λ r. Advances now (Some r) new) c.in_ok-found.was c.in-Some.ensures.steps) c.in_ok-push_ends.ensures
+    more-ends c.args.regex.now c.args.text.now c.args.from now c.loop-found.ends.items c.loop-found.invariant new c.in_ok-found.found
+    c.push_spans.new.ends.items (subst (λ r. Advances now (Some r) new) c.in_ok-found.was c.in-Some.ensures.steps) c.in_ok-push_spans.ensures
 
-pub returns : goal.returns
-returns c =
-    all-ends c.args.text.now (outcomes_of c.args.regex.now c.args.text.now) c.args.from c.loop-found.found-iterator c.loop-found.ends.items
-    c.loop-found.invariant c.next.new.self c.in-None.ensures.steps
+pub returns-clause-ends : goal.returns-clause-ends
+returns-clause-ends c =
+    all-ends c.args.regex.now c.args.text.now c.args.from c.loop-found.found-iterator c.loop-found.ends.items c.loop-found.invariant c.next.new.self
+    c.in-None.ensures.steps

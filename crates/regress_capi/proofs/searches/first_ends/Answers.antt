@@ -5,10 +5,10 @@ use Rattle.regress_capi.specs.Spans.{match_ends}
 use Rattle.regress_found.specs.Found.{Finds}
 use Rattle.regress_capi.proofs.searches.first_ends.Goals as goal
 
-pub returns-in_ok-push_ends-in-Some : goal.returns-in_ok-push_ends-in-Some
-returns-in_ok-push_ends-in-Some c = (
+pub returns-in_ok-push_spans-in-Some-clause-ends : goal.returns-in_ok-push_spans-in-Some-clause-ends
+returns-in_ok-push_spans-in-Some-clause-ends c = (
   match_of c.in-Some.found,
   subst (λ r. Finds c.args.text.now (outcomes_of c.args.regex.now c.args.text.now) c.args.from (option_map match_of r)) c.in-Some.is
       c.in_ok-found.ensures.finds,
-  c.in_ok-push_ends-in-Some.ensures ∙ ap (λ xs. xs ++ match_ends (match_of c.in-Some.found)) c.new-ends.ensures.items,
+  c.in_ok-push_spans-in-Some.ensures ∙ ap (λ xs. xs ++ match_ends (match_of c.in-Some.found)) c.new-ends.ensures.items,
 )

@@ -1,5 +1,6 @@
 use Rattle.std.proofs.Common.{◌≡◌, true, sym, subst}
 use Rattle.regress.specs.Compiled.{outcomes_of}
+use Rattle.regress.specs.Costs.{IsTooCostly}
 use Rattle.regress.specs.Searched.{MatchesSomewhere}
 use Rattle.regress_capi.specs.SearchResults.{found, not_found, no_text}
 use Rattle.regress_capi.proofs.SearchLemmas.{test-fails}
@@ -21,7 +22,15 @@ returns-in-Ok-false c = record {
 }
 
 pub returns-in-Err-is_match : goal.returns-in-Err-is_match
-returns-in-Err-is_match c = record { status = test-fails c.in-Err-is_match.error c.in-Ok.ensures.cases.1 c.error_status.ensures }
+returns-in-Err-is_match c = record {
+  status =
+      test-fails c.in-Err-is_match.error c.in-Ok.ensures.cases.1
+      (λ is. subst (λ t. IsTooCostly c.args.regex.now t 0) c.in-Ok.ensures.cases.0 (record {
+        linear = c.in-Err-is_match.ensures.linear is;
+        bounded = c.in-Err-is_match.ensures.bounded is;
+        costs = c.in-Err-is_match.ensures.costs is;
+      })) c.error_status.ensures;
+}
 
 pub returns-in-Err : goal.returns-in-Err
 returns-in-Err c = record { status = no_text c.in-Err.ensures.cases.0 }

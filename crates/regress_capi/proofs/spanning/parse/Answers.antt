@@ -1,7 +1,5 @@
--- All that is known of an error of the parser is known of this one.
 use Rattle.regress_tree.specs.Tree.{tree}
 use Rattle.regress_syntax.specs.SettingOf.{setting_of}
-use Rattle.regress_parse.proofs.lemmas.Reported.{all_reported}
 use Rattle.regress_capi.proofs.SpannedLemmas.{placed-are}
 use Rattle.regress_capi.proofs.spanning.parse.Goals as goal
 
@@ -10,9 +8,3 @@ returns-clause-placed c =
     let known = c.try_parse_with_spans.ensures in
     placed-are (setting_of c.args.flags c.args.tables.now) c.args.pattern.now (λ parsed. tree parsed.regex.node) (λ parsed. parsed.spans.items)
     c.try_parse_with_spans.result known.spanned known.paired known.each known.meaning
-
-pub returns-clause-reported : goal.returns-clause-reported
-returns-clause-reported c =
-    let known = c.try_parse_with_spans.ensures in
-    all_reported (setting_of c.args.flags c.args.tables.now) c.args.pattern.now c.try_parse_with_spans.result
-    known.reported known.limits known.position known.settled known.duplicate

@@ -14,5 +14,5 @@ returns-in-Ok c = record {
 
 pub returns-in-Err : goal.returns-in-Err
 returns-in-Err c = record {
-  status = rw c.of_fault.ensures (spanned-fault (Unit {0}) c.in-Err.fault tt c.in-Err.ensures.rejected c.in-Err.ensures.reported);
+  status = rw c.of_fault.ensures (spanned-fault c.in-Err.fault tt c.in-Err.ensures.rejected);
 }

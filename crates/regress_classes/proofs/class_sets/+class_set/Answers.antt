@@ -297,8 +297,8 @@ parse_operands-returns-then-try_consume-clause-value t c = λ held is.
           (applied c.args.operator) so_far.value (source l.cursor) (operand.0, source c.parse_operand.new.cursor) (source c.try_consume.new.self)
           operand.1 (sym c.try_consume.ensures.found ∙ c.if-try_consume.true)
           (c.try_consume.ensures.moves ∙ cond-true _ _ _ c.if-try_consume.true),
-      subst (λ operator. IsValue c.in_ok-close.field-0 (applied operator so_far.value (value_of operand.0))) (l.invariant.0 held is).0
-          (c.in_ok-close.ensures so_far.value (value_of operand.0) so_far.is (c.in_ok-operand.ensures operand.0 operand.2)),
+      subst (λ operator. IsValue c.in_ok-finish.field-0 (applied operator so_far.value (value_of operand.0))) (l.invariant.0 held is).0
+          (c.in_ok-finish.ensures so_far.value (value_of operand.0) so_far.is (c.in_ok-operand.ensures operand.0 operand.2)),
     )
 
 pub parse_operands-returns-in_err-consume_operator-clause-value : goal.parse_operands-returns-in_err-consume_operator-clause-value
@@ -503,8 +503,8 @@ parse_operand-returns-in_err-into_nested-clause-value t c = let p = err_from_is_
 pub parse_operands-returns-in_err-operand-clause-value : goal.parse_operands-returns-in_err-operand-clause-value
 parse_operands-returns-in_err-operand-clause-value t c = let p = err_from_is_err_and c.from_residual-in_err-operand.result c.from_residual-in_err-operand.ensures.1 in λ _ _. rw (p.1, p.2) tt
 
-pub parse_operands-returns-in_err-close-clause-value : goal.parse_operands-returns-in_err-close-clause-value
-parse_operands-returns-in_err-close-clause-value t c = let p = err_from_is_err_and c.from_residual-in_err-close.result c.from_residual-in_err-close.ensures.1 in λ _ _. rw (p.1, p.2) tt
+pub parse_operands-returns-in_err-finish-clause-value : goal.parse_operands-returns-in_err-finish-clause-value
+parse_operands-returns-in_err-finish-clause-value t c = let p = err_from_is_err_and c.from_residual-in_err-finish.result c.from_residual-in_err-finish.ensures.1 in λ _ _. rw (p.1, p.2) tt
 
 pub parse_operands-returns-in_err-chain-clause-value : goal.parse_operands-returns-in_err-chain-clause-value
 parse_operands-returns-in_err-chain-clause-value t c = let p = err_from_is_err_and c.from_residual-in_err-chain.result c.from_residual-in_err-chain.ensures.1 in λ _ _. rw (p.1, p.2) tt

@@ -14,8 +14,8 @@ use Rattle.regress_differences.proofs.pattern.differences.Goals as goal
 pub returns-clause-listed : goal.returns-clause-listed
 returns-clause-listed c =
     listed (setting_of c.args.flags c.args.tables.now) c.args.pattern.now c.in_ok-find_differences.field-0.items
-    (postorder (tree c.in_ok-parsed.parsed.regex.node)) c.deref.result.now c.in_ok-parsed.parsed.spans.items c.flags_somewhere-widest.result
-    c.in_ok-find_differences.ensures c.flags_somewhere-widest.ensures c.deref.ensures.value c.in_ok-parsed.ensures.paired
+    (postorder (tree c.in_ok-parsed.parsed.regex.node)) c.deref.result.now c.in_ok-parsed.parsed.spans.items c.widest_flags-widest.result
+    c.in_ok-find_differences.ensures c.widest_flags-widest.ensures c.deref.ensures.value c.in_ok-parsed.ensures.paired
 
 pub returns-clause-within : goal.returns-clause-within
 returns-clause-within c =
@@ -23,7 +23,7 @@ returns-clause-within c =
     let ts = postorder (tree c.in_ok-parsed.parsed.regex.node) in
     let all = subst (λ (ss : List Span). All (IsWithin whole) ss) (sym c.deref.ensures.value) c.in_ok-parsed.ensures.within in
     subst (λ (ds : List Difference). All (λ d. IsWithin whole d.span) ds) (sym c.in_ok-find_differences.ensures)
-    (reported-spans c.flags_somewhere-widest.result c.args.pattern.now (IsWithin whole) ts c.deref.result.now all)
+    (reported-spans c.widest_flags-widest.result c.args.pattern.now (IsWithin whole) ts c.deref.result.now all)
 
 pub returns-clause-none : goal.returns-clause-none
 returns-clause-none c =

@@ -1,6 +1,6 @@
 use Rattle.regress_syntax.specs.SettingOf.{setting_of}
 use Rattle.regress_display.specs.Shown.{shows_spans}
-use Rattle.regress_display.proofs.ShownLemmas.{fault_of, spanned_parsed}
+use Rattle.regress_display.proofs.ShownLemmas.{spanned_parsed}
 use Rattle.regress_display.proofs.trees.parse_with.Goals as goal
 
 pub returns-then-reports_spans-clause-parsed : goal.returns-then-reports_spans-clause-parsed
@@ -8,12 +8,6 @@ returns-then-reports_spans-clause-parsed c =
     let request = c.args.request.now in
     spanned_parsed (shows_spans request.format request.stage) (setting_of request.flags c.args.tables.now) c.args.points.now
     c.try_parse_with_spans.result c.try_parse_with_spans.ensures.spanned
-
-pub returns-then-reports_spans-clause-rejected : goal.returns-then-reports_spans-clause-rejected
-returns-then-reports_spans-clause-rejected c =
-    let found = c.try_parse_with_spans in
-    fault_of (setting_of c.args.request.now.flags c.args.tables.now) c.args.points.now found.result found.ensures.rejected
-    found.ensures.text found.ensures.reported found.ensures.limits found.ensures.position found.ensures.settled found.ensures.duplicate
 
 pub returns-in-Ok-clause-parsed : goal.returns-in-Ok-clause-parsed
 returns-in-Ok-clause-parsed c =
@@ -24,10 +18,3 @@ returns-in-Ok-clause-parsed c =
       parsed = found.2;
       spans = λ shown. cc;
     }
-
-pub returns-in-Err-clause-rejected : goal.returns-in-Err-clause-rejected
-returns-in-Err-clause-rejected c =
-    let found = c.try_parse_with_position in
-    rw c.in-Err.is at
-    (fault_of (setting_of c.args.request.now.flags c.args.tables.now) c.args.points.now found.result found.ensures.rejected
-    found.ensures.text found.ensures.reported found.ensures.limits found.ensures.position found.ensures.settled found.ensures.duplicate)

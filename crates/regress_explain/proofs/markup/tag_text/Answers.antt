@@ -9,3 +9,7 @@ returns-in-Part c = rw c.in-Part.is
 pub returns-in-Line : goal.returns-in-Line
 returns-in-Line c = rw c.in-Line.is
     (IfOk-weaker c.format-in-Line.result _ _ (λ text is. is ∙ simp append_assoc) c.format-in-Line.ensures.ok)
+
+pub returns-in-To : goal.returns-in-To
+returns-in-To c = rw c.in-To.is
+    (IfOk-weaker c.format-in-To.result _ _ (λ text is. is ∙ simp append_assoc) c.format-in-To.ensures.ok)

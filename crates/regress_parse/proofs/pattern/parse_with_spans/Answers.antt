@@ -1,7 +1,6 @@
 use Rattle.std.proofs.Common.{refl}
 use Rattle.regress_syntax.specs.SettingOf.{setting_of}
-use Rattle.regress_parse.specs.Settled.{IsFinal, IsAtFirstDuplicate}
-use Rattle.regress_parse.proofs.SettledLemmas.{placed_settles}
+use Rattle.regress_parse.proofs.FaultLemmas.{placed_fault}
 use Rattle.regress_parse.proofs.pattern.parse_with_spans.Goals as goal
 
 pub returns-in-Ok-clause-spanned : goal.returns-in-Ok-clause-spanned
@@ -9,11 +8,8 @@ returns-in-Ok-clause-spanned c =
     let found = c.in-Ok.ensures.accepted in
     (found.0, found.1, found.2, c.in-Ok.ensures.spans refl found.0 found.1)
 
-pub returns-in-Err-clause-settled : goal.returns-in-Err-clause-settled
-returns-in-Err-clause-settled c =
-    placed_settles _ c.in-Err.fault _ (IsFinal (setting_of c.args.flags c.args.tables.now) c.args.pattern.now) c.position.ensures c.in-Err.ensures.settled
-
-pub returns-in-Err-clause-duplicate : goal.returns-in-Err-clause-duplicate
-returns-in-Err-clause-duplicate c =
-    placed_settles _ c.in-Err.fault _ (IsAtFirstDuplicate (setting_of c.args.flags c.args.tables.now) c.args.pattern.now) c.position.ensures
-    c.in-Err.ensures.duplicate
+pub returns-in-Err-clause-rejected : goal.returns-in-Err-clause-rejected
+returns-in-Err-clause-rejected c =
+    let known = c.in-Err.ensures in
+    placed_fault (setting_of c.args.flags c.args.tables.now) c.args.pattern.now c.in-Err.fault _ c.position.ensures known.reported known.limits
+    known.settled known.duplicate

@@ -1,4 +1,4 @@
-use Rattle.std.proofs.Common.{◌≡◌, Some, length, sym, ap, ◌∙◌, arith}
+use Rattle.std.proofs.Common.{◌≡◌, Bool, not, ◌&&◌, Some, length, sym, ap, ap₂, ◌∙◌, arith}
 use Rattle.regress_tree.specs.Tree.{tree}
 use Rattle.regress_program.specs.CodeOf.{code_in}
 use Rattle.regress_program.specs.Compiled.{total}
@@ -6,6 +6,7 @@ use Rattle.regress_program.specs.Contents.{content}
 use Rattle.regress_program.specs.LeavesOf.{leaves_of}
 use Rattle.regress_program.specs.Program.{Routine}
 use Rattle.regress_program.specs.Views.{program_in}
+use Rattle.regress_program.proofs.CoverLemmas.{linear_exactly, plain_exactly}
 use Rattle.regress_program.proofs.LeavesLemmas.{has-all}
 use Rattle.regress_program.proofs.OnceLemmas.{looks-tree, refers-tree, well_formed-tidy}
 use Rattle.regress_program.proofs.PieceLemmas.{program_linear, program_plain, program_tidy}
@@ -50,11 +51,15 @@ returns-clause-within c =
     omega (arith, body.grown.spent, none, ap length body.same)
 
 pub returns-clause-plain : goal.returns-clause-plain
-returns-clause-plain c = λ none.
+returns-clause-plain c =
     let leaves = c.in_ok-leaves.leaves.items in
     let has = has-all leaves (leaves_of (tree c.args.node.now)) (omega (arith, c.in_ok-leaves.leaves.ok)) c.in_ok-leaves.ensures in
-    program_plain _ (code_in leaves c.routine.new.self) (content (tree c.args.node.now)) c.in_ok-routine.field-0
-    (ap (program_in leaves) c.new.ensures.items) (c.in_ok-routine.ensures.emits.means leaves has).holds (refers-tree (tree c.args.node.now) ∙ none)
+    let body = c.in_ok-routine.ensures.emits.means leaves has in
+    let part = content (tree c.args.node.now) in
+    let i = c.in_ok-routine.field-0 in
+    plain_exactly _ (code_in leaves c.routine.new.self) part i body.covers
+    (program_plain _ (code_in leaves c.routine.new.self) part i (ap (program_in leaves) c.new.ensures.items) body.holds)
+    ∙ ap not (refers-tree (tree c.args.node.now))
 
 pub returns-clause-tidy : goal.returns-clause-tidy
 returns-clause-tidy c = λ well.
@@ -64,9 +69,12 @@ returns-clause-tidy c = λ well.
     (ap (program_in leaves) c.new.ensures.items) (c.in_ok-routine.ensures.emits.means leaves has).holds (well_formed-tidy (tree c.args.node.now) well)
 
 pub returns-clause-linear : goal.returns-clause-linear
-returns-clause-linear c = λ none spared.
+returns-clause-linear c =
     let leaves = c.in_ok-leaves.leaves.items in
     let has = has-all leaves (leaves_of (tree c.args.node.now)) (omega (arith, c.in_ok-leaves.leaves.ok)) c.in_ok-leaves.ensures in
-    program_linear _ (code_in leaves c.routine.new.self) (content (tree c.args.node.now)) c.in_ok-routine.field-0
-    (ap (program_in leaves) c.new.ensures.items) (c.in_ok-routine.ensures.emits.means leaves has).holds (refers-tree (tree c.args.node.now) ∙ none)
-    (looks-tree (tree c.args.node.now) ∙ spared)
+    let body = c.in_ok-routine.ensures.emits.means leaves has in
+    let part = content (tree c.args.node.now) in
+    let i = c.in_ok-routine.field-0 in
+    linear_exactly _ (code_in leaves c.routine.new.self) part i body.covers
+    (program_linear _ (code_in leaves c.routine.new.self) part i (ap (program_in leaves) c.new.ensures.items) body.holds)
+    ∙ ap₂ (λ (a b : Bool). not a && not b) (refers-tree (tree c.args.node.now)) (looks-tree (tree c.args.node.now))

@@ -1,7 +1,6 @@
 use Rattle.std.proofs.Common.{◌≡◌, Some, option_map, refl, sym, ap, ◌∙◌, ℕ, List}
 use Rattle.regress_syntax.specs.Names.{group_name_at}
-use Rattle.regress_syntax.specs.Meaning.{groups_named}
-use Rattle.regress_syntax.specs.Syntax.{by_name, back_reference}
+use Rattle.regress_syntax.specs.Syntax.{by_name, back_reference, groups_named}
 use Rattle.regress_syntax.specs.Views.{context_of}
 use Rattle.regress_lexer.specs.Views.{source}
 use Rattle.regress_syntax.proofs.ReferenceLemmas.{named-some, named-unknown}

@@ -8,7 +8,7 @@ use Rattle.regress_found.specs.Found.{state_of}
 use Rattle.regress_program.specs.Views.{routine_in}
 use Rattle.regress_program.specs.Isolated.{Captures}
 use Rattle.regress_program.specs.Program.{Out, Routine}
-use Rattle.regress_tables.specs.Searchable.{IsEnd, IsFirst, captures_in, outcomes_in, program_in}
+use Rattle.regress_tables.specs.Searchable.{IsEnd, IsFirstOutcome, captures_in, outcomes_in, program_in}
 use Rattle.regress_tables.specs.Slots.{AreInside, resolved}
 use Rattle.regress_tables.specs.declared.first.FirstOutcome.{FirstOutcome}
 use Rattle.regress_program.proofs.lemmas.Totals.{routine_size, total_part}
@@ -35,7 +35,7 @@ returns-in-Some-clause-solved c = λ outs solves.
     let o = c.in-Some.first in
     let m = c.new.result in
     let index : length (program_in f) - 1 ≡ last = omega (arith, c.len-last.ensures, length-map f.input.code.now.program.routines.items (routine_in f.input.code.now.program.leaves.items)) in
-    let first = (subst (IsFirst f last n start) c.in-Some.is c.in_ok-first.ensures.first) outs solves in
+    let first = (subst (IsFirstOutcome f last n start) c.in-Some.is c.in_ok-first.ensures.first) outs solves in
     let ends = subst (λ x. IfSome x (IsEnd f last n)) c.in-Some.is c.in_ok-first.ensures.end in
     let captures = c.in_ok-captures.ensures (captures_in f outs n)
     ∙ ap (resolved (captures_in f outs n)) c.deref.ensures.value
@@ -80,7 +80,7 @@ loop-start-preserved c =
             walked = w.walked-is ∙ w.in_ok-first.ensures.none w.in_default.is ∙ c.loop-start.invariant.walked;
             none = λ outs solves.
                 none-more f.input.text.now (at outs) c.args.from start (c.loop-start.invariant.none outs solves)
-                (λ on. ap (λ k. outcomes_in f outs k n start) index ∙ (subst (IsFirst f last n start) w.in_default.is w.in_ok-first.ensures.first) outs solves);
+                (λ on. ap (λ k. outcomes_in f outs k n start) index ∙ (subst (IsFirstOutcome f last n start) w.in_default.is w.in_ok-first.ensures.first) outs solves);
           }
       | else-is_char_boundary w ↦
           record {

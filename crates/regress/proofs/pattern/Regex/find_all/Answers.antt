@@ -1,9 +1,11 @@
-use Rattle.std.proofs.Common.{Some, [], map, subst, sym}
+use Rattle.std.proofs.Common.{Some, [], ◌∷◌, map, subst, sym}
+use Rattle.std.proofs.lemmas.List.{map-append}
 use Rattle.regress.specs.Costs.{factor_of}
 use Rattle.regress.specs.Compiled.{groups_of, outcomes_of}
 use Rattle.regress.specs.Found.{match_of}
 use Rattle.regress.specs.Searched.{Advances}
 use Rattle.regress.proofs.FoundLemmas.{HasFoundWith, all_found, begins_with, inside_each, one_more_with}
+use Rattle.regress.proofs.lemmas.Paid.{HasPaid, none_paid, one_more_paid}
 use Rattle.regress.proofs.pattern.Regex.find_all.Goals as goal
 
 pub loop-found-init : goal.loop-found-init
@@ -13,9 +15,14 @@ loop-found-init c =
     let groups = groups_of c.args.self.now in
     let factor = factor_of c.args.self.now in
     let made = c.find_iter-found-items.ensures in
-    subst (λ ms. HasFoundWith text at groups factor c.into_iter-found-iterator.result ms) (sym c.new-all.ensures.items)
-    (subst (λ m. HasFoundWith text at groups factor m []) (sym c.into_iter-found-iterator.ensures.into_iter_gives)
-    (begins_with text at groups factor c.find_iter-found-items.result made.text made.outcomes made.groups made.linear made.failed made.from))
+    record {
+      has = subst (λ ms. HasFoundWith text at groups factor c.into_iter-found-iterator.result ms) (sym c.new-all.ensures.items)
+          (subst (λ m. HasFoundWith text at groups factor m []) (sym c.into_iter-found-iterator.ensures.into_iter_gives)
+          (begins_with text at groups factor c.find_iter-found-items.result made.text made.outcomes made.groups made.linear made.failed made.from));
+      paid = subst (λ ms. HasPaid c.args.self.now text 0 c.into_iter-found-iterator.result (map match_of ms)) (sym c.new-all.ensures.items)
+          (subst (λ m. HasPaid c.args.self.now text 0 m []) (sym c.into_iter-found-iterator.ensures.into_iter_gives)
+          (none_paid c.args.self.now text 0 c.find_iter-found-items.result made.matcher made.text made.limit made.remaining));
+    }
 
 pub loop-found-preserved : goal.loop-found-preserved
 loop-found-preserved c =
@@ -25,14 +32,21 @@ loop-found-preserved c =
     let groups = groups_of c.args.self.now in
     let now = c.loop-found.found-iterator in
     let new = c.next.new.self in
-    subst (λ ms. HasFoundWith text at groups factor new ms) (sym c.in_ok-push.ensures.items)
-    (one_more_with text at groups factor now c.loop-found.all.items c.loop-found.invariant new c.in_ok-found.found
-    (subst (λ r. Advances now (Some r) new) c.in_ok-found.was c.in-Some.ensures.steps))
+    let step = subst (λ r. Advances now (Some r) new) c.in_ok-found.was c.in-Some.ensures.steps in
+    let so_far = c.loop-found.invariant in
+    record {
+      has = subst (λ ms. HasFoundWith text at groups factor new ms) (sym c.in_ok-push.ensures.items)
+          (one_more_with text at groups factor now c.loop-found.all.items so_far.has new c.in_ok-found.found step);
+      paid = subst (λ ms. HasPaid c.args.self.now text 0 new (map match_of ms)) (sym c.in_ok-push.ensures.items)
+          (subst (HasPaid c.args.self.now text 0 new) (sym (map-append match_of c.loop-found.all.items (c.in_ok-found.found ∷ [])))
+          (one_more_paid c.args.self.now text 0 now (map match_of c.loop-found.all.items) so_far.paid so_far.has.found.found new
+          c.in_ok-found.found step));
+    }
 
 pub returns-clause-all : goal.returns-clause-all
 returns-clause-all c =
     all_found c.args.text.now (outcomes_of c.args.self.now c.args.text.now) c.loop-found.found-iterator
-    (map match_of c.loop-found.all.items) c.loop-found.invariant.found c.next.new.self c.in-None.ensures.steps
+    (map match_of c.loop-found.all.items) c.loop-found.invariant.has.found c.next.new.self c.in-None.ensures.steps
 
 pub returns-clause-inside : goal.returns-clause-inside
-returns-clause-inside c = inside_each c.args.text.now c.loop-found.all.items c.loop-found.invariant.found.inside
+returns-clause-inside c = inside_each c.args.text.now c.loop-found.all.items c.loop-found.invariant.has.found.inside

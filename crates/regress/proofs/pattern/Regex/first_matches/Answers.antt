@@ -2,6 +2,7 @@ use Rattle.std.proofs.Common.{◌<◌, Some, length, subst, sym, arith}
 use Rattle.regress.specs.Compiled.{outcomes_of}
 use Rattle.regress.specs.Searched.{Advances}
 use Rattle.regress.proofs.FoundLemmas.{HasFound, fewer_found, in_order, one_more}
+use Rattle.regress.proofs.lemmas.Paid.{HasPaid, one_more_paid}
 use Rattle.regress.proofs.pattern.Regex.first_matches.Goals as goal
 
 pub loop-matches-preserved : goal.loop-matches-preserved
@@ -11,10 +12,13 @@ loop-matches-preserved c =
     let now = c.loop-matches.matches in
     let new = c.next.new.self in
     let few : length c.loop-matches.first.items < c.args.count = omega (arith, c.loop-matches-test.true, c.len.ensures) in
+    let step = subst (λ r. Advances now (Some r) new) c.in_ok-found-in-Some.was c.in-Some.ensures.steps in
+    let so_far = c.loop-matches.invariant in
     record {
       found = subst (λ ms. HasFound text at new ms) (sym c.in_ok-push-in-Some.ensures.items)
-          (one_more text at now c.loop-matches.first.items c.loop-matches.invariant.found new c.in_ok-found-in-Some.field-0
-          (subst (λ r. Advances now (Some r) new) c.in_ok-found-in-Some.was c.in-Some.ensures.steps));
+          (one_more text at now c.loop-matches.first.items so_far.found new c.in_ok-found-in-Some.field-0 step);
+      paid = subst (HasPaid c.args.self.now text 0 new) (sym c.in_ok-push-in-Some.ensures.items)
+          (one_more_paid c.args.self.now text 0 now c.loop-matches.first.items so_far.paid so_far.found.found new c.in_ok-found-in-Some.field-0 step);
       few = omega (arith, few, c.in_ok-push-in-Some.ensures.len);
     }
 

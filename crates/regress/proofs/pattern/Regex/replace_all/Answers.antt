@@ -4,8 +4,8 @@ use Rattle.regress_replace.specs.Expansion.{expansion}
 use Rattle.regress_replace.specs.Replaced.{replaced}
 use Rattle.regress.proofs.pattern.Regex.replace_all.Goals as goal
 
-pub returns : goal.returns
-returns c =
+pub returns-clause-replaced : goal.returns-clause-replaced
+returns-clause-replaced c =
     let text = c.args.text.now in
     record {
       matches = c.in_ok-matches.matches.items;

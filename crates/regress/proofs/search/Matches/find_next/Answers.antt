@@ -1,10 +1,11 @@
 use Rattle.std.proofs.Common.{ap, refl}
 use Rattle.std.proofs.Math.Logic.{∥∥₁_elim}
+use Rattle.regress_match.specs.Iterated.{steps_remaining}
 use Rattle.regress_match.specs.Matcher.{factor_of}
 use Rattle.regress_match.proofs.lemmas.Iterated.{same_outcomes}
 use Rattle.regress.specs.Inside.{IsInside-prop}
-use Rattle.regress.specs.Searched.{searched_factor}
-use Rattle.regress.proofs.FoundLemmas.{never_out_next}
+use Rattle.regress.specs.Searched.{next_from, search_remaining, searched_factor, searched_matcher, searched_text}
+use Rattle.regress.proofs.FoundLemmas.{costs_remaining, never_out_next}
 use Rattle.regress.proofs.search.Matches.find_next.Goals as goal
 
 pub returns-in-Matched : goal.returns-in-Matched
@@ -14,7 +15,10 @@ returns-in-Matched c = record {
     outcomes = same_outcomes c.args.self.now.matches c.next.new.self c.in_ok-found.ensures.same;
     groups = refl;
     linear = ap factor_of c.in_ok-found.ensures.same.matcher;
+    matcher = c.in_ok-found.ensures.same.matcher;
     limit = c.in_ok-found.ensures.same.limit;
+    spent = c.in_ok-found.ensures.spent.remaining;
+    taken = c.in_ok-found.ensures.spent.taken;
   };
   failed = refl;
   returns = record {
@@ -22,6 +26,8 @@ returns-in-Matched c = record {
     inside = ∥∥₁_elim c.args.self.now.well_formed (IsInside-prop _ _) (rw c.in-Matched.is at c.in_ok-found.ensures.inside);
     groups = refl;
     goes_on = rw c.in-Matched.is at c.in_ok-found.ensures.goes_on;
+    counted = rw c.in-Matched.is at c.in_ok-found.ensures.counted;
+    costs = c.in_ok-found.ensures.costs;
   };
 }
 
@@ -32,7 +38,10 @@ returns-in-NoMatch c = record {
     outcomes = same_outcomes c.args.self.now.matches c.next.new.self c.in_ok-found.ensures.same;
     groups = refl;
     linear = ap factor_of c.in_ok-found.ensures.same.matcher;
+    matcher = c.in_ok-found.ensures.same.matcher;
     limit = c.in_ok-found.ensures.same.limit;
+    spent = c.in_ok-found.ensures.spent.remaining;
+    taken = c.in_ok-found.ensures.spent.taken;
   };
   failed = refl;
   returns = rw c.in-NoMatch.is at c.in_ok-found.ensures.finds;
@@ -45,11 +54,19 @@ returns-in-OutOfSteps c = record {
     outcomes = same_outcomes c.args.self.now.matches c.next.new.self c.in_ok-found.ensures.same;
     groups = refl;
     linear = ap factor_of c.in_ok-found.ensures.same.matcher;
+    matcher = c.in_ok-found.ensures.same.matcher;
     limit = c.in_ok-found.ensures.same.limit;
+    spent = c.in_ok-found.ensures.spent.remaining;
+    taken = c.in_ok-found.ensures.spent.taken;
   };
   failed = refl;
   returns = (
     rw c.in-OutOfSteps.is at c.in_ok-found.ensures.goes_on,
-    λ _. never_out_next (searched_factor c.args.self.now) _ c.in_ok-found.ensures.linear c.in-OutOfSteps.is,
+    λ _. record {
+      linear = never_out_next (searched_factor c.args.self.now) _ c.in_ok-found.ensures.linear c.in-OutOfSteps.is;
+      costs = costs_remaining (searched_matcher c.args.self.now) (searched_text c.args.self.now) (next_from c.args.self.now)
+          (search_remaining c.args.self.now) (steps_remaining c.next.new.self) (searched_factor c.args.self.now) _ c.in_ok-found.ensures.linear
+          c.in_ok-found.ensures.limited c.in_ok-found.ensures.costs c.in-OutOfSteps.is;
+    },
   );
 }

@@ -2,7 +2,9 @@ use Rattle.std.proofs.Common.{rules, arith, ◌≤◌, ◌<◌, ℕ, length, sym
 use Rattle.std.specs.Str.{IsCharBoundary}
 use Rattle.regress_found.specs.Found.{NoneBefore}
 use Rattle.regress_program.specs.Program.{Out}
-use Rattle.regress_backtrack.specs.Backtracker.{AreOutcomes, cost_at, outcomes_at, run_tables, run_text}
+use Rattle.regress_program.proofs.lemmas.Solutions.{solution}
+use Rattle.regress_code.specs.Code.{code_routines, setting_with}
+use Rattle.regress_backtrack.specs.Backtracker.{AreOutcomes, cost_at, outcomes_at, run_code, run_tables, run_text}
 use Rattle.regress_found.specs.Results.{IsMatchResult}
 use Rattle.regress_found.specs.declared.outcome.Outcome.TheVariants as outcomes
 use Rattle.regress_backtrack.proofs.CandidateLemmas.{none_after, none_before}
@@ -67,6 +69,7 @@ loop-from-preserved c =
         same = rw w.self-is (SameRuns-trans a b w.match_in.new.self so_far.same w.match_in.ensures.same);
         from = omega (arith, so_far.from, within.0);
         remaining = omega (arith, w.remaining-is, w.in_ok-found.ensures.remaining, c.saturating_sub.ensures, so_far.remaining);
+        counted = omega (arith, w.remaining-is, w.in_ok-found.ensures.remaining, c.saturating_sub.ensures, so_far.counted, so_far.from, within.0);
         solved = λ outs are.
             none_more text (outcomes_at a outs) c.args.from k (none outs are)
             (λ on. subst (IsMatchResult k (outcomes_at a outs k)) w.in-NoMatch.is
@@ -86,6 +89,7 @@ loop-from-preserved c =
         same = rw w.self-is so_far.same;
         from = omega (arith, so_far.from, within.0);
         remaining = omega (arith, w.remaining-is, c.saturating_sub.ensures, so_far.remaining);
+        counted = omega (arith, w.remaining-is, c.saturating_sub.ensures, so_far.counted, so_far.from, within.0);
         solved = λ outs are.
             none_more text (outcomes_at a outs) c.args.from k (none outs are)
             (λ on. absurd (not_true c.is_char_boundary.result w.if-is_char_boundary.false (c.is_char_boundary.ensures.test.1 on)));
@@ -101,6 +105,17 @@ loop-from-preserved c =
     ]
 
 -- ---- the cost of the search
+
+pub returns-in-Matched-clause-tried : goal.returns-in-Matched-clause-tried
+returns-in-Matched-clause-tried c =
+    let a = c.args.self.now in
+    let k = c.in-Some.position in
+    let some = solution (setting_with (run_code a) (run_tables a)) (run_text a) (code_routines (run_code a)) a.code.now.program.is_program in
+    let within = subst (λ r. IfSome r (λ (p : ℕ). (c.loop-from.from ≤ p) × (p ≤ length (run_text a)))) c.in-Some.is c.next_start.ensures.within in
+    let so_far = c.loop-from.invariant in
+    let first = subst (IsMatchResult k (outcomes_at a some.0 k)) c.in-Matched.is
+    (same_solved a c.loop-from.self (λ states. IsMatchResult k states c.in_ok-found.field-0) k so_far.same c.in_ok-found.ensures.solved some.0 some.1) in
+    omega (arith, first.0, within.0, so_far.from, so_far.counted, c.saturating_sub.ensures, c.in_ok-found.ensures.remaining)
 
 pub returns-in-Matched-clause-costs : goal.returns-in-Matched-clause-costs
 returns-in-Matched-clause-costs c = λ outs costs are.

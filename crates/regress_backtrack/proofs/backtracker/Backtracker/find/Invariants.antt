@@ -1,4 +1,5 @@
--- No character boundary before the current position has an outcome, and the steps so far are at most the cost up to there.
+-- No character boundary before the current position has an outcome, and the steps so far are at most the cost up to there,
+-- and at least one for each position.
 use Rattle.std.proofs.Common.{◌≤◌, ◌+◌, ◌-◌, ℕ, length}
 use Rattle.regress_found.specs.Found.{NoneBefore}
 use Rattle.regress_program.specs.Cost.{Cost}
@@ -12,6 +13,7 @@ invariant-loop-from l = record {
   same : SameRuns l.fn.self l.self;
   from : l.fn.from ≤ l.from;
   remaining : l.remaining ≤ l.fn.remaining;
+  counted : l.remaining ≤ l.fn.remaining - (l.from - l.fn.from);
   solved : (outs : ℕ → Out) → AreOutcomes l.fn.self outs → NoneBefore (run_text l.fn.self) (outcomes_at l.fn.self outs) l.fn.from l.from;
   costs : (outs : ℕ → Out) (costs : ℕ → Cost) → AreCosts l.fn.self outs costs →
       l.fn.remaining ≤ l.remaining + tried (cost_at l.fn.self costs) l.fn.from (l.from - l.fn.from);

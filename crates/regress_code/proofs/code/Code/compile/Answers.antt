@@ -12,10 +12,10 @@ new-requires c =
     c.in_ok-program.ensures.pattern c.candidates_of-candidates.ensures
 
 pub returns-clause-linear : goal.returns-clause-linear
-returns-clause-linear c = λ none spared. ap is_linear c.in_ok-code.ensures.routines ∙ c.in_ok-program.ensures.linear none spared
+returns-clause-linear c = ap is_linear c.in_ok-code.ensures.routines ∙ c.in_ok-program.ensures.linear
 
 pub returns-clause-plain : goal.returns-clause-plain
-returns-clause-plain c = λ none. ap has_no_back_reference c.in_ok-code.ensures.routines ∙ c.in_ok-program.ensures.plain none
+returns-clause-plain c = ap has_no_back_reference c.in_ok-code.ensures.routines ∙ c.in_ok-program.ensures.plain
 
 pub returns-clause-tidy : goal.returns-clause-tidy
 returns-clause-tidy c = λ well. c.in_ok-code.ensures.tidy ∙ c.in_ok-program.ensures.known well

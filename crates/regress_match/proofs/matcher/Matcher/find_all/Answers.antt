@@ -1,16 +1,25 @@
-use Rattle.std.proofs.Common.{ℕ, Some, None, IfSome, IsSome, refl, subst}
+use Rattle.std.proofs.Common.{◌≡◌, ℕ, Some, None, IfNone, IfSome, IsSome, arith, refl, subst, sym}
+use Rattle.regress_found.specs.Results.{IfOutOfSteps}
+use Rattle.regress_match.specs.Iterated.{iterated_matcher, step_limit, steps_remaining}
 use Rattle.regress_match.specs.Matcher.{factor_of}
 use Rattle.regress_match.proofs.IterationLemmas.{all_found, one_more}
+use Rattle.regress_match.proofs.PaidLemmas.{HasPaid, costs_of_matches, one_more_paid}
 use Rattle.regress_match.proofs.lemmas.Iterated.{remaining-falls}
 use Rattle.regress_match.proofs.MatcherLemmas.{if_some, map_some}
 use Rattle.regress_match.proofs.matcher.Matcher.find_all.Goals as goal
 
 pub loop-matches-init : goal.loop-matches-init
-loop-matches-init c = rw c.new-all.ensures.items (record {
-  same_matcher = c.find_iter-matches.ensures.matcher;
-  same_text = c.find_iter-matches.ensures.text;
-  found = c.find_iter-matches.ensures.from;
-})
+loop-matches-init c = record {
+  has = rw c.new-all.ensures.items (record {
+    found = record {
+      same_matcher = c.find_iter-matches.ensures.matcher;
+      same_text = c.find_iter-matches.ensures.text;
+      found = c.find_iter-matches.ensures.from;
+    };
+    paid = λ outs costs are. omega (arith, c.find_iter-matches.ensures.remaining);
+  });
+  limit = c.find_iter-matches.ensures.limit;
+}
 
 pub loop-matches-smaller : goal.loop-matches-smaller
 loop-matches-smaller c =
@@ -19,18 +28,33 @@ loop-matches-smaller c =
 
 pub loop-matches-preserved : goal.loop-matches-preserved
 loop-matches-preserved c =
-    rw c.in_ok-push-in-Matched.ensures.items
-    (one_more _ _ c.loop-matches.matches c.loop-matches.all.items c.loop-matches.invariant c.next.new.self c.in-Matched.found
-    (rw c.in-Matched.is at c.in_ok-found.ensures.finds) (rw c.in-Matched.is at c.in_ok-found.ensures.goes_on) c.in_ok-found.ensures.same)
+    let now = c.loop-matches.matches in
+    let next = c.in_ok-found.ensures in
+    let so_far = c.loop-matches.invariant in
+    record {
+      has = rw c.in_ok-push-in-Matched.ensures.items
+          (one_more_paid _ _ now c.next.new.self c.loop-matches.all.items so_far.has next.costs c.in-Matched.found
+          (one_more _ _ now c.loop-matches.all.items so_far.has.found c.next.new.self c.in-Matched.found
+          (rw c.in-Matched.is at next.finds) (rw c.in-Matched.is at next.goes_on) next.same) next.same);
+      limit = subst (λ k. IfNone (factor_of c.args.self.now) (k ≡ c.args.steps)) (sym next.same.limit) so_far.limit;
+    }
 
 pub returns-in-NoMatch : goal.returns-in-NoMatch
 returns-in-NoMatch c = record {
-  all = all_found _ _ c.loop-matches.matches c.loop-matches.all.items c.loop-matches.invariant (rw c.in-NoMatch.is at c.in_ok-found.ensures.finds);
+  all = all_found _ _ c.loop-matches.matches c.loop-matches.all.items c.loop-matches.invariant.has.found (rw c.in-NoMatch.is at c.in_ok-found.ensures.finds);
   linear = if_some (factor_of c.args.self.now) (IsSome (Some c.loop-matches.all)) refl;
+  costs = λ none. absurd (cc);
 }
 
 pub returns-in-OutOfSteps-clause-linear : goal.returns-in-OutOfSteps-clause-linear
 returns-in-OutOfSteps-clause-linear c =
     let spent = rw c.in-OutOfSteps.is at c.in_ok-found.ensures.linear in
     map_some (factor_of c.args.self.now) ⊥ (IsSome {T = ℕ} None) (λ h. absurd h)
-    (subst (λ m. IfSome (factor_of m) (λ _. ⊥)) c.loop-matches.invariant.same_matcher spent)
+    (subst (λ m. IfSome (factor_of m) (λ _. ⊥)) c.loop-matches.invariant.has.found.same_matcher spent)
+
+pub returns-in-OutOfSteps-clause-costs : goal.returns-in-OutOfSteps-clause-costs
+returns-in-OutOfSteps-clause-costs c = λ _.
+    let so_far = c.loop-matches.invariant in
+    let next = c.in_ok-found.ensures in
+    costs_of_matches c.args.self.now c.args.text.now c.loop-matches.matches c.next.new.self c.loop-matches.all.items so_far.has next.costs c.args.steps
+    so_far.limit (rw c.in-OutOfSteps.is at next.linear) (rw c.in-OutOfSteps.is at next.limited)

@@ -1,10 +1,16 @@
--- The list has the matches that the search has found.
-use Rattle.regress_match.proofs.IterationLemmas.{HasFound}
+-- The list has the matches that the search has found, and its steps are at most what they cost.
+use Rattle.std.proofs.Common.{◌≡◌, IfNone}
+use Rattle.regress_match.specs.Iterated.{step_limit}
+use Rattle.regress_match.specs.Matcher.{factor_of}
+use Rattle.regress_match.proofs.PaidLemmas.{HasPaid}
 use Rattle.regress_match.proofs.lemmas.Iterated.{remaining}
 use Rattle.regress_match.proofs.matcher.Matcher.find_all.Given as goal
 
 abbrev pub invariant-loop-matches : goal.invariant-loop-matches
-invariant-loop-matches l = HasFound l.fn.self l.text l.matches l.all.items
+invariant-loop-matches l = record {
+  has : HasPaid l.fn.self l.text l.matches l.all.items;
+  limit : IfNone (factor_of l.fn.self) (step_limit l.matches ≡ l.fn.steps);
+}
 
 abbrev pub decreases-loop-matches : goal.decreases-loop-matches
 decreases-loop-matches l = remaining l.matches

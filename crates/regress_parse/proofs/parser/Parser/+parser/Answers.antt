@@ -4,7 +4,7 @@ use Rattle.std.proofs.lemmas.List.{length_push}
 use Rattle.std.proofs.lemmas.Result.{err_from_is_err_and, on_ok_weaker}
 use Rattle.regress_lexer.specs.declared.fault.FaultKind.TheVariants.{TooDeep}
 use Rattle.regress_lexer.specs.Source.{Source, Found, found_map, opening, is_at, ends_alternative, bar as the_bar}
-use Rattle.regress_syntax.specs.Syntax.{Group, Counts, atom}
+use Rattle.regress_syntax.specs.Syntax.{Group, Counts, atom, direction_of_group}
 use Rattle.regress_syntax.specs.Productions.{Context, context_inside, opens, allows, group_at, head_at}
 use Rattle.regress_syntax.specs.Views.{group_of}
 use Rattle.regress_base.specs.Limits.{max_nesting_depth}
@@ -17,7 +17,6 @@ use Rattle.regress_syntax.proofs.lemmas.Lengths.{opened_by-one}
 use Rattle.regress_parse.proofs.ReachLemmas.{no_limit, nesting_reach, groups_reach, reaches_before, spends_same, spends_then, spends_read, costs_spends, terms_at-costs, item_at-costs, term_at-costs}
 use Rattle.regress_tree.specs.Tree.{tree}
 use Rattle.regress_tree.specs.Visits.{nodes}
-use Rattle.regress_syntax.specs.Meaning.{direction_of_group}
 use Rattle.regress_parse.specs.TreeOf.{concatenation}
 use Rattle.regress_parse.specs.declared.span.Span.{Span}
 use Rattle.regress_parse.specs.Spans.{between, span_of_group}

@@ -11,10 +11,10 @@ use Rattle.regress_tree.specs.declared.ir.node.Node.{the_lemmas}
 use Rattle.regress_tree.specs.Reading.{direction_if}
 use Rattle.regress_tree.specs.Tree.{Tree, alt, cat, loop, loop_one, tree, trees, wrapped}
 use Rattle.regress_program.specs.Alternatives.{HasLeft, Waiting}
-use Rattle.regress_program.specs.Adds.{Holds, Tidies}
+use Rattle.regress_program.specs.Adds.{Covers, Holds, Tidies}
 use Rattle.regress_program.specs.CodeOf.{code_in, iterating, iteration_of, iteration_size, loop_of, Coded, CopiesWith, Emits, Spends}
 use Rattle.regress_program.specs.Compiled.{matching, strings, exactly, optional, any_number, extra, after_iterations, Compiled}
-use Rattle.regress_program.specs.Contents.{nothing, content, content_of_parts, either_of, in_iteration, in_iterations}
+use Rattle.regress_program.specs.Contents.{nothing, content, content_of_parts, either_of, in_iteration, in_iterations, in_loop}
 use Rattle.regress_program.specs.Iterates.{Iterates}
 use Rattle.regress_program.specs.LeavesOf.{leaves_of, leaves_of_loop, leaves_of_parts, leaves_of_strings}
 use Rattle.regress_program.specs.Program.{part, repeat}
@@ -22,11 +22,12 @@ use Rattle.regress_program.specs.Pushed.{Pushed}
 use Rattle.regress_program.specs.declared.loops.Iterations.{Iterations}
 use Rattle.regress_program.specs.Size.{size, size_of_optional, size_of_loop, size_of_parts}
 use Rattle.regress_program.specs.Views.{leaf_in, op_in, ops_in, routine_in, program_in}
-use Rattle.regress_program.proofs.AddLemmas.{IsPartOf, part-same, part-left, part-right, adds-none, adds-part, adds-then, longer, pushed-ops, pushed-routines}
+use Rattle.regress_program.proofs.AddLemmas.{IsPartOf, part-same, part-left, part-right, adds-none, adds-part, adds-then, longer, longer-push, pushed-ops, pushed-routines}
 use Rattle.regress_program.proofs.AlternativeLemmas.{waiting_none, waiting_push, waiting_pop, waiting_later, waiting_done, compiled_alternative, tidies_alternative}
 use Rattle.regress_program.proofs.CodeLemmas.{Grown-same, Grown-then, Grown-push}
 use Rattle.regress_program.proofs.CompileLemmas.{compiled_nothing, compiled_part, compiled_group, compiled_unset, compiled_without_groups, compiled_earlier, compiled_later}
 use Rattle.regress_program.proofs.CountLemmas.{compiled_counted, compiled_plain}
+use Rattle.regress_program.proofs.CoverLemmas.{HasNone, covers_either, covers_earlier, covers_fewer, covers_group, covers_iterations, covers_later, covers_leaf, covers_look, covers_mandatory, covers_no_mandatory, covers_none, covers_repeated, covers_routine, covers_sequence, covers_unset, covers_without_groups, covers_written, fewer_in_loop, longer-then, never_has, no_more_none, no_more_runs, none_characters, none_nothing, none_one, pushed-below}
 use Rattle.regress_program.proofs.LeavesLemmas.{copies-bounded, has-at, has-first, has-leaf, has-room, has-same, has-second, loop-leaves, many-wrapped, never-bounds, never-leaves, one-leaf, one-wrapped, optional_copies, parts-leaves, some-copies}
 use Rattle.regress_program.proofs.PieceLemmas.{part-then, tidies_later, tidies_earlier, tidies_or, holds_less, holds_nothing, holds_part, holds_group, holds_unset, less_without_groups, holds_last, holds_more, holds_optional, holds_any_number, holds_no_mandatory, holds_mandatory, holds_repeated, holds_plain, holds_look, holds_routine, holds_counted, holds_sequence, adds_split, plain_leaf}
 use Rattle.regress_program.proofs.RepeatLemmas.{Written, iterates_last, iterates_more, compiled_optional, compiled_any_number, compiled_mandatory, compiled_never, compiled_no_mandatory, compiled_unbounded, compiled_bounded, compiled_repeated}
@@ -73,6 +74,12 @@ any_number-returns-clause-emits t c =
             holds =
                 holds_any_number a b e g h c.args.iterations.greedy (iteration_of c.args.iterations (content (tree c.args.body.now))) c.args.next
                 c.in_ok-again.again c.in_ok-start.start at one.compiled.grown (c.in_ok-again.ensures.emits.means leaves) one.holds written (pushed.means leaves);
+            covers =
+                let first = c.in_ok-again.ensures.emits.means leaves in
+                let i = iteration_of c.args.iterations (content (tree c.args.body.now)) in
+                covers_later a g h (in_iterations i) (longer-push g h _ at (pushed.means leaves))
+                (covers_earlier a b g (in_iterations i) (longer-push a b _ c.in_ok-again.again first)
+                (covers_iterations b g i (covers_written b e g i c.in_ok-again.again _ (pushed-below a b _ c.in_ok-again.again first) written one.covers)));
           };
     })
     c.push-2.ensures.emits
@@ -90,6 +97,7 @@ at_most-returns-then-count-eq0-clause-emits t c = record {
             subst (λ (k : ℕ). Compiled a a (optional c.args.iterations.greedy k f) c.args.next c.args.next) (sym c.if-count-eq0.true)
             (compiled_nothing a c.args.next (below leaves c.args.self.now.instructions.items c.args.next c.requires));
         holds = holds_nothing a (loop_of c.args.iterations (content (tree c.args.body.now))) c.args.next;
+        covers = λ some. absurd (omega (arith, some, c.if-count-eq0.true));
       };
 }
 
@@ -108,6 +116,13 @@ at_most-loop-i-init t c = record {
       holds_last (code_in leaves c.args.self.now) (code_in leaves c.push.new.self) (code_in leaves c.iteration.new.self)
       (iteration_of c.args.iterations (content (tree c.args.body.now))) c.args.next c.in_ok-end.end c.in_ok-start.start one.compiled.grown
       (c.in_ok-end.ensures.emits.means leaves) one.holds;
+  covers = λ leaves has.
+      let a = code_in leaves c.args.self.now in
+      let b = code_in leaves c.push.new.self in
+      let e = code_in leaves c.iteration.new.self in
+      let i = iteration_of c.args.iterations (content (tree c.args.body.now)) in
+      covers_earlier a b e (in_iterations i) (longer-push a b _ c.in_ok-end.end (c.in_ok-end.ensures.emits.means leaves))
+      (covers_iterations b e i (c.in_ok-start.ensures.emits.means leaves has).covers);
   spent = omega (arith, c.in_ok-end.ensures.spends, c.in_ok-start.ensures.spends);
 }
 
@@ -133,6 +148,14 @@ at_most-loop-i-preserved t c =
           (code_in leaves c.iteration-in-loop-i.new.self) c.args.iterations.greedy (iteration_of c.args.iterations (content (tree c.args.body.now))) c.args.next
           l.start c.in_ok-again.again c.in_ok-start-2.start (l.invariant.iterates leaves has).grown one.compiled.grown (l.invariant.holds leaves has)
           (c.in_ok-again.ensures.emits.means leaves) one.holds;
+      covers = λ leaves has.
+          let a = code_in leaves c.args.self.now in
+          let b = code_in leaves l.self in
+          let e = code_in leaves c.push-in-loop-i.new.self in
+          let g = code_in leaves c.iteration-in-loop-i.new.self in
+          let i = in_iterations (iteration_of c.args.iterations (content (tree c.args.body.now))) in
+          covers_later a e g i (longer e g (c.in_ok-start-2.ensures.emits.means leaves has).compiled.grown)
+          (covers_later a b e i (longer-push b e _ c.in_ok-again.again (c.in_ok-again.ensures.emits.means leaves)) (l.invariant.covers leaves has));
       spent =
           let n = iteration_size c.args.iterations (tree c.args.body.now) in
           omega (arith, l.invariant.spent, c.in_ok-again.ensures.spends, c.in_ok-start-2.ensures.spends, copies-more (n + 1) l._i);
@@ -158,6 +181,11 @@ at_most-returns-clause-emits t c =
                 holds_optional (code_in leaves c.args.self.now) (code_in leaves l.self) (code_in leaves c.push-2.new.self) c.args.iterations.greedy
                 (iteration_of c.args.iterations (content (tree c.args.body.now))) c.args.next l.start at (l.invariant.iterates leaves has).grown
                 (l.invariant.holds leaves has) (pushed.means leaves);
+            covers = λ some.
+                let b = code_in leaves l.self in
+                let e = code_in leaves c.push-2.new.self in
+                covers_later (code_in leaves c.args.self.now) b e (loop_of c.args.iterations (content (tree c.args.body.now)))
+                (longer-push b e _ at (pushed.means leaves)) (l.invariant.covers leaves has);
           };
     })
     c.push-2.ensures.emits
@@ -178,6 +206,10 @@ iteration-returns-then-self-before-clause-emits t c = record {
             let i = c.args.iterations in
             holds_less (code_in leaves c.args.self.now) (code_in leaves c.node.new.self) f (iteration_of i f) c.args.next c.in_ok-contents.contents
             (less_without_groups f i.start i.end c.if-iterations.true) body.holds;
+        covers =
+            let i = c.args.iterations in
+            covers_without_groups (code_in leaves c.args.self.now) (code_in leaves c.node.new.self) (content (tree c.args.body.now)) i.start i.end
+            c.if-iterations.true body.covers;
       };
 }
 
@@ -197,6 +229,9 @@ iteration-returns-clause-emits t c =
             holds =
                 holds_unset (code_in leaves c.args.self.now) (code_in leaves c.node.new.self) (code_in leaves c.push.new.self) (content (tree c.args.body.now))
                 c.args.iterations.start c.args.iterations.end c.args.next c.in_ok-contents.contents at body.compiled.grown body.holds (pushed.means leaves);
+            covers =
+                covers_unset (code_in leaves c.args.self.now) (code_in leaves c.node.new.self) (code_in leaves c.push.new.self) (content (tree c.args.body.now))
+                c.args.iterations.start c.args.iterations.end c.in_ok-contents.contents at body.compiled.grown body.covers (pushed.means leaves);
           };
     })
     c.push.ensures.emits
@@ -215,7 +250,10 @@ repeat-returns-then-is_never-clause-emits t c = record {
             (never-bounds q never).0 (never-bounds q never).1
             (λ d setting bytes. Stays-iteration bytes d (matching (tree c.args.body.now) d setting bytes) (Stays-tree setting bytes d (tree c.args.body.now))
             c.args.iterations.start c.args.iterations.end) (below leaves c.args.self.now.instructions.items c.args.next c.requires.below);
-        holds = holds_nothing (code_in leaves c.args.self.now) (loop_of c.args.iterations (content (tree c.args.body.now))) c.args.next;
+        holds = holds_nothing (code_in leaves c.args.self.now) (in_loop q (loop_of c.args.iterations (content (tree c.args.body.now)))) c.args.next;
+        covers =
+            let i = loop_of c.args.iterations (content (tree c.args.body.now)) in
+            covers_none (code_in leaves c.args.self.now) (code_in leaves c.args.self.now) (in_loop q i) (never_has q i never);
       };
 }
 
@@ -271,6 +309,7 @@ repeat-loop-i-init t c =
                       compiled_unbounded a (code_in leaves new) q f c.args.next n w.in-None.is
                       (subst (λ g. Compiled a (code_in leaves new) (any_number g f) c.args.next n) c.requires.greedy one.compiled);
                   holds = one.holds;
+                  covers = λ some. one.covers;
                 })))
             | repeat-in-Some+in_ok-entry-in-Some w ↦
                 (let new = w.at_most.new.self in
@@ -290,12 +329,14 @@ repeat-loop-i-init t c =
                       (subst (λ k. Compiled a e (optional q.greedy k f) c.args.next n) w.saturating_sub.ensures
                       (subst (λ g. Compiled a e (optional g w.saturating_sub.result f) c.args.next n) c.requires.greedy some.compiled));
                   holds = some.holds;
+                  covers = λ is. some.covers (omega (arith, is, number));
                 })))
           ] in
           record {
             after = λ some. optional_part.after (omega (arith, some));
             compiled = compiled_no_mandatory a b f (extra q f) c.args.next c.match-quantifier.entry optional_part.compiled;
             holds = holds_no_mandatory a b body (in_iterations body) c.args.next c.match-quantifier.entry optional_part.holds;
+            covers = λ some. covers_no_mandatory a b body (optional_part.covers (omega (arith, some)));
           };
       spent = omega (arith, spent);
     }
@@ -319,6 +360,8 @@ repeat-loop-i-preserved t c =
             holds =
                 holds_mandatory (code_in leaves c.args.self.now) (code_in leaves l.self) (code_in leaves c.iteration.new.self) body (in_iterations body)
                 c.args.next l.entry c.in_ok-entry.entry before.compiled.grown one.compiled.grown before.holds one.holds;
+            covers = λ some.
+                covers_mandatory (code_in leaves c.args.self.now) (code_in leaves l.self) (code_in leaves c.iteration.new.self) body before.compiled.grown one.covers;
           };
       spent =
           let n = iteration_size c.args.iterations (tree c.args.body.now) in
@@ -334,6 +377,7 @@ repeat-returns-clause-emits t c =
     let some = sym c.is_never.ensures ∙ c.if-is_never.false in
     let all : l._i ≡ q.min = omega (arith, l.auto._i-end, c.loop-i-test.false) in
     let is = loop-leaves q ts some in
+    let body = iteration_of c.args.iterations (content (tree c.args.body.now)) in
     record {
       begins = l.invariant.begins;
       grown = l.invariant.grown;
@@ -347,8 +391,13 @@ repeat-returns-clause-emits t c =
                 (subst (λ k. Compiled (code_in leaves c.args.self.now) (code_in leaves l.self) (after_iterations k f (extra q f)) c.args.next l.entry) all
                 copies.compiled);
             holds =
-                holds_repeated (code_in leaves c.args.self.now) (code_in leaves l.self) (iteration_of c.args.iterations (content (tree c.args.body.now)))
-                c.args.next l.entry copies.holds;
+                holds_less (code_in leaves c.args.self.now) (code_in leaves l.self) (in_iterations body) (in_loop q (in_iterations body)) c.args.next l.entry
+                (no_more_runs q (in_iterations body) some)
+                (holds_repeated (code_in leaves c.args.self.now) (code_in leaves l.self) body c.args.next l.entry copies.holds);
+            covers =
+                covers_fewer (code_in leaves c.args.self.now) (code_in leaves l.self) (in_iterations body) (in_loop q (in_iterations body))
+                (fewer_in_loop q (in_iterations body))
+                (covers_repeated (code_in leaves c.args.self.now) (code_in leaves l.self) body (copies.covers (omega (arith, all, some-copies q some))));
           };
     }
 
@@ -417,8 +466,12 @@ repeat_character-returns-clause-emits t c =
             compiled =
                 compiled_counted u c.requires.one a b (code_in leaves c.exactly.new.self) q c.args.next c.match-quantifier.entry at optional_part.0 counted;
             holds =
-                holds_counted a b (code_in leaves c.exactly.new.self) body c.args.next c.match-quantifier.entry at optional_part.0.grown last.compiled.grown
-                optional_part.1 last.holds;
+                let e = code_in leaves c.exactly.new.self in
+                let none = none_one u c.requires.one in
+                holds_less a e (in_iterations body) (in_loop q (in_iterations body)) c.args.next at
+                (no_more_none q (in_iterations body) (record { refers = none.refers; captures = none.captures; looks = none.looks }))
+                (holds_counted a b e body c.args.next c.match-quantifier.entry at optional_part.0.grown last.compiled.grown optional_part.1 last.holds);
+            covers = λ some. absurd (omega (arith, some));
           };
     })
     c.exactly.ensures.emits
@@ -441,6 +494,9 @@ repeat_one-returns-in_ok-entry-clause-emits t c =
             after = omega (arith, c.saturating_add-self.ensures, has-room leaves from u one, ap length sole, ap length (one-leaf u takes));
             compiled = (emits.means leaves body).compiled;
             holds = (emits.means leaves body).holds;
+            covers =
+                covers_none (code_in leaves c.args.self.now) (code_in leaves c.repeat_character.new.self) (content (wrapped (loop_one q) u))
+                (none_characters q u takes);
           };
     }
 
@@ -460,6 +516,7 @@ repeat_one-returns-else-takes_one-clause-emits t c =
             after = omega (arith, is.after, ap length sole);
             compiled = is.compiled;
             holds = is.holds;
+            covers = is.covers;
           };
     })
     c.repeat.ensures.emits
@@ -484,6 +541,9 @@ look-returns-clause-emits t c =
             holds =
                 holds_look (code_in leaves c.args.self.now) (code_in leaves c.routine.new.self) (code_in leaves c.push.new.self)
                 (content (tree c.args.contents.now)) c.args.negate i c.args.next at body.has.grown body.holds (pushed.means leaves);
+            covers =
+                covers_look (code_in leaves c.args.self.now) (code_in leaves c.routine.new.self) (code_in leaves c.push.new.self)
+                (content (tree c.args.contents.now)) c.args.negate i c.args.next at body.has.grown body.covers (pushed.means leaves);
           };
     })
     c.push.ensures.emits
@@ -525,6 +585,12 @@ routine-returns-clause-emits t c = record {
             (ap (program_in leaves) pushed ∙ map-append (routine_in leaves) body.routines.items (r ∷ [])) ops
             (ap (λ v. ops_in leaves v.items) c.replace-instructions.ensures.value)
             (omega (arith, c.len.ensures, c.push-2.new.self.ok, long, length-map body.routines.items (routine_in leaves)));
+        covers =
+            covers_routine a (code_in leaves emptied) (code_in leaves c.push.new.self) (code_in leaves body) (code_in leaves new) (content (tree c.args.node.now))
+            (routine_in leaves r) c.in_ok-push.field-0 (c.len.result - 1) is.compiled.grown cleared (c.in_ok-push.ensures.emits.means leaves) is.covers
+            (ap (program_in leaves) pushed ∙ map-append (routine_in leaves) body.routines.items (r ∷ []))
+            (ap (λ v. ops_in leaves v.items) c.replace-instructions.ensures.value)
+            (omega (arith, c.len.ensures, c.push-2.new.self.ok, long, length-map body.routines.items (routine_in leaves)));
       };
 }
 
@@ -544,6 +610,7 @@ node-loop-rest-init t c =
                 (waiting_none a a c.args.next (tree c.args.node.now));
             adds = adds-none a (content (tree c.args.node.now));
             part = part-same (content (tree c.args.node.now));
+            covers = λ e more is. is;
             has = has;
             after = refl;
           };
@@ -591,6 +658,11 @@ node-loop-rest-preserved t c =
                 adds-then a b e whole node.compiled.grown.ops node.compiled.grown.routines before.adds
                 (adds-part b e (content (tree left)) whole first node.holds.adds);
             part = part-then (content (tree right)) sides whole (part-right (content (tree left)) (content (tree right))) part;
+            covers = λ g more rest.
+                let to_e = longer b e node.compiled.grown in
+                let first = covers_later a e g (content (tree left)) more (covers_earlier a b e (content (tree left)) (longer a b before.grown) node.covers) in
+                before.covers g (longer-then b e g to_e more)
+                (subst (λ u. Covers a g (content u)) (sym rest-is) (covers_either a g (content (tree left)) (content (tree right)) first rest));
             has =
                 has-at leaves (l.self.next_leaf + length (leaves_of (tree left))) c.node.new.self.next_leaf (leaves_of (tree right)) node.after
                 (has-second leaves l.self.next_leaf (leaves_of (tree left)) (leaves_of (tree right)) both);
@@ -628,6 +700,9 @@ node-loop-first-init t c =
                 adds-then a b e (content (tree c.args.node.now)) last.compiled.grown.ops last.compiled.grown.routines before.adds
                 (adds-part b e (content (tree l.rest.now)) (content (tree c.args.node.now)) before.part last.holds.adds);
             tidies = tidies_earlier a b e (content (tree l.rest.now)) c.args.next c.in_ok-entry.entry before.grown last.holds.tidies;
+            covers =
+                before.covers e (longer b e last.compiled.grown)
+                (covers_earlier a b e (content (tree l.rest.now)) (longer a b before.grown) last.covers);
             after = last.after ∙ before.after;
           };
       spent = omega (arith, l.invariant.spent, c.in_ok-entry.ensures.spends);
@@ -662,6 +737,7 @@ node-loop-first-preserved t c =
             tidies =
                 tidies_alternative a b e c.args.next c.in-Some.first l.entry c.in_ok-entry-2.entry popped.0 before.joined (longer a b before.compiled.grown)
                 popped.1.1 before.tidies pushed;
+            covers = covers_later a b e (content whole) (longer b e grown) before.covers;
             after = c.push-in-Some.ensures.leaf ∙ before.after;
           };
       spent =
@@ -686,6 +762,7 @@ node-returns-clause-emits t c =
             after = is.after;
             compiled = subst (λ u. Compiled a b (matching u) c.args.next l.entry) (sym same) is.compiled;
             holds = record { adds = is.adds; tidies = subst (λ u. Tidies a b (content u) c.args.next l.entry) (sym same) is.tidies };
+            covers = is.covers;
           };
     }
 
@@ -720,6 +797,11 @@ other-returns-in_ok-contents-in-CaptureGroup-clause-emits t c =
                 subst (λ u. Holds a g (content u) c.args.next at) (sym is)
                 (holds_group a (code_in leaves c.push.new.self) (code_in leaves c.node.new.self) g (content body) id c.args.next c.in_ok-end-in-CaptureGroup.end
                 c.in_ok-contents-in-CaptureGroup.contents at contents.compiled.grown (c.in_ok-end-in-CaptureGroup.ensures.emits.means leaves) contents.holds
+                (pushed.means leaves));
+            covers =
+                subst (λ u. Covers a g (content u)) (sym is)
+                (covers_group a (code_in leaves c.push.new.self) (code_in leaves c.node.new.self) g (content body) id c.args.next c.in_ok-end-in-CaptureGroup.end
+                c.in_ok-contents-in-CaptureGroup.contents at contents.compiled.grown (c.in_ok-end-in-CaptureGroup.ensures.emits.means leaves) contents.covers
                 (pushed.means leaves));
           };
     })
@@ -794,6 +876,12 @@ other-returns-in_ok-second-in-Alt-clause-emits t c =
                       tidies_or a e g (content left) (content right) next first second at (longer a e (Grown-then a b e one.compiled.grown more)) has-left.tidies
                       (tidies_earlier a b e (content right) next second one.compiled.grown two.holds.tidies) (pushed.means leaves);
                 });
+            covers =
+                subst (λ u. Covers a g (content u)) (sym is)
+                (covers_later a e g both_sides (longer-push e g _ at (pushed.means leaves))
+                (covers_either a e (content left) (content right)
+                (covers_later a b e (content left) (longer b e more) one.covers)
+                (covers_earlier a b e (content right) (longer a b one.compiled.grown) two.covers)));
           };
     })
     c.push-in-Alt.ensures.emits
@@ -819,6 +907,7 @@ other-returns-in_default-clause-emits t c =
             compiled =
                 compiled_part a b u c.args.next at (part_if_leaf _ leaf) (below leaves c.args.self.now.instructions.items c.args.next c.requires) emitted;
             holds = holds_part a b (content u) u c.args.next at (plain_leaf u leaf) emitted;
+            covers = covers_leaf a b u c.args.next at leaf emitted;
           };
     })
     c.push_leaf.ensures.emits
@@ -880,6 +969,9 @@ other-returns-in-Empty-clause-emits t c = record {
             nothing_at_empty (code_in leaves c.args.self.now) (tree c.args.node.now) c.args.next is
             (below leaves c.args.self.now.instructions.items c.args.next c.requires);
         holds = holds_nothing (code_in leaves c.args.self.now) (content (tree c.args.node.now)) c.args.next;
+        covers =
+            covers_none (code_in leaves c.args.self.now) (code_in leaves c.args.self.now) (content (tree c.args.node.now))
+            (subst (λ u. HasNone (content u)) (sym is) none_nothing);
       };
 }
 
@@ -895,6 +987,9 @@ other-returns-in-Goal-clause-emits t c = record {
             nothing_at_goal (code_in leaves c.args.self.now) (tree c.args.node.now) c.args.next is
             (below leaves c.args.self.now.instructions.items c.args.next c.requires);
         holds = holds_nothing (code_in leaves c.args.self.now) (content (tree c.args.node.now)) c.args.next;
+        covers =
+            covers_none (code_in leaves c.args.self.now) (code_in leaves c.args.self.now) (content (tree c.args.node.now))
+            (subst (λ u. HasNone (content u)) (sym is) none_nothing);
       };
 }
 
@@ -914,6 +1009,9 @@ sequence-loop-i-init t c =
                   subst (λ xs. Compiled a a (matching (cat (trees xs))) c.args.next c.args.next) (sym none)
                   (compiled_nothing a c.args.next (below leaves c.args.self.now.instructions.items c.args.next c.requires));
               holds = holds_nothing a (content_of_parts (trees (drop (length c.args.parts.now) c.args.parts.now))) c.args.next;
+              covers =
+                  covers_none a a (content_of_parts (trees (drop (length c.args.parts.now) c.args.parts.now)))
+                  (subst (λ xs. HasNone (content_of_parts (trees xs))) (sym none) none_nothing);
             };
       };
       spent = omega (arith, ap (λ xs. size_of_parts (trees xs)) none);
@@ -947,6 +1045,9 @@ sequence-loop-i-preserved t c =
                   holds_sequence (code_in leaves c.args.self.now) (code_in leaves l.self) (code_in leaves c.node.new.self) c.args.parts.now l.i (l.i - 1) x
                   c.args.next l.entry c.in_ok-entry.entry before.compiled.grown one.compiled.grown refl c.loop-i-test.true l.invariant.within c.index-parts-i.is
                   before.holds one.holds;
+              covers =
+                  covers_sequence (code_in leaves c.args.self.now) (code_in leaves l.self) (code_in leaves c.node.new.self) c.args.parts.now l.i (l.i - 1) x
+                  before.compiled.grown one.compiled.grown refl c.loop-i-test.true l.invariant.within c.index-parts-i.is before.covers one.covers;
             };
       };
       spent =

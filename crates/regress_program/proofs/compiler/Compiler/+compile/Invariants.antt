@@ -2,7 +2,7 @@ use Rattle.std.proofs.Common.{◌≡◌, ℕ, ◌+◌, ◌-◌, ◌*◌, ◌≤�
 use Rattle.regress_leaves.specs.declared.test.Test.{Test}
 use Rattle.regress_tree.specs.declared.ir.node.Node.{size-Node}
 use Rattle.regress_tree.specs.Tree.{Tree, tree, trees, cat}
-use Rattle.regress_program.specs.Adds.{Holds}
+use Rattle.regress_program.specs.Adds.{Covers, Holds}
 use Rattle.regress_program.specs.CodeOf.{code_in, iterating, iteration_of, iteration_size, loop_of, CopiesWith, Emits, Spends}
 use Rattle.regress_program.specs.Compiled.{Matching, matching, extra, after_iterations}
 use Rattle.regress_program.specs.Contents.{Contents, after_all, content, content_of_parts, in_iterations}
@@ -25,6 +25,8 @@ invariant-at_most-loop-i l =
           Iterates (code_in leaves l.fn.self) (code_in leaves l.self) l.iterations.greedy (iterating l.iterations (matching (tree l.fn.body))) l.next l.start (l._i - 1);
       holds : (leaves : List Test) → HasLeaves leaves l.iterations.first_leaf ts →
           Holds (code_in leaves l.fn.self) (code_in leaves l.self) (loop_of l.iterations (content (tree l.fn.body))) l.next l.start;
+      covers : (leaves : List Test) → HasLeaves leaves l.iterations.first_leaf ts →
+          Covers (code_in leaves l.fn.self) (code_in leaves l.self) (loop_of l.iterations (content (tree l.fn.body)));
       spent : Spends l.fn.self l.self ((iteration_size l.iterations (tree l.fn.body) + 1) * l._i);
     }
 

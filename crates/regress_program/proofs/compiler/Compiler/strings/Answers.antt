@@ -10,6 +10,7 @@ use Rattle.regress_program.specs.Contents.{nothing}
 use Rattle.regress_program.specs.LeavesOf.{leaves_of_strings}
 use Rattle.regress_program.specs.Program.{part}
 use Rattle.regress_program.specs.Pushed.{Pushed}
+use Rattle.regress_program.proofs.CoverLemmas.{covers_none, none_nothing}
 use Rattle.regress_program.proofs.LeavesLemmas.{has-at, has-first, has-leaf, has-room, has-same, has-second, string-at, strings-leaves}
 use Rattle.regress_program.proofs.PieceLemmas.{holds_fail, holds_part, holds_string}
 use Rattle.regress_program.proofs.ViewLemmas.{below, no_strings, last_string, more_strings}
@@ -30,6 +31,7 @@ returns-then-i-eq0-clause-emits c = λ icase.
                 no_strings (code_in leaves c.args.self.now) (code_in leaves c.push.new.self) c.args.alternatives.now icase c.args.next at c.if-i-eq0.true
                 (pushed.means leaves);
             holds = holds_fail (code_in leaves c.args.self.now) (code_in leaves c.push.new.self) nothing c.args.next at (pushed.means leaves);
+            covers = covers_none (code_in leaves c.args.self.now) (code_in leaves c.push.new.self) nothing none_nothing;
           };
     })
     c.push.ensures.emits
@@ -63,6 +65,7 @@ loop-i-init c =
                   last_string a b ss (n - 1) at.0 (boxed_slice_items at.0) icase c.args.next c.in_ok-entry.entry refl some at.1 refl
                   (below leaves c.args.self.now.instructions.items c.args.next c.requires) text;
               holds = holds_part a b nothing t c.args.next c.in_ok-entry.entry (λ none. refl) text;
+              covers = covers_none a b nothing none_nothing;
             };
       };
       spent = omega (arith, some, c.in_ok-entry.ensures.spends);
@@ -112,6 +115,7 @@ loop-i-preserved c =
               holds =
                   holds_string a b e g t c.args.next l.entry c.in_ok-first.first c.in_ok-entry-2.entry before.compiled.grown refl before.holds text
                   (c.in_ok-entry-2.ensures.emits.means leaves);
+              covers = covers_none a g nothing none_nothing;
             };
       };
       spent =

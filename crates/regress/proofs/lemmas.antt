@@ -1,0 +1,2 @@
+-- Lemmas about this crate's definitions, for the crates that use it.
+pub mod Paid

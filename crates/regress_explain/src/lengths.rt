@@ -1,0 +1,184 @@
+//! How many characters a pattern matches.
+
+use regress_base::types::Quantifier;
+use regress_tree::ir::Node;
+use regress_tree::ir::held::body;
+use std::alloc::{AllocError, Global};
+
+/// How many characters are matched.
+#[derive(Clone, Copy)]
+pub(crate) struct Length {
+    /// At least.
+    pub(crate) min: usize,
+    /// At most, if there is a bound that is known.
+    pub(crate) max: Option<usize>,
+}
+
+impl Length {
+    fn exactly(count: usize) -> Length {
+        Length {
+            min: count,
+            max: Some(count),
+        }
+    }
+
+    /// Returns the length of this and something after it.
+    fn then(self, next: Length) -> Length {
+        Length {
+            min: self.min.saturating_add(next.min),
+            max: match (self.max, next.max) {
+                (Some(first), Some(second)) => first.checked_add(second),
+                _ => None,
+            },
+        }
+    }
+
+    /// Returns the length of this or of something else.
+    fn or(self, other: Length) -> Length {
+        Length {
+            min: self.min.min(other.min),
+            max: match (self.max, other.max) {
+                (Some(first), Some(second)) => Some(first.max(second)),
+                _ => None,
+            },
+        }
+    }
+
+    /// Returns the length of a loop around this.
+    fn times(self, quant: &Quantifier) -> Length {
+        Length {
+            min: self.min.saturating_mul(quant.min),
+            max: match (self.max, quant.max) {
+                (Some(0), _) | (_, Some(0)) => Some(0),
+                (Some(length), Some(count)) => length.checked_mul(count),
+                _ => None,
+            },
+        }
+    }
+}
+
+/// The lengths of the groups before a node, at most.
+type Groups = Vec<Option<usize>>;
+
+/// Returns how many characters a tree matches, or `None` if it never matches since a set in it is empty.
+///
+/// # Errors
+/// Returns [`AllocError`] if an allocation fails.
+pub(crate) fn matched_length(alloc: Global, root: &Node) -> Result<Option<Length>, AllocError> {
+    let mut groups = Vec::new(alloc);
+    length_of(root, &mut groups)
+}
+
+/// Returns the length of a node.
+#[cycle(length_of)]
+fn length_of(node: &Node, groups: &mut Groups) -> Result<Option<Length>, AllocError> {
+    match node {
+        Node::Alt(..) => length_of_alternatives(node, groups),
+        Node::Cat(parts) => length_of_all(parts, groups),
+        Node::LookaroundAssertion { .. } => Ok(Some(Length::exactly(0))),
+        _ => {
+            let Some(body) = body(node) else {
+                return Ok(length_of_leaf(node, groups));
+            };
+            let inside = length_of(body, groups)?;
+            length_around(node, inside, groups)
+        }
+    }
+}
+
+/// Returns the length of one of alternatives. It iterates over right sides.
+#[cycle(length_of)]
+fn length_of_alternatives(node: &Node, groups: &mut Groups) -> Result<Option<Length>, AllocError> {
+    let Node::Alt(left, right) = node else {
+        return Ok(None);
+    };
+    let mut sum = length_of(left, groups)?;
+    let mut rest: &Node = right;
+    while let Node::Alt(left, right) = rest {
+        sum = either(sum, length_of(left, groups)?);
+        rest = right;
+    }
+    Ok(either(sum, length_of(rest, groups)?))
+}
+
+/// Returns the length of one of two nodes, each of which may never match.
+fn either(first: Option<Length>, second: Option<Length>) -> Option<Length> {
+    match (first, second) {
+        (Some(first), Some(second)) => Some(first.or(second)),
+        _ => first.or(second),
+    }
+}
+
+#[cycle(length_of)]
+fn length_of_all(parts: &[Node], groups: &mut Groups) -> Result<Option<Length>, AllocError> {
+    let mut sum = Some(Length::exactly(0));
+    for part in parts {
+        let next = length_of(part, groups)?;
+        sum = match (sum, next) {
+            (Some(sum), Some(next)) => Some(sum.then(next)),
+            _ => None,
+        };
+    }
+    Ok(sum)
+}
+
+/// Returns the length of a loop or a group, and records that of a group.
+fn length_around(
+    node: &Node,
+    inside: Option<Length>,
+    groups: &mut Groups,
+) -> Result<Option<Length>, AllocError> {
+    match node {
+        Node::Loop { quant, .. } | Node::Loop1CharBody { quant, .. } => Ok(match inside {
+            Some(inside) => Some(inside.times(quant)),
+            None if quant.min == 0 => Some(Length::exactly(0)),
+            None => None,
+        }),
+        Node::CaptureGroup { id, .. } => {
+            let id = usize::from(*id);
+            for _missing in groups.len()..id + 1 {
+                groups.push(None)?;
+            }
+            if let Some(point) = groups.get_mut(id) {
+                *point = inside.and_then(|inside| inside.max);
+            }
+            Ok(inside)
+        }
+        _ => Ok(inside),
+    }
+}
+
+/// Returns the length of a node without a body.
+fn length_of_leaf(node: &Node, groups: &Groups) -> Option<Length> {
+    match node {
+        Node::Char { .. } | Node::MatchAny | Node::MatchAnyExceptLineTerminator => {
+            Some(Length::exactly(1))
+        }
+        Node::ByteSet(bytes) if !bytes.is_empty() => Some(Length::exactly(1)),
+        Node::CharSet(all) if !all.is_empty() => Some(Length::exactly(1)),
+        Node::Bracket(contents) if !contents.is_empty() => Some(Length::exactly(1)),
+        Node::ByteSet(_) | Node::CharSet(_) | Node::Bracket(_) => None,
+        Node::ByteSequence(bytes) => Some(Length {
+            min: bytes.len().min(1),
+            max: Some(bytes.len()),
+        }),
+        Node::StringSet { alternatives, .. } => {
+            let mut sum = None;
+            for text in alternatives {
+                sum = either(sum, Some(Length::exactly(text.len())));
+            }
+            sum
+        }
+        Node::BackRef { group, .. } => Some(Length {
+            min: 0,
+            max: longest(*group, groups),
+        }),
+        _ => Some(Length::exactly(0)),
+    }
+}
+
+/// Returns how long the text of a group is at most, numbered from 1.
+fn longest(group: u32, groups: &Groups) -> Option<usize> {
+    let index = group.checked_sub(1)?;
+    *groups.get(index as usize)?
+}

@@ -1,0 +1,165 @@
+//! One sentence about a pattern.
+
+use crate::elements::{Element, add_elements};
+use crate::lengths::{Length, matched_length};
+use crate::subjects::subject;
+use regress_base::types::AnchorType;
+use regress_labels::{Character, is_seen, quoted};
+use regress_tree::ir::Node;
+use regress_words::{character_words, text_words};
+use std::alloc::{AllocError, Global};
+use std::mem;
+
+/// Returns a sentence about what a tree matches: what the names of its groups tell, or else a text that each match has;
+/// how long a match is; and whether it is the whole text.
+///
+/// # Errors
+/// Returns [`AllocError`] if an allocation fails.
+pub(crate) fn summary(alloc: Global, root: &Node) -> Result<String, AllocError> {
+    let Some(length) = matched_length(alloc, root)? else {
+        return String::from_str(alloc, "Never matches.");
+    };
+    let mut elements = Vec::new(alloc);
+    add_elements(alloc, root, false, &mut elements)?;
+    let mut sentence = String::from_str(alloc, "Matches ")?;
+    if let Some(text) = whole_text(alloc, &elements)? {
+        sentence.push_str(&text_words(alloc, &text)?)?;
+    } else if let Some(subject) = subject(alloc, &elements)? {
+        let length = length_words(alloc, length)?;
+        sentence.push_str(&format!(in alloc; "{subject}: {length}")?)?;
+    } else {
+        sentence.push_str(&length_words(alloc, length)?)?;
+        sentence.push_str(&required_words(alloc, &elements, length)?)?;
+    }
+    sentence.push_str(place_words(&elements))?;
+    sentence.push('.')?;
+    Ok(sentence)
+}
+
+fn length_words(alloc: Global, length: Length) -> Result<String, AllocError> {
+    match (length.min, length.max) {
+        (0, Some(0)) => String::from_str(alloc, "an empty text"),
+        (1, Some(1)) => String::from_str(alloc, "1 character"),
+        (0, None) => String::from_str(alloc, "any number of characters"),
+        (1, None) => String::from_str(alloc, "at least 1 character"),
+        (min, None) => Ok(format!(in alloc; "at least {min} characters")?),
+        (0, Some(1)) => String::from_str(alloc, "at most 1 character"),
+        (0, Some(max)) => Ok(format!(in alloc; "at most {max} characters")?),
+        (min, Some(max)) if min == max => Ok(format!(in alloc; "{min} characters")?),
+        (min, Some(max)) => Ok(format!(in alloc; "{min} to {max} characters")?),
+    }
+}
+
+/// A text in a pattern.
+type Text = Vec<Character>;
+
+/// Returns the text that the pattern is, if it is one.
+fn whole_text(alloc: Global, elements: &[Element<'_>]) -> Result<Option<Text>, AllocError> {
+    let mut text = Vec::new(alloc);
+    for element in elements {
+        match element {
+            Element::Character {
+                character,
+                optional: false,
+            } => text.push(*character)?,
+            Element::Anchor { .. } | Element::Position => {}
+            _ => return Ok(None),
+        }
+    }
+    Ok(if text.is_empty() { None } else { Some(text) })
+}
+
+/// Returns that each match has the longest text outside of alternatives and loops; nothing if there is none.
+fn required_words(
+    alloc: Global,
+    elements: &[Element<'_>],
+    length: Length,
+) -> Result<String, AllocError> {
+    let text = required_text(alloc, elements)?;
+    if text.is_empty() {
+        return Ok(String::new(alloc));
+    }
+    let text = quoted_text(alloc, &text)?;
+    let them = if length.min == 1 && length.max.unwrap_or(1) == 1 {
+        "it"
+    } else {
+        "them"
+    };
+    Ok(format!(in alloc; ", with {text} in {them}")?)
+}
+
+/// Returns the longest text that each match has, the first one if several are as long.
+fn required_text(alloc: Global, elements: &[Element<'_>]) -> Result<Text, AllocError> {
+    let mut longest = Vec::new(alloc);
+    let mut text = Vec::new(alloc);
+    for element in elements {
+        match element {
+            Element::Character {
+                character,
+                optional: false,
+            } => text.push(*character)?,
+            Element::Other | Element::Character { .. } => {
+                longest = longer(longest, mem::replace(&mut text, Vec::new(alloc)));
+            }
+            _ => {}
+        }
+    }
+    Ok(longer(longest, text))
+}
+
+fn longer(first: Text, second: Text) -> Text {
+    if second.len() > first.len() {
+        second
+    } else {
+        first
+    }
+}
+
+/// Returns a text in quotation marks, or the words of an invisible character.
+fn quoted_text(alloc: Global, text: &[Character]) -> Result<String, AllocError> {
+    if let [only] = text
+        && !is_seen(only.c)
+    {
+        return character_words(alloc, only.c, false);
+    }
+    let mut characters = Vec::new(alloc);
+    for one in text {
+        characters.push(one.c)?;
+    }
+    quoted(alloc, &characters)
+}
+
+/// Returns where a match is, if the pattern begins or ends with an anchor.
+fn place_words(elements: &[Element<'_>]) -> &'static str {
+    let first = elements
+        .iter()
+        .find(|one| !matches!(one, Element::Position));
+    let last = elements
+        .iter()
+        .rev()
+        .find(|one| !matches!(one, Element::Position));
+    match (anchored(first, true), anchored(last, false)) {
+        (Some(false), Some(false)) => ", the whole text",
+        (Some(_), Some(_)) => ", whole lines",
+        (Some(false), None) => ", at the start of the text",
+        (Some(true), None) => ", at the start of a line",
+        (None, Some(false)) => ", at the end of the text",
+        (None, Some(true)) => ", at the end of a line",
+        (None, None) => "",
+    }
+}
+
+/// Returns whether an anchor is that of lines, if an element is `^` or, unless `start`, `$`.
+fn anchored(element: Option<&Element<'_>>, start: bool) -> Option<bool> {
+    match element? {
+        Element::Anchor {
+            end: AnchorType::StartOfLine,
+            multiline,
+        } if start => Some(*multiline),
+        Element::Anchor {
+            end: AnchorType::EndOfLine,
+            multiline,
+        } if !start => Some(*multiline),
+        _ => None,
+    }
+}

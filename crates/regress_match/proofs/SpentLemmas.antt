@@ -1,0 +1,74 @@
+-- The steps that a repeated search spends.
+use Rattle.std.proofs.Common.{◌≡◌, ℕ, ◌+◌, ◌-◌, ◌^◌, ◌≤◌, List, Option, Some, None, length, ap, ap₂, sym, subst, arith, min}
+use Rattle.std.specs.Prelude.{IsNone}
+use Rattle.regress_found.specs.Tried.{positions_tried}
+use Rattle.regress_found.specs.Results.{IfMatched}
+use Rattle.regress_found.specs.Found.{start_of}
+use Rattle.regress_found.specs.declared.found.Match.{Match}
+use Rattle.regress_found.specs.declared.outcome.Outcome.{Outcome}
+use Rattle.regress_found.specs.declared.outcome.Outcome.TheVariants as outcomes
+use Rattle.regress_tables.specs.declared.text.TextSearch.{TextSearch}
+use Rattle.regress_match.specs.Iterated.{HasCounted, IsSameIteration, Spends, iterated_from, iterated_text, step_limit, steps_remaining, steps_taken}
+use Rattle.regress_match.specs.Kept.{IfKept}
+use Rattle.regress_match.specs.declared.matcher.Matcher.{Matcher}
+use Rattle.regress_match.specs.declared.matcher_matches.MatcherMatches.{MatcherMatches}
+
+pub Spends-trans : (one two three : MatcherMatches) → Spends one two → Spends two three → Spends one three
+Spends-trans one two three first second = record { remaining = omega (arith, first.remaining, second.remaining); taken = omega (arith, first.taken, second.taken) }
+
+-- fewer steps remain, and none of those in tables were taken
+pub spends_by : (old new : MatcherMatches) → new.limit ≡ old.limit → new.searched ≡ old.searched → steps_remaining new ≤ steps_remaining old →
+    Spends old new
+spends_by old new limit searched less = record { remaining = less; taken = omega (arith, limit, searched, less) }
+
+-- the same steps remain, and more were taken in tables
+pub spends_searched : (old new : MatcherMatches) → new.limit ≡ old.limit → new.remaining ≡ old.remaining → old.searched ≤ new.searched → Spends old new
+spends_searched old new limit same more = record { remaining = omega (arith, same); taken = omega (arith, limit, same, more) }
+
+-- without tables no step was taken in them
+pub none_searched : (m : Matcher) (text : List ℕ) (from taken : ℕ) (search : Option TextSearch) → IsNone search → IfKept m text from taken search → taken ≡ 0
+none_searched m text from taken None none kept = kept
+none_searched m text from taken (Some s) none kept = cc
+
+-- what holds of a match
+pub matched_weaker : (outcome : Outcome) (P Q : Match → Type 0) → ((m : Match) → P m → Q m) → IfMatched outcome P → IfMatched outcome Q
+matched_weaker (outcomes.Matched m) P Q f is = f m is
+matched_weaker outcomes.NoMatch P Q f is = tt
+matched_weaker outcomes.OutOfSteps P Q f is = tt
+
+counted_runs : (limit old mid new searched tried most : ℕ) → old ≤ limit → mid ≤ old → new ≤ mid - tried →
+    min (((limit - old) + searched) + min old tried) most ≤ (limit - new) + searched
+counted_runs limit old mid new searched tried most within looked ran = omega (arith, within, looked, ran)
+
+counted_tables : (limit remaining old new tried most : ℕ) → min (old + tried) most ≤ new →
+    min (((limit - remaining) + old) + min remaining tried) most ≤ (limit - remaining) + new
+counted_tables limit remaining old new tried most ran = omega (arith, ran)
+
+counted_both : (limit remaining old new tried most : ℕ) → remaining ≤ limit → old ≤ new →
+    min (((limit - remaining) + old) + min remaining tried) most ≤ (limit - 0) + new
+counted_both limit remaining old new tried most within more = omega (arith, within, more)
+
+-- a search that first looks for a byte that each match contains, and then backtracks
+pub runs_counted : (old mid new : MatcherMatches) (m : Match) → old.remaining ≤ old.limit → IsSameIteration old mid → IsSameIteration mid new →
+    iterated_from mid ≡ iterated_from old → Spends old mid → mid.searched ≡ old.searched → new.searched ≡ mid.searched →
+    steps_remaining new ≤ steps_remaining mid - positions_tried (iterated_text mid) (iterated_from mid) (Some m) → HasCounted old new m
+runs_counted old mid new m within same same' stays looked searched searched' ran =
+    let tried = positions_tried (iterated_text old) (iterated_from old) (Some m) in
+    let sum = counted_runs old.limit old.remaining mid.remaining new.remaining old.searched tried (2 ^ 64 - 1) within looked.remaining (omega (arith, ran, stays)) in
+    omega (arith, sum, same.limit, same'.limit, searched, searched')
+
+-- one in tables
+pub tables_counted : (old new : MatcherMatches) (m : Match) → IsSameIteration old new → new.remaining ≡ old.remaining →
+    min (old.searched + positions_tried (iterated_text old) (iterated_from old) (Some m)) (2 ^ 64 - 1) ≤ new.searched → HasCounted old new m
+tables_counted old new m same remaining ran =
+    let tried = positions_tried (iterated_text old) (iterated_from old) (Some m) in
+    let sum = counted_tables old.limit old.remaining old.searched new.searched tried (2 ^ 64 - 1) ran in
+    omega (arith, sum, same.limit, remaining)
+
+-- one that uses up the steps of backtracking
+pub both_counted : (old new : MatcherMatches) (m : Match) → old.remaining ≤ old.limit → new.limit ≡ old.limit → new.remaining ≡ 0 →
+    old.searched ≤ new.searched → HasCounted old new m
+both_counted old new m within same none more =
+    let tried = positions_tried (iterated_text old) (iterated_from old) (Some m) in
+    let sum = counted_both old.limit old.remaining old.searched new.searched tried (2 ^ 64 - 1) within more in
+    omega (arith, sum, same, none)

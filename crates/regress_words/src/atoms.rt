@@ -1,0 +1,117 @@
+//! Characters and sets, from what is written.
+
+use crate::characters::{case_words, is_cased};
+use crate::class::read_class;
+use crate::escape::character_at;
+use crate::properties::property_words;
+use crate::source::Source;
+use regress_labels::{Character, single_character};
+use regress_parse::Span;
+use regress_tree::ir::Node;
+use std::alloc::AllocError;
+
+/// Returns the character that a node is written as, if it is written as one.
+///
+/// # Errors
+/// Returns [`AllocError`] if an allocation fails.
+pub fn literal(
+    node: &Node,
+    span: Span,
+    source: Source<'_>,
+) -> Result<Option<Character>, AllocError> {
+    let text = source.text(span);
+    match (node, text) {
+        (Node::Char { c }, _) => Ok(Some(Character::plain(*c))),
+        (Node::CharSet(_) | Node::ByteSet(_) | Node::Bracket(_), [_, ..]) => {
+            let text = match text {
+                [0x5B, 0x5E, ..] => return Ok(None),
+                [0x5B, inner @ .., 0x5D] => inner,
+                text => text,
+            };
+            let whole = character_at(text, 0).filter(|found| found.end == text.len());
+            Ok(whole.map(|found| Character {
+                c: found.c,
+                either_case: is_cased(found.c) && source.scan.ignores_case(span.start),
+            }))
+        }
+        (Node::CharSet(_) | Node::ByteSet(_) | Node::Bracket(_), []) => {
+            single_character(source.alloc, node)
+        }
+        _ => Ok(None),
+    }
+}
+
+/// Returns whether several nodes are written as one atom: a class or a property with strings, or a reference by name.
+///
+/// # Errors
+/// Returns [`AllocError`] if an allocation fails.
+pub fn is_one_atom(node: &Node, span: Span, source: Source<'_>) -> Result<bool, AllocError> {
+    match (node, source.text(span)) {
+        (Node::Alt(..), text @ [0x5C, 0x6B | 0x70 | 0x50, ..]) => Ok(is_escape_with_name(text)),
+        (Node::Alt(..), [0x5B, ..]) => Ok(written_set(span, source)?.is_some()),
+        _ => Ok(false),
+    }
+}
+
+/// Returns whether a text is one escape with a name after its letter: it ends where the name ends.
+pub(crate) fn is_escape_with_name(text: &[u32]) -> bool {
+    match text.iter().position(|c| matches!(*c, 0x3E | 0x7D)) {
+        Some(end) => end.saturating_add(1) == text.len(),
+        None => false,
+    }
+}
+
+/// Returns what a set matches, from its source text: a class, a class escape or a property; `None` if it is no such text.
+pub(crate) fn written_set(span: Span, source: Source<'_>) -> Result<Option<String>, AllocError> {
+    let alloc = source.alloc;
+    let ignores_case = source.scan.ignores_case(span.start);
+    match source.text(span) {
+        text @ [0x5B, ..] => match read_class(alloc, text, source.scan.sets)? {
+            Some(class) => {
+                let mut words = class.words;
+                words.push_str(case_words(ignores_case && class.is_cased))?;
+                Ok(Some(words))
+            }
+            None => Ok(None),
+        },
+        text @ [0x5C, letter @ (0x70 | 0x50), 0x7B, name @ .., 0x7D] => {
+            if !is_escape_with_name(text) {
+                return Ok(None);
+            }
+            property(*letter == 0x50, name, source).map(Some)
+        }
+        [0x5C, letter] => match escape_words(*letter) {
+            Some(words) => Ok(Some(String::from_str(alloc, words)?)),
+            None => Ok(None),
+        },
+        _ => Ok(None),
+    }
+}
+
+/// Returns what a property matches, from the text in its braces.
+fn property(inverted: bool, name: &[u32], source: Source<'_>) -> Result<String, AllocError> {
+    let alloc = source.alloc;
+    let mut text = String::new(alloc);
+    for c in name {
+        text.push(char::from_u32(*c).unwrap_or(char::REPLACEMENT_CHARACTER))?;
+    }
+    let nouns = property_words(alloc, &text)?;
+    if !inverted {
+        return Ok(nouns.one);
+    }
+    let many = nouns.many;
+    Ok(format!(in alloc; "any character except {many}")?)
+}
+
+/// Returns what a class escape matches.
+fn escape_words(letter: u32) -> Option<&'static str> {
+    Some(match letter {
+        0x64 => "a digit (0-9)",
+        0x44 => "any character except digits (0-9)",
+        0x77 => "a word character (a letter a-z or A-Z, a digit or _)",
+        0x57 => "any character except word characters (letters a-z and A-Z, digits and _)",
+        0x73 => "white space",
+        0x53 => "any character except white space",
+        _ => return None,
+    })
+}
