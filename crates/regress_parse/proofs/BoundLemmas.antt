@@ -1,6 +1,6 @@
 -- The bound on the number of nodes, and how tight it is.
 use Rattle.std.proofs.Common.{◌≡◌, ℕ, ◌+◌, ◌*◌, ◌≤◌, ◌==◌, Bool, true, false, cond, ◌&&◌, [], ◌∷◌, length, refl, sym, subst, arith}
-use Rattle.std.proofs.lemmas.Bool.{eqb-true}
+use Rattle.std.proofs.lemmas.Bool.{eqb-true, and_parts}
 use Rattle.regress_base.specs.declared.types.Flags.{Flags}
 use Rattle.regress_tree.specs.Reading.{forwards}
 use Rattle.regress_tree.specs.Visits.{nodes}
@@ -46,7 +46,7 @@ nodes-referred sets m (c ∷ t) = by (is_reference (c ∷ t)) refl
         (sym same) (λ there. rw there (omega arith)) is
 
     by : (b : Bool) → is_reference (c ∷ t) ≡ b → nodes_at sets m (c ∷ t) ≡ nodes_at sets 0 (c ∷ t) + 2 * (m * cond (is_reference (c ∷ t)) 1 0)
-    by true is = here c (eqb-true c 92 (and_left (c == 92) (is_at 107 t) is)) is
+    by true is = here c (eqb-true c 92 (and_parts (c == 92) (is_at 107 t) is).0) is
     by false is = rw is (other (is_at bar (c ∷ t)) (is_at 91 (c ∷ t) && sets))
 
 total-referred : (sets : Bool) (m : ℕ) (t : Source) →
