@@ -1,8 +1,9 @@
-use Rattle.std.proofs.Common.{rules, ◌≡◌, ◌-◌, ◌∙◌, sym, subst}
+use Rattle.std.proofs.Common.{rules, arith, ◌≡◌, ◌-◌, ◌∙◌, sym, subst}
 use Rattle.std.proofs.lemmas.Result.{IfOk-weaker}
 use Rattle.regress_match.specs.Costs.{IsWithinFindCost}
 use Rattle.regress_match.specs.Iterated.{iterated_from, iterated_matcher, iterated_text, steps_remaining}
 use Rattle.regress_match.proofs.CostLemmas.{within_both}
+use Rattle.regress_match.proofs.SpentLemmas.{Spends-trans, both_counted, matched_weaker, runs_counted, tables_counted}
 use Rattle.regress_match.proofs.matcher_matches.MatcherMatches.next.Goals as goal
 
 pub returns-in_ok-make_tables-in-OutOfSteps-clause-costs : goal.returns-in_ok-make_tables-in-OutOfSteps-clause-costs
@@ -31,4 +32,37 @@ returns-in_default c =
       limited = search rules;
       costs = within_both c.args.self.now c.skip_to_end.new.self (steps_remaining c.backtrack.new.self) looked.same
           (looked.stays c.if-skip_to_end.false) looked.costs c.in_ok-outcome.ensures.costs;
+      spent = Spends-trans _ _ _ looked.spent c.in_ok-outcome.ensures.spent;
+      counted = matched_weaker _ _ _
+          (λ m ran. runs_counted c.args.self.now c.skip_to_end.new.self c.backtrack.new.self m c.args.self.now.within looked.same
+          c.in_ok-outcome.ensures.same (looked.stays c.if-skip_to_end.false) looked.spent looked.searched c.in_ok-outcome.ensures.searched ran)
+          c.in_ok-outcome.ensures.tried;
     }
+
+pub returns-in_ok-make_tables-in-OutOfSteps-clause-spent : goal.returns-in_ok-make_tables-in-OutOfSteps-clause-spent
+returns-in_ok-make_tables-in-OutOfSteps-clause-spent c =
+    Spends-trans _ _ _ c.skip_to_end.ensures.spent
+    (Spends-trans _ _ _ c.in_ok-outcome.ensures.spent
+    (Spends-trans _ _ _ c.in_ok-make_tables-in-OutOfSteps.ensures.spent c.find_in_tables-in-OutOfSteps.ensures.spent))
+
+pub returns-in_ok-make_tables-in-OutOfSteps-clause-counted : goal.returns-in_ok-make_tables-in-OutOfSteps-clause-counted
+returns-in_ok-make_tables-in-OutOfSteps-clause-counted c =
+    let old = c.args.self.now in
+    let looked = c.skip_to_end.ensures in
+    let ran = c.in_ok-outcome.ensures in
+    let made = c.in_ok-make_tables-in-OutOfSteps.ensures in
+    let found = c.find_in_tables-in-OutOfSteps.ensures in
+    let limit = found.same.limit ∙ made.same.limit ∙ ran.same.limit ∙ looked.same.limit in
+    let none = found.remaining ∙ made.remaining ∙ (rw c.in-OutOfSteps.is at ran.used_up) in
+    IfOk-weaker c.find_in_tables-in-OutOfSteps.result _ _
+    (λ outcome tried. matched_weaker outcome _ _
+    (λ m _. both_counted old c.find_in_tables-in-OutOfSteps.new.self m old.within limit none
+    (omega (arith, looked.searched, ran.searched, made.spent.taken, found.spent.taken, made.remaining, found.remaining, made.same.limit, found.same.limit)))
+    tried) found.tried
+
+pub returns-then-is_some-clause-counted : goal.returns-then-is_some-clause-counted
+returns-then-is_some-clause-counted c =
+    let found = c.find_in_tables.ensures in
+    IfOk-weaker c.find_in_tables.result _ _
+    (λ outcome tried. matched_weaker outcome _ _
+    (λ m ran. tables_counted c.args.self.now c.find_in_tables.new.self m found.same found.remaining ran) tried) found.tried
