@@ -1,5 +1,5 @@
 //! Compiling a pattern for searches.
-ghost use Rattle.std.specs.Prelude.{◌≡◌, ◌<◌, ◌≤◌, ℕ, Err, IfOk, List, false, is_some, length, min, option_map, true};
+ghost use Rattle.std.specs.Prelude.{◌≡◌, ◌<◌, ◌≤◌, ℕ, Err, IfOk, List, is_some, length, min, not, option_map, true};
 ghost use Rattle.std.specs.Arc.{arc_value};
 ghost use Rattle.regress_tree.specs.Tree.{tree};
 ghost use Rattle.regress_tree.specs.WellFormed.{IsWellFormed, captures};

@@ -3,7 +3,6 @@ use Rattle.std.proofs.Common.{◌≡◌, ℕ, ◌+◌, ◌≤◌, ◌<◌, ◌�
 use Rattle.std.proofs.lemmas.Bool.{and_from, cases_Bool, cases_lt, eq-eqb, eqb-true, leb-true, le-leb, lt-ltb, ltb-true}
 use Rattle.std.proofs.lemmas.List.Sums.{sum_by-append, sum_by-cons}
 use Rattle.regress_tree.specs.Tree.{Leaf, back_ref, Wrapper, capture_group, loop, loop_one, lookaround, Tree, Trees, leaf, cat, alt, wrapped, no_trees, more_trees}
-use Rattle.regress_tree.specs.Shapes.{some_node_in_list}
 use Rattle.regress_tree.specs.Tree as trees
 use Rattle.regress_tree.specs.WellFormed.{Capture, captures, captures_of_trees, Position, one_character, inside, root, last_of, HasGroups, IsAllowed, PartsAllowed, IsWellFormed}
 use Rattle.regress_program.specs.Contents.{Ids, no_ids, union, ids_in, content, content_of_parts}
