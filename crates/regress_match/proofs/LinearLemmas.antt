@@ -1,13 +1,13 @@
 -- Which searches take linear time, from the tree.
-use Rattle.std.proofs.Common.{◌≡◌, ℕ, Bool, true, false, not, ◌&&◌, ◌||◌, nat_le, List, Option, Some, None, refl, sym, ap, ap₂, ◌∙◌}
+use Rattle.std.proofs.Common.{◌≡◌, ℕ, Bool, true, false, not, ◌&&◌, ◌||◌, nat_le, List, Some, None, refl, ap, ap₂, ◌∙◌}
 use Rattle.std.specs.Prelude.{if◌then◌else◌, is_some, option_map}
 use Rattle.regress_tree.specs.Tree.{Tree}
 use Rattle.regress_program.specs.Compiled.{total}
-use Rattle.regress_program.specs.Linear.{has_back_reference, is_linear, is_linear_tree, reason, reason_of}
+use Rattle.regress_program.specs.Linear.{has_back_reference, is_linear, is_linear_tree}
 use Rattle.regress_program.specs.Program.{Routine}
 use Rattle.regress_program.specs.Ranges.{inner_groups}
 use Rattle.regress_program.specs.Size.{program_size}
-use Rattle.regress_program.specs.Tidy.{has_no_back_reference, table_groups}
+use Rattle.regress_program.specs.Tidy.{has_no_back_reference}
 use Rattle.regress_program.proofs.lemmas.Strict.{reason-tree}
 use Rattle.regress_match.specs.Matcher.{IsFactorOf, IsNonlinearOf, factor, factor_with, find_factor, find_factor_with, is_find_linear_tree, nonlinear_by, nonlinear_with}
 

@@ -1,9 +1,9 @@
-use Rattle.std.proofs.Common.{◌≡◌, Bool, nat_le, sym, ap, subst, ◌∙◌, arith}
+use Rattle.std.proofs.Common.{◌≡◌, nat_le, sym, ap, subst, ◌∙◌, arith}
 use Rattle.std.specs.Prelude.{is_some}
 use Rattle.regress_tree.specs.Tree.{tree}
 use Rattle.regress_program.specs.Compiled.{total}
 use Rattle.regress_code.specs.Code.{code_routines, code_tidy}
-use Rattle.regress_match.specs.Matcher.{IsFactorOf, IsNonlinearOf, factor_with, find_factor_with, is_find_linear_tree, nonlinear_with}
+use Rattle.regress_match.specs.Matcher.{IsFactorOf, IsNonlinearOf, factor_with, find_factor_with, nonlinear_with}
 use Rattle.regress_match.proofs.LinearLemmas.{factor_tree, find_linear_tree, nonlinear_tree}
 use Rattle.regress_match.proofs.lemmas.Costs.{has_costs}
 use Rattle.regress_match.proofs.matcher.Matcher.new.Goals as goal
