@@ -1,6 +1,7 @@
 //! What each match contains.
-ghost use Rattle.std.specs.Prelude.{IfSome};
+ghost use Rattle.std.specs.Prelude.{◌≡◌, ◌<◌, IfSome, length};
 ghost use Rattle.regress_match.specs.Pattern.{matcher_tree};
+ghost use Rattle.regress_prefilter.specs.Literals.{bytes_in, literals, longest};
 ghost use Rattle.regress_prefilter.specs.Required.{IsRequired, IsRequiredLiteral};
 
 use crate::matcher::Matcher;
@@ -23,7 +24,9 @@ impl Matcher {
     /// # Complexity
     /// One pass over the tree of the pattern, without allocations.
     pub fn required_literal(&self) -> Option<&[u8]>
-        ensures { IfSome result (λ literal. IsRequiredLiteral literal.now (matcher_tree self.now)) }
+        ensures required { IfSome result (λ literal. IsRequiredLiteral literal.now (matcher_tree self.now)) }
+        ensures not_empty { IfSome result (λ literal. 0 < length literal.now) }
+        ensures longest { bytes_in result ≡ longest (literals (matcher_tree self.now)) }
     {
         required_literal(&self.regex.node)
     }
