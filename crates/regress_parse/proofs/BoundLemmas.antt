@@ -1,6 +1,6 @@
 -- The bound on the number of nodes, and how tight it is.
-use Rattle.std.proofs.Common.{◌≡◌, ℕ, ◌+◌, ◌*◌, ◌≤◌, ◌==◌, Bool, true, false, cond, ◌&&◌, [], ◌∷◌, length, refl, sym, subst, arith}
-use Rattle.std.proofs.lemmas.Bool.{eqb-true, and_parts}
+use Rattle.std.proofs.Common.{◌≡◌, ℕ, ◌+◌, ◌*◌, ◌≤◌, ◌==◌, Bool, true, false, cond, ◌&&◌, [], ◌∷◌, length, refl, sym, subst, arith, ◌<◌, ◌⊎◌, inl, inr, zero, suc, min, ap}
+use Rattle.std.proofs.lemmas.Bool.{eqb-true, and_parts, cases_lt}
 use Rattle.regress_base.specs.declared.types.Flags.{Flags}
 use Rattle.regress_tree.specs.Reading.{forwards}
 use Rattle.regress_tree.specs.Visits.{nodes}
@@ -85,3 +85,14 @@ total-near sets m (c ∷ t) =
 pub bound-near : (sets : Bool) (t : Source) →
     node_bound sets t ≤ 3 + 5 * length t + 2 * (positions opens_name t * positions is_reference t)
 bound-near sets t = omega (arith, total-near sets (positions opens_name t) t)
+
+-- ---- the bound as it is computed
+
+-- A doubled factor may be capped before it is multiplied, since a product by 1 or more is not below it.
+pub capped : (most a r x : ℕ) → x ≡ min (a * 2) most → min (x * r) most ≡ min (2 * (a * r)) most
+capped most a zero x is = omega arith
+capped most a (suc r) x is = by (cases_lt most (a * 2))
+  where
+    by : (most < a * 2) ⊎ (a * 2 ≤ most) → min (x * suc r) most ≡ min (2 * (a * suc r)) most
+    by (inl more) = let same : x * suc r ≡ most * suc r = ap (λ k. k * suc r) (omega (arith, is, more)) in omega (arith, same, more)
+    by (inr less) = let same : x * suc r ≡ (a * 2) * suc r = ap (λ k. k * suc r) (omega (arith, is, less)) in omega (arith, same)
