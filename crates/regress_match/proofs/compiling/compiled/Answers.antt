@@ -8,4 +8,4 @@ pub returns-clause-means : goal.returns-clause-means
 returns-clause-means c =
     let made = c.in_ok-code.ensures in
     result_means (tree c.args.regex.now.node) c.args.regex.now.flags _ (Ok c.in_ok-code.code) made.pattern made.flags made.groups
-    (omega (arith, c.groups.ensures, made.groups, c.if-groups-eq18446744073709551615.false))
+    (omega (arith, c.groups.ensures, made.groups, c.if-groups.false))
