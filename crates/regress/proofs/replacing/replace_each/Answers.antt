@@ -1,5 +1,8 @@
 use Rattle.std.proofs.Common.{◌≤◌, of_calls, rules, string_bytes, subst, sym, arith}
 use Rattle.std.proofs.lemmas.Fn.{called_at}
+use Rattle.std.proofs.lemmas.Result.{err_from_is_err_and}
+use Rattle.std.specs.Fn.{CalledAt}
+use Rattle.std.specs.Prelude.{Err}
 use Rattle.std.proofs.lemmas.Str.{IsCharBoundary-start}
 use Rattle.regress.proofs.ReplacedLemmas.{all_replaced, next_end, next_start, none_replaced, one_replaced}
 use Rattle.regress.proofs.replacing.replace_each.Goals as goal
@@ -31,6 +34,20 @@ loop-found-preserved g c = record {
       (next_end g.F.FnMut c.args.text.now c.args.matches.now c.loop-found.from c.loop-found.found-index c.found-item.result
       c.loop-found-test.true c.found-item.is c.requires.inside c.loop-found.invariant.before);
 }
+
+pub returns-in_err-replacement-clause-failed : goal.returns-in_err-replacement-clause-failed
+returns-in_err-replacement-clause-failed g c =
+    let p = err_from_is_err_and c.from_residual-in_err-replacement.result c.from_residual-in_err-replacement.ensures.1 in
+    let so_far = c.loop-found.invariant.replaced in
+    rw p.1 (λ is. record {
+      calls = so_far.calls;
+      before = c.loop-found.replacer;
+      called = so_far.called;
+      last = c.found-item.result;
+      after = c.replacer.new.self;
+      returned = subst (λ e. CalledAt g.F.FnMut c.loop-found.replacer c.found-item.result (Err e) c.replacer.new.self) (sym p.2)
+          (called_at g.F.FnMut c.replacer.ensures c.in_err-replacement.was);
+    })
 
 pub returns-clause-replaced : goal.returns-clause-replaced
 returns-clause-replaced g c =

@@ -22,3 +22,11 @@ pub returns-clause-ends : goal.returns-clause-ends
 returns-clause-ends c =
     all-ends c.args.regex.now c.args.text.now c.args.from c.loop-found.found-iterator c.loop-found.ends.items c.loop-found.invariant c.next.new.self
     c.in-None.ensures.steps
+
+pub returns-in_err-found-clause-failed : goal.returns-in_err-found-clause-failed
+returns-in_err-found-clause-failed c =
+    let p = err_from_is_err_and c.from_residual.result c.from_residual.ensures.1 in
+    let now = c.loop-found.found-iterator in
+    let new = c.next.new.self in
+    rw p.1 (λ is. ends-late c.args.regex.now c.args.text.now c.args.from now c.loop-found.ends.items c.loop-found.invariant new _
+    (subst (λ r. Advances now (Some r) new) c.in_err-found.was c.in-Some.ensures.steps) (sym p.2 ∙ is))

@@ -1,11 +1,12 @@
-use Rattle.std.proofs.Common.{Some, [], ◌∷◌, map, subst, sym}
+use Rattle.std.proofs.Common.{Some, [], ◌∷◌, map, subst, sym, ◌∙◌}
+use Rattle.std.proofs.lemmas.Result.{err_from_is_err_and}
 use Rattle.std.proofs.lemmas.List.{map-append}
 use Rattle.regress.specs.Costs.{factor_of}
 use Rattle.regress.specs.Compiled.{groups_of, outcomes_of}
 use Rattle.regress.specs.Found.{match_of}
 use Rattle.regress.specs.Searched.{Advances}
 use Rattle.regress.proofs.FoundLemmas.{HasFoundWith, all_found, begins_with, inside_each, one_more_with}
-use Rattle.regress.proofs.lemmas.Paid.{HasPaid, none_paid, one_more_paid}
+use Rattle.regress.proofs.lemmas.Paid.{HasPaid, none_paid, one_more_paid, out_of_steps}
 use Rattle.regress.proofs.pattern.Regex.find_all.Goals as goal
 
 pub loop-found-init : goal.loop-found-init
@@ -42,6 +43,24 @@ loop-found-preserved c =
           (one_more_paid c.args.self.now text 0 now (map match_of c.loop-found.all.items) so_far.paid so_far.has.found.found new
           c.in_ok-found.found step));
     }
+
+pub returns-in_err-found-clause-linear : goal.returns-in_err-found-clause-linear
+returns-in_err-found-clause-linear c =
+    let p = err_from_is_err_and c.from_residual.result c.from_residual.ensures.1 in
+    let so_far = c.loop-found.invariant in
+    let now = c.loop-found.found-iterator in
+    let new = c.next.new.self in
+    rw p.1 (λ is. (out_of_steps c.args.self.now c.args.text.now 0 now (map match_of c.loop-found.all.items) so_far.paid so_far.has.found.found new _
+    (subst (λ r. Advances now (Some r) new) c.in_err-found.was c.in-Some.ensures.steps) (sym p.2 ∙ is)).linear)
+
+pub returns-in_err-found-clause-costs : goal.returns-in_err-found-clause-costs
+returns-in_err-found-clause-costs c =
+    let p = err_from_is_err_and c.from_residual.result c.from_residual.ensures.1 in
+    let so_far = c.loop-found.invariant in
+    let now = c.loop-found.found-iterator in
+    let new = c.next.new.self in
+    rw p.1 (λ is. (out_of_steps c.args.self.now c.args.text.now 0 now (map match_of c.loop-found.all.items) so_far.paid so_far.has.found.found new _
+    (subst (λ r. Advances now (Some r) new) c.in_err-found.was c.in-Some.ensures.steps) (sym p.2 ∙ is)).costs)
 
 pub returns-clause-all : goal.returns-clause-all
 returns-clause-all c =
