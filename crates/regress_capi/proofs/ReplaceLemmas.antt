@@ -28,16 +28,16 @@ text-reports bytes (Err Memory) asked has late is = at-bare 2 is (out_of_memory 
 text-reports bytes (Err OutOfSteps) asked has late is = at-bare 7 is (out_of_steps asked (late refl))
 
 -- what holds of an error that is out of steps, in one fact
-pub costly : {V : Type 0} {regex : Regex} {text : List ℕ} {from : ℕ} (r : Result V SearchError) → IfErr r (λ e. e ≡ OutOfSteps → factor_of regex ≡ None) →
+pub costly : {V : Type 0} (regex : Regex) (text : List ℕ) (from : ℕ) (r : Result V SearchError) → IfErr r (λ e. e ≡ OutOfSteps → factor_of regex ≡ None) →
     IfErr r (λ e. e ≡ OutOfSteps → find_factor_of regex ≡ None) → IfErr r (λ e. e ≡ OutOfSteps → CostsLimit regex text from) →
     IfErr r (λ e. e ≡ OutOfSteps → IsTooCostly regex text from)
-costly (Ok v) linear bounded costs = tt
-costly (Err e) linear bounded costs = λ is. record { linear = linear is; bounded = bounded is; costs = costs is }
+costly regex text from (Ok v) linear bounded costs = tt
+costly regex text from (Err e) linear bounded costs = λ is. record { linear = linear is; bounded = bounded is; costs = costs is }
 
-pub all_costly : {V : Type 0} {regex : Regex} {text : List ℕ} {from : ℕ} (r : Result V SearchError) → IfErr r (λ e. e ≡ OutOfSteps → factor_of regex ≡ None) →
+pub all_costly : {V : Type 0} (regex : Regex) (text : List ℕ) (from : ℕ) (r : Result V SearchError) → IfErr r (λ e. e ≡ OutOfSteps → factor_of regex ≡ None) →
     IfErr r (λ e. e ≡ OutOfSteps → AllCostLimit regex text from) → IfErr r (λ e. e ≡ OutOfSteps → AllAreTooCostly regex text from)
-all_costly (Ok v) linear costs = tt
-all_costly (Err e) linear costs = λ is. record { linear = linear is; costs = costs is }
+all_costly regex text from (Ok v) linear costs = tt
+all_costly regex text from (Err e) linear costs = λ is. record { linear = linear is; costs = costs is }
 
 -- the pattern that is written is that of the text, in UTF-8
 pub escape-writes : {text old new : List ℕ} {status needed : ℕ} (pattern : List ℕ) → IsUtf8 text → IsUtf8 pattern →

@@ -15,7 +15,7 @@ returns-in-Some c = record {
       (subst (λ t. IfOk c.replace_all.result (λ out. HasAllReplaced c.args.regex.now t c.in-Some.template.now (string_bytes out))) c.in-Some.ensures.0
       c.replace_all.ensures.replaced))
       (subst (λ t. IfErr c.replace_all.result (λ error. error ≡ OutOfSteps → AllAreTooCostly c.args.regex.now t 0)) c.in-Some.ensures.0
-      (all_costly c.replace_all.result c.replace_all.ensures.linear c.replace_all.ensures.costs))
+      (all_costly c.args.regex.now c.in-Some.text.now 0 c.replace_all.result c.replace_all.ensures.linear c.replace_all.ensures.costs))
       c.report.ensures;
 }
 

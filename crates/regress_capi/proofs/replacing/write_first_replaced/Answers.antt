@@ -15,7 +15,7 @@ returns-in-Some c = record {
       (subst (λ t. IfOk c.replace.result (λ out. HasFirstReplaced c.args.regex.now t c.in-Some.template.now (string_bytes out))) c.in-Some.ensures.0
       c.replace.ensures.replaced))
       (subst (λ t. IfErr c.replace.result (λ error. error ≡ OutOfSteps → IsTooCostly c.args.regex.now t 0)) c.in-Some.ensures.0
-      (costly c.replace.result c.replace.ensures.linear c.replace.ensures.bounded c.replace.ensures.costs))
+      (costly c.args.regex.now c.in-Some.text.now 0 c.replace.result c.replace.ensures.linear c.replace.ensures.bounded c.replace.ensures.costs))
       c.report.ensures;
 }
 
