@@ -129,6 +129,13 @@ fn quoted_text(alloc: Global, text: &[Character]) -> Result<String, AllocError> 
     quoted(alloc, &characters)
 }
 
+/// What an anchor is the start or the end of.
+#[derive(Clone, Copy)]
+enum Extent {
+    Text,
+    Line,
+}
+
 /// Returns where a match is, if the pattern begins or ends with an anchor.
 fn place_words(elements: &[Element<'_>]) -> &'static str {
     let first = elements
@@ -138,28 +145,33 @@ fn place_words(elements: &[Element<'_>]) -> &'static str {
         .iter()
         .rev()
         .find(|one| !matches!(one, Element::Position));
-    match (anchored(first, true), anchored(last, false)) {
-        (Some(false), Some(false)) => ", the whole text",
+    let start = anchored(first, AnchorType::StartOfLine);
+    match (start, anchored(last, AnchorType::EndOfLine)) {
+        (Some(Extent::Text), Some(Extent::Text)) => ", the whole text",
         (Some(_), Some(_)) => ", whole lines",
-        (Some(false), None) => ", at the start of the text",
-        (Some(true), None) => ", at the start of a line",
-        (None, Some(false)) => ", at the end of the text",
-        (None, Some(true)) => ", at the end of a line",
+        (Some(Extent::Text), None) => ", at the start of the text",
+        (Some(Extent::Line), None) => ", at the start of a line",
+        (None, Some(Extent::Text)) => ", at the end of the text",
+        (None, Some(Extent::Line)) => ", at the end of a line",
         (None, None) => "",
     }
 }
 
-/// Returns whether an anchor is that of lines, if an element is `^` or, unless `start`, `$`.
-fn anchored(element: Option<&Element<'_>>, start: bool) -> Option<bool> {
-    match element? {
-        Element::Anchor {
-            end: AnchorType::StartOfLine,
-            multiline,
-        } if start => Some(*multiline),
-        Element::Anchor {
-            end: AnchorType::EndOfLine,
-            multiline,
-        } if !start => Some(*multiline),
-        _ => None,
+/// Returns what an element is the start or the end of, if it is that anchor.
+fn anchored(element: Option<&Element<'_>>, wanted: AnchorType) -> Option<Extent> {
+    let Element::Anchor { end, multiline } = element? else {
+        return None;
+    };
+    let is_wanted = match wanted {
+        AnchorType::StartOfLine => matches!(end, AnchorType::StartOfLine),
+        AnchorType::EndOfLine => matches!(end, AnchorType::EndOfLine),
+    };
+    if !is_wanted {
+        return None;
     }
+    Some(if *multiline {
+        Extent::Line
+    } else {
+        Extent::Text
+    })
 }
