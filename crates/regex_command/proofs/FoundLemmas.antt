@@ -1,8 +1,7 @@
 -- The matches that are found in the texts of a line, and what they say of the line.
-use Rattle.std.proofs.Common.{◌≡◌, ◌↔◌, ◌∙◌, inl, inr, ℕ, zero, suc, ◌+◌, ◌<◌, ◌≤◌, ◌^◌, All, Bool, true, false, List, [], ◌∷◌, ◌++◌, IsTrue, flat_map, length, map, take, drop, get_or, ap, refl, sym, subst, arith}
-use Rattle.std.specs.List.{Any}
+use Rattle.std.proofs.Common.{◌≡◌, ◌↔◌, ◌∙◌, ℕ, ◌+◌, ◌<◌, ◌≤◌, ◌^◌, All, Bool, true, false, List, [], ◌∷◌, ◌++◌, IsTrue, length, map, take, get_or, ap, refl, sym, subst, arith}
 use Rattle.std.proofs.lemmas.List.{get_or-map, get_or_default, length-map, map-append, take_all, take_more}
-use Rattle.std.proofs.lemmas.List.Elements.{All-cons, All-head, All-nil, All-push, All-same, All-tail}
+use Rattle.std.proofs.lemmas.List.Elements.{All-cons, All-nil, All-push, All-same}
 use Rattle.regress_found.specs.Found.{IsInside}
 use Rattle.regress.specs.Searched.{MatchesSomewhere}
 use Rattle.regress_found.specs.Repeated.{AreAllMatches}

@@ -2,7 +2,6 @@
 use Rattle.std.proofs.Common.{◌≡◌, ◌∙◌, ℕ, ◌+◌, List, ◌++◌, Option, Some, flat_map, length, map, take, ap, sym, append_assoc, codes}
 use Rattle.regress_found.specs.Found as one
 use Rattle.regress_found.specs.declared.found.Match as matcher
-use Rattle.regress_found.specs.Found.{IsInside}
 use Rattle.regress_tree.specs.Steps.{CaptureSpan}
 use Rattle.regress.specs.Compiled.{groups_of}
 use Rattle.regress.specs.Found.{match_of}

@@ -1,12 +1,11 @@
 -- What is known of the texts of a line and of the matches in them when the line is shown.
-use Rattle.std.specs.Prelude.{◌≡◌, ℕ, ◌+◌, ◌<◌, ◌≤◌, ◌^◌, Bool, true, false, List, [], ◌∷◌, ◌++◌, All, flat_map, length, map}
+use Rattle.std.specs.Prelude.{ℕ, ◌+◌, ◌<◌, ◌≤◌, ◌^◌, Bool, true, false, List, [], ◌∷◌, ◌++◌, All, flat_map, length, map}
 use Rattle.std.specs.List.{Any}
 use Rattle.regress_found.specs.Found.{IsInside}
 use Rattle.regress_replace.specs.Order.{AreInOrder}
 use Rattle.regress.specs.Compiled.{groups_of}
 use Rattle.regress.specs.Found.{match_of}
 use Rattle.regress.specs.declared.pattern.Regex.{Regex}
-use Rattle.regex_options.specs.declared.task.Selection.{Selection}
 use Rattle.regex_options.specs.declared.task.Shown.{Shown}
 use Rattle.regex_options.specs.declared.task.Shown.TheVariants.{Lines, Matches, Json, Count, Names, Nothing}
 use Rattle.regex_command.specs.Reply.{matches_json, painted_line, ended, matches_shown, Run, TextMatches}

@@ -1,6 +1,6 @@
 //! The texts of a line, in which a pattern is searched.
-ghost use Rattle.std.specs.Prelude.{◌≡◌, ◌+◌, ◌<◌, ◌^◌, ◌++◌, All, IfOk, OnOk, length, map};
-ghost use Rattle.regex_command.specs.InLine.{AreInLine, HasOffsets};
+ghost use Rattle.std.specs.Prelude.{◌≡◌, ◌+◌, ◌<◌, ◌++◌, IfOk, OnOk, length, map};
+ghost use Rattle.regex_command.specs.InLine.{AreInLine};
 ghost use Rattle.regex_command.specs.Reply.{run_of, unless_empty, utf8_runs};
 
 use regress::Match;

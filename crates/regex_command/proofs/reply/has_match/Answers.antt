@@ -1,9 +1,9 @@
-use Rattle.std.proofs.Common.{◌≡◌, ◌<◌, ◌==◌, ◌∙◌, ℕ, zero, suc, Bool, false, arith, length, map, refl, subst, sym}
+use Rattle.std.proofs.Common.{◌≡◌, ◌<◌, ◌==◌, ◌∙◌, ℕ, zero, suc, false, arith, length, refl, subst, sym}
 use Rattle.std.proofs.lemmas.List.{length-map}
 use Rattle.regress.specs.Found.{match_of}
 use Rattle.regex_command.specs.Reply.{TextMatches, matches_of}
 use Rattle.regex_command.specs.declared.runs.TextMatches as code
-use Rattle.regex_command.proofs.RunLemmas.{none_further, none_matches, one_matches}
+use Rattle.regex_command.proofs.RunLemmas.{none_matches, one_matches}
 use Rattle.regex_command.proofs.reply.has_match.Goals as goal
 
 positive : (n : ℕ) → (n == 0) ≡ false → 0 < n
