@@ -157,8 +157,9 @@ pub costs_remaining : (m : Matcher) (text : List ℕ) (from before after : ℕ) 
     IfSome factor (λ _. IfOutOfSteps outcome ⊥) → IfNone factor (IfOutOfSteps outcome (after ≡ 0)) →
     IsWithinFindCost m text from (before - after) → outcome ≡ outcomes.OutOfSteps → IsWithinFindCost m text from before
 costs_remaining m text from before after None outcome linear limited within is =
-    let all : after ≡ 0 = subst (λ o. IfOutOfSteps o (after ≡ 0)) is limited in
-    subst (λ k. IsWithinFindCost m text from (before - k)) all within
+    let none : after ≡ 0 = subst (λ o. IfOutOfSteps o (after ≡ 0)) is limited in
+    let all : before - after ≡ before = omega (arith, none) in
+    subst (IsWithinFindCost m text from) all within
 costs_remaining m text from before after (Some n) outcome linear limited within is = absurd (subst (λ o. IfOutOfSteps o ⊥) is linear)
 
 pub never_none : {X : Type 0} (factor : Option ℕ) (found : Option X) → IfSome factor (λ _. IsSome found) → found ≡ None → factor ≡ None

@@ -11,7 +11,7 @@ use Rattle.regress.proofs.pattern.Regex.with_options.Goals as goal
 
 pub with_source-requires-clause-text : goal.with_source-requires-clause-text
 with_source-requires-clause-text c =
-    c.in_ok-source.ensures
+    c.in_ok-source.ensures.ok
     ∙ sym (ap text_of (c.deref.ensures.value ∙ c.in_ok-points.ensures.characters) ∙ text_of-chars c.args.pattern.now c.utf8.pattern)
 
 pub returns-clause-compiled : goal.returns-clause-compiled
