@@ -44,15 +44,6 @@ loop-found-preserved c =
           c.in_ok-found.found step));
     }
 
-pub returns-in_err-found-clause-linear : goal.returns-in_err-found-clause-linear
-returns-in_err-found-clause-linear c =
-    let p = err_from_is_err_and c.from_residual.result c.from_residual.ensures.1 in
-    let so_far = c.loop-found.invariant in
-    let now = c.loop-found.found-iterator in
-    let new = c.next.new.self in
-    rw p.1 (λ is. (out_of_steps c.args.self.now c.args.text.now 0 now (map match_of c.loop-found.all.items) so_far.paid so_far.has.found.found new _
-    (subst (λ r. Advances now (Some r) new) c.in_err-found.was c.in-Some.ensures.steps) (sym p.2 ∙ is)).linear)
-
 pub returns-in_err-found-clause-costs : goal.returns-in_err-found-clause-costs
 returns-in_err-found-clause-costs c =
     let p = err_from_is_err_and c.from_residual.result c.from_residual.ensures.1 in

@@ -1,23 +1,10 @@
-use Rattle.std.proofs.Common.{◌<◌, Some, ap, length, subst, sym, ◌∙◌, arith}
+use Rattle.std.proofs.Common.{◌<◌, Some, length, subst, sym, ◌∙◌, arith}
 use Rattle.std.proofs.lemmas.Result.{err_from_is_err_and}
 use Rattle.regress.specs.Compiled.{outcomes_of}
 use Rattle.regress.specs.Searched.{Advances}
-use Rattle.regress.proofs.FoundLemmas.{HasFound, begins, fewer_found, in_order, one_more}
-use Rattle.regress.proofs.lemmas.Paid.{HasPaid, none_paid, one_more_paid, out_of_steps}
+use Rattle.regress.proofs.FoundLemmas.{HasFound, fewer_found, in_order, one_more}
+use Rattle.regress.proofs.lemmas.Paid.{HasPaid, one_more_paid, out_of_steps}
 use Rattle.regress.proofs.pattern.Regex.first_matches.Goals as goal
-
-pub loop-matches-init : goal.loop-matches-init
-loop-matches-init c =
-    let text = c.args.text.now in
-    let at = outcomes_of c.args.self.now text in
-    let made = c.find_iter-matches.ensures in
-    let all = c.find_iter-matches.result in
-    record {
-      found = subst (HasFound text at all) (sym c.new-first.ensures.items) (begins text at all made.text made.outcomes made.failed made.from);
-      paid = subst (HasPaid c.args.self.now text 0 all) (sym c.new-first.ensures.items)
-          (none_paid c.args.self.now text 0 all made.matcher made.text made.limit made.remaining);
-      few = omega (arith, ap length c.new-first.ensures.items);
-    }
 
 pub loop-matches-preserved : goal.loop-matches-preserved
 loop-matches-preserved c =
@@ -35,15 +22,6 @@ loop-matches-preserved c =
           (one_more_paid c.args.self.now text 0 now c.loop-matches.first.items so_far.paid so_far.found.found new c.in_ok-found-in-Some.field-0 step);
       few = omega (arith, few, c.in_ok-push-in-Some.ensures.len);
     }
-
-pub returns-in_err-found-in-Some-clause-linear : goal.returns-in_err-found-in-Some-clause-linear
-returns-in_err-found-in-Some-clause-linear c =
-    let p = err_from_is_err_and c.from_residual.result c.from_residual.ensures.1 in
-    let so_far = c.loop-matches.invariant in
-    let now = c.loop-matches.matches in
-    let new = c.next.new.self in
-    rw p.1 (λ is. (out_of_steps c.args.self.now c.args.text.now 0 now c.loop-matches.first.items so_far.paid so_far.found.found new _
-    (subst (λ r. Advances now (Some r) new) c.in_err-found-in-Some.was c.in-Some.ensures.steps) (sym p.2 ∙ is)).linear)
 
 pub returns-in_err-found-in-Some-clause-costs : goal.returns-in_err-found-in-Some-clause-costs
 returns-in_err-found-in-Some-clause-costs c =
