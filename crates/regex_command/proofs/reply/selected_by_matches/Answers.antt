@@ -1,8 +1,9 @@
-use Rattle.std.proofs.Common.{◌∙◌, List, ap, length, map, subst, sym}
-use Rattle.regex_command.specs.InLine.{AreInLine}
-use Rattle.regex_command.specs.Reply.{TextMatches, matches_of, run_of}
+use Rattle.std.proofs.Common.{◌≡◌, ◌∙◌, List, ap, length, map, subst, sym}
+use Rattle.regex_command.specs.InLine.{AreInLine, shown_by}
+use Rattle.regex_command.specs.Prefix.{text_of}
+use Rattle.regex_command.specs.Reply.{ShowsIf, TextMatches, matches_of, run_of}
 use Rattle.regex_command.specs.declared.runs.TextMatches as code
-use Rattle.regex_command.proofs.FoundLemmas.{is_matched}
+use Rattle.regex_command.proofs.FoundLemmas.{by_matches, is_matched}
 use Rattle.regex_command.proofs.reply.selected_by_matches.Goals as goal
 
 pub shown-requires-clause-order : goal.shown-requires-clause-order
@@ -26,3 +27,15 @@ returns-clause-selected c = (
       c.in_ok-found.ensures.searched (rw c.deref.ensures.value at c.has_match.ensures),
   c.is_selected-selected.ensures,
 )
+
+pub returns-then-selected-clause-shows : goal.returns-then-selected-clause-shows
+returns-then-selected-clause-shows c =
+    let r = c.args.searcher.now.regex.now in
+    let s = c.args.selection in
+    let line = c.args.line.bytes.now in
+    let texts = map run_of c.args.line.texts.now in
+    let prefix = text_of c.args.prefix in
+    let bytes = c.in_ok-bytes.bytes.items in
+    subst (λ selected. ShowsIf r line texts selected s prefix bytes) (sym c.if-selected.true)
+    (by_matches r line texts (map matches_of c.in_ok-found.found.items) s.shown s.paints prefix bytes c.requires.shows c.in_ok-found.ensures.searched
+    (subst (λ (fs : List code.TextMatches). bytes ≡ shown_by r line s.shown s.paints prefix (map matches_of fs)) c.deref-then-selected.ensures.value c.in_ok-bytes.ensures))
