@@ -71,7 +71,7 @@ pub fn fork(
 /// Both are inside the routine, and the position is inside the text.
 ///
 /// # Complexity
-/// It subtracts from the remaining steps `remaining` the number of bytes by which it moves the position.
+/// It subtracts from `remaining` the number of bytes by which it moves the position.
 ///
 /// # Errors
 /// Returns [`AllocError`] if an allocation fails.

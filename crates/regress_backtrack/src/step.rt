@@ -46,8 +46,8 @@ pub enum Next {
 /// The instruction is that of `here` in the routine of the input, and no lookaround.
 ///
 /// # Complexity
-/// It subtracts from the remaining steps `remaining` the number of bytes by which it moves the position, and the length of
-/// the capture that a back reference is compared with.
+/// It subtracts from `remaining` the number of bytes by which it moves the position, and the length of the capture that
+/// a back reference is compared with.
 ///
 /// # Errors
 /// Returns [`AllocError`] if an allocation fails.

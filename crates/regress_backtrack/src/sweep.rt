@@ -33,7 +33,7 @@ struct Swept<'c> {
 /// The loop is greedy, its body and what follows are inside the routine, and the position is inside the text.
 ///
 /// # Complexity
-/// It subtracts from the remaining steps `remaining` the number of characters that it consumes.
+/// It subtracts from `remaining` the number of characters that it consumes.
 ///
 /// # Errors
 /// Returns [`AllocError`] if an allocation fails.
