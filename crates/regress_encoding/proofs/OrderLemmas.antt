@@ -13,11 +13,6 @@ use Rattle.regress_tree.specs.declared.ir.node.Node.TheVariants.{Cat, Alt}
 use Rattle.regress_encoding.specs.Closed.{closed}
 use Rattle.regress_encoding.specs.Order.{numbers_in_list, numbers_of}
 
--- a node that is neither a `Cat` nor an `Alt` and that contains no node is a leaf
-pub leaf_of : (node : Node) → ((parts : Vec Node Global) → node ≡ Cat parts → ⊥) → ((left right : Box Node Global) → node ≡ Alt left right → ⊥) →
-    is_wrapper (tree node) ≡ false → is_leaf (tree node) ≡ true
-leaf_of node not_cat not_alt no_wrapper = first_of (search (rules, the_lemmas), grind (arith, the_lemmas))
-
 pub alone : (at : ℕ) (t : Tree) → is_leaf t ≡ true → (nodes t ≡ 1) × (numbers_of at t ≡ at ∷ [])
 alone at (leaf l) is = (refl, refl)
 alone at (cat parts) is = cc

@@ -23,11 +23,6 @@ use Rattle.regress_json.specs.Json.{pair, opening, ending, node_json, further_js
 use Rattle.regress_json.specs.Passed.{alternations}
 use Rattle.regress_json.proofs.NumeralLemmas.{decimal-numeral}
 
--- a node that is neither a `Cat` nor an `Alt` and that contains no node is a leaf
-pub leaf_of : (node : Node) → ((parts : Vec Node Global) → node ≡ Cat parts → ⊥) → ((left right : Box Node Global) → node ≡ Alt left right → ⊥) →
-    is_wrapper (tree node) ≡ false → is_leaf (tree node) ≡ true
-leaf_of node not_cat not_alt no_wrapper = first_of (search (rules, the_lemmas), grind (arith, the_lemmas))
-
 -- the text of a node up to its mark; the first node is numbered `at`
 module _ (mark : ℕ → List ℕ) (at : ℕ) where
   abbrev pub unended : Tree → List ℕ

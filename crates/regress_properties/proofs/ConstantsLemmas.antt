@@ -1,9 +1,9 @@
 -- Properties of the constants, by computation.
 use Rattle.std.proofs.Common.{◌≡◌, IsTrue, map, length, refl}
 use Rattle.regress_base.specs.Table.{HasWordAscii, HasStrings}
-use Rattle.regress_properties.specs.declared.intervals.TheConstants.{INTERVALS, INTERVALS_COUNT}
-use Rattle.regress_properties.specs.declared.names.TheConstants.{ID_START, ID_CONTINUE, GENERAL_CATEGORY, SCRIPT, SCRIPT_REST, SCRIPT_EXTENSIONS, SCRIPT_EXTENSIONS_REST, BINARY}
-use Rattle.regress_properties.specs.declared.strings.TheConstants.{STRING_NAMES, STRINGS, STRINGS_COUNT, POINTS, POINTS_COUNT}
+use Rattle.regress_properties.specs.declared.data.intervals.TheConstants.{INTERVALS, INTERVALS_COUNT}
+use Rattle.regress_properties.specs.declared.data.names.TheConstants.{ID_START, ID_CONTINUE, GENERAL_CATEGORY, SCRIPT, SCRIPT_REST, SCRIPT_EXTENSIONS, SCRIPT_EXTENSIONS_REST, BINARY}
+use Rattle.regress_properties.specs.declared.data.strings.TheConstants.{STRING_NAMES, STRINGS, STRINGS_COUNT, POINTS, POINTS_COUNT}
 use Rattle.regress_properties.specs.Listed.{set_at, is_set_at, named_strings, AreSets, AreStrings}
 use Rattle.regress_properties.proofs.RangeLemmas.{set_is_valid_at, sets_occur, strings_are_valid_at, are_strings}
 use Rattle.regress_properties.proofs.lemmas.Identifiers.{word_ascii}

@@ -2,9 +2,9 @@
 use Rattle.std.proofs.Common.{◌≡◌, ◌++◌, ℕ, List, map, sym, subst, ap, ap₂, ◌∙◌}
 use Rattle.std.proofs.lemmas.Simd.{map-map}
 use Rattle.regress_base.specs.Table.{Named}
-use Rattle.regress_properties.specs.declared.intervals.TheConstants.{INTERVALS}
-use Rattle.regress_properties.specs.declared.names.TheConstants.{GENERAL_CATEGORY, SCRIPT, SCRIPT_REST, SCRIPT_EXTENSIONS, SCRIPT_EXTENSIONS_REST, BINARY}
-use Rattle.regress_properties.specs.declared.strings.TheConstants.{STRINGS, POINTS}
+use Rattle.regress_properties.specs.declared.data.intervals.TheConstants.{INTERVALS}
+use Rattle.regress_properties.specs.declared.data.names.TheConstants.{GENERAL_CATEGORY, SCRIPT, SCRIPT_REST, SCRIPT_EXTENSIONS, SCRIPT_EXTENSIONS_REST, BINARY}
+use Rattle.regress_properties.specs.declared.data.strings.TheConstants.{STRINGS, POINTS}
 use Rattle.regress_properties.specs.Listed.{range_of, named_set, AreSets, AreStrings}
 use Rattle.regress_properties.specs.Properties.{unicode_general_category, unicode_script, unicode_script_extensions, unicode_binary}
 

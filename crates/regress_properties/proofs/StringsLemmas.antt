@@ -1,7 +1,7 @@
 -- The strings with a name in lists that are equal to the constants.
 use Rattle.std.proofs.Common.{◌≡◌, ℕ, List, map, ap₂}
 use Rattle.regress_base.specs.Table.{named}
-use Rattle.regress_properties.specs.declared.strings.TheConstants.{STRING_NAMES, STRINGS, POINTS}
+use Rattle.regress_properties.specs.declared.data.strings.TheConstants.{STRING_NAMES, STRINGS, POINTS}
 use Rattle.regress_properties.specs.Listed.{named_strings}
 use Rattle.regress_properties.specs.Properties.{unicode_strings}
 

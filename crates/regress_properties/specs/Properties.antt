@@ -2,9 +2,9 @@
 use Rattle.std.specs.Prelude.{ℕ, List, map, ◌++◌}
 use Rattle.regress_base.specs.Intervals.{Bounds}
 use Rattle.regress_base.specs.Table.{Named}
-use Rattle.regress_properties.specs.declared.intervals.TheConstants.{INTERVALS}
-use Rattle.regress_properties.specs.declared.names.TheConstants.{ID_START, ID_CONTINUE, GENERAL_CATEGORY, SCRIPT, SCRIPT_REST, SCRIPT_EXTENSIONS, SCRIPT_EXTENSIONS_REST, BINARY}
-use Rattle.regress_properties.specs.declared.strings.TheConstants.{STRING_NAMES, STRINGS, POINTS}
+use Rattle.regress_properties.specs.declared.data.intervals.TheConstants.{INTERVALS}
+use Rattle.regress_properties.specs.declared.data.names.TheConstants.{ID_START, ID_CONTINUE, GENERAL_CATEGORY, SCRIPT, SCRIPT_REST, SCRIPT_EXTENSIONS, SCRIPT_EXTENSIONS_REST, BINARY}
+use Rattle.regress_properties.specs.declared.data.strings.TheConstants.{STRING_NAMES, STRINGS, POINTS}
 use Rattle.regress_properties.specs.Listed.{set_at, named_set, named_strings}
 
 -- the characters that can begin an identifier

@@ -2,14 +2,12 @@
 //! strings. They are constants, of which only what is looked up is copied.
 #![tactic(auto)]
 
+mod data;
 mod ends;
-mod intervals;
 mod lists;
 mod lookup;
-mod names;
 mod properties;
 mod sets;
-mod strings;
 mod texts;
 
 pub use properties::{

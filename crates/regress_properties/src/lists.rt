@@ -3,11 +3,11 @@
 ghost use Rattle.std.specs.Prelude.{◌≡◌, map};
 ghost use Rattle.regress_properties.specs.Listed.{range_of};
 
-use super::intervals::INTERVALS;
-use super::names::{
+use super::data::intervals::INTERVALS;
+use super::data::names::{
     BINARY, GENERAL_CATEGORY, SCRIPT, SCRIPT_EXTENSIONS, SCRIPT_EXTENSIONS_REST, SCRIPT_REST,
 };
-use super::strings::{POINTS, STRINGS};
+use super::data::strings::{POINTS, STRINGS};
 
 /// Returns the first and last code points, alternating, of the intervals of all sets.
 pub(super) fn intervals() -> &'static [u32]

@@ -9,9 +9,9 @@ use super::lists::{
     binary_properties, extended_scripts, general_categories, intervals, other_extended_scripts,
     other_scripts, points, scripts, strings,
 };
-use super::names::{ID_CONTINUE, ID_START};
+use super::data::names::{ID_CONTINUE, ID_START};
 use super::sets::{find_in, find_set};
-use super::strings::STRING_NAMES;
+use super::data::strings::STRING_NAMES;
 use super::texts::find_strings;
 use regress_base::codepointset::CodePointSet;
 use std::alloc::{AllocError, Global};

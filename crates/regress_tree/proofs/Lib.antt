@@ -5,7 +5,6 @@ mod DuplicateLemmas
 mod GroupIdLemmas
 mod IdLemmas
 mod LoopLemmas
-mod NodeLemmas
 mod PassLemmas
 mod RootLemmas
 mod OccurringLemmas

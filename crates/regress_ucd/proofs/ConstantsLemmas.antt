@@ -5,7 +5,7 @@ use Rattle.std.proofs.lemmas.List.Elements.{All-weaker}
 use Rattle.regress_unicode.specs.FoldEntries.{IsPackableEntry, mapped}
 use Rattle.regress_unicode.specs.Parts.{AreValidEntries}
 use Rattle.regress_unicode.proofs.lemmas.Soundness.{sound_mappings}
-use Rattle.regress_ucd.specs.declared.cases.TheConstants.{FOLDS, UPPERS}
+use Rattle.regress_ucd.specs.declared.data.cases.TheConstants.{FOLDS, UPPERS}
 use Rattle.regress_ucd.specs.Data.{mapping}
 use Rattle.regress_ucd.proofs.DataLemmas.{packable, is_packable}
 

@@ -2,7 +2,7 @@
 use Rattle.std.specs.Prelude.{map}
 use Rattle.regress_base.specs.Table.{Table}
 use Rattle.regress_unicode.specs.Parts.{Parts, table_from, with_unicode_properties}
-use Rattle.regress_ucd.specs.declared.cases.TheConstants.{FOLDS, UPPERS}
+use Rattle.regress_ucd.specs.declared.data.cases.TheConstants.{FOLDS, UPPERS}
 use Rattle.regress_ucd.specs.Data.{mapping}
 
 -- the parts of the table

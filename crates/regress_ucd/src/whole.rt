@@ -3,7 +3,7 @@ ghost use Rattle.std.specs.Prelude.{◌≡◌, IfOk};
 ghost use Rattle.regress_unicode.specs.TableOf.{table_of};
 ghost use Rattle.regress_ucd.specs.UnicodeTable.{unicode_table};
 
-use super::cases::{FOLDS, UPPERS};
+use super::data::cases::{FOLDS, UPPERS};
 use super::tables::mappings;
 use regress_unicode::Tables;
 use std::alloc::{AllocError, Global};

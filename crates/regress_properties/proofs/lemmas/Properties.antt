@@ -4,8 +4,8 @@ use Rattle.std.proofs.lemmas.Bool.{and_parts}
 use Rattle.std.proofs.lemmas.List.Elements.{All-append}
 use Rattle.regress_base.specs.Intervals.{IsCanonical}
 use Rattle.regress_base.specs.Table.{HasCanonicalSets, HasStrings, HasWordAscii}
-use Rattle.regress_properties.specs.declared.intervals.TheConstants.{INTERVALS}
-use Rattle.regress_properties.specs.declared.names.TheConstants.{ID_START, ID_CONTINUE, GENERAL_CATEGORY, SCRIPT, SCRIPT_REST, SCRIPT_EXTENSIONS, SCRIPT_EXTENSIONS_REST, BINARY}
+use Rattle.regress_properties.specs.declared.data.intervals.TheConstants.{INTERVALS}
+use Rattle.regress_properties.specs.declared.data.names.TheConstants.{ID_START, ID_CONTINUE, GENERAL_CATEGORY, SCRIPT, SCRIPT_REST, SCRIPT_EXTENSIONS, SCRIPT_EXTENSIONS_REST, BINARY}
 use Rattle.regress_properties.specs.Listed.{is_range_within, named_set}
 use Rattle.regress_properties.specs.Properties.{unicode_id_start, unicode_id_continue, unicode_general_category, unicode_script, unicode_script_extensions, unicode_binary, unicode_strings}
 use Rattle.regress_properties.proofs.ConstantsLemmas.{id_start, id_continue, start_ascii, continue_ascii, general_category, script, script_rest, script_extensions, script_extensions_rest, binary, valid_strings}

@@ -1,13 +1,17 @@
 -- The tree of a node, kind by kind.
-use Rattle.std.specs.Prelude.{◌≡◌, ℕ, Bool, Option, option_map, string_bytes, String}
-use Rattle.std.proofs.Common.{Vec, Box, Global, sym, ap, ◌∙◌}
-use Rattle.regress_tree.specs.declared.ir.node.Node.{Node, Node-F, fold-roll-Node}
-use Rattle.regress_tree.specs.declared.ir.node.Node.TheVariants.{Empty, Goal, Char, ByteSequence, ByteSet, CharSet, Anchor, Cat, Alt, CaptureGroup, Bracket, Loop, Loop1CharBody, LookaroundAssertion, BackRef, rolls-Empty, rolls-Goal, rolls-Char, rolls-ByteSequence, rolls-ByteSet, rolls-CharSet, rolls-Anchor, rolls-Cat, rolls-Alt, rolls-CaptureGroup, rolls-Bracket, rolls-Loop, rolls-Loop1CharBody, rolls-LookaroundAssertion, rolls-BackRef}
+use Rattle.std.specs.Prelude.{◌≡◌, ℕ, Bool, true, false, Option, option_map, string_bytes, String, map}
+use Rattle.std.proofs.Common.{Vec, Box, Global, sym, ap, ◌∙◌, rules, arith}
+use Rattle.std.specs.Box.{boxed_slice_items}
+use Rattle.std.specs.declared.boxed.BoxedSlice.{BoxedSlice}
+use Rattle.regress_tree.specs.declared.ir.node.Node.{Node, Node-F, fold-roll-Node, the_lemmas}
+use Rattle.regress_tree.specs.declared.ir.node.Node.TheVariants.{Empty, Goal, Char, ByteSequence, ByteSet, CharSet, Anchor, Cat, Alt, CaptureGroup, Bracket, Loop, Loop1CharBody, LookaroundAssertion, BackRef, StringSet, rolls-Empty, rolls-Goal, rolls-Char, rolls-ByteSequence, rolls-ByteSet, rolls-CharSet, rolls-Anchor, rolls-Cat, rolls-Alt, rolls-CaptureGroup, rolls-Bracket, rolls-Loop, rolls-Loop1CharBody, rolls-LookaroundAssertion, rolls-BackRef, rolls-StringSet}
 use Rattle.regress_base.specs.declared.types.AnchorType.{AnchorType}
 use Rattle.regress_base.specs.declared.types.Quantifier.{Quantifier}
 use Rattle.regress_base.specs.declared.types.bracket.BracketContents.{BracketContents}
 use Rattle.std.specs.declared.ops.Range.{Range}
-use Rattle.regress_tree.specs.Tree.{Tree, tree, trees, tree_of_level, leaf, empty, goal, char, byte_sequence, byte_set, char_set, anchor, cat, alt, bracket, back_ref, wrapped, capture_group, loop, loop_one, lookaround}
+use Rattle.regress_tree.specs.Copies.{is_leaf}
+use Rattle.regress_tree.specs.Held.{is_wrapper}
+use Rattle.regress_tree.specs.Tree.{Tree, tree, trees, tree_of_level, leaf, empty, goal, char, byte_sequence, byte_set, char_set, anchor, cat, alt, bracket, back_ref, string_set, wrapped, capture_group, loop, loop_one, lookaround}
 
 pub tree-Empty : tree Empty ≡ leaf empty
 tree-Empty = ap tree (sym rolls-Empty) ∙ fold-roll-Node Tree tree_of_level Node-F.Empty
@@ -63,3 +67,13 @@ tree-LookaroundAssertion negate backwards start end contents =
 
 pub tree-BackRef : (group : ℕ) (icase : Bool) → tree (BackRef group icase) ≡ leaf (back_ref group icase)
 tree-BackRef group icase = ap tree (sym (rolls-BackRef group icase)) ∙ fold-roll-Node Tree tree_of_level (Node-F.BackRef group icase)
+
+pub tree-StringSet : (alternatives : Vec (BoxedSlice ℕ Global) Global) (icase : Bool) →
+    tree (StringSet alternatives icase) ≡ leaf (string_set (map boxed_slice_items alternatives.items) icase)
+tree-StringSet alternatives icase =
+    ap tree (sym (rolls-StringSet alternatives icase)) ∙ fold-roll-Node Tree tree_of_level (Node-F.StringSet alternatives icase)
+
+-- A node that is neither a `Cat` nor an `Alt` and has no body is a leaf.
+pub leaf_of : (node : Node) → ((parts : Vec Node Global) → node ≡ Cat parts → ⊥) → ((left right : Box Node Global) → node ≡ Alt left right → ⊥) →
+    is_wrapper (tree node) ≡ false → is_leaf (tree node) ≡ true
+leaf_of node not_cat not_alt no_wrapper = first_of (search (rules, the_lemmas), grind (arith, the_lemmas))

@@ -2,7 +2,7 @@
 use Rattle.std.proofs.Common.{map}
 use Rattle.regress_base.specs.Table.{IsValidTable}
 use Rattle.regress_unicode.proofs.lemmas.Soundness.{unicode_sound}
-use Rattle.regress_ucd.specs.declared.cases.TheConstants.{FOLDS, UPPERS}
+use Rattle.regress_ucd.specs.declared.data.cases.TheConstants.{FOLDS, UPPERS}
 use Rattle.regress_ucd.specs.Data.{mapping}
 use Rattle.regress_ucd.specs.UnicodeTable.{unicode_parts, unicode_table}
 use Rattle.regress_ucd.proofs.ConstantsLemmas.{valid_folds, valid_uppers}

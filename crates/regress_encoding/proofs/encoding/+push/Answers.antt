@@ -6,8 +6,9 @@ use Rattle.regress_tree.specs.Copies.{is_leaf}
 use Rattle.regress_tree.specs.Held.{HasBody}
 use Rattle.regress_tree.specs.Tree.{Tree, Trees, leaf, cat, alt, wrapped, tree, trees}
 use Rattle.regress_tree.specs.declared.ir.node.Node.{the_lemmas}
+use Rattle.regress_tree.proofs.lemmas.Nodes.{leaf_of}
 use Rattle.regress_encoding.specs.Encoding.{encode, encode_list, node_words}
-use Rattle.regress_encoding.proofs.OrderLemmas.{leaf_of, next_part}
+use Rattle.regress_encoding.proofs.OrderLemmas.{next_part}
 use Rattle.regress_encoding.proofs.encoding.+push.Goals as goal
 
 -- Once the first of the remaining words are appended, the others complete the whole.

@@ -4,8 +4,9 @@ use Rattle.std.proofs.lemmas.Result.{err_from_is_err_and}
 use Rattle.regress_tree.specs.Tree.{tree, trees, cat, alt}
 use Rattle.regress_tree.specs.Visits.{nodes, nodes_in_list}
 use Rattle.regress_tree.specs.declared.ir.node.Node.{the_lemmas}
+use Rattle.regress_tree.proofs.lemmas.Nodes.{leaf_of}
 use Rattle.regress_encoding.specs.Order.{numbers_in_list, numbers_of}
-use Rattle.regress_encoding.proofs.OrderLemmas.{IsOpen, counts, ended, enters-alt, enters-body, enters-cat, enters-leaf, leaf_of, next_part, one_each, one_each-list, passed, sets}
+use Rattle.regress_encoding.proofs.OrderLemmas.{IsOpen, counts, ended, enters-alt, enters-body, enters-cat, enters-leaf, next_part, one_each, one_each-list, passed, sets}
 use Rattle.regress_encoding.proofs.order.+push.Goals as goal
 
 pub push_open-returns-in-Cat : goal.push_open-returns-in-Cat

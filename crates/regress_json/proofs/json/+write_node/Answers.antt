@@ -9,10 +9,10 @@ use Rattle.std.proofs.lemmas.List.{drop_more, drop-drop, at_drop_all}
 use Rattle.std.proofs.Output.{has_written_append, has_written_of_eq}
 use Rattle.regress_tree.specs.Tree.{tree, trees}
 use Rattle.regress_tree.specs.Visits.{nodes, nodes_in_list}
-use Rattle.regress_tree.proofs.lemmas.Nodes.{tree-Cat, tree-Alt}
+use Rattle.regress_tree.proofs.lemmas.Nodes.{tree-Cat, tree-Alt, leaf_of}
 use Rattle.regress_json.specs.Json.{span_mark, list_json}
 use Rattle.regress_json.specs.Passed.{alternations}
-use Rattle.regress_json.proofs.JsonLemmas.{leaf_of, unended, unended-leaf, unended-around, unended-ended, within, within-leaf, within-around, nodes-within, shown, shown-last, nodes-shown, further_last, passed-more, mark-first}
+use Rattle.regress_json.proofs.JsonLemmas.{unended, unended-leaf, unended-around, unended-ended, within, within-leaf, within-around, nodes-within, shown, shown-last, nodes-shown, further_last, passed-more, mark-first}
 use Rattle.regress_json.proofs.json.+write_node.Goals as goal
 use Rattle.regress_json.proofs.json.+write_node.Goals.{write_node-in-Cat+in_ok-write_parts-in-Cat, write_node-in-Alt+in_ok-write_node-in-Alt+in_ok-write_further-in-Alt, write_node-in_default+in-Some+in_ok-write_node-in_default, write_node-in_default+in_default-body}
 

@@ -2,8 +2,8 @@ use Rattle.std.proofs.Common.{◌≡◌, List, subst}
 use Rattle.std.specs.Result.{IfOk}
 use Rattle.regress_base.specs.Intervals.{Bounds}
 use Rattle.regress_base.specs.Table.{Named, named}
-use Rattle.regress_properties.specs.declared.intervals.TheConstants.{INTERVALS}
-use Rattle.regress_properties.specs.declared.names.TheConstants.{BINARY}
+use Rattle.regress_properties.specs.declared.data.intervals.TheConstants.{INTERVALS}
+use Rattle.regress_properties.specs.declared.data.names.TheConstants.{BINARY}
 use Rattle.regress_properties.proofs.ConstantsLemmas.{binary}
 use Rattle.regress_properties.proofs.FoundLemmas.{are_sets_in, binary_in}
 use Rattle.regress_properties.proofs.properties.binary.Goals as goal

@@ -2,8 +2,8 @@ use Rattle.std.proofs.Common.{◌≡◌, List, subst}
 use Rattle.std.specs.Result.{IfOk}
 use Rattle.regress_base.specs.Intervals.{Bounds}
 use Rattle.regress_base.specs.Table.{Named, named}
-use Rattle.regress_properties.specs.declared.intervals.TheConstants.{INTERVALS}
-use Rattle.regress_properties.specs.declared.names.TheConstants.{GENERAL_CATEGORY}
+use Rattle.regress_properties.specs.declared.data.intervals.TheConstants.{INTERVALS}
+use Rattle.regress_properties.specs.declared.data.names.TheConstants.{GENERAL_CATEGORY}
 use Rattle.regress_properties.proofs.ConstantsLemmas.{general_category}
 use Rattle.regress_properties.proofs.FoundLemmas.{are_sets_in, general_category_in}
 use Rattle.regress_properties.proofs.properties.general_category.Goals as goal

@@ -1,6 +1,6 @@
 use Rattle.std.proofs.Common.{◌∙◌, ap, sym, subst, IsTrue, List, ℕ}
 use Rattle.std.proofs.lemmas.Result.{IfOk-weaker}
-use Rattle.regress_properties.specs.declared.names.TheConstants.{ID_CONTINUE}
+use Rattle.regress_properties.specs.declared.data.names.TheConstants.{ID_CONTINUE}
 use Rattle.regress_properties.specs.Listed.{set_at, is_set_at}
 use Rattle.regress_properties.specs.Properties.{unicode_id_continue}
 use Rattle.regress_properties.proofs.ConstantsLemmas.{id_continue}

@@ -2,8 +2,8 @@ use Rattle.std.proofs.Common.{◌≡◌, List, subst}
 use Rattle.std.specs.Result.{IfOk}
 use Rattle.regress_base.specs.Intervals.{Bounds}
 use Rattle.regress_base.specs.Table.{Named, named}
-use Rattle.regress_properties.specs.declared.intervals.TheConstants.{INTERVALS}
-use Rattle.regress_properties.specs.declared.names.TheConstants.{SCRIPT_EXTENSIONS, SCRIPT_EXTENSIONS_REST}
+use Rattle.regress_properties.specs.declared.data.intervals.TheConstants.{INTERVALS}
+use Rattle.regress_properties.specs.declared.data.names.TheConstants.{SCRIPT_EXTENSIONS, SCRIPT_EXTENSIONS_REST}
 use Rattle.regress_properties.proofs.ConstantsLemmas.{script_extensions, script_extensions_rest}
 use Rattle.regress_properties.proofs.FoundLemmas.{are_sets_in, script_extensions_in}
 use Rattle.regress_properties.proofs.properties.script_extensions.Goals as goal

@@ -1,6 +1,6 @@
 use Rattle.std.proofs.Common.{◌≡◌, ℕ, List, Option, map, option_map, subst}
 use Rattle.std.specs.Result.{IfOk}
-use Rattle.regress_properties.specs.declared.strings.TheConstants.{STRING_NAMES}
+use Rattle.regress_properties.specs.declared.data.strings.TheConstants.{STRING_NAMES}
 use Rattle.regress_properties.specs.Listed.{values_of}
 use Rattle.regress_properties.proofs.ConstantsLemmas.{strings}
 use Rattle.regress_properties.proofs.FoundLemmas.{strings_in}

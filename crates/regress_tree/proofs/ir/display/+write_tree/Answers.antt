@@ -3,8 +3,7 @@ use Rattle.std.proofs.Common.{true, refl, le_trans, arith}
 use Rattle.std.proofs.lemmas.List.{drop_all}
 use Rattle.std.proofs.Output.{has_written_append}
 use Rattle.regress_tree.specs.Tree.{tree}
-use Rattle.regress_tree.proofs.lemmas.Nodes.{tree-Cat, tree-Alt}
-use Rattle.regress_tree.proofs.NodeLemmas.{leaf_of}
+use Rattle.regress_tree.proofs.lemmas.Nodes.{tree-Cat, tree-Alt, leaf_of}
 use Rattle.regress_tree.proofs.lemmas.Visits.{right_smaller}
 use Rattle.regress_tree.proofs.DisplayLemmas.{inside_written, leaf_written, part_written, nothing_on_err, has_written_nothing}
 use Rattle.regress_tree.proofs.ir.display.+write_tree.Goals as goal

@@ -3,8 +3,7 @@ use Rattle.std.proofs.Common.{◌∙◌, sym, ap, refl, le_refl, le_trans, drop,
 use Rattle.std.proofs.lemmas.List.{drop_more, drop_all}
 use Rattle.regress_tree.specs.Tree.{tree}
 use Rattle.regress_tree.specs.Visits.{Calls, before_children, without_children, after_children, in_cat, in_wrapped, no_more, one_more}
-use Rattle.regress_tree.proofs.lemmas.Nodes.{tree-Cat, tree-Alt}
-use Rattle.regress_tree.proofs.NodeLemmas.{leaf_of}
+use Rattle.regress_tree.proofs.lemmas.Nodes.{tree-Cat, tree-Alt, leaf_of}
 use Rattle.regress_tree.proofs.lemmas.Visits.{at_leaf, in_Alt, right_smaller, down_next, further_next, after_next}
 use Rattle.regress_tree.proofs.ir.visit.+visit.Goals as goal
 

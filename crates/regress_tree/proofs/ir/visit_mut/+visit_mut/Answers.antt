@@ -7,9 +7,8 @@ use Rattle.regress_tree.specs.Tree.{Tree, cat, alt, tree, trees, no_trees}
 use Rattle.regress_tree.specs.Visits.{CallsMut, nodes, Visited, Inside, before_children, without_children, after_children, in_cat, in_alt, in_wrapped, no_more, one_more}
 use Rattle.regress_tree.specs.Held.{body_is_backwards}
 use Rattle.regress_tree.specs.Climbs.{further}
-use Rattle.regress_tree.proofs.lemmas.Nodes.{tree-Cat, tree-Alt}
+use Rattle.regress_tree.proofs.lemmas.Nodes.{tree-Cat, tree-Alt, leaf_of}
 use Rattle.regress_tree.proofs.lemmas.Nesting.{out-Cat, out-Alt}
-use Rattle.regress_tree.proofs.NodeLemmas.{leaf_of}
 use Rattle.regress_tree.proofs.lemmas.Visits.{at_leaf, further_next, nodes_down, nesting_down, before_down, after_down, call_adds, next_is, nodes_next, unvisited_next, visited_next}
 use Rattle.regress_tree.proofs.lemmas.WalkCongruence.{called_there, visited_there, inside_there, list_visited_there}
 use Rattle.regress_tree.proofs.ir.visit_mut.+visit_mut.Goals.{visit_before-else-loop-here-test, visit_before-then-loop-here-test+then-not-rotate_right_spine, visit_after-then-loop-nesting-test+else-rotate_right_spine, visit_after-else-loop-nesting-test}

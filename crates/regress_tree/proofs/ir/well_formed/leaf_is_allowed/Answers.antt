@@ -1,7 +1,6 @@
 -- The test of a leaf is correct, whatever the number of groups.
 use Rattle.std.proofs.lemmas.Bool.{leb-true, le-leb}
-use Rattle.regress_tree.proofs.lemmas.Nodes.{tree-Char, tree-ByteSequence, tree-ByteSet, tree-CharSet, tree-Bracket, tree-BackRef}
-use Rattle.regress_tree.proofs.NodeLemmas.{tree-StringSet}
+use Rattle.regress_tree.proofs.lemmas.Nodes.{tree-Char, tree-ByteSequence, tree-ByteSet, tree-CharSet, tree-Bracket, tree-BackRef, tree-StringSet}
 use Rattle.regress_tree.proofs.OccurringLemmas.{occurs-where, bracket-occurs-where, reference-occurs-where, strings-occur-where}
 use Rattle.regress_tree.proofs.ir.well_formed.leaf_is_allowed.Goals as goal
 

@@ -6,7 +6,7 @@
 pub const UNICODE_VERSION: &str = "15.0.0";
 
 /// Simple case folding: CaseFolding.txt, status C and S.
-pub(super) static FOLDS: &[(u32, u32, i32, u8)] = &[
+pub(crate) static FOLDS: &[(u32, u32, i32, u8)] = &[
     (0x41, 26, 32, 1),
     (0xB5, 1, 775, 1),
     (0xC0, 23, 32, 1),
@@ -212,7 +212,7 @@ pub(super) static FOLDS: &[(u32, u32, i32, u8)] = &[
 ];
 
 /// Upper case, where it is one code point and does not map to ASCII from outside (ECMA-262, Canonicalize).
-pub(super) static UPPERS: &[(u32, u32, i32, u8)] = &[
+pub(crate) static UPPERS: &[(u32, u32, i32, u8)] = &[
     (0x61, 26, -32, 1),
     (0xB5, 1, 743, 1),
     (0xE0, 23, -32, 1),

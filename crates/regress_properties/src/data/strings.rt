@@ -3,13 +3,13 @@
 //! Made by tools/make_unicode_tables from the data of Unicode 15.0.0.
 
 /// The length of STRINGS.
-pub(super) const STRINGS_COUNT: usize = 7328;
+pub(crate) const STRINGS_COUNT: usize = 7328;
 
 /// The length of POINTS.
-pub(super) const POINTS_COUNT: usize = 10611;
+pub(crate) const POINTS_COUNT: usize = 10611;
 
 /// Names, each with its range in STRINGS, half-open.
-pub(super) static STRING_NAMES: &[(&str, usize, usize)] = &[
+pub(crate) static STRING_NAMES: &[(&str, usize, usize)] = &[
     ("Basic_Emoji", 0, 1386),
     ("Emoji_Keycap_Sequence", 1386, 1398),
     ("RGI_Emoji_Modifier_Sequence", 1398, 2053),
@@ -20,7 +20,7 @@ pub(super) static STRING_NAMES: &[(&str, usize, usize)] = &[
 ];
 
 /// The range in POINTS of each string, half-open.
-pub(super) static STRINGS: &[(usize, usize)] = &[
+pub(crate) static STRINGS: &[(usize, usize)] = &[
     (0, 2),
     (2, 4),
     (4, 6),
@@ -7352,7 +7352,7 @@ pub(super) static STRINGS: &[(usize, usize)] = &[
 ];
 
 /// The code points of all strings.
-pub(super) static POINTS: &[u32] = &[
+pub(crate) static POINTS: &[u32] = &[
     0xA9, 0xFE0F, 0xAE, 0xFE0F, 0x203C, 0xFE0F, 0x2049, 0xFE0F, 0x2122, 0xFE0F, 0x2139, 0xFE0F,
     0x2194, 0xFE0F, 0x2195, 0xFE0F, 0x2196, 0xFE0F, 0x2197, 0xFE0F, 0x2198, 0xFE0F, 0x2199, 0xFE0F,
     0x21A9, 0xFE0F, 0x21AA, 0xFE0F, 0x2328, 0xFE0F, 0x23CF, 0xFE0F, 0x23ED, 0xFE0F, 0x23EE, 0xFE0F,

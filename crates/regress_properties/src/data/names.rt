@@ -3,13 +3,13 @@
 //! Made by tools/make_unicode_tables from the data of Unicode 15.0.0.
 
 /// The range of ID_Start in INTERVALS, half-open.
-pub(super) const ID_START: (usize, usize) = (36298, 37616);
+pub(crate) const ID_START: (usize, usize) = (36298, 37616);
 
 /// The range of ID_Continue in INTERVALS, half-open.
-pub(super) const ID_CONTINUE: (usize, usize) = (34762, 36298);
+pub(crate) const ID_CONTINUE: (usize, usize) = (34762, 36298);
 
 /// Names, each with its range in INTERVALS, half-open.
-pub(super) static GENERAL_CATEGORY: &[(&str, usize, usize)] = &[
+pub(crate) static GENERAL_CATEGORY: &[(&str, usize, usize)] = &[
     ("C", 0, 1424),
     ("Other", 0, 1424),
     ("Cc", 1424, 1428),
@@ -93,7 +93,7 @@ pub(super) static GENERAL_CATEGORY: &[(&str, usize, usize)] = &[
 ];
 
 /// Names, each with its range in INTERVALS, half-open.
-pub(super) static SCRIPT: &[(&str, usize, usize)] = &[
+pub(crate) static SCRIPT: &[(&str, usize, usize)] = &[
     ("Adlm", 12798, 12804),
     ("Adlam", 12798, 12804),
     ("Aghb", 12804, 12808),
@@ -259,7 +259,7 @@ pub(super) static SCRIPT: &[(&str, usize, usize)] = &[
 ];
 
 /// The rest of the names.
-pub(super) static SCRIPT_REST: &[(&str, usize, usize)] = &[
+pub(crate) static SCRIPT_REST: &[(&str, usize, usize)] = &[
     ("Marchen", 13838, 13844),
     ("Medf", 13844, 13846),
     ("Medefaidrin", 13844, 13846),
@@ -425,7 +425,7 @@ pub(super) static SCRIPT_REST: &[(&str, usize, usize)] = &[
 ];
 
 /// Names, each with its range in INTERVALS, half-open.
-pub(super) static SCRIPT_EXTENSIONS: &[(&str, usize, usize)] = &[
+pub(crate) static SCRIPT_EXTENSIONS: &[(&str, usize, usize)] = &[
     ("Adlm", 16112, 16122),
     ("Adlam", 16112, 16122),
     ("Aghb", 16122, 16126),
@@ -591,7 +591,7 @@ pub(super) static SCRIPT_EXTENSIONS: &[(&str, usize, usize)] = &[
 ];
 
 /// The rest of the names.
-pub(super) static SCRIPT_EXTENSIONS_REST: &[(&str, usize, usize)] = &[
+pub(crate) static SCRIPT_EXTENSIONS_REST: &[(&str, usize, usize)] = &[
     ("Marchen", 17400, 17406),
     ("Medf", 17406, 17408),
     ("Medefaidrin", 17406, 17408),
@@ -757,7 +757,7 @@ pub(super) static SCRIPT_EXTENSIONS_REST: &[(&str, usize, usize)] = &[
 ];
 
 /// Names, each with its range in INTERVALS, half-open.
-pub(super) static BINARY: &[(&str, usize, usize)] = &[
+pub(crate) static BINARY: &[(&str, usize, usize)] = &[
     ("ASCII", 19774, 19776),
     ("Any", 19776, 19778),
     ("Assigned", 19778, 21192),

@@ -1,0 +1,4 @@
+//! The constants, made by tools/make_unicode_tables.
+pub(super) mod intervals;
+pub(super) mod names;
+pub(super) mod strings;

@@ -1,0 +1,2 @@
+//! The constants, made by tools/make_unicode_tables.
+pub(super) mod cases;
