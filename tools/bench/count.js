@@ -1,13 +1,29 @@
-// node count.js FILE PATTERN FLAGS all|first: prints the number of matches, and the CPU seconds and the seconds of
-// the search.
+// node count.js FILE PATTERN FLAGS all|first|compile: prints the number of matches, and the CPU seconds and the seconds
+// of the search; with `compile` of compiling and of the first match together, each the mean of many runs.
 const [file, pattern, flags, mode] = process.argv.slice(2);
 const text = require('fs').readFileSync(file, 'utf8');
+// JavaScript has v or u, not both
+const letters = flags.includes('v') ? flags.replace('u', '') : flags;
+// How long a pattern is compiled again and again, in microseconds.
+const SPENT = 5e4;
 let regex;
 try {
-  // JavaScript has v or u, not both
-  regex = new RegExp(pattern, flags.includes('v') ? flags.replace('u', '') + 'g' : flags + 'g');
+  regex = new RegExp(pattern, letters + 'g');
 } catch {
   process.exit(1);
+}
+if (mode === 'compile') {
+  const before = process.cpuUsage();
+  let used = 0, runs = 0, found;
+  while (used < SPENT) {
+    // V8 keeps what it has compiled for the same source, so another alternative, which never matches, is added.
+    found = new RegExp(`${pattern}|[]${runs}`, letters).exec(text);
+    runs += 1;
+    const { user, system } = process.cpuUsage(before);
+    used = user + system;
+  }
+  console.log(found ? 1 : 0, used / runs / 1e6, used / runs / 1e6);
+  process.exit();
 }
 const started = performance.now();
 const before = process.cpuUsage();

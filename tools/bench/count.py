@@ -1,9 +1,12 @@
-# count.py FILE PATTERN all|first: prints the number of matches, and the CPU seconds and the seconds of the search.
+# count.py FILE PATTERN all|first|compile: prints the number of matches, and the CPU seconds and the seconds of the
+# search; with `compile` of compiling and of the first match together, each the mean of many runs.
 import re
 import sys
 import time
 import warnings
 
+# How long a pattern is compiled again and again, in seconds.
+SPENT = 0.05
 warnings.simplefilter("ignore")
 file, pattern, mode = sys.argv[1:]
 text = open(file, encoding="utf-8", newline="").read()
@@ -13,6 +16,15 @@ except re.error:
     sys.exit(1)
 before, started = time.process_time(), time.perf_counter()
 count = 0
+if mode == "compile":
+    used = runs = 0
+    while used < SPENT:
+        re.purge()
+        found = re.search(pattern, text)
+        runs += 1
+        used = time.process_time() - before
+    print(int(found is not None), used / runs, used / runs)
+    sys.exit()
 for _ in regex.finditer(text):
     count += 1
     if mode == "first":

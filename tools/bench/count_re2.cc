@@ -1,4 +1,5 @@
-// count_re2 FILE PATTERN all|first: prints the number of matches, and the CPU seconds and the seconds of the search.
+// count_re2 FILE PATTERN all|first|compile: prints the number of matches, and the CPU seconds and the seconds of the
+// search; with `compile` of compiling and of the first match together, each the mean of many runs.
 #include <chrono>
 #include <cstdio>
 #include <cstring>
@@ -9,11 +10,30 @@
 
 #include <re2/re2.h>
 
+// How long a pattern is compiled again and again, in seconds.
+const double SPENT = 0.05;
+
+// Compiles the pattern and searches for its first match, and prints the mean time.
+static int compile(const char *pattern, const std::string &text, const RE2::Options &options) {
+    re2::StringPiece found;
+    bool matches = false;
+    size_t runs = 0;
+    double used = 0;
+    for (clock_t before = clock(); used < SPENT; used = double(clock() - before) / CLOCKS_PER_SEC, runs++) {
+        RE2 regex(pattern, options);
+        if (!regex.ok()) return 1;
+        matches = regex.Match(text, 0, text.size(), RE2::UNANCHORED, &found, 1);
+    }
+    printf("%d %.9f %.9f\n", matches, used / runs, used / runs);
+    return 0;
+}
+
 int main(int, char **argv) {
     std::ifstream file(argv[1]);
     std::string text((std::istreambuf_iterator<char>(file)), std::istreambuf_iterator<char>());
     RE2::Options options;
     options.set_log_errors(false);
+    if (!strcmp(argv[3], "compile")) return compile(argv[2], text, options);
     RE2 regex(argv[2], options);
     if (!regex.ok()) return 1;
     bool all = !strcmp(argv[3], "all");

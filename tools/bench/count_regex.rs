@@ -1,5 +1,6 @@
-//! count_regex FILE PATTERN all|first: prints the number of matches, and the CPU seconds and the seconds of the search,
-//! by the crate `regex`. The status is 1 if the pattern is rejected.
+//! count_regex FILE PATTERN all|first|compile: prints the number of matches, and the CPU seconds and the seconds of the
+//! search, by the crate `regex`; with `compile` of compiling and of the first match together, each the mean of many
+//! runs. The status is 1 if the pattern is rejected.
 use std::ffi::c_long;
 use std::process::ExitCode;
 use std::time::Instant;
@@ -14,6 +15,22 @@ fn used() -> f64 {
     clock() as f64 / 1e6
 }
 
+/// How long a pattern is compiled again and again, in seconds.
+const SPENT: f64 = 0.05;
+
+/// Compiles the pattern and searches for its first match. Returns whether there is one, and the mean time.
+fn compile(pattern: &str, text: &str) -> Result<(bool, f64), regex::Error> {
+    let (before, mut runs) = (used(), 0.0);
+    loop {
+        let found = regex::Regex::new(pattern)?.find(text).is_some();
+        runs += 1.0;
+        let spent = used() - before;
+        if spent >= SPENT {
+            return Ok((found, spent / runs));
+        }
+    }
+}
+
 fn main() -> ExitCode {
     let arguments: Vec<String> = env::args().skip(1).collect();
     let [file, pattern, mode] = arguments.as_slice() else {
@@ -25,6 +42,13 @@ fn main() -> ExitCode {
     let Ok(regex) = regex::Regex::new(pattern) else {
         return ExitCode::from(1);
     };
+    if mode == "compile" {
+        let Ok((found, mean)) = compile(pattern, &text) else {
+            return ExitCode::from(1);
+        };
+        println!("{} {mean:.9} {mean:.9}", u8::from(found));
+        return ExitCode::SUCCESS;
+    }
     let started = Instant::now();
     let before = used();
     let count = match mode.as_str() {

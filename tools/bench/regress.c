@@ -1,6 +1,7 @@
-/* regress FILE PATTERN FLAGS all|first: prints the number of matches, and the CPU seconds and the seconds of the
-   search, by the C library of this repository. FLAGS are letters as in JavaScript. The status is 1 if the pattern is rejected, 2 if the
-   search takes too many steps, and 3 if something else fails. */
+/* regress FILE PATTERN FLAGS all|first|compile: prints the number of matches, and the CPU seconds and the seconds
+   of the search, by the C library of this repository; with `compile` of compiling and of the first match together,
+   each the mean of many runs. FLAGS are letters as in JavaScript. The status is 1 if the pattern is rejected, 2 if
+   the search takes too many steps, and 3 if something else fails. */
 
 #include <stdio.h>
 #include <stdlib.h>
@@ -8,6 +9,9 @@
 #include <time.h>
 
 #include <regress.h>
+
+/* How long a pattern is compiled again and again. */
+#define SPENT 0.05
 
 struct text {
     uint8_t *bytes;
@@ -72,22 +76,56 @@ static uint32_t search(regress_regex *regex, const struct text *text, int all) {
     return status;
 }
 
+/* The status of this program for the library's. */
+static int result_of(uint32_t status) {
+    switch (status) {
+    case REGRESS_OK:
+    case REGRESS_NO_MATCH:
+        return 0;
+    case REGRESS_SYNTAX:
+        return 1;
+    case REGRESS_OUT_OF_STEPS:
+        return 2;
+    default:
+        return 3;
+    }
+}
+
+/* Compiles the pattern and searches for its first match until SPENT seconds are used. Prints the number of matches
+   and the mean time. Returns the library's status, or REGRESS_SYNTAX if the pattern is rejected. */
+static uint32_t compile(const char *pattern, uint32_t flags, const struct text *text) {
+    size_t spans[256], needed, runs = 0;
+    uint32_t status = REGRESS_OK;
+    clock_t before = clock();
+    double used = 0;
+    while (used < SPENT) {
+        regress_regex regex;
+        if (!is_compiled(pattern, flags, &regex)) {
+            return REGRESS_SYNTAX;
+        }
+        status = regress_find(&regex, text->bytes, text->length, 0, spans, 256, &needed);
+        regress_free(&regex);
+        if (status != REGRESS_OK && status != REGRESS_NO_MATCH) {
+            return status;
+        }
+        runs += 1;
+        used = (double)(clock() - before) / CLOCKS_PER_SEC;
+    }
+    printf("%d %.9f %.9f\n", status == REGRESS_OK, used / (double)runs, used / (double)runs);
+    return status;
+}
+
 int main(int count, char **arguments) {
     struct text text;
     regress_regex regex;
     if (count != 5 || !read_text(arguments[1], &text)) {
         return 3;
     }
+    if (!strcmp(arguments[4], "compile")) {
+        return result_of(compile(arguments[2], flags_of(arguments[3]), &text));
+    }
     if (!is_compiled(arguments[2], flags_of(arguments[3]), &regex)) {
         return 1;
     }
-    switch (search(&regex, &text, !strcmp(arguments[4], "all"))) {
-    case REGRESS_OK:
-    case REGRESS_NO_MATCH:
-        return 0;
-    case REGRESS_OUT_OF_STEPS:
-        return 2;
-    default:
-        return 3;
-    }
+    return result_of(search(&regex, &text, !strcmp(arguments[4], "all")));
 }
