@@ -1,5 +1,5 @@
 -- What follows an instruction.
-use Rattle.std.proofs.Common.{◌≡◌, ℕ, ◌≤◌, ◌<◌, ◌==◌, Bool, false, not, ◌||◌, List, [], ◌++◌, flat_map, length, slice_get, Option, Some, None, MatchOption, All, Result, Ok, Err, IfOk, refl, sym, ap, ap₂, ◌∙◌, subst, take, arith}
+use Rattle.std.proofs.Common.{◌≡◌, ℕ, ◌≤◌, ◌<◌, ◌==◌, Bool, false, not, ◌||◌, List, [], ◌++◌, flat_map, length, Option, Some, None, MatchOption, All, Result, Ok, Err, IfOk, refl, sym, ap, ap₂, ◌∙◌, subst, take, arith}
 use Rattle.std.proofs.lemmas.List.Elements.{All-head, All-cons}
 use Rattle.regress_tree.specs.Matching.{steps}
 use Rattle.regress_tree.specs.Reading.{Direction}

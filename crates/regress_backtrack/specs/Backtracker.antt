@@ -7,7 +7,7 @@ use Rattle.regress_program.specs.Cost.{Cost, IsCost}
 use Rattle.regress_program.specs.Program.{IsSolution, Out}
 use Rattle.regress_backtrack.specs.declared.backtracker.Backtracker.{Backtracker}
 use Rattle.regress_code.specs.declared.code.Code.{Code}
-use Rattle.regress_code.specs.Code.{code_routines, cost_from, outcomes_from, search_cost, setting_with, tree_outcomes_from}
+use Rattle.regress_code.specs.Code.{captures_cost, code_routines, cost_from, match_cost, outcomes_from, runs_cost, search_cost, setting_with, tree_outcomes_from}
 
 -- the program that is run
 abbrev pub run_code : Backtracker → Code
@@ -46,6 +46,18 @@ AreCosts b outs costs = IsCost (setting_with (run_code b) (run_tables b)) (run_t
 -- the cost of a run from a position with every group unset, by those of the instructions
 abbrev pub cost_at : Backtracker → (ℕ → Cost) → (position : ℕ) → ℕ
 cost_at b = cost_from (run_code b) (run_tables b) (run_text b)
+
+-- the cost of the runs from there on
+abbrev pub runs_cost_at : Backtracker → (ℕ → Cost) → (from : ℕ) → ℕ
+runs_cost_at b = runs_cost (run_code b) (run_tables b) (run_text b)
+
+-- the cost of the captures of a match
+abbrev pub captures_cost_of : Backtracker → ℕ
+captures_cost_of b = captures_cost (run_code b)
+
+-- the cost of matching at a position
+abbrev pub match_cost_at : Backtracker → (ℕ → Cost) → (position : ℕ) → ℕ
+match_cost_at b = match_cost (run_code b) (run_tables b) (run_text b)
 
 -- the cost of a search from there on
 abbrev pub search_cost_at : Backtracker → (ℕ → Cost) → (from : ℕ) → ℕ

@@ -1,5 +1,5 @@
 //! Runs from many positions of a text.
-ghost use Rattle.std.specs.Prelude.{◌≡◌, ◌≤◌, ◌+◌, ℕ, IfOk, List, None, length, replicate, true};
+ghost use Rattle.std.specs.Prelude.{◌≡◌, ◌≤◌, ◌+◌, ◌-◌, ℕ, IfOk, List, None, length, replicate, true};
 ghost use Rattle.std.proofs.Props.{props};
 ghost use Rattle.regress_tree.specs.Steps.{MatchState};
 ghost use Rattle.regress_tree.specs.Tree.{Tree};
@@ -19,6 +19,7 @@ use regress_code::Code;
 use regress_found::{Match, Outcome};
 use regress_leaves::known::Known;
 use regress_leaves::rules::MatchContext;
+use regress_program::blocks::blocks;
 use regress_program::groups::unset_groups;
 use std::alloc::{AllocError, Global};
 use std::mem;
@@ -40,7 +41,7 @@ pub struct Backtracker<'c, 'x> {
 }
 
 impl<'c, 'x> Backtracker<'c, 'x> {
-    ghost use Rattle.regress_backtrack.specs.Backtracker.{AreCosts, AreOutcomes, SameRuns, cost_at, outcomes_at, run_code, run_tables, run_text, tree_outcomes_at};
+    ghost use Rattle.regress_backtrack.specs.Backtracker.{AreCosts, AreOutcomes, SameRuns, captures_cost_of, cost_at, match_cost_at, outcomes_at, run_code, run_tables, run_text, tree_outcomes_at};
     ghost use Rattle.regress_found.specs.declared.outcome.Outcome.TheVariants.{OutOfSteps};
 
     /// Returns a backtracker for a program and a text, under case mappings. The program has a cost in the text.
@@ -93,12 +94,21 @@ impl<'c, 'x> Backtracker<'c, 'x> {
             IsMatchResult position (tree_outcomes_at self.old t position) outcome) }
         ensures remaining { IfOk result (λ _. remaining.new ≤ remaining.old) }
         ensures costs { IfOk result (λ _. (outs : ℕ → Out) (costs : ℕ → Cost) → AreCosts self.old outs costs →
-            remaining.old ≤ remaining.new + cost_at self.old costs position) }
+            remaining.old ≤ remaining.new + match_cost_at self.old costs position) }
         ensures spent { IfOk result (λ outcome. outcome ≡ OutOfSteps → remaining.new ≡ 0) }
+        ensures charged { IfOk result (λ _. remaining.new ≤ remaining.old - captures_cost_of self.old) }
         ensures same { SameRuns self.old self.new }
     {
         let input = input_of(self.code, self.known, self.text);
+        *remaining = remaining.saturating_sub(self.captures_cost());
         self.match_in(alloc, &input, position, remaining)
+    }
+
+    /// Returns the number of steps for the captures of a match.
+    pub(crate) fn captures_cost(&self) -> u64
+        ensures { result ≡ captures_cost_of self.now }
+    {
+        blocks(self.code.program.groups)
     }
 
     /// Matches at exactly the byte offset `position`, as [`Backtracker::match_at`].

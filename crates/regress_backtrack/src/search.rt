@@ -1,12 +1,12 @@
 //! Searching a text from left to right.
-ghost use Rattle.std.specs.Prelude.{◌≡◌, ◌≤◌, ◌<◌, ◌+◌, ◌-◌, [], ℕ, IfOk, IfSome, MatchOption, Some, length};
+ghost use Rattle.std.specs.Prelude.{◌≡◌, ◌≤◌, ◌<◌, ◌+◌, ◌-◌, [], ℕ, IfOk, IfSome, MatchOption, Some, length, min};
 ghost use Rattle.regress_tree.specs.Tree.{Tree};
 ghost use Rattle.regress_unicode.specs.declared.Tables.{Tables};
 ghost use Rattle.regress_program.specs.Compiled.{IsPattern};
 ghost use Rattle.regress_program.specs.Cost.{Cost, IsCost};
 ghost use Rattle.regress_program.specs.Program.{IsSolution, Out};
-ghost use Rattle.regress_backtrack.specs.Backtracker.{AreCosts, AreOutcomes, SameRuns, outcomes_at, run_code, run_text, search_cost_at, tree_outcomes_at};
-ghost use Rattle.regress_code.specs.Code.{code_routines, cost_from, outcomes_from, setting_with, tree_outcomes_from};
+ghost use Rattle.regress_backtrack.specs.Backtracker.{AreCosts, AreOutcomes, SameRuns, captures_cost_of, outcomes_at, run_code, run_text, runs_cost_at, search_cost_at, tree_outcomes_at};
+ghost use Rattle.regress_code.specs.Code.{captures_cost, code_routines, match_cost, outcomes_from, setting_with, tree_outcomes_from};
 ghost use Rattle.regress_found.specs.Results.{IfMatched, IsSearchResult, IsMatchResult};
 ghost use Rattle.regress_found.specs.Tried.{positions_tried};
 ghost use Rattle.regress_backtrack.specs.Searched.{IsFor};
@@ -48,7 +48,8 @@ pub fn match_at(
     ensures steps { IfOk result (λ found. found.steps ≤ steps) }
     ensures costs { IfOk result (λ found. (outs : ℕ → Out) (costs : ℕ → Cost) →
         IsCost (setting_with code.now known.entry.tables.now) text.now (code_routines code.now) outs costs →
-        found.steps ≤ cost_from code.now known.entry.tables.now text.now costs position) }
+        found.steps ≤ match_cost code.now known.entry.tables.now text.now costs position) }
+    ensures charged { IfOk result (λ found. min (captures_cost code.now) steps ≤ found.steps) }
     ensures out_of_steps { IfOk result (λ found. found.outcome ≡ OutOfSteps → found.steps ≡ steps) }
 {
     let mut remaining = steps;
@@ -65,15 +66,18 @@ impl Backtracker<'_, '_> {
     /// the steps from `remaining`.
     ///
     /// # Complexity
-    /// A step is an instruction. It counts 1, and also 1 for each byte by which it moves the position, and for each byte
-    /// of the capture that a back reference is compared with. Each byte offset up to the match counts 1 more, also where
-    /// the first byte shows that no match begins. The result is [`Outcome::OutOfSteps`] as soon as `remaining` is used up,
-    /// and with 0 for each `from` in the text. A step that is begun is completed, even if it counts more than remains. If
-    /// the first bytes show that no match begins in the rest of the text, that rest counts nothing.
+    /// A step is an instruction. It counts 1, and 1 more for each 64 bytes by which it moves the position, for each 64
+    /// bytes of the capture that a back reference is compared with (with `icase` for each byte), and for each 64 groups
+    /// that it unsets. A loop over ASCII characters whose iterations are run at once counts 1 for each of them. A search
+    /// counts 1 for each 64 groups of the pattern, and 1 for each byte offset up to the match, also where the first byte
+    /// shows that no match begins. The result is [`Outcome::OutOfSteps`] as soon as `remaining` is used up, and with 0 for
+    /// each `from` in the text. A step that is begun is completed, even if it counts more than remains. If the first bytes
+    /// show that no match begins in the rest of the text, that rest counts nothing.
     ///
-    /// A search that finds a match takes at least a step for each byte offset up to its start, or all steps that remain.
-    /// It takes at most its cost: the steps that following every outcome from every byte offset takes. Every program
-    /// has a cost in every text, and with more steps than that the result is not [`Outcome::OutOfSteps`].
+    /// A search that finds a match takes at least a step for each byte offset up to its start and one for each 64 groups,
+    /// or all steps that remain. It takes at most its cost: the steps that following every outcome from every byte offset
+    /// takes. Every program has a cost in every text, and with more steps than that the result is not
+    /// [`Outcome::OutOfSteps`].
     ///
     /// So the limit bounds the time: it is at most `remaining` and the length of the text together, times a factor that depends
     /// only on the program. The memory is at most `remaining` times such a factor, and is kept for the next search. Recursion is
@@ -94,6 +98,32 @@ impl Backtracker<'_, '_> {
         ensures remaining { IfOk result (λ _. remaining.new ≤ remaining.old) }
         ensures costs { IfOk result (λ _. (outs : ℕ → Out) (costs : ℕ → Cost) → AreCosts self.old outs costs →
             remaining.old ≤ remaining.new + search_cost_at self.old costs from) }
+        ensures spent { IfOk result (λ outcome. outcome ≡ OutOfSteps → remaining.new ≡ 0) }
+        ensures counted { IfOk result (λ outcome. IfMatched outcome (λ m.
+            remaining.new ≤ remaining.old - (captures_cost_of self.old + positions_tried (run_text self.old) from (Some m)))) }
+        ensures same { SameRuns self.old self.new }
+    {
+        *remaining = remaining.saturating_sub(self.captures_cost());
+        self.run_from(alloc, from, remaining)
+    }
+
+    /// Returns the leftmost match as [`Backtracker::find`]. The captures of the match are counted before.
+    ///
+    /// # Errors
+    /// Returns [`AllocError`] if an allocation fails.
+    fn run_from(
+        &mut self,
+        alloc: Global,
+        from: usize,
+        remaining: &mut u64,
+    ) -> Result<Outcome, AllocError>
+        ensures solved { IfOk result (λ outcome. (outs : ℕ → Out) → AreOutcomes self.old outs →
+            IsSearchResult (run_text self.old) (outcomes_at self.old outs) from outcome) }
+        ensures finds { IfOk result (λ outcome. (t : Tree) → IsPattern (code_routines (run_code self.old)) t →
+            IsSearchResult (run_text self.old) (tree_outcomes_at self.old t) from outcome) }
+        ensures remaining { IfOk result (λ _. remaining.new ≤ remaining.old) }
+        ensures costs { IfOk result (λ _. (outs : ℕ → Out) (costs : ℕ → Cost) → AreCosts self.old outs costs →
+            remaining.old ≤ remaining.new + runs_cost_at self.old costs from) }
         ensures spent { IfOk result (λ outcome. outcome ≡ OutOfSteps → remaining.new ≡ 0) }
         ensures tried { IfOk result (λ outcome. IfMatched outcome (λ m. remaining.new ≤ remaining.old - positions_tried (run_text self.old) from (Some m))) }
         ensures same { SameRuns self.old self.new }

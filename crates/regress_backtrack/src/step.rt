@@ -8,6 +8,7 @@ ghost use Rattle.regress_tree.specs.Matching.{steps};
 ghost use Rattle.regress_tree.specs.Steps.{Matcher};
 ghost use Rattle.regress_tree.specs.Tree.{tree};
 ghost use Rattle.regress_found.specs.Found.{state};
+ghost use Rattle.regress_program.specs.Cost as cost;
 ghost use Rattle.regress_program.specs.Cost.{Cost, compared};
 ghost use Rattle.regress_program.specs.Program.{Out, goto, matcher_of, outcomes_by};
 ghost use Rattle.regress_program.specs.Shape.{IsPart};
@@ -23,6 +24,7 @@ use crate::input::{Input, test_at};
 use crate::machine::{Machine, Place};
 use regress_leaves::leaves::simple_leaf;
 use regress_leaves::test::Test;
+use regress_program::blocks::{blocks, unset_cost};
 use regress_program::instruction::Instruction;
 use regress_program::leaf::leaf_end;
 use std::alloc::AllocError;
@@ -46,8 +48,8 @@ pub enum Next {
 /// The instruction is that of `here` in the routine of the input, and no lookaround.
 ///
 /// # Complexity
-/// It subtracts from `remaining` the number of bytes by which it moves the position, and the length of the capture that
-/// a back reference is compared with.
+/// It subtracts from `remaining` one for each 64 bytes by which it moves the position, for each 64 bytes that a back
+/// reference is compared with, and for each 64 groups that it unsets.
 ///
 /// # Errors
 /// Returns [`AllocError`] if an allocation fails.
@@ -117,6 +119,8 @@ pub fn step(
             }
         }
         Instruction::Unset { start, end, next } => {
+            let cost = unset_cost(start, end, machine.captures.len());
+            *remaining = remaining.saturating_sub(cost);
             machine.unset(start, end)?;
             Ok(Next::On(goto(next, here)))
         }
@@ -277,19 +281,19 @@ fn goto(pc: usize, here: Place) -> Place
     Place { pc, ..here }
 }
 
-/// Goes on from where a part ends, and subtracts from the remaining steps the bytes that it has matched. Backtracks if
-/// it fails.
+/// Goes on from where a part ends, and subtracts from the remaining steps one for each 64 bytes that it has matched.
+/// Backtracks if it fails.
 #[inline(always)]
 fn reach(here: Place, next: usize, to: Option<usize>, remaining: &mut u64) -> Next
     ensures next { MatchOption to (result ≡ Back)
         (λ q. result ≡ On (record { pc = next; moved = here.moved || not (q == here.position); position = q })) }
     ensures remaining { remaining.new ≤ remaining.old }
-    ensures costs { MatchOption to (remaining.new ≡ remaining.old) (λ q. remaining.old ≤ remaining.new + abs_diff here.position q) }
+    ensures costs { MatchOption to (remaining.new ≡ remaining.old) (λ q. remaining.old ≤ remaining.new + cost.blocks (abs_diff here.position q)) }
 {
     match to {
         None => Next::Back,
         Some(position) => {
-            *remaining = remaining.saturating_sub(position.abs_diff(here.position) as u64);
+            *remaining = remaining.saturating_sub(blocks(position.abs_diff(here.position)));
             Next::On(Place {
                 pc: next,
                 moved: here.moved | (position != here.position),

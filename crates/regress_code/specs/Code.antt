@@ -9,7 +9,7 @@ use Rattle.regress_tree.specs.Steps.{MatchState}
 use Rattle.regress_tree.specs.Tree.{Tree}
 use Rattle.regress_unicode.specs.declared.Tables.{Tables}
 use Rattle.regress_unicode.specs.TableOf.{table_of}
-use Rattle.regress_program.specs.Cost.{Cost, cost_of}
+use Rattle.regress_program.specs.Cost.{Cost, blocks, cost_of}
 use Rattle.regress_found.specs.Found.{initial_state}
 use Rattle.regress_program.specs.Program.{Out, Routine, matcher_of}
 use Rattle.regress_program.specs.Search.{flags_of, groups_of, is_known_tidy, routines_of}
@@ -51,7 +51,19 @@ cost_from code tables text costs position =
     cost_of (setting_with code tables) text (code_routines code) costs (length (code_routines code) - 1)
     (initial_state (code_groups code) position)
 
--- the cost of a search from `from` on: 1 for each byte offset up to the end, and a run there
-abbrev pub search_cost : Code → Tables → (text : List ℕ) → (ℕ → Cost) → (from : ℕ) → ℕ
-search_cost code tables text costs from =
+-- the cost of the captures that a match has, one for each group
+abbrev pub captures_cost : Code → ℕ
+captures_cost code = blocks (code_groups code)
+
+-- the cost of matching at a position: the captures, and a run there
+abbrev pub match_cost : Code → Tables → (text : List ℕ) → (ℕ → Cost) → (position : ℕ) → ℕ
+match_cost code tables text costs position = captures_cost code + cost_from code tables text costs position
+
+-- the cost of the runs from `from` on: 1 for each byte offset up to the end, and a run there
+abbrev pub runs_cost : Code → Tables → (text : List ℕ) → (ℕ → Cost) → (from : ℕ) → ℕ
+runs_cost code tables text costs from =
     sum_by (λ k. 1 + cost_from code tables text costs k) (range_with_len from (length text + 1 - from))
+
+-- the cost of a search from `from` on: the captures, and the runs
+abbrev pub search_cost : Code → Tables → (text : List ℕ) → (ℕ → Cost) → (from : ℕ) → ℕ
+search_cost code tables text costs from = captures_cost code + runs_cost code tables text costs from

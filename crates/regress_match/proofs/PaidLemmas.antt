@@ -1,9 +1,9 @@
 -- The steps of a search for all matches are at most what its searches cost.
-use Rattle.std.proofs.Common.{◌≡◌, ◌∙◌, ℕ, ◌+◌, ◌-◌, ◌≤◌, List, [], ◌∷◌, ◌++◌, Option, Some, None, IfNone, IfSome, ap, sym, subst, length, arith}
+use Rattle.std.proofs.Common.{◌≡◌, ℕ, ◌+◌, ◌-◌, ◌≤◌, List, [], ◌∷◌, ◌++◌, Option, Some, None, IfNone, IfSome, subst, arith}
 use Rattle.regress_program.specs.Cost.{Cost}
 use Rattle.regress_program.specs.Program.{Out}
 use Rattle.regress_found.specs.declared.found.Match.{Match}
-use Rattle.regress_match.specs.AllCosts.{CostsOfMatches, matches_cost, next_cost}
+use Rattle.regress_match.specs.AllCosts.{CostsOfMatches, matches_cost}
 use Rattle.regress_match.specs.Costs.{AreCosts, IsWithinFindCost}
 use Rattle.regress_match.specs.Iterated.{IsSameIteration, iterated_from, iterated_matcher, iterated_text, step_limit, steps_remaining}
 use Rattle.regress_match.specs.Matcher.{factor_of}

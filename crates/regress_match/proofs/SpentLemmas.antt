@@ -1,14 +1,13 @@
 -- The steps that a repeated search spends.
-use Rattle.std.proofs.Common.{◌≡◌, ℕ, ◌+◌, ◌-◌, ◌^◌, ◌≤◌, List, Option, Some, None, length, ap, ap₂, sym, subst, arith, min}
+use Rattle.std.proofs.Common.{◌≡◌, ℕ, ◌+◌, ◌-◌, ◌^◌, ◌≤◌, List, Option, Some, None, arith, min}
 use Rattle.std.specs.Prelude.{IsNone}
 use Rattle.regress_found.specs.Tried.{positions_tried}
 use Rattle.regress_found.specs.Results.{IfMatched}
-use Rattle.regress_found.specs.Found.{start_of}
 use Rattle.regress_found.specs.declared.found.Match.{Match}
 use Rattle.regress_found.specs.declared.outcome.Outcome.{Outcome}
 use Rattle.regress_found.specs.declared.outcome.Outcome.TheVariants as outcomes
 use Rattle.regress_tables.specs.declared.text.TextSearch.{TextSearch}
-use Rattle.regress_match.specs.Iterated.{HasCounted, IsSameIteration, Spends, iterated_from, iterated_text, step_limit, steps_remaining, steps_taken}
+use Rattle.regress_match.specs.Iterated.{HasCounted, IsSameIteration, Spends, iterated_from, iterated_text, steps_remaining}
 use Rattle.regress_match.specs.Kept.{IfKept}
 use Rattle.regress_match.specs.declared.matcher.Matcher.{Matcher}
 use Rattle.regress_match.specs.declared.matcher_matches.MatcherMatches.{MatcherMatches}

@@ -3,7 +3,7 @@ use Rattle.std.specs.Prelude.{ℕ, ◌+◌, ◌≤◌, List, length}
 use Rattle.std.specs.Arc.{arc_value}
 use Rattle.regress_program.specs.Cost.{Cost, IsCost}
 use Rattle.regress_program.specs.Program.{Out}
-use Rattle.regress_code.specs.Code.{code_routines, cost_from, search_cost, setting_with}
+use Rattle.regress_code.specs.Code.{code_routines, match_cost as code_match_cost, search_cost, setting_with}
 use Rattle.regress_match.specs.declared.matcher.Matcher.{Matcher}
 
 -- These are the costs of the program in the text, where `outs` are the outcomes of its instructions.
@@ -18,7 +18,7 @@ pub record HasCosts (m : Matcher) (text : List ℕ) : Type 0 where
 
 -- the cost of matching at a position
 abbrev pub match_cost : Matcher → (text : List ℕ) → (costs : ℕ → Cost) → (position : ℕ) → ℕ
-match_cost m = cost_from m.code (arc_value m.tables)
+match_cost m = code_match_cost m.code (arc_value m.tables)
 
 -- the cost of a search from there on
 abbrev pub find_cost : Matcher → (text : List ℕ) → (costs : ℕ → Cost) → (from : ℕ) → ℕ

@@ -9,7 +9,7 @@ use Rattle.regress_tree.specs.Reading.{Direction}
 use Rattle.regress_tree.specs.Setting.{Setting}
 use Rattle.regress_tree.specs.Steps.{MatchState, Matcher}
 use Rattle.regress_program.specs.Below.{Below}
-use Rattle.regress_program.specs.Cost.{Cost, compared, cost_after, cost_by}
+use Rattle.regress_program.specs.Cost.{Cost, blocks, compared, cost_after, cost_by, unset_cost}
 use Rattle.regress_program.specs.Program.{At, Routine, Op, accept, fail, part, split, begin_loop, repeat, end_loop, unsets, begin_group, end_group, look, goto, enter, reach, ended}
 use Rattle.regress_program.specs.Shape.{Fits}
 use Rattle.regress_program.specs.Stays.{IsReached}
@@ -39,7 +39,7 @@ module _ (setting : Setting) (bytes : List ℕ) (d : Direction) (width : ℕ) (e
   after-same : (P : MatchState → Type 0) (next : ℕ) (states : List MatchState) → All P states →
       ((to : MatchState) → P to → f (reach next a to) ≡ g (reach next a to)) → cost_after f next a states ≡ cost_after g next a states
   after-same P next states all same =
-      sum_by-same P _ _ states all (λ to is. ap (λ n. abs_diff a.state.position to.position + n) (same to is))
+      sum_by-same P _ _ states all (λ to is. ap (λ n. blocks (abs_diff a.state.position to.position) + n) (same to is))
 
   -- The cost of an instruction is determined by those of the states that are evaluated before it.
   pub cost-same : (op : Op) → Fits earlier width a.pc op → cost_by setting bytes d body_of b1 f op a ≡ cost_by setting bytes d body_of b2 g op a
@@ -57,7 +57,7 @@ module _ (setting : Setting) (bytes : List ℕ) (d : Direction) (width : ℕ) (e
       advanced-same a.moved _ _ (λ m. ap₂ ◌+◌
       (agree (enter body a) (below-again width (length bytes) d a pc_in within body fits.0 m)) (here (goto next a) fits.1 refl refl))
   cost-same (end_loop next) fits = advanced-same a.moved _ _ (λ m. here (goto next a) fits refl refl)
-  cost-same (unsets start end next) fits = here _ fits refl refl
+  cost-same (unsets start end next) fits = ap (λ n. unset_cost start end (length a.state.captures) + n) (here _ fits refl refl)
   cost-same (begin_group next) fits = here _ fits refl refl
   cost-same (end_group id next) fits = ended-same id next fits a.begins
   cost-same (look negate i next) fits =

@@ -1,8 +1,7 @@
 -- All that a part of a pattern contains is among its compiled instructions.
-use Rattle.std.proofs.Common.{◌≡◌, ℕ, zero, suc, ◌+◌, ◌≤◌, ◌<◌, Bool, true, false, not, ◌&&◌, ◌||◌, nat_lt, List, [], ◌∷◌, ◌++◌, ◌-◌, drop, get_or, length, slice_get, Some, refl, sym, ap, ap₂, subst, ◌∙◌, arith}
+use Rattle.std.proofs.Common.{◌≡◌, ℕ, zero, suc, ◌≤◌, ◌<◌, Bool, true, false, not, ◌&&◌, ◌||◌, nat_lt, List, [], ◌∷◌, ◌++◌, ◌-◌, drop, get_or, length, slice_get, Some, refl, sym, ap, ap₂, subst, ◌∙◌, arith}
 use Rattle.std.specs.List.{list_all, list_any}
 use Rattle.std.proofs.lemmas.Bool.{ltb-true}
-use Rattle.std.proofs.lemmas.Option.{slice_get_within}
 use Rattle.regress_base.specs.declared.types.Quantifier.{Quantifier}
 use Rattle.regress_leaves.specs.Leaves.{has_one_outcome}
 use Rattle.regress_prefilter.specs.OneCharacter.{takes_one}
@@ -15,7 +14,7 @@ use Rattle.regress_program.specs.Linear.{changes_captures, is_back_ref, is_back_
 use Rattle.regress_program.specs.Program.{Op, accept, part, begin_group, end_group, unsets, look, Routine}
 use Rattle.regress_program.specs.Pushed.{Pushed}
 use Rattle.regress_program.specs.Tidy.{has_no_back_reference}
-use Rattle.regress_program.proofs.AddLemmas.{HasNoMore, Longer, longer, longer-push, pushed-ops}
+use Rattle.regress_program.proofs.AddLemmas.{HasNoMore, Longer, longer, longer-push}
 use Rattle.regress_program.proofs.CodeLemmas.{get-append-last, length-push, Extends-same, Extends-then, Extends-push, Extends-get, get-set-other}
 use Rattle.regress_program.proofs.RepeatLemmas.{Written}
 use Rattle.regress_program.proofs.ViewLemmas.{from_index}

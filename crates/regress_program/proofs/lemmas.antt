@@ -1,6 +1,7 @@
 -- Lemmas about the definitions of this crate, for use by other crates.
 pub mod Agreement
 pub mod Below
+pub mod Blocks
 pub mod Costs
 pub mod Instructions
 pub mod Onward

@@ -1,5 +1,5 @@
 -- The cost of a program: the steps of a run that follows every outcome.
-use Rattle.std.specs.Prelude.{◌≡◌, ℕ, ◌+◌, ◌-◌, ◌≤◌, ◌<◌, List, ◌∷◌, length, slice_get, get_or, sum_by, Option, Some, None, if◌then◌else◌}
+use Rattle.std.specs.Prelude.{◌≡◌, ℕ, ◌+◌, ◌-◌, ◌/◌, ◌≤◌, ◌<◌, Bool, List, ◌∷◌, length, min, slice_get, get_or, sum_by, Option, Some, None, if◌then◌else◌}
 use Rattle.std.specs.Int.{abs_diff}
 use Rattle.regress_tree.specs.Lookaround.{lookaround_matcher}
 use Rattle.regress_tree.specs.Matching.{steps}
@@ -14,19 +14,27 @@ use Rattle.regress_program.specs.Program.{Out, At, Routine, Op, accept, fail, pa
 abbrev pub Cost : Type 0
 Cost = At → ℕ
 
--- the length of a capture
-abbrev pub length_of : Option CaptureSpan → ℕ
-length_of None = 0
-length_of (Some span) = abs_diff span.0 span.1
+-- the steps for bytes that are compared or skipped at once, or for captures that are written: one for each 64 of them
+unfoldable pub blocks : (count : ℕ) → ℕ
+blocks count = count / 64
 
--- the length of the capture that a back reference is compared with
+-- the steps for a comparison with a capture: with `icase` its characters are compared one by one, and else all bytes at once
+abbrev pub copy_cost : (icase : Bool) → Option CaptureSpan → ℕ
+copy_cost icase None = 0
+copy_cost icase (Some span) = if icase then abs_diff span.0 span.1 else blocks (abs_diff span.0 span.1)
+
+-- the steps for the comparison that a leaf makes, if it is a back reference
 abbrev pub compared : Tree → MatchState → ℕ
-compared (leaf (back_ref group icase)) s = length_of (get_or s.captures (group - 1) None)
+compared (leaf (back_ref group icase)) s = copy_cost icase (get_or s.captures (group - 1) None)
 compared t s = 0
 
--- the cost of what follows an instruction, from these outcomes of it: 1 for each byte, and the cost from there
+-- the steps for unsetting the groups start to end - 1 of this number
+abbrev pub unset_cost : (start end groups : ℕ) → ℕ
+unset_cost start end groups = blocks (min end groups - start)
+
+-- the cost of what follows an instruction, from these outcomes of it: that of the bytes up to there, and the cost from there
 abbrev pub cost_after : Cost → (next : ℕ) → At → List MatchState → ℕ
-cost_after cost next a = sum_by (λ to. abs_diff a.state.position to.position + cost (reach next a to))
+cost_after cost next a = sum_by (λ to. blocks (abs_diff a.state.position to.position) + cost (reach next a to))
 
 module _ (setting : Setting) (bytes : List ℕ) where
   -- what an instruction costs besides 1, by the costs of the instructions after it, and by the matchers and the costs of
@@ -40,7 +48,7 @@ module _ (setting : Setting) (bytes : List ℕ) where
     cost_by (begin_loop greedy body next) a = cost (enter body a) + cost (goto next a)
     cost_by (repeat greedy body next) a = if a.moved then cost (enter body a) + cost (goto next a) else 0
     cost_by (end_loop next) a = if a.moved then cost (goto next a) else 0
-    cost_by (unsets start end next) a = cost (record a { pc = next; state = unset start end a.state })
+    cost_by (unsets start end next) a = unset_cost start end (length a.state.captures) + cost (record a { pc = next; state = unset start end a.state })
     cost_by (begin_group next) a = cost (record a { pc = next; begins = a.state.position ∷ a.begins })
     cost_by (end_group id next) a = cost (ended id next a a.begins)
     cost_by (look negate routine next) a =

@@ -1,9 +1,9 @@
 //! What leaves match, back references among them.
-ghost use Rattle.std.specs.Prelude.{◌≡◌, ◌≤◌, ◌+◌, ◌-◌, None, get_or};
+ghost use Rattle.std.specs.Prelude.{◌≡◌, ◌-◌, if◌then◌else◌, None, get_or};
 ghost use Rattle.regress_base.specs.Table.{denotes};
 ghost use Rattle.regress_leaves.specs.Leaves.{put};
 ghost use Rattle.regress_leaves.specs.Subject.{subject};
-ghost use Rattle.regress_program.specs.Cost.{compared, length_of};
+ghost use Rattle.regress_program.specs.Cost.{blocks, compared, copy_cost};
 ghost use Rattle.regress_found.specs.Found.{state};
 ghost use Rattle.regress_program.specs.Shape.{IsPart};
 ghost use Rattle.regress_tree.specs.Matching.{steps};
@@ -12,13 +12,15 @@ ghost use Rattle.regress_tree.specs.References.{match_again};
 ghost use Rattle.regress_tree.specs.Steps.{MatchState};
 ghost use Rattle.regress_tree.specs.Tree.{tree};
 
+use crate::blocks::blocks;
 use regress_leaves::leaves::{all_of, exactly, simple_leaf};
 use regress_leaves::references;
 use regress_leaves::rules::MatchContext;
 use regress_tree::ir::Node;
 
-/// Returns the position at which a leaf, or a fixed number of characters, ends, or `None` if it fails. The bytes of the
-/// capture that a back reference is compared with are subtracted from the remaining steps.
+/// Returns the position at which a leaf, or a fixed number of characters, ends, or `None` if it fails. The comparison of a
+/// back reference with its capture is subtracted from the remaining steps: one for each 64 bytes, or with `icase` for
+/// each byte.
 ///
 /// # Preconditions
 /// The node is a leaf, and no set of strings unless it has exactly one string; or a loop over one character whose minimum
@@ -35,8 +37,7 @@ pub fn leaf_end(
     requires { IsPart (tree node.now) }
     ensures to { let u = subject rules.entry text.now in
         steps u.setting u.bytes u.direction (tree node.now) (state captures.now position) ≡ put (state captures.now position) result }
-    ensures left { left.new ≤ left.old }
-    ensures costs { left.old ≤ left.new + compared (tree node.now) (state captures.now position) }
+    ensures costs { left.new ≡ left.old - compared (tree node.now) (state captures.now position) }
 {
     match node {
         Node::BackRef { group, icase } => {
@@ -66,7 +67,7 @@ fn capture_of(captures: &[Option<(usize, usize)>], group: u32) -> Option<(usize,
     }
 }
 
-/// Returns the position after a copy of the span (BackreferenceMatcher), whose length is subtracted from the remaining
+/// Returns the position after a copy of the span (BackreferenceMatcher), and subtracts the comparison from the remaining
 /// steps. Without a span it is the position itself.
 fn match_again(
     text: &str,
@@ -78,12 +79,18 @@ fn match_again(
 ) -> Option<usize>
     ensures to { (s : MatchState) → s.position ≡ position → (let u = subject rules.entry text.now in
         put s result ≡ match_again u.direction (of_bytes u.bytes) (denotes u.setting.table icase u.setting.flags.unicode) span s) }
-    ensures left { left.new ≤ left.old }
-    ensures costs { left.old ≤ left.new + length_of span }
+    ensures costs { left.new ≡ left.old - copy_cost icase span }
 {
     let Some(span) = span else {
         return Some(position);
     };
-    *left = left.saturating_sub(span.1.abs_diff(span.0) as u64);
+    *left = left.saturating_sub(copy_steps(icase, span.1.abs_diff(span.0)));
     references::match_again(text, rules, icase, span, position)
+}
+
+/// Returns the number of steps for a comparison with `bytes` bytes.
+fn copy_steps(icase: bool, bytes: usize) -> u64
+    ensures { result ≡ (if icase then bytes else blocks bytes) }
+{
+    if icase { bytes as u64 } else { blocks(bytes) }
 }

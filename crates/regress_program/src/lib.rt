@@ -1,6 +1,7 @@
 //! Patterns compiled into instructions: what a program matches, and whether it is searched by tables.
 #![tactic(auto)]
 
+pub mod blocks;
 mod capturing;
 mod characters;
 mod collect;

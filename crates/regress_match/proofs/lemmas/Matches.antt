@@ -1,5 +1,5 @@
 -- The cost of searches for all matches.
-use Rattle.std.proofs.Common.{◌≡◌, ◌∙◌, ℕ, ◌+◌, ◌≤◌, List, [], ◌∷◌, ◌++◌, ap, arith}
+use Rattle.std.proofs.Common.{◌≡◌, ℕ, ◌+◌, List, [], ◌∷◌, ◌++◌, ap, arith}
 use Rattle.regress_tree.specs.Steps.{MatchState}
 use Rattle.regress_found.specs.Repeated.{AreMatches, next_offset}
 use Rattle.regress_found.specs.declared.found.Match.{Match}

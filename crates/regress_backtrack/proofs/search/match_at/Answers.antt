@@ -1,6 +1,6 @@
 use Rattle.std.proofs.Common.{◌+◌, ◌≤◌, arith}
 use Rattle.regress_program.specs.Cost.{IsCost}
-use Rattle.regress_code.specs.Code.{code_routines, cost_from, setting_with}
+use Rattle.regress_code.specs.Code.{code_routines, match_cost, setting_with}
 use Rattle.regress_found.specs.Results.{IsMatchResult}
 use Rattle.regress_backtrack.proofs.SearchLemmas.{for_solution, for_tree, same_parts}
 use Rattle.regress_backtrack.proofs.search.match_at.Goals as goal
@@ -22,7 +22,7 @@ returns-clause-costs c = λ outs costs has.
     let made = c.in_ok-backtracker.ensures in
     let steps = c.args.steps in
     let remaining = c.match_at.new.remaining in
-    let taken : steps ≤ remaining + cost_from c.args.code.now c.args.known.tables.now c.args.text.now costs c.args.position =
+    let taken : steps ≤ remaining + match_cost c.args.code.now c.args.known.tables.now c.args.text.now costs c.args.position =
     same_parts (λ code tables text. IsCost (setting_with code tables) text (code_routines code) outs costs →
-    steps ≤ remaining + cost_from code tables text costs c.args.position) _ _ _ _ _ _ made.code made.tables made.text (c.in_ok-outcome.ensures.costs outs costs) has in
+    steps ≤ remaining + match_cost code tables text costs c.args.position) _ _ _ _ _ _ made.code made.tables made.text (c.in_ok-outcome.ensures.costs outs costs) has in
     omega (arith, taken)

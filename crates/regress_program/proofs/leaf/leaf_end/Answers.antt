@@ -7,7 +7,7 @@ use Rattle.regress_tree.specs.declared.ir.node.Node.{the_lemmas}
 use Rattle.regress_tree.proofs.lemmas.Nodes.{tree-Loop1CharBody}
 use Rattle.regress_tree.specs.Matching.{steps}
 use Rattle.regress_tree.specs.Tree.{back_ref, tree, leaf, string_set}
-use Rattle.regress_program.specs.Cost.{compared, length_of}
+use Rattle.regress_program.specs.Cost.{compared, copy_cost}
 use Rattle.regress_program.specs.Shape.{IsPart}
 use Rattle.regress_program.proofs.LeafLemmas.{back_again, sole_of, one_string}
 use Rattle.regress_found.specs.Found.{state}
@@ -54,7 +54,7 @@ returns-in-BackRef-clause-costs c =
     let s = state c.args.captures.now c.args.position in
     let is : tree c.args.node.now ≡ leaf (back_ref c.in-BackRef.group c.in-BackRef.icase) = search (rules, the_lemmas) in
     let taken = c.match_again.ensures.costs in
-    let length = ap length_of c.capture_of-span.ensures in
+    let length = ap (copy_cost c.in-BackRef.icase) c.capture_of-span.ensures in
     let total = ap (λ t. compared t s) is in
     omega (arith, taken, length, total)
 

@@ -1,9 +1,7 @@
 use Rattle.std.proofs.Common.{◌≡◌, ℕ, Some, None, IfNone, IfSome, IsSome, arith, refl, subst, sym}
-use Rattle.regress_found.specs.Results.{IfOutOfSteps}
-use Rattle.regress_match.specs.Iterated.{iterated_matcher, step_limit, steps_remaining}
 use Rattle.regress_match.specs.Matcher.{factor_of}
 use Rattle.regress_match.proofs.IterationLemmas.{all_found, one_more}
-use Rattle.regress_match.proofs.PaidLemmas.{HasPaid, costs_of_matches, one_more_paid}
+use Rattle.regress_match.proofs.PaidLemmas.{costs_of_matches, one_more_paid}
 use Rattle.regress_match.proofs.lemmas.Iterated.{remaining-falls}
 use Rattle.regress_match.proofs.MatcherLemmas.{if_some, map_some}
 use Rattle.regress_match.proofs.matcher.Matcher.find_all.Goals as goal

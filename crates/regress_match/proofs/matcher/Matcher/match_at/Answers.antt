@@ -2,7 +2,7 @@ use Rattle.std.proofs.Common.{ℕ, ◌≤◌, subst}
 use Rattle.std.specs.Prelude.{IfOk}
 use Rattle.regress_program.specs.Cost.{Cost, IsCost}
 use Rattle.regress_program.specs.Program.{Out}
-use Rattle.regress_code.specs.Code.{code_routines, cost_from, setting_with}
+use Rattle.regress_code.specs.Code.{code_routines, match_cost, setting_with}
 use Rattle.regress_match.proofs.MatcherLemmas.{result_first}
 use Rattle.regress_match.proofs.matcher.Matcher.match_at.Goals as goal
 
@@ -17,4 +17,4 @@ returns-clause-costs c =
     let text = c.args.text.now in
     subst
     (λ ts. IfOk c.match_at.result (λ found. (outs : ℕ → Out) (costs : ℕ → Cost) → IsCost (setting_with code ts) text (code_routines code) outs costs →
-    found.steps ≤ cost_from code ts text costs c.args.position)) c.known.ensures c.match_at.ensures.costs
+    found.steps ≤ match_cost code ts text costs c.args.position)) c.known.ensures c.match_at.ensures.costs

@@ -5,6 +5,7 @@ use Rattle.regress_found.specs.Results.{IfMatched}
 use Rattle.regress_found.specs.Found.{start_of}
 use Rattle.regress_match.proofs.CostLemmas.{runs_on}
 use Rattle.regress_match.proofs.MatcherLemmas.{kept_none, run_inside, run_matches, run_starts}
+use Rattle.regress_match.proofs.SpentLemmas.{matched_weaker}
 use Rattle.regress_match.proofs.matcher_matches.MatcherMatches.backtrack.Goals as goal
 
 pub offset_after-from-requires : goal.offset_after-from-requires
@@ -55,6 +56,9 @@ returns-clause-inside c =
     let s = c.args.self.now in
     run_inside s.matcher.now s.text.now c.in_ok-backtracker.backtracker c.in_ok-backtracker.ensures s.from c.in_ok-outcome.outcome
     c.in_ok-outcome.ensures.solved (subst IsUtf8 c.text-text.ensures c.text-text.utf8)
+
+pub returns-clause-tried : goal.returns-clause-tried
+returns-clause-tried c = matched_weaker c.in_ok-outcome.outcome _ _ (λ m ran. omega (arith, ran)) c.in_ok-outcome.ensures.counted
 
 pub returns-clause-costs : goal.returns-clause-costs
 returns-clause-costs c = λ outs costs are.

@@ -1,0 +1,138 @@
+use Rattle.std.proofs.Common.{rules, arith, ◌≤◌, ◌<◌, ℕ, length, sym, ap, subst, IfSome, MatchOption}
+use Rattle.std.specs.Str.{IsCharBoundary}
+use Rattle.regress_found.specs.Found.{NoneBefore}
+use Rattle.regress_program.specs.Program.{Out}
+use Rattle.regress_program.proofs.lemmas.Solutions.{solution}
+use Rattle.regress_code.specs.Code.{code_routines, setting_with}
+use Rattle.regress_backtrack.specs.Backtracker.{AreOutcomes, cost_at, outcomes_at, run_code, run_tables, run_text}
+use Rattle.regress_found.specs.Results.{IsMatchResult}
+use Rattle.regress_found.specs.declared.outcome.Outcome.TheVariants as outcomes
+use Rattle.regress_backtrack.proofs.CandidateLemmas.{none_after, none_before}
+use Rattle.regress_backtrack.proofs.CostLemmas.{searched, tried_on}
+use Rattle.regress_backtrack.proofs.SearchLemmas.{SameRuns-trans, found_leftmost, none_more, not_true, same_input, same_solved, same_taken, tree_finds}
+use Rattle.regress_backtrack.proofs.backtracker.Backtracker.run_from.Goals as goal
+use Rattle.regress_backtrack.proofs.backtracker.Backtracker.run_from.Goals.{then-is_char_boundary+in_ok-found+in-NoMatch, else-is_char_boundary}
+
+pub match_in-requires : goal.match_in-requires
+match_in-requires c =
+    let on : IsCharBoundary (run_text c.args.self.now) c.in-Some.position = search rules in
+    record {
+      input = same_input c.args.self.now c.loop-from.self c.loop-from.invariant.same c.input_of-input.result c.input_of-input.ensures;
+      position = omega (arith, on.0, ap length c.loop-from.invariant.same.text);
+    }
+
+pub returns-clause-solved : goal.returns-clause-solved
+returns-clause-solved c = λ outs are p low on. c.loop-from.invariant.solved outs are p low (omega (arith, on.0, c.loop-from-test.false)) on
+
+pub returns-clause-finds : goal.returns-clause-finds
+returns-clause-finds c = tree_finds c.args.self.now c.args.from outcomes.NoMatch (returns-clause-solved c)
+
+pub returns-in_default-clause-solved : goal.returns-in_default-clause-solved
+returns-in_default-clause-solved c = λ outs are.
+    let a = c.args.self.now in
+    none_after (run_text a) (outcomes_at a outs) c.args.from c.loop-from.from (c.loop-from.invariant.solved outs are)
+    (λ k low le. c.next_start.ensures.skipped (run_tables a) c.input_of-input.ensures outs are k low le (subst (λ r. MatchOption r Unit (λ p. k < p)) (sym c.in_default.is) tt))
+
+pub returns-in_default-clause-finds : goal.returns-in_default-clause-finds
+returns-in_default-clause-finds c = tree_finds c.args.self.now c.args.from outcomes.NoMatch (returns-in_default-clause-solved c)
+
+pub returns-in-Matched-clause-solved : goal.returns-in-Matched-clause-solved
+returns-in-Matched-clause-solved c = λ outs are.
+    let a = c.args.self.now in
+    let b = c.loop-from.self in
+    let k = c.in-Some.position in
+    let on : IsCharBoundary (run_text a) k = search rules in
+    let within = subst (λ r. IfSome r (λ (p : ℕ). (c.loop-from.from ≤ p) × (p ≤ length (run_text a)))) c.in-Some.is c.next_start.ensures.within in
+    found_leftmost (run_text a) (outcomes_at a outs) c.args.from k c.in-Matched.found (omega (arith, c.loop-from.invariant.from, within.0)) on
+    (subst (IsMatchResult k (outcomes_at a outs k)) c.in-Matched.is
+    (same_solved a b (λ states. IsMatchResult k states c.in_ok-found.field-0) k c.loop-from.invariant.same c.in_ok-found.ensures.solved outs are))
+    (none_before (run_text a) (outcomes_at a outs) c.args.from c.loop-from.from (c.loop-from.invariant.solved outs are) k
+    (λ p low le lt. c.next_start.ensures.skipped (run_tables a) c.input_of-input.ensures outs are p low le (subst (λ r. MatchOption r Unit (λ q. p < q)) (sym c.in-Some.is) lt)))
+
+pub returns-in-Matched-clause-finds : goal.returns-in-Matched-clause-finds
+returns-in-Matched-clause-finds c =
+    tree_finds c.args.self.now c.args.from (outcomes.Matched c.in-Matched.found) (returns-in-Matched-clause-solved c)
+
+pub loop-from-preserved : goal.loop-from-preserved
+loop-from-preserved c =
+    let a = c.args.self.now in
+    let b = c.loop-from.self in
+    let text = run_text a in
+    let k = c.in-Some.position in
+    let so_far = c.loop-from.invariant in
+    let within = subst (λ r. IfSome r (λ (p : ℕ). (c.loop-from.from ≤ p) × (p ≤ length text))) c.in-Some.is c.next_start.ensures.within in
+    let none : (outs : ℕ → Out) → AreOutcomes a outs → NoneBefore text (outcomes_at a outs) c.args.from k = λ outs are.
+    none_before text (outcomes_at a outs) c.args.from c.loop-from.from (so_far.solved outs are) k
+    (λ p low le lt. c.next_start.ensures.skipped (run_tables a) c.input_of-input.ensures outs are p low le (subst (λ r. MatchOption r Unit (λ q. p < q)) (sym c.in-Some.is) lt)) in
+    elim c.if-is_char_boundary.branch [
+      | then-is_char_boundary+in_ok-found+in-NoMatch w ↦ record {
+        same = rw w.self-is (SameRuns-trans a b w.match_in.new.self so_far.same w.match_in.ensures.same);
+        from = omega (arith, so_far.from, within.0);
+        remaining = omega (arith, w.remaining-is, w.in_ok-found.ensures.remaining, c.saturating_sub.ensures, so_far.remaining);
+        counted = omega (arith, w.remaining-is, w.in_ok-found.ensures.remaining, c.saturating_sub.ensures, so_far.counted, so_far.from, within.0);
+        solved = λ outs are.
+            none_more text (outcomes_at a outs) c.args.from k (none outs are)
+            (λ on. subst (IsMatchResult k (outcomes_at a outs k)) w.in-NoMatch.is
+            (same_solved a b (λ states. IsMatchResult k states w.in_ok-found.field-0) k so_far.same w.in_ok-found.ensures.solved outs are));
+        costs = λ outs costs are.
+            let before = so_far.costs outs costs are in
+            let taken = same_taken a b k c.saturating_sub.result w.match_in.new.remaining outs costs so_far.same (w.in_ok-found.ensures.costs outs costs) are in
+            let on = tried_on (cost_at a costs) c.args.from c.loop-from.from k so_far.from within.0 in
+            omega (arith, before, taken, on, w.remaining-is, c.saturating_sub.ensures);
+        enough = λ outs costs are.
+            let taken = same_taken a b k c.saturating_sub.result w.match_in.new.remaining outs costs so_far.same (w.in_ok-found.ensures.costs outs costs) are in
+            let all = searched (cost_at a costs) c.args.from c.loop-from.from k (length text) c.args.remaining.now c.loop-from.remaining c.saturating_sub.result
+            w.match_in.new.remaining so_far.from within.0 within.1 (so_far.costs outs costs are) (omega (arith, c.saturating_sub.ensures)) taken in
+            omega (arith, all, w.remaining-is);
+      }
+      | else-is_char_boundary w ↦ record {
+        same = rw w.self-is so_far.same;
+        from = omega (arith, so_far.from, within.0);
+        remaining = omega (arith, w.remaining-is, c.saturating_sub.ensures, so_far.remaining);
+        counted = omega (arith, w.remaining-is, c.saturating_sub.ensures, so_far.counted, so_far.from, within.0);
+        solved = λ outs are.
+            none_more text (outcomes_at a outs) c.args.from k (none outs are)
+            (λ on. absurd (not_true c.is_char_boundary.result w.if-is_char_boundary.false (c.is_char_boundary.ensures.test.1 on)));
+        costs = λ outs costs are.
+            let before = so_far.costs outs costs are in
+            let on = tried_on (cost_at a costs) c.args.from c.loop-from.from k so_far.from within.0 in
+            omega (arith, before, on, w.remaining-is, c.saturating_sub.ensures);
+        enough = λ outs costs are.
+            let all = searched (cost_at a costs) c.args.from c.loop-from.from k (length text) c.args.remaining.now c.loop-from.remaining c.saturating_sub.result
+            c.saturating_sub.result so_far.from within.0 within.1 (so_far.costs outs costs are) (omega (arith, c.saturating_sub.ensures)) (omega arith) in
+            omega (arith, all, w.remaining-is);
+      }
+    ]
+
+-- ---- the cost of the search
+
+pub returns-in-Matched-clause-tried : goal.returns-in-Matched-clause-tried
+returns-in-Matched-clause-tried c =
+    let a = c.args.self.now in
+    let k = c.in-Some.position in
+    let some = solution (setting_with (run_code a) (run_tables a)) (run_text a) (code_routines (run_code a)) a.code.now.program.is_program in
+    let within = subst (λ r. IfSome r (λ (p : ℕ). (c.loop-from.from ≤ p) × (p ≤ length (run_text a)))) c.in-Some.is c.next_start.ensures.within in
+    let so_far = c.loop-from.invariant in
+    let first = subst (IsMatchResult k (outcomes_at a some.0 k)) c.in-Matched.is
+    (same_solved a c.loop-from.self (λ states. IsMatchResult k states c.in_ok-found.field-0) k so_far.same c.in_ok-found.ensures.solved some.0 some.1) in
+    omega (arith, first.0, within.0, so_far.from, so_far.counted, c.saturating_sub.ensures, c.in_ok-found.ensures.remaining)
+
+pub returns-in-Matched-clause-costs : goal.returns-in-Matched-clause-costs
+returns-in-Matched-clause-costs c = λ outs costs are.
+    let a = c.args.self.now in
+    let k = c.in-Some.position in
+    let within = subst (λ r. IfSome r (λ (p : ℕ). (c.loop-from.from ≤ p) × (p ≤ length (run_text a)))) c.in-Some.is c.next_start.ensures.within in
+    let so_far = c.loop-from.invariant in
+    searched (cost_at a costs) c.args.from c.loop-from.from k (length (run_text a)) c.args.remaining.now c.loop-from.remaining c.saturating_sub.result
+    c.match_in.new.remaining so_far.from within.0 within.1 (so_far.costs outs costs are) (omega (arith, c.saturating_sub.ensures))
+    (same_taken a c.loop-from.self k c.saturating_sub.result c.match_in.new.remaining outs costs so_far.same (c.in_ok-found.ensures.costs outs costs) are)
+
+pub returns-in-OutOfSteps-clause-costs : goal.returns-in-OutOfSteps-clause-costs
+returns-in-OutOfSteps-clause-costs c = λ outs costs are.
+    let a = c.args.self.now in
+    let k = c.in-Some.position in
+    let within = subst (λ r. IfSome r (λ (p : ℕ). (c.loop-from.from ≤ p) × (p ≤ length (run_text a)))) c.in-Some.is c.next_start.ensures.within in
+    let so_far = c.loop-from.invariant in
+    searched (cost_at a costs) c.args.from c.loop-from.from k (length (run_text a)) c.args.remaining.now c.loop-from.remaining c.saturating_sub.result
+    c.match_in.new.remaining so_far.from within.0 within.1 (so_far.costs outs costs are) (omega (arith, c.saturating_sub.ensures))
+    (same_taken a c.loop-from.self k c.saturating_sub.result c.match_in.new.remaining outs costs so_far.same (c.in_ok-found.ensures.costs outs costs) are)
