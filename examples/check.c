@@ -11,20 +11,20 @@ int main(int count, char **arguments) {
         return 2;
     }
     const char *pattern = arguments[1];
-    size_t length = strlen(pattern), needed, place;
+    size_t length = strlen(pattern), needed, position;
     uint32_t kind;
     /* With a buffer of capacity 0 the call only reports the size of the tree. */
-    switch (regress_front_parse_utf8(pattern, length, 0, REGRESS_FRONT_PARSED, NULL, 0, &needed, &kind, &place)) {
+    switch (regress_front_parse_utf8(pattern, length, 0, REGRESS_FRONT_PARSED, NULL, 0, &needed, &kind, &position)) {
     case REGRESS_FRONT_ROOM:
         printf("accepted: the tree takes %zu words\n", needed);
         return 0;
-    case REGRESS_FRONT_FAULT: {
+    case REGRESS_FRONT_SYNTAX: {
         char text[512];
-        if (regress_front_fault_utf8(pattern, length, 0, text, sizeof text, &needed, &kind, &place)
-            != REGRESS_FRONT_FAULT) {
+        if (regress_front_fault_utf8(pattern, length, 0, text, sizeof text, &needed, &kind, &position)
+            != REGRESS_FRONT_SYNTAX) {
             needed = 0;
         }
-        printf("rejected at code point %zu: %.*s\n", place, (int)needed, text);
+        printf("rejected at code point %zu: %.*s\n", position, (int)needed, text);
         return 1;
     }
     case REGRESS_FRONT_MEMORY:

@@ -2,20 +2,24 @@
    texts.
 
    Patterns and texts are UTF-8, each with its length in bytes, and not terminated by a zero. Positions in a text are
-   byte offsets, positions in a pattern are code-point indices.
+   byte offsets. Positions in a pattern are code-point indices; regress_byte_offset makes one a byte offset.
 
    Every call returns a status, unless its comment names another result. A call writes nothing but what its status says.
-   Each writes the size of its result to `needed` where it has one: with REGRESS_ROOM it is the size that
-   the buffer has to have, and the buffer is unchanged, so call again with a buffer of that size.
+   Each writes the size of its result to `needed` where it has one: with REGRESS_ROOM it is the size that the buffer has
+   to have, and the buffer is unchanged, so call again with a buffer of that size.
 
-   No pointer may be NULL or dangling, even if its length is 0. Buffers must not overlap each other or the input. A
-   handle is a variable that regress_compile writes. It may be moved, but two copies of it must not be used. It is freed
-   once, by regress_free, and not used afterwards, except that regress_compile may write it again. A call allocates with
-   malloc, and frees everything but the handle before it returns. It must not be made in a signal handler.
+   NULL is allowed wherever a pointer and a length are given together and the length is 0, and for `limits`, `kind`,
+   `position` and `needed`: NULL limits are the default limits, and a number for which the pointer is NULL is not
+   written. With any other NULL pointer, and with a handle that is zero, the status is REGRESS_BAD_INPUT, and a call
+   without a status returns 0. Buffers must not overlap each other or the input.
 
-   Any number of threads may use a handle one after another, and free it: one call at a time, ordered by a lock, by a
-   start or join of a thread, or by a sequentially consistent atomic. Threads that search at the same time have a handle
-   each. */
+   A handle is a variable that regress_compile writes, and may be moved. It owns the compiled pattern, until
+   regress_free frees it and makes it zero. Everything else that a call allocates, with malloc, is freed before it
+   returns. No call keeps a pointer that it is given. A call must not be made in a signal handler.
+
+   Any number of threads may make calls at the same time, also with the same handle if its type in the call is const.
+   regress_compile and regress_free must be the only calls with a handle while they run: order them by a lock, by a
+   start or join of a thread, or by a sequentially consistent atomic. */
 
 #ifndef REGRESS_H
 #define REGRESS_H
@@ -27,22 +31,32 @@
 extern "C" {
 #endif
 
+/* A function of this header. C before C99 has no `inline`. */
+#if defined(__cplusplus) || (defined(__STDC_VERSION__) && __STDC_VERSION__ >= 199901L)
+#define REGRESS_INLINE static inline
+#elif defined(__GNUC__)
+#define REGRESS_INLINE static __inline__
+#else
+#define REGRESS_INLINE static
+#endif
+
 /* The version of this header, and that of the calls: it grows when a call, a status or a number changes its meaning,
    and not when one is added. */
 #define REGRESS_VERSION "0.1.0"
-#define REGRESS_ABI_VERSION 3u
+#define REGRESS_ABI_VERSION 4u
 
-/* A handle to a compiled regular expression. `inside` is the library's own. */
+/* A handle to a compiled regular expression. `inside` is the library's own, and NULL in a handle that is zero. */
 typedef struct regress_regex {
     void *inside;
 } regress_regex;
 
-/* Statuses. */
+/* Statuses. docs/c-api.md lists when each is returned, and what to do. Those of regress_front.h have the same
+   numbers. */
 #define REGRESS_OK 0u           /* success: the result is written */
 #define REGRESS_NO_MATCH 1u     /* the text has no match */
-#define REGRESS_MEMORY 2u       /* an allocation failed */
+#define REGRESS_MEMORY 2u       /* an allocation failed; the same call may succeed later */
 #define REGRESS_ROOM 3u         /* the buffer is too small and unchanged: `needed` is the size that it has to have */
-#define REGRESS_BAD_INPUT 4u    /* invalid arguments: invalid UTF-8, an unknown bit */
+#define REGRESS_BAD_INPUT 4u    /* invalid arguments: invalid UTF-8, an unknown bit, a NULL pointer, a zero handle */
 #define REGRESS_SYNTAX 5u       /* the pattern is rejected: a syntax error */
 #define REGRESS_TOO_LARGE 6u    /* the pattern may have more nodes than allowed, or too many instructions */
 #define REGRESS_OUT_OF_STEPS 7u /* the search takes more steps than allowed */
@@ -75,113 +89,6 @@ typedef struct regress_limits {
 /* What a group without a capture has as its start and its end. */
 #define REGRESS_UNSET SIZE_MAX
 
-/* Returns the version of the calls of the library, REGRESS_ABI_VERSION of the header that it was built with. */
-uint32_t regress_abi_version(void);
-
-/* Compiles a pattern, and writes `handle`. A handle that it had before is not freed.
-
-   Returns OK, SYNTAX, TOO_LARGE, MEMORY or BAD_INPUT. With OK `handle` is written, else it is unchanged. With SYNTAX
-   `kind` is the kind of the syntax error and `position` its position, from 0 to the number of code points of the
-   pattern; else both are 0. The kinds are the numbers REGRESS_FRONT_KIND_.. of regress_front.h. */
-uint32_t regress_compile(const uint8_t *pattern, size_t length, uint32_t flags, const regress_limits *limits,
-                         regress_regex *handle, uint32_t *kind, size_t *position);
-
-/* Returns 1 if searches take linear time, also those for all matches, which limits.steps does not apply to, else 0. They
-   do if the pattern has neither a back reference nor a capture group in a lookaround that is not negated, and if it has
-   at most limits.linear_instructions instructions. */
-uint32_t regress_is_linear(regress_regex *handle);
-
-/* Why searches are not linear. The numbers never change; a later version may have more of them. */
-#define REGRESS_NONLINEAR_BACK_REFERENCE 1u        /* the pattern has a back reference */
-#define REGRESS_NONLINEAR_CAPTURING_LOOKAROUND 2u  /* a lookaround that is not negated contains a capture group */
-#define REGRESS_NONLINEAR_TOO_MANY_INSTRUCTIONS 3u /* the pattern has more than limits.linear_instructions instructions */
-
-/* Returns why searches are not linear, one of REGRESS_NONLINEAR_.., and 0 if they are. If there are several reasons, it
-   is the one with the least number. */
-uint32_t regress_nonlinear(regress_regex *handle);
-
-/* Returns a number, at most UINT64_MAX: a search takes at most that times (length + 1) steps, where the length of the
-   text is in bytes. The result is 0 if searches are not linear. */
-uint64_t regress_steps_per_character(regress_regex *handle);
-
-/* Returns a number, at most UINT64_MAX: regress_find and regress_is_match take at most that times (length + 1) steps,
-   where the length of the text is in bytes. Then they take linear time, and limits.steps does not apply to them. The
-   result is 0 if the pattern has a back reference, or more than limits.linear_instructions instructions. */
-uint64_t regress_find_steps_per_character(regress_regex *handle);
-
-/* Searches for the leftmost match that starts at the byte offset `from` or later.
-
-   What precedes `from` is text too: ^ does not match there, and a lookbehind may match it. `from` may be off a
-   character boundary; past the end of the text there is no match.
-
-   Returns OK, NO_MATCH, ROOM, OUT_OF_STEPS, MEMORY or BAD_INPUT. With OK `spans`, a buffer of `room` numbers, begins
-   with the start and the end of the match, and then those of each group in the order of the opening parentheses: byte
-   offsets, or REGRESS_UNSET twice for a group that is unset. `needed` is the number of these, 2 for the match and for
-   each group, with OK and ROOM, else 0: 2 * (regress_group_count + 1). */
-uint32_t regress_find(regress_regex *handle, const uint8_t *text, size_t length, size_t from, size_t *spans,
-                      size_t room, size_t *needed);
-
-/* Searches for all non-overlapping matches that start at the byte offset `from` or later, from left to right: the first
-   as regress_find, and each further one from the end of the match before it, and one character further after an empty
-   match. The step limit is for all of them together. Prefer it to calls of regress_find in a loop, each of which decodes
-   the whole text.
-
-   Returns OK, ROOM, OUT_OF_STEPS, MEMORY or BAD_INPUT. With OK `spans` begins with the numbers of each match, as
-   regress_find writes them, one match after the other. `needed` is their number with OK and ROOM, else 0; it is 0 if
-   there is no match. */
-uint32_t regress_find_all(regress_regex *handle, const uint8_t *text, size_t length, size_t from, size_t *spans,
-                          size_t room, size_t *needed);
-
-/* Returns whether the pattern matches somewhere in the text: OK or NO_MATCH; or OUT_OF_STEPS, MEMORY or BAD_INPUT. */
-uint32_t regress_is_match(regress_regex *handle, const uint8_t *text, size_t length);
-
-/* Writes the text with its leftmost match replaced, in UTF-8, to `out`, a buffer of `room` bytes: the text as it is if
-   it has no match.
-
-   `replacement` is a template as for replace of JavaScript: $$ is a dollar sign, $& the match, $` the text before it,
-   $' the text after it, $1 to $99 the capture of a group, and $<name> that of the group with this name. An unset group
-   is empty. Everything else is taken as it is, and no template is rejected.
-
-   Returns OK, ROOM, OUT_OF_STEPS, MEMORY or BAD_INPUT: the last if the text or the template is not UTF-8. `needed` is
-   the length of the result in bytes with OK and ROOM, else 0. */
-uint32_t regress_replace(regress_regex *handle, const uint8_t *text, size_t length, const uint8_t *replacement,
-                         size_t replacement_length, uint8_t *out, size_t room, size_t *needed);
-
-/* Writes the text with all its matches replaced that regress_find_all finds from 0 on, as regress_replace does with
-   one. */
-uint32_t regress_replace_all(regress_regex *handle, const uint8_t *text, size_t length, const uint8_t *replacement,
-                             size_t replacement_length, uint8_t *out, size_t room, size_t *needed);
-
-/* Writes the pattern that matches exactly a text, as RegExp.escape of JavaScript, to `out`, a buffer of `room` bytes.
-
-   The pattern is accepted under all flags, also inside a larger pattern. A quantifier after it applies to its last
-   character only, so put it into a group first.
-
-   Returns OK, ROOM, MEMORY or BAD_INPUT: the last if the text is not UTF-8. `needed` is the length of the pattern in
-   bytes with OK and ROOM, else 0. */
-uint32_t regress_escape(const uint8_t *text, size_t length, uint8_t *out, size_t room, size_t *needed);
-
-/* Returns the number of groups, without the whole match. */
-size_t regress_group_count(regress_regex *handle);
-
-/* Writes the name of the group with the number `group`, from 1, in UTF-8, to `out`, a buffer of `room` bytes. A zero
-   follows if there is room.
-
-   Returns OK, ROOM or BAD_INPUT: the last if there is no such group. `needed` is the length of the name in bytes with
-   OK and ROOM, else 0; with OK it is 0 for a group without a name. */
-uint32_t regress_group_name(regress_regex *handle, size_t group, uint8_t *out, size_t room, size_t *needed);
-
-/* Writes the text of a kind of syntax error, in UTF-8, to `out`, a buffer of `room` bytes. `kind` is the number that
-   regress_compile writes. The text of REGRESS_FRONT_KIND_UNKNOWN_NAME ends in a colon and a space, without the name. A
-   zero follows if there is room.
-
-   Returns OK, ROOM or BAD_INPUT: the last if there is no such kind. `needed` is the length of the text in bytes with OK
-   and ROOM, else 0. */
-uint32_t regress_error_message(uint32_t kind, uint8_t *out, size_t room, size_t *needed);
-
-/* Frees a handle. */
-void regress_free(regress_regex *handle);
-
 /* A construct of a pattern that may match otherwise than in JavaScript (ECMA-262): its kind, and the half-open range of
    code-point indices of the pattern where it is. docs/differences.md has the differences. */
 typedef struct regress_difference {
@@ -195,6 +102,303 @@ typedef struct regress_difference {
 #define REGRESS_DIFFERENCE_STRING_SET 2u   /* a property of strings, which is not compared */
 #define REGRESS_DIFFERENCE_SAME_NAME 3u    /* a reference by name to several groups */
 
+/* The functions of the library. They are as those below, but no pointer may be NULL, also if its length is 0, and a
+   handle must be that of a compiled pattern. They change the handle while they run, so that only one call at a time
+   may use it. */
+uint32_t regress_compile_raw(const uint8_t *pattern, size_t length, uint32_t flags, const regress_limits *limits,
+                             regress_regex *handle, uint32_t *kind, size_t *position);
+uint32_t regress_is_linear_raw(regress_regex *handle);
+uint32_t regress_nonlinear_raw(regress_regex *handle);
+uint64_t regress_steps_per_character_raw(regress_regex *handle);
+uint64_t regress_find_steps_per_character_raw(regress_regex *handle);
+uint32_t regress_find_raw(regress_regex *handle, const uint8_t *text, size_t length, size_t from, size_t *spans,
+                          size_t room, size_t *needed);
+uint32_t regress_find_all_raw(regress_regex *handle, const uint8_t *text, size_t length, size_t from, size_t *spans,
+                              size_t room, size_t *needed);
+uint32_t regress_is_match_raw(regress_regex *handle, const uint8_t *text, size_t length);
+uint32_t regress_replace_raw(regress_regex *handle, const uint8_t *text, size_t length, const uint8_t *replacement,
+                             size_t replacement_length, uint8_t *out, size_t room, size_t *needed);
+uint32_t regress_replace_all_raw(regress_regex *handle, const uint8_t *text, size_t length,
+                                 const uint8_t *replacement, size_t replacement_length, uint8_t *out, size_t room,
+                                 size_t *needed);
+uint32_t regress_escape_raw(const uint8_t *text, size_t length, uint8_t *out, size_t room, size_t *needed);
+size_t regress_group_count_raw(regress_regex *handle);
+uint32_t regress_group_name_raw(regress_regex *handle, size_t group, uint8_t *out, size_t room, size_t *needed);
+uint32_t regress_error_message_raw(uint32_t kind, uint8_t *out, size_t room, size_t *needed);
+void regress_free_raw(regress_regex *handle);
+uint32_t regress_differences_raw(const uint8_t *pattern, size_t length, uint32_t flags,
+                                 regress_difference *differences, size_t room, size_t *needed, uint32_t *kind,
+                                 size_t *position);
+uint32_t regress_difference_name_raw(uint32_t kind, uint8_t *out, size_t room, size_t *needed);
+uint32_t regress_difference_text_raw(uint32_t kind, uint8_t *out, size_t room, size_t *needed);
+
+/* For the functions below: a pointer, or where it is NULL that of a variable which is not used; whether a pointer and
+   its length are no text and no buffer; and the copy of a handle that a call changes in place of the caller's. */
+#define REGRESS_OR(pointer, variable) ((pointer) ? (pointer) : &(variable))
+#define REGRESS_IS_MISSING(pointer, length) (!(pointer) && (length) > 0)
+
+REGRESS_INLINE int regress_is_zero(const regress_regex *handle) {
+    return !handle || !handle->inside;
+}
+
+REGRESS_INLINE uint32_t regress_bad_input(size_t *needed) {
+    if (needed) {
+        *needed = 0;
+    }
+    return REGRESS_BAD_INPUT;
+}
+
+/* Returns the version of the calls of the library, REGRESS_ABI_VERSION of the header that it was built with. */
+uint32_t regress_abi_version(void);
+
+/* Compiles a pattern, and writes `handle`. A handle that it had before is not freed.
+
+   Returns OK, SYNTAX, TOO_LARGE, MEMORY or BAD_INPUT. With OK `handle` is written, else it is unchanged. With SYNTAX
+   `kind` is the kind of the syntax error and `position` its position, from 0 to the number of code points of the
+   pattern; else both are 0. The kinds are the numbers REGRESS_FRONT_KIND_.. of regress_front.h. */
+REGRESS_INLINE uint32_t regress_compile(const uint8_t *pattern, size_t length, uint32_t flags,
+                                        const regress_limits *limits, regress_regex *handle, uint32_t *kind,
+                                        size_t *position) {
+    const regress_limits defaults = {0, 0, 0, 0};
+    uint32_t no_kind = 0;
+    size_t no_position = 0;
+    uint8_t no_byte = 0;
+    kind = REGRESS_OR(kind, no_kind);
+    position = REGRESS_OR(position, no_position);
+    if (REGRESS_IS_MISSING(pattern, length) || !handle) {
+        *kind = 0;
+        return regress_bad_input(position);
+    }
+    return regress_compile_raw(REGRESS_OR(pattern, no_byte), length, flags, REGRESS_OR(limits, defaults), handle, kind,
+                               position);
+}
+
+/* Returns the byte offset of a code point of a pattern, or of its end: of the position of a syntax error, that is. */
+REGRESS_INLINE size_t regress_byte_offset(const uint8_t *pattern, size_t length, size_t position) {
+    size_t offset = 0;
+    if (!pattern) {
+        return 0;
+    }
+    for (; position > 0 && offset < length; position--) {
+        do {
+            offset++;
+        } while (offset < length && (pattern[offset] & 0xC0) == 0x80);
+    }
+    return offset;
+}
+
+/* Returns 1 if searches take linear time, also those for all matches, which limits.steps does not apply to, else 0. They
+   do if the pattern has neither a back reference nor a capture group in a lookaround that is not negated, and if it has
+   at most limits.linear_instructions instructions. */
+REGRESS_INLINE uint32_t regress_is_linear(const regress_regex *handle) {
+    regress_regex own;
+    if (regress_is_zero(handle)) {
+        return 0;
+    }
+    own = *handle;
+    return regress_is_linear_raw(&own);
+}
+
+/* Why searches are not linear. The numbers never change; a later version may have more of them. */
+#define REGRESS_NONLINEAR_BACK_REFERENCE 1u        /* the pattern has a back reference */
+#define REGRESS_NONLINEAR_CAPTURING_LOOKAROUND 2u  /* a lookaround that is not negated contains a capture group */
+#define REGRESS_NONLINEAR_TOO_MANY_INSTRUCTIONS 3u /* the pattern has more than limits.linear_instructions instructions */
+
+/* Returns why searches are not linear, one of REGRESS_NONLINEAR_.., and 0 if they are. If there are several reasons, it
+   is the one with the least number. */
+REGRESS_INLINE uint32_t regress_nonlinear(const regress_regex *handle) {
+    regress_regex own;
+    if (regress_is_zero(handle)) {
+        return 0;
+    }
+    own = *handle;
+    return regress_nonlinear_raw(&own);
+}
+
+/* Returns a number, at most UINT64_MAX: a search takes at most that times (length + 1) steps, where the length of the
+   text is in bytes. The result is 0 if searches are not linear. */
+REGRESS_INLINE uint64_t regress_steps_per_character(const regress_regex *handle) {
+    regress_regex own;
+    if (regress_is_zero(handle)) {
+        return 0;
+    }
+    own = *handle;
+    return regress_steps_per_character_raw(&own);
+}
+
+/* Returns a number, at most UINT64_MAX: regress_find and regress_is_match take at most that times (length + 1) steps,
+   where the length of the text is in bytes. Then they take linear time, and limits.steps does not apply to them. The
+   result is 0 if the pattern has a back reference, or more than limits.linear_instructions instructions. */
+REGRESS_INLINE uint64_t regress_find_steps_per_character(const regress_regex *handle) {
+    regress_regex own;
+    if (regress_is_zero(handle)) {
+        return 0;
+    }
+    own = *handle;
+    return regress_find_steps_per_character_raw(&own);
+}
+
+/* Searches for the leftmost match that starts at the byte offset `from` or later.
+
+   What precedes `from` is text too: ^ does not match there, and a lookbehind may match it. `from` may be off a
+   character boundary; past the end of the text there is no match.
+
+   Returns OK, NO_MATCH, ROOM, OUT_OF_STEPS, MEMORY or BAD_INPUT. With OK `spans`, a buffer of `room` numbers, begins
+   with the start and the end of the match, and then those of each group in the order of the opening parentheses: byte
+   offsets, or REGRESS_UNSET twice for a group that is unset. `needed` is the number of these, 2 for the match and for
+   each group, with OK and ROOM, else 0: 2 * (regress_group_count + 1). */
+REGRESS_INLINE uint32_t regress_find(const regress_regex *handle, const uint8_t *text, size_t length, size_t from,
+                                     size_t *spans, size_t room, size_t *needed) {
+    regress_regex own;
+    size_t no_span = 0, no_needed = 0;
+    uint8_t no_byte = 0;
+    if (regress_is_zero(handle) || REGRESS_IS_MISSING(text, length) || REGRESS_IS_MISSING(spans, room)) {
+        return regress_bad_input(needed);
+    }
+    own = *handle;
+    return regress_find_raw(&own, REGRESS_OR(text, no_byte), length, from, REGRESS_OR(spans, no_span), room,
+                            REGRESS_OR(needed, no_needed));
+}
+
+/* Searches for all non-overlapping matches that start at the byte offset `from` or later, from left to right: the first
+   as regress_find, and each further one from the end of the match before it, and one character further after an empty
+   match. The step limit is for all of them together. Prefer it to calls of regress_find in a loop, each of which decodes
+   the whole text.
+
+   Returns OK, ROOM, OUT_OF_STEPS, MEMORY or BAD_INPUT. With OK `spans` begins with the numbers of each match, as
+   regress_find writes them, one match after the other. `needed` is their number with OK and ROOM, else 0; it is 0 if
+   there is no match. */
+REGRESS_INLINE uint32_t regress_find_all(const regress_regex *handle, const uint8_t *text, size_t length, size_t from,
+                                         size_t *spans, size_t room, size_t *needed) {
+    regress_regex own;
+    size_t no_span = 0, no_needed = 0;
+    uint8_t no_byte = 0;
+    if (regress_is_zero(handle) || REGRESS_IS_MISSING(text, length) || REGRESS_IS_MISSING(spans, room)) {
+        return regress_bad_input(needed);
+    }
+    own = *handle;
+    return regress_find_all_raw(&own, REGRESS_OR(text, no_byte), length, from, REGRESS_OR(spans, no_span), room,
+                                REGRESS_OR(needed, no_needed));
+}
+
+/* Returns whether the pattern matches somewhere in the text: OK or NO_MATCH; or OUT_OF_STEPS, MEMORY or BAD_INPUT. */
+REGRESS_INLINE uint32_t regress_is_match(const regress_regex *handle, const uint8_t *text, size_t length) {
+    regress_regex own;
+    uint8_t no_byte = 0;
+    if (regress_is_zero(handle) || REGRESS_IS_MISSING(text, length)) {
+        return REGRESS_BAD_INPUT;
+    }
+    own = *handle;
+    return regress_is_match_raw(&own, REGRESS_OR(text, no_byte), length);
+}
+
+/* Writes the text with its leftmost match replaced, in UTF-8, to `out`, a buffer of `room` bytes: the text as it is if
+   it has no match.
+
+   `replacement` is a template as for replace of JavaScript: $$ is a dollar sign, $& the match, $` the text before it,
+   $' the text after it, $1 to $99 the capture of a group, and $<name> that of the group with this name. An unset group
+   is empty. Everything else is taken as it is, and no template is rejected.
+
+   Returns OK, ROOM, OUT_OF_STEPS, MEMORY or BAD_INPUT: the last if the text or the template is not UTF-8. `needed` is
+   the length of the result in bytes with OK and ROOM, else 0. */
+REGRESS_INLINE uint32_t regress_replace(const regress_regex *handle, const uint8_t *text, size_t length,
+                                        const uint8_t *replacement, size_t replacement_length, uint8_t *out,
+                                        size_t room, size_t *needed) {
+    regress_regex own;
+    size_t no_needed = 0;
+    uint8_t no_byte = 0, no_template = 0, no_out = 0;
+    if (regress_is_zero(handle) || REGRESS_IS_MISSING(text, length)
+        || REGRESS_IS_MISSING(replacement, replacement_length) || REGRESS_IS_MISSING(out, room)) {
+        return regress_bad_input(needed);
+    }
+    own = *handle;
+    return regress_replace_raw(&own, REGRESS_OR(text, no_byte), length, REGRESS_OR(replacement, no_template),
+                               replacement_length, REGRESS_OR(out, no_out), room, REGRESS_OR(needed, no_needed));
+}
+
+/* Writes the text with all its matches replaced that regress_find_all finds from 0 on, as regress_replace does with
+   one. */
+REGRESS_INLINE uint32_t regress_replace_all(const regress_regex *handle, const uint8_t *text, size_t length,
+                                            const uint8_t *replacement, size_t replacement_length, uint8_t *out,
+                                            size_t room, size_t *needed) {
+    regress_regex own;
+    size_t no_needed = 0;
+    uint8_t no_byte = 0, no_template = 0, no_out = 0;
+    if (regress_is_zero(handle) || REGRESS_IS_MISSING(text, length)
+        || REGRESS_IS_MISSING(replacement, replacement_length) || REGRESS_IS_MISSING(out, room)) {
+        return regress_bad_input(needed);
+    }
+    own = *handle;
+    return regress_replace_all_raw(&own, REGRESS_OR(text, no_byte), length, REGRESS_OR(replacement, no_template),
+                                   replacement_length, REGRESS_OR(out, no_out), room, REGRESS_OR(needed, no_needed));
+}
+
+/* Writes the pattern that matches exactly a text, as RegExp.escape of JavaScript, to `out`, a buffer of `room` bytes.
+
+   The pattern is accepted under all flags, also inside a larger pattern. A quantifier after it applies to its last
+   character only, so put it into a group first.
+
+   Returns OK, ROOM, MEMORY or BAD_INPUT: the last if the text is not UTF-8. `needed` is the length of the pattern in
+   bytes with OK and ROOM, else 0. */
+REGRESS_INLINE uint32_t regress_escape(const uint8_t *text, size_t length, uint8_t *out, size_t room, size_t *needed) {
+    size_t no_needed = 0;
+    uint8_t no_byte = 0, no_out = 0;
+    if (REGRESS_IS_MISSING(text, length) || REGRESS_IS_MISSING(out, room)) {
+        return regress_bad_input(needed);
+    }
+    return regress_escape_raw(REGRESS_OR(text, no_byte), length, REGRESS_OR(out, no_out), room,
+                              REGRESS_OR(needed, no_needed));
+}
+
+/* Returns the number of groups, without the whole match. */
+REGRESS_INLINE size_t regress_group_count(const regress_regex *handle) {
+    regress_regex own;
+    if (regress_is_zero(handle)) {
+        return 0;
+    }
+    own = *handle;
+    return regress_group_count_raw(&own);
+}
+
+/* Writes the name of the group with the number `group`, from 1, in UTF-8, to `out`, a buffer of `room` bytes. A zero
+   follows if there is room.
+
+   Returns OK, ROOM or BAD_INPUT: the last if there is no such group. `needed` is the length of the name in bytes with
+   OK and ROOM, else 0; with OK it is 0 for a group without a name. */
+REGRESS_INLINE uint32_t regress_group_name(const regress_regex *handle, size_t group, uint8_t *out, size_t room,
+                                           size_t *needed) {
+    regress_regex own;
+    size_t no_needed = 0;
+    uint8_t no_out = 0;
+    if (regress_is_zero(handle) || REGRESS_IS_MISSING(out, room)) {
+        return regress_bad_input(needed);
+    }
+    own = *handle;
+    return regress_group_name_raw(&own, group, REGRESS_OR(out, no_out), room, REGRESS_OR(needed, no_needed));
+}
+
+/* Writes the text of a kind of syntax error, in UTF-8, to `out`, a buffer of `room` bytes. `kind` is the number that
+   regress_compile writes. The text of REGRESS_FRONT_KIND_UNKNOWN_NAME ends in a colon and a space, without the name. A
+   zero follows if there is room.
+
+   Returns OK, ROOM or BAD_INPUT: the last if there is no such kind. `needed` is the length of the text in bytes with OK
+   and ROOM, else 0. */
+REGRESS_INLINE uint32_t regress_error_message(uint32_t kind, uint8_t *out, size_t room, size_t *needed) {
+    size_t no_needed = 0;
+    uint8_t no_out = 0;
+    if (REGRESS_IS_MISSING(out, room)) {
+        return regress_bad_input(needed);
+    }
+    return regress_error_message_raw(kind, REGRESS_OR(out, no_out), room, REGRESS_OR(needed, no_needed));
+}
+
+/* Frees a handle, and makes it zero. It does nothing if the handle is zero, or if the pointer is NULL. */
+REGRESS_INLINE void regress_free(regress_regex *handle) {
+    if (!regress_is_zero(handle)) {
+        regress_free_raw(handle);
+    }
+}
+
 /* Finds the constructs of a pattern that may match otherwise than in JavaScript.
 
    If there are none, JavaScript's first match in a text is that of regress_find with the same flags, provided that
@@ -206,18 +410,47 @@ typedef struct regress_difference {
    `needed` is their number with OK and ROOM, else 0. With SYNTAX `kind` and `position` are those of the syntax error,
    as of regress_compile, else they are 0. The size of the tree is not limited: for untrusted patterns test
    regress_front_node_bound_utf8 first. */
-uint32_t regress_differences(const uint8_t *pattern, size_t length, uint32_t flags, regress_difference *differences,
-                             size_t room, size_t *needed, uint32_t *kind, size_t *position);
+REGRESS_INLINE uint32_t regress_differences(const uint8_t *pattern, size_t length, uint32_t flags,
+                                            regress_difference *differences, size_t room, size_t *needed,
+                                            uint32_t *kind, size_t *position) {
+    regress_difference no_difference = {0, 0, 0};
+    size_t no_needed = 0, no_position = 0;
+    uint32_t no_kind = 0;
+    uint8_t no_byte = 0;
+    kind = REGRESS_OR(kind, no_kind);
+    position = REGRESS_OR(position, no_position);
+    if (REGRESS_IS_MISSING(pattern, length) || REGRESS_IS_MISSING(differences, room)) {
+        *kind = 0;
+        *position = 0;
+        return regress_bad_input(needed);
+    }
+    return regress_differences_raw(REGRESS_OR(pattern, no_byte), length, flags, REGRESS_OR(differences, no_difference),
+                                   room, REGRESS_OR(needed, no_needed), kind, position);
+}
 
 /* Writes the name of a kind of difference, such as "case-closure", to `out`, a buffer of `room` bytes. A zero follows if
    there is room.
 
    Returns OK, ROOM or BAD_INPUT: the last if there is no such kind. `needed` is the length of the name in bytes with OK
    and ROOM, else 0. */
-uint32_t regress_difference_name(uint32_t kind, uint8_t *out, size_t room, size_t *needed);
+REGRESS_INLINE uint32_t regress_difference_name(uint32_t kind, uint8_t *out, size_t room, size_t *needed) {
+    size_t no_needed = 0;
+    uint8_t no_out = 0;
+    if (REGRESS_IS_MISSING(out, room)) {
+        return regress_bad_input(needed);
+    }
+    return regress_difference_name_raw(kind, REGRESS_OR(out, no_out), room, REGRESS_OR(needed, no_needed));
+}
 
 /* Writes a sentence about a kind of difference, with an example, as regress_difference_name does with its name. */
-uint32_t regress_difference_text(uint32_t kind, uint8_t *out, size_t room, size_t *needed);
+REGRESS_INLINE uint32_t regress_difference_text(uint32_t kind, uint8_t *out, size_t room, size_t *needed) {
+    size_t no_needed = 0;
+    uint8_t no_out = 0;
+    if (REGRESS_IS_MISSING(out, room)) {
+        return regress_bad_input(needed);
+    }
+    return regress_difference_text_raw(kind, REGRESS_OR(out, no_out), room, REGRESS_OR(needed, no_needed));
+}
 
 #ifdef __cplusplus
 }

@@ -5,8 +5,9 @@
    stack, at most 800 KiB in measurements of patterns with the greatest nesting depth: 255 parentheses or 256 class
    brackets. Alternatives take no stack.
 
-   A pointer may be NULL if its length is 0. A pointer to a number, such as `needed`, `kind` or `place`, must not be NULL.
-   Buffers must not overlap each other or the pattern. */
+   NULL is allowed wherever a pointer and a length are given together and the length is 0, and for `kind`, `position`,
+   `needed` and `spans_needed`: a number for which the pointer is NULL is not written. With any other NULL pointer the
+   status is REGRESS_FRONT_BAD_INPUT. Buffers must not overlap each other or the pattern. */
 
 #ifndef REGRESS_FRONT_H
 #define REGRESS_FRONT_H
@@ -27,12 +28,12 @@ extern "C" {
 #define REGRESS_FRONT_INLINE static
 #endif
 
-/* Statuses. */
-#define REGRESS_FRONT_OK 0        /* success: the result is written */
-#define REGRESS_FRONT_FAULT 1     /* the pattern is rejected: a syntax error */
-#define REGRESS_FRONT_MEMORY 2    /* out of memory: the pattern may be valid or not */
-#define REGRESS_FRONT_ROOM 3      /* the buffer is too small and unchanged: `needed` is the size it has to have */
-#define REGRESS_FRONT_BAD_INPUT 4 /* invalid arguments: a value above 10FFFF, invalid UTF-8, an unknown bit, NULL */
+/* Statuses: those of regress.h have the same numbers. */
+#define REGRESS_FRONT_OK 0u        /* success: the result is written */
+#define REGRESS_FRONT_MEMORY 2u    /* an allocation failed: the pattern may be valid or not */
+#define REGRESS_FRONT_ROOM 3u      /* the buffer is too small and unchanged: `needed` is the size it has to have */
+#define REGRESS_FRONT_BAD_INPUT 4u /* invalid arguments: a value above 10FFFF, invalid UTF-8, an unknown bit, NULL */
+#define REGRESS_FRONT_SYNTAX 5u    /* the pattern is rejected: a syntax error */
 
 /* Flags of a pattern, independent of each other: the flag v of JavaScript is UNICODE and UNICODE_SETS together. */
 #define REGRESS_FRONT_ICASE 1u        /* i */
@@ -133,54 +134,75 @@ typedef struct regress_front_span {
 /* The functions of the library. They are as those below, but no pointer may be NULL. */
 uint32_t regress_front_parse_code_points(const uint32_t *pattern, size_t pattern_length, uint32_t flags,
                                         uint32_t optimize, uint32_t *words, size_t room, size_t *needed,
-                                        uint32_t *kind, size_t *place);
+                                        uint32_t *kind, size_t *position);
 uint32_t regress_front_parse_text(const uint8_t *pattern, size_t pattern_length, uint32_t flags, uint32_t optimize,
-                                 uint32_t *words, size_t room, size_t *needed, uint32_t *kind, size_t *place);
+                                 uint32_t *words, size_t room, size_t *needed, uint32_t *kind, size_t *position);
 uint32_t regress_front_parse_code_points_with_spans(const uint32_t *pattern, size_t pattern_length, uint32_t flags,
                                                    uint32_t *words, size_t room, size_t *needed,
                                                    regress_front_span *spans, size_t span_room, size_t *spans_needed,
-                                                   uint32_t *kind, size_t *place);
+                                                   uint32_t *kind, size_t *position);
 uint32_t regress_front_parse_text_with_spans(const uint8_t *pattern, size_t pattern_length, uint32_t flags,
                                             uint32_t *words, size_t room, size_t *needed, regress_front_span *spans,
-                                            size_t span_room, size_t *spans_needed, uint32_t *kind, size_t *place);
+                                            size_t span_room, size_t *spans_needed, uint32_t *kind, size_t *position);
 uint32_t regress_front_tell_fault(const uint32_t *pattern, size_t pattern_length, uint32_t flags, uint8_t *text,
-                                 size_t room, size_t *needed, uint32_t *kind, size_t *place);
+                                 size_t room, size_t *needed, uint32_t *kind, size_t *position);
 uint32_t regress_front_tell_fault_of_text(const uint8_t *pattern, size_t pattern_length, uint32_t flags, uint8_t *text,
-                                         size_t room, size_t *needed, uint32_t *kind, size_t *place);
+                                         size_t room, size_t *needed, uint32_t *kind, size_t *position);
 uint32_t regress_front_bound_nodes(const uint32_t *pattern, size_t pattern_length, uint32_t flags, size_t *bound);
 uint32_t regress_front_bound_nodes_of_text(const uint8_t *pattern, size_t pattern_length, uint32_t flags,
                                            size_t *bound);
+
+/* For the functions below: a pointer, or where it is NULL that of a variable which is not used; whether a pointer and
+   its length are no pattern and no buffer; and the result for invalid arguments. */
+#define REGRESS_FRONT_OR(pointer, variable) ((pointer) ? (pointer) : &(variable))
+#define REGRESS_FRONT_IS_MISSING(pointer, length) (!(pointer) && (length) > 0)
+
+REGRESS_FRONT_INLINE uint32_t regress_front_bad_input(size_t *needed, uint32_t *kind, size_t *position) {
+    *needed = 0;
+    *kind = 0;
+    *position = 0;
+    return REGRESS_FRONT_BAD_INPUT;
+}
 
 /* Parses a pattern of code points, each at most 10FFFF, surrogates included.
 
    Writes the encoding of its tree to `words`, a buffer of `room` words; words after the encoding are unchanged. For OK
    and ROOM `needed` is the length of the encoding in words, else 0: call with `room` 0 first, and then with a buffer of
-   that size. For FAULT `kind` is the kind of the syntax error, one of REGRESS_FRONT_KIND_.., and `place` its position,
-   a code-point index from 0 to the pattern's length, else both are 0. With a NULL pointer that is not allowed, nothing
-   is written. */
+   that size. For SYNTAX `kind` is the kind of the syntax error, one of REGRESS_FRONT_KIND_.., and `position` its position,
+   a code-point index from 0 to the pattern's length, else both are 0. */
 REGRESS_FRONT_INLINE uint32_t regress_front_parse(const uint32_t *pattern, size_t pattern_length, uint32_t flags,
                                                   uint32_t optimize, uint32_t *words, size_t room, size_t *needed,
-                                                  uint32_t *kind, size_t *place) {
-    uint32_t none = 0;
-    if ((!pattern && pattern_length) || (!words && room) || !needed || !kind || !place) {
-        return REGRESS_FRONT_BAD_INPUT;
+                                                  uint32_t *kind, size_t *position) {
+    uint32_t no_point = 0, no_word = 0;
+    size_t no_needed = 0, no_position = 0;
+    uint32_t no_kind = 0;
+    needed = REGRESS_FRONT_OR(needed, no_needed);
+    kind = REGRESS_FRONT_OR(kind, no_kind);
+    position = REGRESS_FRONT_OR(position, no_position);
+    if (REGRESS_FRONT_IS_MISSING(pattern, pattern_length) || REGRESS_FRONT_IS_MISSING(words, room)) {
+        return regress_front_bad_input(needed, kind, position);
     }
-    return regress_front_parse_code_points(pattern ? pattern : &none, pattern_length, flags, optimize,
-                                           words ? words : &none, room, needed, kind, place);
+    return regress_front_parse_code_points(REGRESS_FRONT_OR(pattern, no_point), pattern_length, flags, optimize,
+                                           REGRESS_FRONT_OR(words, no_word), room, needed, kind, position);
 }
 
-/* Parses a pattern in UTF-8, as regress_front_parse. `pattern_length` is in bytes; `place` counts code points here
+/* Parses a pattern in UTF-8, as regress_front_parse. `pattern_length` is in bytes; `position` counts code points here
    too. */
 REGRESS_FRONT_INLINE uint32_t regress_front_parse_utf8(const char *pattern, size_t pattern_length, uint32_t flags,
                                                        uint32_t optimize, uint32_t *words, size_t room, size_t *needed,
-                                                       uint32_t *kind, size_t *place) {
-    uint8_t no_byte = 0;
-    uint32_t none = 0;
-    if ((!pattern && pattern_length) || (!words && room) || !needed || !kind || !place) {
-        return REGRESS_FRONT_BAD_INPUT;
+                                                       uint32_t *kind, size_t *position) {
+    const char no_byte = 0;
+    uint32_t no_word = 0;
+    size_t no_needed = 0, no_position = 0;
+    uint32_t no_kind = 0;
+    needed = REGRESS_FRONT_OR(needed, no_needed);
+    kind = REGRESS_FRONT_OR(kind, no_kind);
+    position = REGRESS_FRONT_OR(position, no_position);
+    if (REGRESS_FRONT_IS_MISSING(pattern, pattern_length) || REGRESS_FRONT_IS_MISSING(words, room)) {
+        return regress_front_bad_input(needed, kind, position);
     }
-    return regress_front_parse_text(pattern ? (const uint8_t *)pattern : &no_byte, pattern_length, flags, optimize,
-                                    words ? words : &none, room, needed, kind, place);
+    return regress_front_parse_text((const uint8_t *)REGRESS_FRONT_OR(pattern, no_byte), pattern_length, flags,
+                                    optimize, REGRESS_FRONT_OR(words, no_word), room, needed, kind, position);
 }
 
 /* Parses a pattern of code points without optimizing its tree, as regress_front_parse, and writes the span of each node
@@ -193,71 +215,101 @@ REGRESS_FRONT_INLINE uint32_t regress_front_parse_with_spans(const uint32_t *pat
                                                              uint32_t flags, uint32_t *words, size_t room,
                                                              size_t *needed, regress_front_span *spans,
                                                              size_t span_room, size_t *spans_needed, uint32_t *kind,
-                                                             size_t *place) {
-    uint32_t none = 0;
+                                                             size_t *position) {
+    uint32_t no_point = 0, no_word = 0;
     regress_front_span no_span = {0, 0};
-    if ((!pattern && pattern_length) || (!words && room) || !needed || (!spans && span_room) || !spans_needed || !kind
-        || !place) {
-        return REGRESS_FRONT_BAD_INPUT;
+    size_t no_spans_needed = 0;
+    size_t no_needed = 0, no_position = 0;
+    uint32_t no_kind = 0;
+    needed = REGRESS_FRONT_OR(needed, no_needed);
+    kind = REGRESS_FRONT_OR(kind, no_kind);
+    position = REGRESS_FRONT_OR(position, no_position);
+    spans_needed = REGRESS_FRONT_OR(spans_needed, no_spans_needed);
+    if (REGRESS_FRONT_IS_MISSING(pattern, pattern_length) || REGRESS_FRONT_IS_MISSING(words, room)
+        || REGRESS_FRONT_IS_MISSING(spans, span_room)) {
+        *spans_needed = 0;
+        return regress_front_bad_input(needed, kind, position);
     }
-    return regress_front_parse_code_points_with_spans(pattern ? pattern : &none, pattern_length, flags,
-                                                      words ? words : &none, room, needed, spans ? spans : &no_span,
-                                                      span_room, spans_needed, kind, place);
+    return regress_front_parse_code_points_with_spans(REGRESS_FRONT_OR(pattern, no_point), pattern_length, flags,
+                                                      REGRESS_FRONT_OR(words, no_word), room, needed,
+                                                      REGRESS_FRONT_OR(spans, no_span), span_room, spans_needed, kind,
+                                                      position);
 }
 
-/* As regress_front_parse_with_spans, for a pattern in UTF-8. Spans and `place` count code points here too. */
+/* As regress_front_parse_with_spans, for a pattern in UTF-8. Spans and `position` count code points here too. */
 REGRESS_FRONT_INLINE uint32_t regress_front_parse_utf8_with_spans(const char *pattern, size_t pattern_length,
                                                                   uint32_t flags, uint32_t *words, size_t room,
                                                                   size_t *needed, regress_front_span *spans,
                                                                   size_t span_room, size_t *spans_needed,
-                                                                  uint32_t *kind, size_t *place) {
-    uint8_t no_byte = 0;
-    uint32_t none = 0;
+                                                                  uint32_t *kind, size_t *position) {
+    const char no_byte = 0;
+    uint32_t no_word = 0;
     regress_front_span no_span = {0, 0};
-    if ((!pattern && pattern_length) || (!words && room) || !needed || (!spans && span_room) || !spans_needed || !kind
-        || !place) {
-        return REGRESS_FRONT_BAD_INPUT;
+    size_t no_spans_needed = 0;
+    size_t no_needed = 0, no_position = 0;
+    uint32_t no_kind = 0;
+    needed = REGRESS_FRONT_OR(needed, no_needed);
+    kind = REGRESS_FRONT_OR(kind, no_kind);
+    position = REGRESS_FRONT_OR(position, no_position);
+    spans_needed = REGRESS_FRONT_OR(spans_needed, no_spans_needed);
+    if (REGRESS_FRONT_IS_MISSING(pattern, pattern_length) || REGRESS_FRONT_IS_MISSING(words, room)
+        || REGRESS_FRONT_IS_MISSING(spans, span_room)) {
+        *spans_needed = 0;
+        return regress_front_bad_input(needed, kind, position);
     }
-    return regress_front_parse_text_with_spans(pattern ? (const uint8_t *)pattern : &no_byte, pattern_length, flags,
-                                               words ? words : &none, room, needed, spans ? spans : &no_span,
-                                               span_room, spans_needed, kind, place);
+    return regress_front_parse_text_with_spans((const uint8_t *)REGRESS_FRONT_OR(pattern, no_byte), pattern_length,
+                                               flags, REGRESS_FRONT_OR(words, no_word), room, needed,
+                                               REGRESS_FRONT_OR(spans, no_span), span_room, spans_needed, kind,
+                                               position);
 }
 
 /* Parses a pattern of code points, and writes the text of its syntax error to `text`, a buffer of `room` bytes: in
    UTF-8, with a zero after it if there is room for one.
 
-   Returns FAULT if the pattern is rejected and the text is written, ROOM if the buffer is too small for it, and OK if
-   the pattern is accepted, with nothing written. For FAULT and ROOM `needed` is the length of the text in bytes, and
-   `kind` and `place` are the kind and the position of the same error, else they are 0. */
+   Returns SYNTAX if the pattern is rejected and the text is written, ROOM if the buffer is too small for it, and OK if
+   the pattern is accepted, with nothing written. For SYNTAX and ROOM `needed` is the length of the text in bytes, and
+   `kind` and `position` are the kind and the position of the same error, else they are 0. */
 REGRESS_FRONT_INLINE uint32_t regress_front_fault(const uint32_t *pattern, size_t pattern_length, uint32_t flags,
                                                   char *text, size_t room, size_t *needed, uint32_t *kind,
-                                                  size_t *place) {
-    uint32_t none = 0, status;
-    uint8_t no_byte = 0;
-    if ((!pattern && pattern_length) || (!text && room) || !needed || !kind || !place) {
-        return REGRESS_FRONT_BAD_INPUT;
+                                                  size_t *position) {
+    uint32_t no_point = 0;
+    char no_text = 0;
+    uint32_t status;
+    size_t no_needed = 0, no_position = 0;
+    uint32_t no_kind = 0;
+    needed = REGRESS_FRONT_OR(needed, no_needed);
+    kind = REGRESS_FRONT_OR(kind, no_kind);
+    position = REGRESS_FRONT_OR(position, no_position);
+    if (REGRESS_FRONT_IS_MISSING(pattern, pattern_length) || REGRESS_FRONT_IS_MISSING(text, room)) {
+        return regress_front_bad_input(needed, kind, position);
     }
-    status = regress_front_tell_fault(pattern ? pattern : &none, pattern_length, flags,
-                                      text ? (uint8_t *)text : &no_byte, room, needed, kind, place);
-    if (status == REGRESS_FRONT_FAULT && *needed < room) {
+    status = regress_front_tell_fault(REGRESS_FRONT_OR(pattern, no_point), pattern_length, flags,
+                                      (uint8_t *)REGRESS_FRONT_OR(text, no_text), room, needed, kind, position);
+    if (status == REGRESS_FRONT_SYNTAX && *needed < room) {
         text[*needed] = 0;
     }
     return status;
 }
 
-/* As regress_front_fault, for a pattern in UTF-8. `place` counts code points here too. */
+/* As regress_front_fault, for a pattern in UTF-8. `position` counts code points here too. */
 REGRESS_FRONT_INLINE uint32_t regress_front_fault_utf8(const char *pattern, size_t pattern_length, uint32_t flags,
                                                        char *text, size_t room, size_t *needed, uint32_t *kind,
-                                                       size_t *place) {
-    uint8_t no_byte = 0;
-    uint8_t no_text = 0;
+                                                       size_t *position) {
+    const char no_byte = 0;
+    char no_text = 0;
     uint32_t status;
-    if ((!pattern && pattern_length) || (!text && room) || !needed || !kind || !place) {
-        return REGRESS_FRONT_BAD_INPUT;
+    size_t no_needed = 0, no_position = 0;
+    uint32_t no_kind = 0;
+    needed = REGRESS_FRONT_OR(needed, no_needed);
+    kind = REGRESS_FRONT_OR(kind, no_kind);
+    position = REGRESS_FRONT_OR(position, no_position);
+    if (REGRESS_FRONT_IS_MISSING(pattern, pattern_length) || REGRESS_FRONT_IS_MISSING(text, room)) {
+        return regress_front_bad_input(needed, kind, position);
     }
-    status = regress_front_tell_fault_of_text(pattern ? (const uint8_t *)pattern : &no_byte, pattern_length, flags,
-                                              text ? (uint8_t *)text : &no_text, room, needed, kind, place);
-    if (status == REGRESS_FRONT_FAULT && *needed < room) {
+    status = regress_front_tell_fault_of_text((const uint8_t *)REGRESS_FRONT_OR(pattern, no_byte), pattern_length,
+                                              flags, (uint8_t *)REGRESS_FRONT_OR(text, no_text), room, needed, kind,
+                                              position);
+    if (status == REGRESS_FRONT_SYNTAX && *needed < room) {
         text[*needed] = 0;
     }
     return status;
@@ -267,26 +319,33 @@ REGRESS_FRONT_INLINE uint32_t regress_front_fault_utf8(const char *pattern, size
    is no bound. Test it before an untrusted pattern is parsed: n references by name to n groups of this name make n * n
    nodes. A pattern without references by name has at most 5 times its length and 3 more.
 
-   Returns OK or BAD_INPUT: no syntax error is reported. `bound` is 0 with BAD_INPUT, and unchanged with a NULL pointer
-   that is not allowed. */
+   Returns OK or BAD_INPUT: no syntax error is reported. `bound` is 0 with BAD_INPUT. */
 REGRESS_FRONT_INLINE uint32_t regress_front_node_bound(const uint32_t *pattern, size_t pattern_length, uint32_t flags,
                                                        size_t *bound) {
-    uint32_t none = 0;
-    if ((!pattern && pattern_length) || !bound) {
+    uint32_t no_point = 0;
+    if (!bound) {
         return REGRESS_FRONT_BAD_INPUT;
     }
-    return regress_front_bound_nodes(pattern ? pattern : &none, pattern_length, flags, bound);
+    if (REGRESS_FRONT_IS_MISSING(pattern, pattern_length)) {
+        *bound = 0;
+        return REGRESS_FRONT_BAD_INPUT;
+    }
+    return regress_front_bound_nodes(REGRESS_FRONT_OR(pattern, no_point), pattern_length, flags, bound);
 }
 
 /* As regress_front_node_bound, for a pattern in UTF-8. It also returns MEMORY, with 0 as `bound`. */
 REGRESS_FRONT_INLINE uint32_t regress_front_node_bound_utf8(const char *pattern, size_t pattern_length, uint32_t flags,
                                                             size_t *bound) {
-    uint8_t no_byte = 0;
-    if ((!pattern && pattern_length) || !bound) {
+    const char no_byte = 0;
+    if (!bound) {
         return REGRESS_FRONT_BAD_INPUT;
     }
-    return regress_front_bound_nodes_of_text(pattern ? (const uint8_t *)pattern : &no_byte, pattern_length, flags,
-                                             bound);
+    if (REGRESS_FRONT_IS_MISSING(pattern, pattern_length)) {
+        *bound = 0;
+        return REGRESS_FRONT_BAD_INPUT;
+    }
+    return regress_front_bound_nodes_of_text((const uint8_t *)REGRESS_FRONT_OR(pattern, no_byte), pattern_length,
+                                             flags, bound);
 }
 
 /* Returns the name of a kind of node as docs/ir.md has it, such as "Char"; NULL for a number that is no kind. */

@@ -157,14 +157,14 @@ static bool read_flags(const char *letters, uint32_t *flags) {
 /* The text, and the position of the same error. */
 static int tell_fault(const char *pattern, size_t length, uint32_t flags) {
     char text[512];
-    size_t needed, place;
+    size_t needed, position;
     uint32_t kind;
-    switch (regress_front_fault_utf8(pattern, length, flags, text, sizeof text, &needed, &kind, &place)) {
-    case REGRESS_FRONT_FAULT:
-        fprintf(stderr, "error at %zu: %.*s\n", place, (int)needed, text);
+    switch (regress_front_fault_utf8(pattern, length, flags, text, sizeof text, &needed, &kind, &position)) {
+    case REGRESS_FRONT_SYNTAX:
+        fprintf(stderr, "error at %zu: %.*s\n", position, (int)needed, text);
         return 1;
     case REGRESS_FRONT_ROOM:
-        fprintf(stderr, "error at %zu: kind %" PRIu32 "\n", place, kind);
+        fprintf(stderr, "error at %zu: kind %" PRIu32 "\n", position, kind);
         return 1;
     default:
         fprintf(stderr, "out of memory\n");
@@ -183,16 +183,16 @@ int main(int count, char **arguments) {
     uint32_t *words = NULL;
     size_t room = 0;
     for (;;) {
-        size_t needed, place;
+        size_t needed, position;
         uint32_t kind;
         switch (regress_front_parse_utf8(pattern, length, flags, REGRESS_FRONT_OPTIMIZED, words, room, &needed, &kind,
-                                         &place)) {
+                                         &position)) {
         case REGRESS_FRONT_OK:
             at = words;
             print_node(0);
             free(words);
             return 0;
-        case REGRESS_FRONT_FAULT:
+        case REGRESS_FRONT_SYNTAX:
             free(words);
             return tell_fault(pattern, length, flags);
         case REGRESS_FRONT_ROOM:

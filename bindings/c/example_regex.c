@@ -59,7 +59,7 @@ int main(int count, char **arguments) {
         uint8_t message[128];
         size_t needed;
         regress_error_message(kind, message, sizeof message, &needed);
-        fprintf(stderr, "%.*s, at position %zu\n", (int)needed, (const char *)message, position);
+        fprintf(stderr, "at position %zu: %.*s\n", position, (int)needed, (const char *)message);
         return 1;
     }
     if (status == REGRESS_OK) {

@@ -70,14 +70,14 @@ static void find_all(regress_regex *regex, const uint8_t *text, size_t most, uin
 static void parse(const uint8_t *pattern, size_t length, uint32_t flags) {
     static uint32_t words[4096];
     static regress_front_span spans[1024];
-    size_t needed, spans_needed, place, bound;
+    size_t needed, spans_needed, position, bound;
     uint32_t kind;
     if (regress_front_node_bound_utf8((const char *)pattern, length, flags, &bound) != REGRESS_FRONT_OK
         || bound > 10000) {
         return;
     }
     uint32_t status = regress_front_parse_utf8_with_spans((const char *)pattern, length, flags, words, 4096, &needed,
-                                                          spans, 1024, &spans_needed, &kind, &place);
+                                                          spans, 1024, &spans_needed, &kind, &position);
     if (status == REGRESS_FRONT_ROOM ? needed <= 4096 && spans_needed <= 1024 : (status != REGRESS_FRONT_OK) != !needed) {
         abort();
     }

@@ -38,14 +38,14 @@ static void check(int holds, const char *what, int line) {
 #define ROOM 256
 #define MARK 0xA5A5A5A5u
 static uint32_t words[ROOM + 1];
-static size_t needed, place;
+static size_t needed, position;
 static uint32_t kind;
 
 static uint32_t parsed(const char *pattern, uint32_t flags, uint32_t optimize, size_t room) {
     for (size_t i = 0; i <= ROOM; i++) {
         words[i] = MARK;
     }
-    return regress_front_parse_utf8(pattern, strlen(pattern), flags, optimize, words, room, &needed, &kind, &place);
+    return regress_front_parse_utf8(pattern, strlen(pattern), flags, optimize, words, room, &needed, &kind, &position);
 }
 
 /* The tree is skipped as a whole, and nothing is if its last words are missing. */
@@ -138,17 +138,14 @@ static void rooms(void) {
 
 static void bad_input(void) {
     const uint32_t past = 0x110000, greatest = 0x10FFFF, surrogate = 0xD800;
-    CHECK(regress_front_parse(&past, 1, SMALL, 0, words, ROOM, &needed, &kind, &place) == REGRESS_FRONT_BAD_INPUT);
-    CHECK(needed == 0 && kind == 0 && place == 0);
-    CHECK(regress_front_parse(&greatest, 1, SMALL, 0, words, ROOM, &needed, &kind, &place) == REGRESS_FRONT_OK);
-    CHECK(regress_front_parse(&surrogate, 1, SMALL, 0, words, ROOM, &needed, &kind, &place) == REGRESS_FRONT_OK);
-    CHECK(regress_front_parse(NULL, 0, SMALL, 0, words, ROOM, &needed, &kind, &place) == REGRESS_FRONT_OK);
-    CHECK(regress_front_parse(NULL, 0, SMALL, 0, NULL, 0, &needed, &kind, &place) == REGRESS_FRONT_ROOM && needed == 5);
-    CHECK(regress_front_parse(NULL, 1, SMALL, 0, words, ROOM, &needed, &kind, &place) == REGRESS_FRONT_BAD_INPUT);
-    CHECK(regress_front_parse(NULL, 0, SMALL, 0, NULL, 1, &needed, &kind, &place) == REGRESS_FRONT_BAD_INPUT);
-    CHECK(regress_front_parse(NULL, 0, SMALL, 0, words, ROOM, NULL, &kind, &place) == REGRESS_FRONT_BAD_INPUT);
-    CHECK(regress_front_parse(NULL, 0, SMALL, 0, words, ROOM, &needed, NULL, &place) == REGRESS_FRONT_BAD_INPUT);
-    CHECK(regress_front_parse(NULL, 0, SMALL, 0, words, ROOM, &needed, &kind, NULL) == REGRESS_FRONT_BAD_INPUT);
+    CHECK(regress_front_parse(&past, 1, SMALL, 0, words, ROOM, &needed, &kind, &position) == REGRESS_FRONT_BAD_INPUT);
+    CHECK(needed == 0 && kind == 0 && position == 0);
+    CHECK(regress_front_parse(&greatest, 1, SMALL, 0, words, ROOM, &needed, &kind, &position) == REGRESS_FRONT_OK);
+    CHECK(regress_front_parse(&surrogate, 1, SMALL, 0, words, ROOM, &needed, &kind, &position) == REGRESS_FRONT_OK);
+    CHECK(regress_front_parse(NULL, 0, SMALL, 0, words, ROOM, &needed, &kind, &position) == REGRESS_FRONT_OK);
+    CHECK(regress_front_parse(NULL, 0, SMALL, 0, NULL, 0, &needed, &kind, &position) == REGRESS_FRONT_ROOM && needed == 5);
+    CHECK(regress_front_parse(NULL, 1, SMALL, 0, words, ROOM, &needed, &kind, &position) == REGRESS_FRONT_BAD_INPUT);
+    CHECK(regress_front_parse(NULL, 0, SMALL, 0, NULL, 1, &needed, &kind, &position) == REGRESS_FRONT_BAD_INPUT);
     CHECK(parsed("a", 64, 0, ROOM) == REGRESS_FRONT_BAD_INPUT);
     CHECK(parsed("a", 0x80000000u, 0, ROOM) == REGRESS_FRONT_BAD_INPUT);
     CHECK(parsed("a", SMALL, 2, ROOM) == REGRESS_FRONT_BAD_INPUT);
@@ -157,8 +154,23 @@ static void bad_input(void) {
     CHECK(words[0] == MARK);
 }
 
+/* A number is not written where the pointer is NULL. */
+static void null_numbers(void) {
+    regress_front_span few[8];
+    CHECK(regress_front_parse_utf8("a", 1, SMALL, 0, words, ROOM, NULL, NULL, NULL) == REGRESS_FRONT_OK);
+    CHECK(regress_front_parse(NULL, 0, SMALL, 0, words, ROOM, NULL, NULL, NULL) == REGRESS_FRONT_OK);
+    CHECK(regress_front_parse_utf8(")", 1, SMALL, 0, NULL, 0, NULL, NULL, &position) == REGRESS_FRONT_SYNTAX);
+    CHECK(position == 0);
+    CHECK(regress_front_parse_utf8_with_spans("a", 1, SMALL, words, ROOM, NULL, few, 8, NULL, NULL, NULL)
+          == REGRESS_FRONT_OK);
+    CHECK(regress_front_parse_with_spans(NULL, 1, SMALL, words, ROOM, NULL, few, 8, NULL, NULL, NULL)
+          == REGRESS_FRONT_BAD_INPUT);
+    CHECK(regress_front_fault(NULL, 0, SMALL, NULL, 0, NULL, NULL, NULL) == REGRESS_FRONT_OK);
+    CHECK(regress_front_fault_utf8(")", 1, SMALL, NULL, 0, NULL, &kind, NULL) == REGRESS_FRONT_ROOM && kind == 1);
+}
+
 static uint32_t told(const char *pattern, uint32_t flags, char *text, size_t room) {
-    return regress_front_fault_utf8(pattern, strlen(pattern), flags, text, room, &needed, &kind, &place);
+    return regress_front_fault_utf8(pattern, strlen(pattern), flags, text, room, &needed, &kind, &position);
 }
 
 static void faults(void) {
@@ -166,27 +178,27 @@ static void faults(void) {
     const uint32_t point[] = {0x29};
     char text[64];
     memset(text, '#', sizeof text);
-    CHECK(parsed("\xC3\xA9)", SMALL, 0, ROOM) == REGRESS_FRONT_FAULT && place == 1 && needed == 0);
+    CHECK(parsed("\xC3\xA9)", SMALL, 0, ROOM) == REGRESS_FRONT_SYNTAX && position == 1 && needed == 0);
     CHECK(kind == REGRESS_FRONT_KIND_UNBALANCED_PARENTHESIS);
     CHECK(words[0] == MARK);
     CHECK(told("a)", SMALL, text, 5) == REGRESS_FRONT_ROOM);
     CHECK(needed == strlen(expected) && text[0] == '#');
-    CHECK(kind == REGRESS_FRONT_KIND_UNBALANCED_PARENTHESIS && place == 1);
-    CHECK(told("\xC3\xA9)", SMALL, text, sizeof text) == REGRESS_FRONT_FAULT);
+    CHECK(kind == REGRESS_FRONT_KIND_UNBALANCED_PARENTHESIS && position == 1);
+    CHECK(told("\xC3\xA9)", SMALL, text, sizeof text) == REGRESS_FRONT_SYNTAX);
     CHECK(needed == strlen(expected) && memcmp(text, expected, needed) == 0);
-    CHECK(kind == REGRESS_FRONT_KIND_UNBALANCED_PARENTHESIS && place == 1);
+    CHECK(kind == REGRESS_FRONT_KIND_UNBALANCED_PARENTHESIS && position == 1);
     /* a zero follows the text if there is room for it */
     CHECK(text[needed] == 0 && text[needed + 1] == '#');
     text[needed] = '#';
-    CHECK(told("a)", SMALL, text, needed) == REGRESS_FRONT_FAULT && text[needed] == '#');
-    CHECK(told("a)", SMALL, text, needed + 1) == REGRESS_FRONT_FAULT && strcmp(text, expected) == 0);
-    CHECK(regress_front_fault(point, 1, SMALL, text, sizeof text, &needed, &kind, &place) == REGRESS_FRONT_FAULT);
+    CHECK(told("a)", SMALL, text, needed) == REGRESS_FRONT_SYNTAX && text[needed] == '#');
+    CHECK(told("a)", SMALL, text, needed + 1) == REGRESS_FRONT_SYNTAX && strcmp(text, expected) == 0);
+    CHECK(regress_front_fault(point, 1, SMALL, text, sizeof text, &needed, &kind, &position) == REGRESS_FRONT_SYNTAX);
     CHECK(strcmp(text, expected) == 0 && text[needed + 1] == '#');
-    CHECK(told("a", SMALL, NULL, 0) == REGRESS_FRONT_OK && needed == 0 && kind == 0 && place == 0);
-    CHECK(regress_front_fault(NULL, 0, 64, NULL, 0, &needed, &kind, &place) == REGRESS_FRONT_BAD_INPUT);
-    CHECK(regress_front_fault(NULL, 0, SMALL, NULL, 0, &needed, NULL, &place) == REGRESS_FRONT_BAD_INPUT);
-    CHECK(regress_front_fault(NULL, 0, SMALL, NULL, 0, &needed, &kind, NULL) == REGRESS_FRONT_BAD_INPUT);
-    CHECK(told("\xFF", SMALL, NULL, 0) == REGRESS_FRONT_BAD_INPUT && kind == 0 && place == 0);
+    CHECK(told("a", SMALL, NULL, 0) == REGRESS_FRONT_OK && needed == 0 && kind == 0 && position == 0);
+    CHECK(regress_front_fault(NULL, 0, 64, NULL, 0, &needed, &kind, &position) == REGRESS_FRONT_BAD_INPUT);
+    CHECK(regress_front_fault(NULL, 1, SMALL, NULL, 0, &needed, &kind, &position) == REGRESS_FRONT_BAD_INPUT);
+    CHECK(regress_front_fault(NULL, 0, SMALL, NULL, 1, &needed, &kind, &position) == REGRESS_FRONT_BAD_INPUT);
+    CHECK(told("\xFF", SMALL, NULL, 0) == REGRESS_FRONT_BAD_INPUT && kind == 0 && position == 0);
 }
 
 /* The examples of docs/errors.md. Both calls report the same kind and position. */
@@ -194,7 +206,7 @@ static void kinds_of_faults(void) {
     static const struct {
         const char *pattern;
         uint32_t flags, kind;
-        size_t place;
+        size_t position;
     } examples[] = {
         {"x(a", 0, REGRESS_FRONT_KIND_UNBALANCED_PARENTHESIS, 1},
         {"a\\", 0, REGRESS_FRONT_KIND_INCOMPLETE_ESCAPE, 1},
@@ -230,10 +242,10 @@ static void kinds_of_faults(void) {
     for (size_t i = 0; i < sizeof examples / sizeof *examples; i++) {
         const char *pattern = examples[i].pattern;
         uint32_t flags = SMALL | examples[i].flags;
-        CHECK(parsed(pattern, flags, 0, ROOM) == REGRESS_FRONT_FAULT);
-        CHECK(kind == examples[i].kind && place == examples[i].place);
-        CHECK(told(pattern, flags, text, sizeof text) == REGRESS_FRONT_FAULT);
-        CHECK(kind == examples[i].kind && place == examples[i].place);
+        CHECK(parsed(pattern, flags, 0, ROOM) == REGRESS_FRONT_SYNTAX);
+        CHECK(kind == examples[i].kind && position == examples[i].position);
+        CHECK(told(pattern, flags, text, sizeof text) == REGRESS_FRONT_SYNTAX);
+        CHECK(kind == examples[i].kind && position == examples[i].position);
     }
 }
 
@@ -251,7 +263,7 @@ static void mark_both(void) {
 static uint32_t spanned(const char *pattern, uint32_t flags, size_t room, size_t span_room) {
     mark_both();
     return regress_front_parse_utf8_with_spans(pattern, strlen(pattern), flags, words, room, &needed, spans, span_room,
-                                               &spans_needed, &kind, &place);
+                                               &spans_needed, &kind, &position);
 }
 
 static int have_spans(const size_t *expected, size_t count) {
@@ -271,7 +283,7 @@ static int is_unchanged(void) { return words[0] == MARK && spans[0].start == MAR
 static void trees_with_spans(void) {
     const uint32_t points[] = {0x61, 0x2A}, past = 0x110000;
     CHECK(spanned("a*", SMALL, ROOM, ROOM) == REGRESS_FRONT_OK && HAVE(0, 2, 0, 2, 0, 1, 2, 2));
-    CHECK(kind == 0 && place == 0);
+    CHECK(kind == 0 && position == 0);
     CHECK(ARE(6, 2, 0, 14, 0, 0, 1, 0, 0, 0, 2, 0x61, 1));
     /* CAT, ALT, CAPTURE_GROUP, CAT, CHAR, BRACKET, CHAR, GOAL */
     CHECK(spanned("(?<n>a[bc])|d", SMALL, ROOM, ROOM) == REGRESS_FRONT_OK
@@ -285,23 +297,21 @@ static void trees_with_spans(void) {
     CHECK(spanned("\xC3\xA9" "b", SMALL, ROOM, ROOM) == REGRESS_FRONT_OK && HAVE(0, 2, 0, 2, 0, 1, 1, 2, 2, 2));
     mark_both();
     CHECK(regress_front_parse_with_spans(points, 2, SMALL, words, ROOM, &needed, spans, ROOM, &spans_needed, &kind,
-                                         &place) == REGRESS_FRONT_OK && HAVE(0, 2, 0, 2, 0, 1, 2, 2));
+                                         &position) == REGRESS_FRONT_OK && HAVE(0, 2, 0, 2, 0, 1, 2, 2));
     for (size_t room = 0; room < 6; room++) {
         CHECK(spanned("a", SMALL, room, ROOM) == REGRESS_FRONT_ROOM && needed == 6 && spans_needed == 3 && is_unchanged());
         CHECK(spanned("a", SMALL, 6, room) == (room < 3 ? REGRESS_FRONT_ROOM : REGRESS_FRONT_OK));
         CHECK(needed == 6 && spans_needed == 3 && (room >= 3 || is_unchanged()));
     }
-    CHECK(spanned("\xC3\xA9)", SMALL, ROOM, ROOM) == REGRESS_FRONT_FAULT && place == 1 && is_unchanged());
+    CHECK(spanned("\xC3\xA9)", SMALL, ROOM, ROOM) == REGRESS_FRONT_SYNTAX && position == 1 && is_unchanged());
     CHECK(kind == REGRESS_FRONT_KIND_UNBALANCED_PARENTHESIS && needed == 0 && spans_needed == 0);
     CHECK(spanned("\xFF", SMALL, ROOM, ROOM) == REGRESS_FRONT_BAD_INPUT && is_unchanged());
     CHECK(spanned("a", 64, ROOM, ROOM) == REGRESS_FRONT_BAD_INPUT && needed == 0 && spans_needed == 0);
     CHECK(regress_front_parse_with_spans(&past, 1, SMALL, words, ROOM, &needed, spans, ROOM, &spans_needed, &kind,
-                                         &place) == REGRESS_FRONT_BAD_INPUT && is_unchanged());
-    CHECK(regress_front_parse_with_spans(NULL, 0, SMALL, NULL, 0, &needed, NULL, 0, &spans_needed, &kind, &place)
+                                         &position) == REGRESS_FRONT_BAD_INPUT && is_unchanged());
+    CHECK(regress_front_parse_with_spans(NULL, 0, SMALL, NULL, 0, &needed, NULL, 0, &spans_needed, &kind, &position)
               == REGRESS_FRONT_ROOM && needed == 5 && spans_needed == 3);
-    CHECK(regress_front_parse_with_spans(NULL, 0, SMALL, words, ROOM, &needed, NULL, 1, &spans_needed, &kind, &place)
-          == REGRESS_FRONT_BAD_INPUT);
-    CHECK(regress_front_parse_utf8_with_spans("", 0, SMALL, words, ROOM, &needed, spans, ROOM, NULL, &kind, &place)
+    CHECK(regress_front_parse_with_spans(NULL, 0, SMALL, words, ROOM, &needed, NULL, 1, &spans_needed, &kind, &position)
           == REGRESS_FRONT_BAD_INPUT);
 }
 
@@ -319,7 +329,7 @@ static void refuse_spans(const char *pattern, uint32_t expected) {
         requests = 0;
         uint32_t status = spanned(pattern, SMALL, ROOM, ROOM);
         wanting += status == REGRESS_FRONT_MEMORY;
-        CHECK(status == REGRESS_FRONT_MEMORY ? is_unchanged() && needed == 0 && spans_needed == 0 && kind == 0 && place == 0
+        CHECK(status == REGRESS_FRONT_MEMORY ? is_unchanged() && needed == 0 && spans_needed == 0 && kind == 0 && position == 0
                                              : status == expected && memcmp(words, ample_words, sizeof ample_words) == 0
                                                    && memcmp(spans, ample_spans, sizeof ample_spans) == 0);
     }
@@ -332,7 +342,7 @@ static void refuse_spans(const char *pattern, uint32_t expected) {
 static void refuse(const char *pattern, uint32_t flags, uint32_t optimize) {
     requests = 0;
     uint32_t ample = parsed(pattern, flags, optimize, ROOM);
-    size_t ample_needed = needed, ample_place = place, wanting = 0;
+    size_t ample_needed = needed, ample_position = position, wanting = 0;
     uint32_t expected[ROOM];
     long most = requests;
     memcpy(expected, words, sizeof expected);
@@ -341,9 +351,9 @@ static void refuse(const char *pattern, uint32_t flags, uint32_t optimize) {
         uint32_t status = parsed(pattern, flags, optimize, ROOM);
         if (status == REGRESS_FRONT_MEMORY) {
             wanting++;
-            CHECK(words[0] == MARK && needed == 0 && kind == 0 && place == 0);
+            CHECK(words[0] == MARK && needed == 0 && kind == 0 && position == 0);
         } else {
-            CHECK(status == ample && needed == ample_needed && place == ample_place);
+            CHECK(status == ample && needed == ample_needed && position == ample_position);
             CHECK(memcmp(words, expected, sizeof expected) == 0);
         }
     }
@@ -387,8 +397,8 @@ static void bounds(void) {
     CHECK(regress_front_node_bound_utf8("\xFF", 1, SMALL, &bound) == REGRESS_FRONT_BAD_INPUT && bound == 0);
     CHECK(regress_front_node_bound_utf8("a", 1, 64, &bound) == REGRESS_FRONT_BAD_INPUT && bound == 0);
     bound = MARK;
-    CHECK(regress_front_node_bound(NULL, 1, SMALL, &bound) == REGRESS_FRONT_BAD_INPUT && bound == MARK);
-    CHECK(regress_front_node_bound_utf8(NULL, 1, SMALL, &bound) == REGRESS_FRONT_BAD_INPUT && bound == MARK);
+    CHECK(regress_front_node_bound(NULL, 1, SMALL, &bound) == REGRESS_FRONT_BAD_INPUT && bound == 0);
+    CHECK(regress_front_node_bound_utf8(NULL, 1, SMALL, &bound) == REGRESS_FRONT_BAD_INPUT && bound == 0);
     CHECK(regress_front_node_bound(points, 3, SMALL, NULL) == REGRESS_FRONT_BAD_INPUT);
     CHECK(regress_front_node_bound_utf8("a", 1, SMALL, NULL) == REGRESS_FRONT_BAD_INPUT);
     /* the code points of a pattern are allocated, and nothing else is */
@@ -406,6 +416,7 @@ int main(int count, char **arguments) {
     skips();
     rooms();
     bad_input();
+    null_numbers();
     faults();
     kinds_of_faults();
     bounds();
@@ -418,7 +429,7 @@ int main(int count, char **arguments) {
     }
     refuse_text("\\k<b>(?<a>x)", SMALL);
     refuse_spans("(?<a>x)|(?<a>y)\\k<a>|(?<=ab)c{2}", REGRESS_FRONT_OK);
-    refuse_spans("[k])", REGRESS_FRONT_FAULT);
+    refuse_spans("[k])", REGRESS_FRONT_SYNTAX);
     if (wrong) {
         fprintf(stderr, "%d checks fail\n", wrong);
         return 1;

@@ -29,18 +29,18 @@ static bool finds() {
 
 static bool parses() {
     uint32_t words[64], kind;
-    size_t needed, spans_needed, place;
+    size_t needed, spans_needed, position;
     regress_front_span spans[8];
     char text[64];
     return regress_front_parse_utf8("a", 1, REGRESS_FRONT_SMALL_TABLE, REGRESS_FRONT_PARSED, words, 64, &needed, &kind,
-                                    &place) == REGRESS_FRONT_OK
+                                    &position) == REGRESS_FRONT_OK
            && regress_front_skip(words, needed) == needed
            && std::strcmp(regress_front_node_name(words[0]), "Cat") == 0
-           && regress_front_fault_utf8(")", 1, REGRESS_FRONT_SMALL_TABLE, text, sizeof text, &needed, &kind, &place)
-                  == REGRESS_FRONT_FAULT
+           && regress_front_fault_utf8(")", 1, REGRESS_FRONT_SMALL_TABLE, text, sizeof text, &needed, &kind, &position)
+                  == REGRESS_FRONT_SYNTAX
            && kind == REGRESS_FRONT_KIND_UNBALANCED_PARENTHESIS
            && regress_front_parse_utf8_with_spans("a", 1, REGRESS_FRONT_SMALL_TABLE, words, 64, &needed, spans, 8,
-                                                  &spans_needed, &kind, &place) == REGRESS_FRONT_OK
+                                                  &spans_needed, &kind, &position) == REGRESS_FRONT_OK
            && spans_needed == 3 && spans[1].start == 0 && spans[1].end == 1;
 }
 

@@ -69,17 +69,17 @@ static void mark(void) {
     }
 }
 
-static uint32_t found(regress_regex *regex, const char *text, size_t from, size_t room) {
+static uint32_t found(const regress_regex *regex, const char *text, size_t from, size_t room) {
     mark();
     return regress_find(regex, (const uint8_t *)text, strlen(text), from, spans, room, &needed);
 }
 
-static uint32_t found_all_from(regress_regex *regex, const char *text, size_t from, size_t room) {
+static uint32_t found_all_from(const regress_regex *regex, const char *text, size_t from, size_t room) {
     mark();
     return regress_find_all(regex, (const uint8_t *)text, strlen(text), from, spans, room, &needed);
 }
 
-static uint32_t found_all(regress_regex *regex, const char *text, size_t room) {
+static uint32_t found_all(const regress_regex *regex, const char *text, size_t room) {
     return found_all_from(regex, text, 0, room);
 }
 
@@ -156,7 +156,7 @@ static int is_text(const char *expected) {
     return needed == count && memcmp(bytes, expected, count + 1) == 0 && bytes[count + 1] == 0xA5;
 }
 
-static uint32_t name(regress_regex *regex, size_t group, size_t room) {
+static uint32_t name(const regress_regex *regex, size_t group, size_t room) {
     memset(bytes, 0xA5, sizeof bytes);
     return regress_group_name(regex, group, bytes, room, &needed);
 }
@@ -195,13 +195,13 @@ static void messages(void) {
     }
 }
 
-static uint32_t replaced(regress_regex *regex, const char *text, const char *replacement, size_t room) {
+static uint32_t replaced(const regress_regex *regex, const char *text, const char *replacement, size_t room) {
     memset(bytes, 0xA5, sizeof bytes);
     return regress_replace(regex, (const uint8_t *)text, strlen(text), (const uint8_t *)replacement,
                            strlen(replacement), bytes, room, &needed);
 }
 
-static uint32_t all_replaced(regress_regex *regex, const char *text, const char *replacement, size_t room) {
+static uint32_t all_replaced(const regress_regex *regex, const char *text, const char *replacement, size_t room) {
     memset(bytes, 0xA5, sizeof bytes);
     return regress_replace_all(regex, (const uint8_t *)text, strlen(text), (const uint8_t *)replacement,
                                strlen(replacement), bytes, room, &needed);
@@ -382,6 +382,75 @@ static void limits(void) {
     regress_free(&regex);
 }
 
+/* NULL is allowed with the length 0, and for a number and for the limits; with any other one nothing is written. */
+static void null_pointers(void) {
+    regress_regex regex = {NULL}, zero = {NULL};
+    const uint8_t *text = (const uint8_t *)"a";
+    CHECK(regress_compile(text, 1, SMALL, NULL, &regex, NULL, NULL) == REGRESS_OK);
+    CHECK(regress_find(&regex, text, 1, 0, spans, ROOM, NULL) == REGRESS_OK && spans[1] == 1);
+    CHECK(regress_find(&regex, NULL, 0, 0, spans, ROOM, &needed) == REGRESS_NO_MATCH);
+    CHECK(regress_find(&regex, text, 1, 0, NULL, 0, &needed) == REGRESS_ROOM && needed == 2);
+    CHECK(regress_find(&regex, NULL, 1, 0, spans, ROOM, &needed) == REGRESS_BAD_INPUT && needed == 0);
+    CHECK(regress_find(&regex, text, 1, 0, NULL, 1, &needed) == REGRESS_BAD_INPUT);
+    CHECK(regress_find_all(&regex, NULL, 0, 0, NULL, 0, NULL) == REGRESS_OK);
+    CHECK(regress_find_all(&regex, NULL, 1, 0, spans, ROOM, &needed) == REGRESS_BAD_INPUT);
+    CHECK(regress_find_all(&regex, text, 1, 0, NULL, 1, &needed) == REGRESS_BAD_INPUT);
+    CHECK(regress_is_match(&regex, NULL, 0) == REGRESS_NO_MATCH);
+    CHECK(regress_is_match(&regex, NULL, 1) == REGRESS_BAD_INPUT);
+    CHECK(regress_replace(&regex, text, 1, NULL, 0, NULL, 0, NULL) == REGRESS_OK);
+    CHECK(regress_replace_all(&regex, text, 1, NULL, 0, bytes, ROOM, &needed) == REGRESS_OK && needed == 0);
+    CHECK(regress_replace(&regex, NULL, 1, NULL, 0, NULL, 0, NULL) == REGRESS_BAD_INPUT);
+    CHECK(regress_replace_all(&regex, text, 1, NULL, 1, NULL, 0, NULL) == REGRESS_BAD_INPUT);
+    CHECK(regress_replace_all(&regex, text, 1, NULL, 0, NULL, 1, NULL) == REGRESS_BAD_INPUT);
+    CHECK(regress_escape(NULL, 0, NULL, 0, NULL) == REGRESS_OK);
+    CHECK(regress_escape(NULL, 1, NULL, 0, &needed) == REGRESS_BAD_INPUT && needed == 0);
+    CHECK(regress_escape(text, 1, NULL, 0, &needed) == REGRESS_ROOM && needed == 4);
+    CHECK(regress_group_name(&regex, 0, NULL, 0, NULL) == REGRESS_BAD_INPUT);
+    CHECK(regress_error_message(1, NULL, 0, &needed) == REGRESS_ROOM && needed == 22);
+    CHECK(regress_error_message(1, NULL, 1, &needed) == REGRESS_BAD_INPUT && needed == 0);
+    CHECK(regress_differences(NULL, 0, SMALL, NULL, 0, NULL, NULL, NULL) == REGRESS_OK);
+    CHECK(regress_differences(NULL, 1, SMALL, NULL, 0, &needed, &kind, &position) == REGRESS_BAD_INPUT);
+    CHECK(regress_difference_name(1, NULL, 0, NULL) == REGRESS_ROOM);
+    CHECK(regress_difference_text(1, NULL, 1, NULL) == REGRESS_BAD_INPUT);
+    CHECK(regress_compile(NULL, 0, SMALL, NULL, NULL, &kind, &position) == REGRESS_BAD_INPUT && kind == 0);
+    CHECK(regress_compile(NULL, 1, SMALL, NULL, &zero, NULL, NULL) == REGRESS_BAD_INPUT && !zero.inside);
+    regress_free(&regex);
+    CHECK(!regex.inside);
+    regress_free(&regex);
+    regress_free(NULL);
+    CHECK(regress_compile(NULL, 0, SMALL, NULL, &regex, NULL, NULL) == REGRESS_OK);
+    CHECK(regress_find(&regex, NULL, 0, 0, spans, ROOM, &needed) == REGRESS_OK && needed == 2);
+    regress_free(&regex);
+}
+
+/* A handle that is zero, as one that is freed or was never compiled, is an invalid argument. */
+static void zero_handles(void) {
+    regress_regex zero = {NULL};
+    CHECK(found(&zero, "a", 0, ROOM) == REGRESS_BAD_INPUT && needed == 0 && spans[0] == MARK);
+    CHECK(found_all(&zero, "a", ROOM) == REGRESS_BAD_INPUT && needed == 0 && spans[0] == MARK);
+    CHECK(regress_is_match(&zero, (const uint8_t *)"a", 1) == REGRESS_BAD_INPUT);
+    CHECK(replaced(&zero, "a", "b", ROOM) == REGRESS_BAD_INPUT && are_none());
+    CHECK(all_replaced(&zero, "a", "b", ROOM) == REGRESS_BAD_INPUT && are_none());
+    CHECK(name(&zero, 1, ROOM) == REGRESS_BAD_INPUT && are_bytes(""));
+    CHECK(regress_group_count(&zero) == 0 && regress_is_linear(&zero) == 0 && regress_nonlinear(&zero) == 0);
+    CHECK(regress_steps_per_character(&zero) == 0 && regress_find_steps_per_character(&zero) == 0);
+    CHECK(found(NULL, "a", 0, ROOM) == REGRESS_BAD_INPUT && regress_group_count(NULL) == 0);
+    regress_free(&zero);
+}
+
+static void byte_offsets(void) {
+    const char *pattern = "\xC3\xA9[z-a]";
+    regress_regex regex;
+    size_t length = strlen(pattern);
+    CHECK(compiled(pattern, SMALL, &regex) == REGRESS_SYNTAX && position == 2);
+    CHECK(regress_byte_offset((const uint8_t *)pattern, length, position) == 3);
+    CHECK(regress_byte_offset((const uint8_t *)pattern, length, 0) == 0);
+    CHECK(regress_byte_offset((const uint8_t *)pattern, length, 6) == 7);
+    CHECK(regress_byte_offset((const uint8_t *)pattern, length, SIZE_MAX) == 7);
+    CHECK(regress_byte_offset((const uint8_t *)"\xF0\x9F\x98\x80", 4, 1) == 4);
+    CHECK(regress_byte_offset(NULL, 0, 0) == 0);
+}
+
 /* With each allocation failing in order, the status is MEMORY with nothing written and nothing kept, or the result is
    that of a run without failures. */
 static void refuse(const char *pattern, const char *text) {
@@ -426,7 +495,7 @@ static void refuse(const char *pattern, const char *text) {
 /* A call that searches. That for all matches begins at an offset, and there has no status for no match. */
 enum searching { FINDING, FINDING_ALL, TESTING };
 
-static uint32_t searched(enum searching how, regress_regex *regex, const char *text) {
+static uint32_t searched(enum searching how, const regress_regex *regex, const char *text) {
     if (how == FINDING) {
         return found(regex, text, 0, ROOM);
     }
@@ -534,6 +603,9 @@ int main(void) {
     replaces();
     escapes();
     lists_of_differences();
+    null_pointers();
+    zero_handles();
+    byte_offsets();
     CHECK(blocks == before);
     refuse("(?<a>x)|(?<b>y+)\\k<b>", "xyyzyyyy");
     refuse("(?<=ab)c{2}[a-c]+|[^a]", "abccab");

@@ -5,6 +5,10 @@ use std::{env, process};
 
 fn main() {
     println!("cargo:rerun-if-env-changed=REGRESS_FRONT_LIB");
+    // Documentation is made without the library.
+    if env::var_os("DOCS_RS").is_some() {
+        return;
+    }
     let Some(folder) = env::var_os("REGRESS_FRONT_LIB") else {
         fail("REGRESS_FRONT_LIB is not set");
     };

@@ -56,7 +56,7 @@ static double seconds(void) {
 
 /* Searches for all matches or the first one, and prints their number and the time. Returns the library's status. */
 static uint32_t search(regress_regex *regex, const struct text *text, int all) {
-    uint32_t (*find)(regress_regex *, const uint8_t *, size_t, size_t, size_t *, size_t, size_t *) =
+    uint32_t (*find)(const regress_regex *, const uint8_t *, size_t, size_t, size_t *, size_t, size_t *) =
         all ? regress_find_all : regress_find;
     size_t width = 2 * (regress_group_count(regex) + 1), needed;
     /* As many matches as there can be: with too small a buffer the library would have to search again. */

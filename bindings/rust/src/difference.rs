@@ -2,8 +2,7 @@
 
 use crate::ffi;
 use crate::flags::{bits, Flags, Table};
-use crate::library::{code_points, fault};
-use crate::regex::Error;
+use crate::regex::{syntax_error, Error};
 use std::fmt;
 use std::ops::Range;
 
@@ -120,8 +119,7 @@ pub fn differences(pattern: &str, flags: Flags) -> Result<Vec<Difference>, Error
     let output = ffi::differences(pattern, bits);
     match output.status {
         ffi::OK => output.items.iter().map(difference).collect(),
-        // The call for trees also returns the text.
-        ffi::SYNTAX => Err(fault(&code_points(pattern), bits).into()),
+        ffi::SYNTAX => Err(syntax_error(pattern, bits)),
         ffi::MEMORY => Err(Error::Memory),
         _ => Err(Error::Library),
     }

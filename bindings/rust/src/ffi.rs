@@ -5,25 +5,19 @@ use std::ffi::c_void;
 use std::ptr;
 
 pub(crate) const OK: u32 = 0;
-
-/// Statuses of the calls for regular expressions.
 pub(crate) const NO_MATCH: u32 = 1;
 pub(crate) const MEMORY: u32 = 2;
-const ROOM: u32 = 3;
+pub(crate) const ROOM: u32 = 3;
+pub(crate) const BAD_INPUT: u32 = 4;
 pub(crate) const SYNTAX: u32 = 5;
 pub(crate) const TOO_LARGE: u32 = 6;
 pub(crate) const OUT_OF_STEPS: u32 = 7;
-
-/// Statuses of the calls for trees.
-pub(crate) const TREE_FAULT: u32 = 1;
-pub(crate) const TREE_MEMORY: u32 = 2;
-pub(crate) const TREE_BAD_INPUT: u32 = 4;
 
 /// What an unset group has as its start and its end.
 pub(crate) const UNSET: usize = usize::MAX;
 
 /// The version of the calls that this crate makes.
-const ABI_VERSION: u32 = 3;
+const ABI_VERSION: u32 = 4;
 
 /// A `regress_regex` of the library.
 #[repr(C)]
@@ -60,7 +54,7 @@ pub(crate) struct Span {
 extern "C" {
     fn regress_abi_version() -> u32;
 
-    fn regress_compile(
+    fn regress_compile_raw(
         pattern: *const u8,
         length: usize,
         flags: u32,
@@ -70,7 +64,7 @@ extern "C" {
         position: *mut usize,
     ) -> u32;
 
-    fn regress_find(
+    fn regress_find_raw(
         handle: *mut RegressRegex,
         text: *const u8,
         length: usize,
@@ -80,7 +74,7 @@ extern "C" {
         needed: *mut usize,
     ) -> u32;
 
-    fn regress_find_all(
+    fn regress_find_all_raw(
         handle: *mut RegressRegex,
         text: *const u8,
         length: usize,
@@ -90,9 +84,9 @@ extern "C" {
         needed: *mut usize,
     ) -> u32;
 
-    fn regress_is_match(handle: *mut RegressRegex, text: *const u8, length: usize) -> u32;
+    fn regress_is_match_raw(handle: *mut RegressRegex, text: *const u8, length: usize) -> u32;
 
-    fn regress_replace(
+    fn regress_replace_raw(
         handle: *mut RegressRegex,
         text: *const u8,
         length: usize,
@@ -103,7 +97,7 @@ extern "C" {
         needed: *mut usize,
     ) -> u32;
 
-    fn regress_replace_all(
+    fn regress_replace_all_raw(
         handle: *mut RegressRegex,
         text: *const u8,
         length: usize,
@@ -114,14 +108,22 @@ extern "C" {
         needed: *mut usize,
     ) -> u32;
 
-    fn regress_group_count(handle: *mut RegressRegex) -> usize;
+    fn regress_group_count_raw(handle: *mut RegressRegex) -> usize;
 
-    fn regress_nonlinear(handle: *mut RegressRegex) -> u32;
+    fn regress_group_name_raw(
+        handle: *mut RegressRegex,
+        group: usize,
+        out: *mut u8,
+        room: usize,
+        needed: *mut usize,
+    ) -> u32;
 
-    fn regress_steps_per_character(handle: *mut RegressRegex) -> u64;
-    fn regress_find_steps_per_character(handle: *mut RegressRegex) -> u64;
+    fn regress_nonlinear_raw(handle: *mut RegressRegex) -> u32;
 
-    fn regress_escape(
+    fn regress_steps_per_character_raw(handle: *mut RegressRegex) -> u64;
+    fn regress_find_steps_per_character_raw(handle: *mut RegressRegex) -> u64;
+
+    fn regress_escape_raw(
         text: *const u8,
         length: usize,
         out: *mut u8,
@@ -129,9 +131,9 @@ extern "C" {
         needed: *mut usize,
     ) -> u32;
 
-    fn regress_free(handle: *mut RegressRegex);
+    fn regress_free_raw(handle: *mut RegressRegex);
 
-    fn regress_differences(
+    fn regress_differences_raw(
         pattern: *const u8,
         length: usize,
         flags: u32,
@@ -151,7 +153,7 @@ extern "C" {
         room: usize,
         needed: *mut usize,
         kind: *mut u32,
-        place: *mut usize,
+        position: *mut usize,
     ) -> u32;
 
     fn regress_front_parse_code_points_with_spans(
@@ -165,7 +167,7 @@ extern "C" {
         span_room: usize,
         spans_needed: *mut usize,
         kind: *mut u32,
-        place: *mut usize,
+        position: *mut usize,
     ) -> u32;
 
     fn regress_front_tell_fault(
@@ -176,7 +178,7 @@ extern "C" {
         room: usize,
         needed: *mut usize,
         kind: *mut u32,
-        place: *mut usize,
+        position: *mut usize,
     ) -> u32;
 
     fn regress_front_bound_nodes(
@@ -187,7 +189,7 @@ extern "C" {
     ) -> u32;
 }
 
-/// The type of `regress_replace` and of `regress_replace_all`.
+/// The type of `regress_replace_raw` and of `regress_replace_all_raw`.
 type Replace = unsafe extern "C" fn(
     *mut RegressRegex,
     *const u8,
@@ -205,17 +207,24 @@ pub(crate) struct Output<T> {
     pub(crate) items: Vec<T>,
 }
 
-/// A compiled regular expression of the library. Its pointer makes it not `Sync`: a call uses it alone.
-pub(crate) struct Handle(RegressRegex);
+/// A compiled regular expression of the library.
+pub(crate) struct Handle {
+    regex: RegressRegex,
+    /// The number of groups, without the whole match.
+    groups: usize,
+}
 
-// SAFETY: the library is proved to keep nothing in a handle that depends on a thread, so that threads may use it one
-// after another. A value of this type is moved to another thread by means that order the calls.
+// SAFETY: the library is proved to keep nothing in a handle that depends on a thread.
 unsafe impl Send for Handle {}
+
+// SAFETY: a call gets a copy of the variable, and only reads what it points to, as those of `include/regress.h` that take
+// a `const` handle, which any number of threads may call at the same time.
+unsafe impl Sync for Handle {}
 
 impl Drop for Handle {
     fn drop(&mut self) {
-        // SAFETY: regress_compile has written the handle, which is not used afterwards.
-        unsafe { regress_free(&mut self.0) }
+        // SAFETY: regress_compile_raw has written the handle, which is not used afterwards.
+        unsafe { regress_free_raw(&mut self.regex) }
     }
 }
 
@@ -227,57 +236,65 @@ pub(crate) fn has_abi() -> bool {
 
 /// Compiles a pattern. Returns the status if that fails.
 pub(crate) fn compile(pattern: &str, flags: u32, limits: &Limits) -> Result<Handle, u32> {
-    let mut handle = RegressRegex {
+    let mut regex = RegressRegex {
         inside: ptr::null_mut(),
     };
     let (mut kind, mut position) = (0, 0);
     // SAFETY: the pattern is a slice, and the other pointers are those of variables.
     let status = unsafe {
-        regress_compile(
+        regress_compile_raw(
             start_of(pattern),
             pattern.len(),
             flags,
             limits,
-            &mut handle,
+            &mut regex,
             &mut kind,
             &mut position,
         )
     };
-    match status {
-        OK => Ok(Handle(handle)),
-        _ => Err(status),
+    if status != OK {
+        return Err(status);
     }
+    let mut handle = Handle { regex, groups: 0 };
+    // SAFETY: the handle is alive.
+    handle.groups = unsafe { regress_group_count_raw(&mut handle.copy()) };
+    Ok(handle)
 }
 
 impl Handle {
-    /// Writes the spans of the leftmost match from an offset on.
-    pub(crate) fn find(&mut self, text: &str, from: usize) -> Output<usize> {
-        let room = 2 * (self.group_count() + 1);
-        with_room(room, |spans: &mut [usize], needed| {
-            // SAFETY: the handle is alive, and pointers and lengths are those of slices.
-            unsafe {
-                regress_find(
-                    &mut self.0,
-                    start_of(text),
-                    text.len(),
-                    from,
-                    spans.as_mut_ptr(),
-                    spans.len(),
-                    needed,
-                )
-            }
-        })
+    /// Returns the variable for a call, which changes it.
+    fn copy(&self) -> RegressRegex {
+        RegressRegex {
+            inside: self.regex.inside,
+        }
+    }
+
+    /// Writes the spans of the leftmost match from an offset on: two numbers for the match, and two for each group.
+    pub(crate) fn find(&self, text: &str, from: usize, spans: &mut [usize]) -> u32 {
+        let mut needed = 0;
+        // SAFETY: the handle is alive, and pointers and lengths are those of slices.
+        unsafe {
+            regress_find_raw(
+                &mut self.copy(),
+                start_of(text),
+                text.len(),
+                from,
+                spans.as_mut_ptr(),
+                spans.len(),
+                &mut needed,
+            )
+        }
     }
 
     /// Writes the spans of all matches from an offset on.
-    pub(crate) fn find_all(&mut self, text: &str, from: usize) -> Output<usize> {
+    pub(crate) fn find_all(&self, text: &str, from: usize) -> Output<usize> {
         // If there are more matches, the search is made a second time.
-        let room = (64 * (self.group_count() + 1)).max(text.len() / 4);
+        let room = (16 * (self.groups + 1)).max(text.len() / 4);
         with_room(room, |spans: &mut [usize], needed| {
             // SAFETY: as for `find`.
             unsafe {
-                regress_find_all(
-                    &mut self.0,
+                regress_find_all_raw(
+                    &mut self.copy(),
                     start_of(text),
                     text.len(),
                     from,
@@ -290,29 +307,29 @@ impl Handle {
     }
 
     /// Returns the status of a search: OK if there is a match.
-    pub(crate) fn is_match(&mut self, text: &str) -> u32 {
+    pub(crate) fn is_match(&self, text: &str) -> u32 {
         // SAFETY: as for `find`.
-        unsafe { regress_is_match(&mut self.0, start_of(text), text.len()) }
+        unsafe { regress_is_match_raw(&mut self.copy(), start_of(text), text.len()) }
     }
 
     /// Writes a text with its first match replaced by a template.
-    pub(crate) fn replace(&mut self, text: &str, template: &str) -> Output<u8> {
-        self.write_replaced(regress_replace, text, template)
+    pub(crate) fn replace(&self, text: &str, template: &str) -> Output<u8> {
+        self.write_replaced(regress_replace_raw, text, template)
     }
 
     /// Writes a text with all matches replaced by a template.
-    pub(crate) fn replace_all(&mut self, text: &str, template: &str) -> Output<u8> {
-        self.write_replaced(regress_replace_all, text, template)
+    pub(crate) fn replace_all(&self, text: &str, template: &str) -> Output<u8> {
+        self.write_replaced(regress_replace_all_raw, text, template)
     }
 
-    fn write_replaced(&mut self, replace: Replace, text: &str, template: &str) -> Output<u8> {
+    fn write_replaced(&self, replace: Replace, text: &str, template: &str) -> Output<u8> {
         // If more is needed, the search is made a second time.
         let room = 2 * text.len() + template.len() + 64;
         with_room(room, |out: &mut [u8], needed| {
             // SAFETY: as for `find`.
             unsafe {
                 replace(
-                    &mut self.0,
+                    &mut self.copy(),
                     start_of(text),
                     text.len(),
                     start_of(template),
@@ -326,27 +343,36 @@ impl Handle {
     }
 
     /// Returns the number of groups, without the whole match.
-    pub(crate) fn group_count(&mut self) -> usize {
-        // SAFETY: the handle is alive.
-        unsafe { regress_group_count(&mut self.0) }
+    pub(crate) fn group_count(&self) -> usize {
+        self.groups
+    }
+
+    /// Writes the name of a group, from 1: nothing for a group without a name.
+    pub(crate) fn group_name(&self, group: usize) -> Output<u8> {
+        with_room(32, |out: &mut [u8], needed| {
+            // SAFETY: as for `find`.
+            unsafe {
+                regress_group_name_raw(&mut self.copy(), group, out.as_mut_ptr(), out.len(), needed)
+            }
+        })
     }
 
     /// Returns the number of the reason why searches are not linear, 0 if they are.
-    pub(crate) fn nonlinear(&mut self) -> u32 {
+    pub(crate) fn nonlinear(&self) -> u32 {
         // SAFETY: the handle is alive.
-        unsafe { regress_nonlinear(&mut self.0) }
+        unsafe { regress_nonlinear_raw(&mut self.copy()) }
     }
 
     /// Returns the bound for the steps of a search for each byte of a text, 0 if searches are not linear.
-    pub(crate) fn steps_per_character(&mut self) -> u64 {
+    pub(crate) fn steps_per_character(&self) -> u64 {
         // SAFETY: the handle is alive.
-        unsafe { regress_steps_per_character(&mut self.0) }
+        unsafe { regress_steps_per_character_raw(&mut self.copy()) }
     }
 
     /// Returns the bound for the steps of a search for one match for each byte of a text, 0 if there is none.
-    pub(crate) fn find_steps_per_character(&mut self) -> u64 {
+    pub(crate) fn find_steps_per_character(&self) -> u64 {
         // SAFETY: the handle is alive.
-        unsafe { regress_find_steps_per_character(&mut self.0) }
+        unsafe { regress_find_steps_per_character_raw(&mut self.copy()) }
     }
 }
 
@@ -356,7 +382,7 @@ pub(crate) fn escape(text: &str) -> Output<u8> {
     with_room(2 * text.len(), |out: &mut [u8], needed| {
         // SAFETY: pointers and lengths are those of slices.
         unsafe {
-            regress_escape(
+            regress_escape_raw(
                 start_of(text),
                 text.len(),
                 out.as_mut_ptr(),
@@ -374,7 +400,7 @@ pub(crate) fn differences(pattern: &str, flags: u32) -> Output<Difference> {
     with_room(16, |items: &mut [Difference], needed| {
         // SAFETY: pointers and lengths are those of slices and variables.
         unsafe {
-            regress_differences(
+            regress_differences_raw(
                 start_of(pattern),
                 pattern.len(),
                 flags,
@@ -395,7 +421,7 @@ fn usual_room(pattern: &[u32]) -> usize {
 
 /// Writes the encoding of a pattern's tree, for a pattern of code points.
 pub(crate) fn tree_words(pattern: &[u32], flags: u32, optimize: u32) -> Output<u32> {
-    let (mut kind, mut place) = (0, 0);
+    let (mut kind, mut position) = (0, 0);
     with_room(usual_room(pattern), |words: &mut [u32], needed| {
         // SAFETY: pointers and lengths are those of slices and variables. A pointer may dangle if its length is 0.
         unsafe {
@@ -408,7 +434,7 @@ pub(crate) fn tree_words(pattern: &[u32], flags: u32, optimize: u32) -> Output<u
                 words.len(),
                 needed,
                 &mut kind,
-                &mut place,
+                &mut position,
             )
         }
     })
@@ -417,7 +443,7 @@ pub(crate) fn tree_words(pattern: &[u32], flags: u32, optimize: u32) -> Output<u
 /// Writes the encoding of a pattern's tree, for a pattern of code points. Also returns the spans of its nodes.
 pub(crate) fn tree_words_with_spans(pattern: &[u32], flags: u32) -> (Output<u32>, Vec<Span>) {
     let mut spans = vec![Span::default(); 4 * pattern.len() + 16];
-    let (mut spans_needed, mut kind, mut place) = (0, 0, 0);
+    let (mut spans_needed, mut kind, mut position) = (0, 0, 0);
     let output = with_room(usual_room(pattern), |words: &mut [u32], needed| {
         if spans_needed > spans.len() {
             spans = vec![Span::default(); spans_needed];
@@ -435,7 +461,7 @@ pub(crate) fn tree_words_with_spans(pattern: &[u32], flags: u32) -> (Output<u32>
                 spans.len(),
                 &mut spans_needed,
                 &mut kind,
-                &mut place,
+                &mut position,
             )
         }
     });
@@ -445,7 +471,7 @@ pub(crate) fn tree_words_with_spans(pattern: &[u32], flags: u32) -> (Output<u32>
 
 /// Writes the text of the syntax error of a pattern that is rejected. Also returns its kind and its position.
 pub(crate) fn tree_fault(pattern: &[u32], flags: u32) -> (Output<u8>, u32, usize) {
-    let (mut kind, mut place) = (0, 0);
+    let (mut kind, mut position) = (0, 0);
     let output = with_room(128, |text: &mut [u8], needed| {
         // SAFETY: as for `tree_words`.
         unsafe {
@@ -457,11 +483,11 @@ pub(crate) fn tree_fault(pattern: &[u32], flags: u32) -> (Output<u8>, u32, usize
                 text.len(),
                 needed,
                 &mut kind,
-                &mut place,
+                &mut position,
             )
         }
     });
-    (output, kind, place)
+    (output, kind, position)
 }
 
 /// Returns the bound of the number of nodes of a pattern's tree, and the status.

@@ -63,17 +63,53 @@ impl FromStr for Flags {
                 return Err(FlagsError::Repeated(letter));
             }
         }
-        let unicode_sets = letters.contains('v');
-        if unicode_sets && letters.contains('u') {
+        if letters.contains('v') && letters.contains('u') {
             return Err(FlagsError::UnicodeAndSets);
         }
-        Ok(Flags {
+        Ok(Flags::from(letters))
+    }
+}
+
+/// Reads the letters as the crate `regress` does: those that are no letters of flags are ignored, and nothing is rejected.
+/// `v` sets `unicode` too. Prefer [`str::parse`], which reports a mistake.
+impl From<&str> for Flags {
+    fn from(letters: &str) -> Flags {
+        let unicode_sets = letters.contains('v');
+        Flags {
             icase: letters.contains('i'),
             multiline: letters.contains('m'),
             dot_all: letters.contains('s'),
             unicode: unicode_sets || letters.contains('u'),
             unicode_sets,
-        })
+        }
+    }
+}
+
+/// The flags of a pattern, as [`Regex::with_flags`](crate::Regex::with_flags) takes them: [`Flags`], or JavaScript's
+/// letters.
+pub trait PatternFlags {
+    /// Returns the flags.
+    ///
+    /// # Errors
+    /// Returns an error if letters specify no flags.
+    fn flags(&self) -> Result<Flags, FlagsError>;
+}
+
+impl PatternFlags for Flags {
+    fn flags(&self) -> Result<Flags, FlagsError> {
+        Ok(*self)
+    }
+}
+
+impl PatternFlags for &str {
+    fn flags(&self) -> Result<Flags, FlagsError> {
+        self.parse()
+    }
+}
+
+impl PatternFlags for &String {
+    fn flags(&self) -> Result<Flags, FlagsError> {
+        self.parse()
     }
 }
 

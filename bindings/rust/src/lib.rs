@@ -30,11 +30,14 @@ pub mod regex;
 mod words;
 
 pub use difference::{differences, Difference, DifferenceKind};
-pub use flags::{Flags, FlagsError, Table};
+pub use flags::{Flags, FlagsError, PatternFlags, Table};
 pub use kind::FaultKind;
 pub use library::{
     node_bound, parse, parse_and_optimize, parse_and_optimize_str, parse_str, parse_str_with_spans,
     parse_with_spans, Fault,
 };
 pub use node::{AnchorType, BracketContents, Interval, Node, Quantifier, RightSide};
-pub use regex::{escape, Error, Match, Matches, Nonlinear, Options, Regex, SearchError};
+pub use regex::{
+    escape, Captures, Error, LinearMatches, LinearRegex, Match, Matches, Nonlinear, Options, Regex,
+    Replacer, SearchError, Split,
+};

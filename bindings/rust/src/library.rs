@@ -1,6 +1,6 @@
 //! Parsing.
 
-use crate::ffi::{self, Output, TREE_BAD_INPUT, TREE_FAULT, TREE_MEMORY};
+use crate::ffi::{self, Output};
 use crate::flags::{bits, Flags, Table};
 use crate::kind::FaultKind;
 use crate::node::Node;
@@ -18,7 +18,7 @@ pub enum Fault {
     Syntax {
         kind: FaultKind,
         text: String,
-        place: usize,
+        position: usize,
     },
     /// The library is out of memory.
     Memory,
@@ -133,7 +133,7 @@ pub fn parse_and_optimize_str(pattern: &str, flags: Flags, table: Table) -> Resu
 pub fn node_bound(pattern: &[u32], flags: Flags) -> Result<usize, Fault> {
     match ffi::node_bound(pattern, bits(flags, Table::Small)) {
         (ffi::OK, bound) => Ok(bound),
-        (TREE_BAD_INPUT, _) => Err(Fault::NoCodePoint),
+        (ffi::BAD_INPUT, _) => Err(Fault::NoCodePoint),
         _ => Err(Fault::Library),
     }
 }
@@ -150,26 +150,30 @@ fn tree(pattern: &[u32], bits: u32, optimize: u32) -> Result<Node, Fault> {
 fn decoded(pattern: &[u32], bits: u32, output: Output<u32>) -> Result<Node, Fault> {
     match output.status {
         ffi::OK => decode(&output.items).ok_or(Fault::Library),
-        TREE_FAULT => Err(fault(pattern, bits)),
-        TREE_MEMORY => Err(Fault::Memory),
-        TREE_BAD_INPUT => Err(Fault::NoCodePoint),
+        ffi::SYNTAX => Err(fault(pattern, bits)),
+        ffi::MEMORY => Err(Fault::Memory),
+        ffi::BAD_INPUT => Err(Fault::NoCodePoint),
         _ => Err(Fault::Library),
     }
 }
 
 /// Returns the syntax error of a pattern that is rejected: its kind, text and position from one call.
 pub(crate) fn fault(pattern: &[u32], bits: u32) -> Fault {
-    let (output, kind, place) = ffi::tree_fault(pattern, bits);
+    let (output, kind, position) = ffi::tree_fault(pattern, bits);
     match output.status {
-        TREE_FAULT => {}
-        TREE_MEMORY => return Fault::Memory,
+        ffi::SYNTAX => {}
+        ffi::MEMORY => return Fault::Memory,
         _ => return Fault::Library,
     }
     match (
         FaultKind::from_number(kind),
         String::from_utf8(output.items),
     ) {
-        (Some(kind), Ok(text)) => Fault::Syntax { kind, text, place },
+        (Some(kind), Ok(text)) => Fault::Syntax {
+            kind,
+            text,
+            position,
+        },
         _ => Fault::Library,
     }
 }

@@ -21,39 +21,45 @@
 mod error;
 mod escape;
 mod found;
-mod handles;
+mod linear;
 mod names;
 mod nonlinear;
 mod replace;
+mod spans;
 mod split;
 
 pub use error::{Error, SearchError};
 pub use escape::escape;
-pub use found::{Match, Matches};
+pub use found::{Captures, Match, Matches};
+pub use linear::{LinearMatches, LinearRegex};
 pub use nonlinear::Nonlinear;
+pub use replace::Replacer;
+pub use split::Split;
+
+pub(crate) use error::syntax_error;
 
 use crate::ffi::{self, Handle};
-use crate::flags::{bits, Flags, Table};
-use crate::library::parse_str;
+use crate::flags::{bits, Flags, PatternFlags, Table};
 use error::{compile_error, search_error};
-use handles::Recipe;
-use names::group_names;
+use names::Names;
+use spans::Spans;
 use std::borrow::Cow;
 use std::fmt;
+use std::iter;
 use std::str::FromStr;
 use std::sync::Arc;
 
 /// A compiled regular expression.
 ///
-/// A clone shares it, in next to no time. Threads may search with it at the same time: the pattern is compiled once
-/// more for each search that begins while all others are being made.
+/// A clone shares it, in next to no time. Any number of threads may search with it at the same time.
 #[derive(Clone)]
 pub struct Regex {
     compiled: Arc<Compiled>,
 }
 
 struct Compiled {
-    recipe: Recipe,
+    handle: Handle,
+    pattern: String,
     flags: Flags,
     /// Why searches are not linear, `None` if they are.
     nonlinear: Option<Nonlinear>,
@@ -61,8 +67,8 @@ struct Compiled {
     steps_per_character: u64,
     /// The bound for the steps of a search for one match, 0 if there is none.
     find_steps_per_character: u64,
-    /// The name of each group, in order.
-    names: Vec<Option<String>>,
+    /// The names of the groups, if some group has one.
+    named: Option<Arc<Names>>,
 }
 
 /// The limits of a regular expression, 0 for the default of each, and its table of Unicode.
@@ -105,12 +111,12 @@ impl Regex {
         Regex::with_options(pattern, Flags::default(), Options::default())
     }
 
-    /// Compiles a pattern with flags by JavaScript's letters, as [`Flags`] reads them.
+    /// Compiles a pattern with flags: JavaScript's letters, as [`Flags`] reads them, or [`Flags`].
     ///
     /// # Errors
     /// Returns [`Error::Flags`] if the letters specify no flags, and else as for [`Regex::with_options`].
-    pub fn with_flags(pattern: &str, letters: &str) -> Result<Regex, Error> {
-        Regex::with_options(pattern, letters.parse()?, Options::default())
+    pub fn with_flags(pattern: &str, flags: impl PatternFlags) -> Result<Regex, Error> {
+        Regex::with_options(pattern, flags.flags()?, Options::default())
     }
 
     /// Compiles a pattern with flags, within limits.
@@ -130,37 +136,23 @@ impl Regex {
             instructions: options.instructions,
             linear_instructions: options.linear_instructions,
         };
-        let recipe = Recipe::new(pattern, bits(flags, options.table), limits);
-        let failed = |status| compile_error(status, pattern, recipe.bits);
-        let asked = recipe.with_handle(|handle| {
-            let steps_per_character = handle.steps_per_character();
-            let find_steps_per_character = handle.find_steps_per_character();
-            (
-                handle.group_count(),
-                handle.nonlinear(),
-                steps_per_character,
-                find_steps_per_character,
-            )
-        });
-        let (count, number, steps_per_character, find_steps_per_character) =
-            asked.map_err(failed)?;
-        let nonlinear = match number {
+        let bits = bits(flags, options.table);
+        let handle = ffi::compile(pattern, bits, &limits)
+            .map_err(|status| compile_error(status, pattern, bits))?;
+        let nonlinear = match handle.nonlinear() {
             0 => None,
-            _ => Some(Nonlinear::from_number(number).ok_or(Error::Library)?),
+            number => Some(Nonlinear::from_number(number).ok_or(Error::Library)?),
         };
-        // Only a pattern with a name is parsed to its tree.
-        let names = match pattern.contains("(?<") {
-            true => group_names(&parse_str(pattern, flags, options.table)?, count),
-            false => vec![None; count],
-        };
+        let names = Names::of(&handle).ok_or(Error::Library)?;
         Ok(Regex {
             compiled: Arc::new(Compiled {
-                recipe,
+                steps_per_character: handle.steps_per_character(),
+                find_steps_per_character: handle.find_steps_per_character(),
+                handle,
+                pattern: pattern.to_owned(),
                 flags,
                 nonlinear,
-                steps_per_character,
-                find_steps_per_character,
-                names,
+                named: Some(names).filter(Names::any).map(Arc::new),
             }),
         })
     }
@@ -170,7 +162,7 @@ impl Regex {
     /// # Errors
     /// As for [`Regex::find_at`].
     pub fn is_match(&self, text: &str) -> Result<bool, SearchError> {
-        match self.call(|handle| handle.is_match(text))? {
+        match self.handle().is_match(text) {
             ffi::OK => Ok(true),
             ffi::NO_MATCH => Ok(false),
             status => Err(search_error(status)),
@@ -200,12 +192,26 @@ impl Regex {
         text: &'t str,
         start: usize,
     ) -> Result<Option<Match<'t>>, SearchError> {
-        let output = self.call(|handle| handle.find(text, start))?;
-        match output.status {
-            ffi::OK => Match::new(self, text, &output.items).map(Some),
+        let mut spans = Spans::unset(self.group_count());
+        match self.handle().find(text, start, spans.numbers_mut()) {
+            ffi::OK => Match::new(self, text, spans).map(Some),
             ffi::NO_MATCH => Ok(None),
             status => Err(search_error(status)),
         }
+    }
+
+    /// Returns the leftmost match in `text` with the captures of its groups: it is that of [`Regex::find`].
+    ///
+    /// # Errors
+    /// As for [`Regex::find_at`].
+    pub fn captures<'t>(&self, text: &'t str) -> Result<Option<Captures<'t>>, SearchError> {
+        self.find(text)
+    }
+
+    /// Returns an iterator over the non-overlapping matches in `text` with the captures of their groups: it is that of
+    /// [`Regex::find_iter`].
+    pub fn captures_iter<'r, 't>(&'r self, text: &'t str) -> Matches<'r, 't> {
+        self.find_iter(text)
     }
 
     /// Returns an iterator over the non-overlapping matches in `text`, from left to right. After an empty match the
@@ -230,77 +236,82 @@ impl Regex {
         self.find_iter(text).collect()
     }
 
-    /// Returns `text` with the first match replaced by a template, as JavaScript's `replace`.
+    /// Returns `text` with the first match replaced by a template, as JavaScript's `replace`, or by what a function
+    /// returns for it.
     ///
     /// In the template `$$` is a `$`, `$&` the match, `` $` `` the text before it, `$'` the text after it, and `$1` to
     /// `$99` and `$<name>` the capture of a group, empty if the group is unset. Everything else is taken as it is.
     ///
     /// # Errors
     /// As for [`Regex::find_at`].
-    pub fn replace<'t>(&self, text: &'t str, template: &str) -> Result<Cow<'t, str>, SearchError> {
-        replace::written(text, self.call(|handle| handle.replace(text, template))?)
+    pub fn replace<'t>(
+        &self,
+        text: &'t str,
+        replacement: impl Replacer,
+    ) -> Result<Cow<'t, str>, SearchError> {
+        if let Some(template) = replacement.template() {
+            return replace::written(text, self.handle().replace(text, template));
+        }
+        let first = self.find(text)?;
+        Ok(replace::replaced(text, first.as_slice(), replacement))
     }
 
-    /// Returns `text` with all matches replaced by a template, as by [`Regex::replace`].
+    /// Returns `text` with all matches replaced, from left to right, as [`Regex::replace`] does with one.
     ///
     /// # Errors
     /// As for [`Regex::find_at`]. The step limit is for all matches together.
     pub fn replace_all<'t>(
         &self,
         text: &'t str,
-        template: &str,
+        replacement: impl Replacer,
     ) -> Result<Cow<'t, str>, SearchError> {
-        replace::written(
-            text,
-            self.call(|handle| handle.replace_all(text, template))?,
-        )
+        if let Some(template) = replacement.template() {
+            return replace::written(text, self.handle().replace_all(text, template));
+        }
+        let matches = self.find_all(text)?;
+        Ok(replace::replaced(text, &matches, replacement))
     }
 
-    /// Returns `text` with the first match replaced by what a function returns for it.
+    /// Returns `text` with the first match replaced by what a function returns for it, as [`Regex::replace`].
     ///
     /// # Errors
     /// As for [`Regex::find_at`].
     pub fn replace_with<'t>(
         &self,
         text: &'t str,
-        replacement: impl FnMut(&Match<'t>) -> String,
+        replacement: impl FnMut(&Match<'_>) -> String,
     ) -> Result<Cow<'t, str>, SearchError> {
-        let first = self.find(text)?;
-        Ok(replace::replaced(text, first.as_slice(), replacement))
+        self.replace(text, replacement)
     }
 
-    /// Returns `text` with each match replaced by what a function returns for it, from left to right.
+    /// Returns `text` with each match replaced by what a function returns for it, as [`Regex::replace_all`].
     ///
     /// # Errors
     /// As for [`Regex::find_at`]. The step limit is for all matches together.
     pub fn replace_all_with<'t>(
         &self,
         text: &'t str,
-        replacement: impl FnMut(&Match<'t>) -> String,
+        replacement: impl FnMut(&Match<'_>) -> String,
     ) -> Result<Cow<'t, str>, SearchError> {
-        let matches = self.find_all(text)?;
-        Ok(replace::replaced(text, &matches, replacement))
+        self.replace_all(text, replacement)
     }
 
-    /// Returns the parts of `text` before, between and after the matches, one more than there are matches.
+    /// Returns an iterator over the parts of `text` before, between and after the matches, one more than there are
+    /// matches. All matches are found by this call.
     ///
     /// # Errors
     /// As for [`Regex::find_at`]. The step limit is for all matches together.
-    pub fn split<'t>(&self, text: &'t str) -> Result<Vec<&'t str>, SearchError> {
-        Ok(split::at_matches(text, &self.find_all(text)?))
+    pub fn split<'t>(&self, text: &'t str) -> Result<Split<'t>, SearchError> {
+        self.splitn(text, usize::MAX)
     }
 
-    /// Returns the first parts of [`Regex::split`], at most `limit`: the last of as many is the rest of `text`.
+    /// Returns an iterator over the first parts of [`Regex::split`], at most `limit`: the last of as many is the rest of
+    /// `text`.
     ///
     /// # Errors
     /// As for [`Regex::split`].
-    pub fn splitn<'t>(&self, text: &'t str, limit: usize) -> Result<Vec<&'t str>, SearchError> {
-        if limit == 0 {
-            return Ok(Vec::new());
-        }
-        let mut matches = self.find_all(text)?;
-        matches.truncate(limit - 1);
-        Ok(split::at_matches(text, &matches))
+    pub fn splitn<'t>(&self, text: &'t str, limit: usize) -> Result<Split<'t>, SearchError> {
+        Ok(Split::new(text, self.find_all(text)?, limit))
     }
 
     /// Returns the parts of `text` as JavaScript's `split`, at most `limit`.
@@ -321,7 +332,7 @@ impl Regex {
 
     /// Returns the text of the pattern.
     pub fn source(&self) -> &str {
-        &self.compiled.recipe.pattern
+        &self.compiled.pattern
     }
 
     /// Returns the flags.
@@ -382,26 +393,27 @@ impl Regex {
 
     /// Returns the number of capture groups, without the whole match.
     pub fn group_count(&self) -> usize {
-        self.compiled.names.len()
+        self.handle().group_count()
     }
 
     /// Returns the name of each capture group in the order of the opening parentheses, `None` for a group without one.
     pub fn group_names(&self) -> impl Iterator<Item = Option<&str>> {
-        self.compiled.names.iter().map(Option::as_deref)
+        let named = self.compiled.named.as_deref();
+        let names = named.into_iter().flat_map(Names::iter);
+        names.chain(iter::repeat(None)).take(self.group_count())
     }
 
     /// Returns the spans of all matches from an offset on, and of their groups.
     fn all_spans(&self, text: &str, start: usize) -> Result<Vec<usize>, SearchError> {
-        let output = self.call(|handle| handle.find_all(text, start))?;
+        let output = self.handle().find_all(text, start);
         match output.status {
             ffi::OK => Ok(output.items),
             status => Err(search_error(status)),
         }
     }
 
-    fn call<T>(&self, call: impl FnOnce(&mut Handle) -> T) -> Result<T, SearchError> {
-        let recipe = &self.compiled.recipe;
-        recipe.with_handle(call).map_err(search_error)
+    fn handle(&self) -> &Handle {
+        &self.compiled.handle
     }
 }
 

@@ -65,14 +65,19 @@ fn the_optimized_tree_differs() {
 #[test]
 fn a_syntax_error_has_a_kind_a_text_and_a_position() {
     let fault = parse(&points("ab)"), Flags::default(), Table::Whole).unwrap_err();
-    let Fault::Syntax { kind, text, place } = fault else {
+    let Fault::Syntax {
+        kind,
+        text,
+        position,
+    } = fault
+    else {
         panic!("{fault:?}")
     };
     assert_eq!(kind, FaultKind::UnbalancedParenthesis);
     assert_eq!(kind.name(), "UnbalancedParenthesis");
     assert_eq!(kind.number(), 1);
     assert_eq!(text, "Unbalanced parenthesis");
-    assert_eq!(place, 2);
+    assert_eq!(position, 2);
 }
 
 #[test]
@@ -208,7 +213,7 @@ fn each_node_has_a_span() {
     let (_, points) = parse_with_spans(&points("a*"), flags, Table::Small).unwrap();
     assert_eq!(points, [0..2, 0..2, 0..1, 2..2]);
     let fault = parse_str_with_spans("é)", flags, Table::Small).unwrap_err();
-    assert!(matches!(fault, Fault::Syntax { place: 1, .. }));
+    assert!(matches!(fault, Fault::Syntax { position: 1, .. }));
     assert_eq!(
         parse_with_spans(&[0x110000], flags, Table::Small),
         Err(Fault::NoCodePoint)
@@ -254,8 +259,8 @@ fn a_text_is_parsed_as_its_code_points() {
         Ok(tree),
         parse_and_optimize(&points("é|x"), flags, Table::Small)
     );
-    let Err(Fault::Syntax { place, .. }) = parse_str("é)", flags, Table::Small) else {
+    let Err(Fault::Syntax { position, .. }) = parse_str("é)", flags, Table::Small) else {
         panic!("no syntax error")
     };
-    assert_eq!(place, 1);
+    assert_eq!(position, 1);
 }

@@ -4,8 +4,8 @@
 use regress_front::{differences, Difference, DifferenceKind, Error, FaultKind, Flags};
 
 extern "C" {
-    fn regress_difference_name(kind: u32, out: *mut u8, room: usize, needed: *mut usize) -> u32;
-    fn regress_difference_text(kind: u32, out: *mut u8, room: usize, needed: *mut usize) -> u32;
+    fn regress_difference_name_raw(kind: u32, out: *mut u8, room: usize, needed: *mut usize) -> u32;
+    fn regress_difference_text_raw(kind: u32, out: *mut u8, room: usize, needed: *mut usize) -> u32;
 }
 
 const KINDS: [DifferenceKind; 3] = [
@@ -63,6 +63,7 @@ fn a_rejected_pattern_has_its_syntax_error() {
         kind,
         text,
         position,
+        ..
     } = error
     else {
         panic!("{error:?}")
@@ -87,13 +88,13 @@ fn names_and_texts_are_those_of_the_library() {
     for (number, kind) in (1..).zip(KINDS) {
         assert_eq!(kind.number(), number);
         for (own, call) in [
-            (kind.name(), regress_difference_name as Write),
-            (kind.text(), regress_difference_text as Write),
+            (kind.name(), regress_difference_name_raw as Write),
+            (kind.text(), regress_difference_text_raw as Write),
         ] {
             assert_eq!(written(call, number), (0, own.to_owned()));
         }
     }
-    assert_eq!(written(regress_difference_name, 4), (4, String::new()));
+    assert_eq!(written(regress_difference_name_raw, 4), (4, String::new()));
 }
 
 type Write = unsafe extern "C" fn(u32, *mut u8, usize, *mut usize) -> u32;

@@ -180,6 +180,8 @@ fn searches_report_that_they_are_out_of_memory() {
         each_refused("replace_all_with", Err(memory), || {
             regex.replace_all_with(text, |found| found.start().to_string())
         });
-        each_refused("split", Err(memory), || regex.split(text));
+        each_refused("split", Err(memory), || {
+            Ok(regex.split(text)?.collect::<Vec<_>>())
+        });
     }
 }

@@ -1,8 +1,8 @@
 //! Tests of regular expressions.
 
 use regress_front::{
-    escape, Error, FaultKind, Flags, FlagsError, Match, Nonlinear, Options, Regex, SearchError,
-    Table,
+    escape, Captures, Error, FaultKind, Flags, FlagsError, LinearRegex, Match, Nonlinear, Options,
+    Regex, SearchError, Table,
 };
 use std::borrow::Cow;
 use std::thread;
@@ -173,14 +173,20 @@ fn texts_are_replaced_by_templates_and_functions() {
 #[test]
 fn texts_are_split_at_matches() {
     let regex = Regex::new(r",\s*").unwrap();
-    assert_eq!(regex.split("a, b,c").unwrap(), ["a", "b", "c"]);
-    assert_eq!(regex.split("").unwrap(), [""]);
-    assert_eq!(regex.split(",a,").unwrap(), ["", "a", ""]);
-    assert_eq!(regex.splitn("a, b,c", 2).unwrap(), ["a", "b,c"]);
-    assert_eq!(regex.splitn("a, b,c", 1).unwrap(), ["a, b,c"]);
-    assert!(regex.splitn("a, b,c", 0).unwrap().is_empty());
+    let split = |text| regex.split(text).unwrap().collect::<Vec<_>>();
+    let splitn = |text, limit| regex.splitn(text, limit).unwrap().collect::<Vec<_>>();
+    assert_eq!(split("a, b,c"), ["a", "b", "c"]);
+    assert_eq!(split(""), [""]);
+    assert_eq!(split(",a,"), ["", "a", ""]);
+    assert_eq!(regex.split(",a,").unwrap().len(), 3);
+    assert_eq!(splitn("a, b,c", 2), ["a", "b,c"]);
+    assert_eq!(splitn("a, b,c", 1), ["a, b,c"]);
+    assert!(splitn("a, b,c", 0).is_empty());
     let empty = Regex::new("").unwrap();
-    assert_eq!(empty.split("ab").unwrap(), ["", "a", "b", ""]);
+    assert_eq!(
+        empty.split("ab").unwrap().collect::<Vec<_>>(),
+        ["", "a", "b", ""]
+    );
     assert_eq!(
         empty.split_with_captures("ab", None).unwrap(),
         [Some("a"), Some("b")]
@@ -204,13 +210,126 @@ fn a_syntax_error_has_a_kind_a_text_and_a_position() {
         kind,
         text,
         position,
+        offset,
     } = error
     else {
         panic!("{error:?}")
     };
     assert_eq!(kind, FaultKind::UnbalancedBracket);
     assert_eq!(text, "Unbalanced bracket");
-    assert_eq!(position, 1);
+    assert_eq!((position, offset), (1, 1));
+    let error = Regex::new("é[z-a]").unwrap_err();
+    assert!(matches!(
+        error,
+        Error::Syntax {
+            position: 2,
+            offset: 3,
+            ..
+        }
+    ));
+    // The text ends in a mark of its own.
+    assert_eq!(
+        error.to_string(),
+        "Range values reversed, start char code is greater than end char code, at position 2"
+    );
+    let error = Regex::new("é(").unwrap_err();
+    assert!(matches!(
+        error,
+        Error::Syntax {
+            position: 1,
+            offset: 2,
+            ..
+        }
+    ));
+}
+
+#[test]
+fn captures_are_texts_by_number_and_by_name() {
+    let regex = Regex::new(r"(?<y>\d{4})-(\d\d)(x)?|(?<y>z)").unwrap();
+    let c: Captures = regex.captures("é 2024-05").unwrap().unwrap();
+    assert_eq!(
+        (&c[0], &c[1], &c["y"], &c[2]),
+        ("2024-05", "2024", "2024", "05")
+    );
+    assert_eq!(c.get(2).map(|group| group.range()), Some(8..10));
+    assert_eq!(c.name("y").map(|group| group.as_str()), Some("2024"));
+    assert!(c.get(3).is_none() && c.get(5).is_none() && c.name("x").is_none());
+    assert!(c.get(usize::MAX).is_none());
+    assert_eq!((c.len(), c.is_empty()), (7, false));
+    let second = regex.captures_iter("2024-05 z").nth(1).unwrap().unwrap();
+    assert_eq!(&second["y"], "z");
+    // More groups than fit without an allocation.
+    let many = Regex::new("(a)(b)(c)(d)(e)?(?<last>f)").unwrap();
+    let found = many.find("xabcdf").unwrap().unwrap();
+    assert_eq!((&found[4], &found["last"]), ("d", "f"));
+    assert_eq!(found.groups().count(), 7);
+    assert_eq!(
+        many.find_all("abcdf abcdef").unwrap()[1].group(5),
+        Some(10..11)
+    );
+}
+
+#[test]
+#[should_panic(expected = "no capture of a group with the number 1")]
+fn a_group_that_is_unset_has_no_text() {
+    let found = Regex::new("(a)?b").unwrap().find("b").unwrap().unwrap();
+    let _ = &found[1];
+}
+
+#[test]
+fn texts_are_replaced_by_closures_and_strings() {
+    let regex = Regex::new(r"(\d)(x)?").unwrap();
+    let twice = |found: &Captures| found[1].repeat(2);
+    assert_eq!(regex.replace_all("1-2x", twice).unwrap(), "11-22");
+    assert_eq!(regex.replace("1-2x", twice).unwrap(), "11-2x");
+    assert_eq!(regex.replace_all("1-2x", |_: &Match| "é").unwrap(), "é-é");
+    assert_eq!(
+        regex.replace_all("1-2x", String::from("<$1>")).unwrap(),
+        "<1>-<2>"
+    );
+    assert_eq!(
+        regex.replace_all("1-2x", &String::from("$2")).unwrap(),
+        "-x"
+    );
+    let mut count = 0;
+    let counted = regex.replace_all("1-2x", |_: &Match| {
+        count += 1;
+        count.to_string()
+    });
+    assert_eq!(counted.unwrap(), "1-2");
+}
+
+#[test]
+fn linear_searches_return_no_result() {
+    let regex = LinearRegex::new(r"(?<a>\w)(\d)?").unwrap();
+    assert!(regex.is_match("-a") && !regex.is_match("-"));
+    assert_eq!(regex.find("-a1").map(|found| found.range()), Some(1..3));
+    assert!(regex.find_at("a", 1).is_none());
+    assert_eq!(&regex.captures("a1").unwrap()["a"], "a");
+    let found: Vec<&str> = regex
+        .find_iter("a1-b")
+        .map(|found| found.as_str())
+        .collect();
+    assert_eq!(found, ["a1", "b"]);
+    assert_eq!(regex.captures_iter("a1-b").len(), 2);
+    assert_eq!(regex.replace("a1-b", "<$<a>>"), "<a>-b");
+    assert_eq!(
+        regex.replace_all("a1-b", |found: &Match| found[0].to_uppercase()),
+        "A1-B"
+    );
+    assert_eq!(regex.split("a1-b").collect::<Vec<_>>(), ["", "-", ""]);
+    assert_eq!(regex.splitn("a1-b", 2).collect::<Vec<_>>(), ["", "-b"]);
+    assert_eq!(regex.as_regex().group_count(), 2);
+    let rejected = |pattern| LinearRegex::new(pattern).unwrap_err();
+    assert_eq!(
+        rejected(r"(a)\1"),
+        Error::Nonlinear(Nonlinear::BackReference)
+    );
+    assert!(matches!(rejected("("), Error::Syntax { .. }));
+    assert_eq!(
+        rejected(r"(a)\1").to_string(),
+        "searches are not linear: the pattern has a back reference"
+    );
 }
 
 #[test]
@@ -220,6 +339,15 @@ fn flags_are_letters() {
     assert!(flags.unicode && flags.unicode_sets);
     assert_eq!(flags.to_string(), "imsv");
     assert_eq!("".parse(), Ok(Flags::default()));
+    assert_eq!(Flags::from("gimsvdyx"), flags);
+    assert!(Regex::with_flags("A", Flags::from("i"))
+        .unwrap()
+        .is_match("a")
+        .unwrap());
+    assert!(Regex::with_flags("A", &String::from("i"))
+        .unwrap()
+        .is_match("a")
+        .unwrap());
     assert_eq!("x".parse::<Flags>(), Err(FlagsError::Unknown('x')));
     assert_eq!("imi".parse::<Flags>(), Err(FlagsError::Repeated('i')));
     assert_eq!("uv".parse::<Flags>(), Err(FlagsError::UnicodeAndSets));
@@ -270,7 +398,14 @@ fn linear_searches_have_no_step_limit() {
     assert!(regex.is_linear());
     assert!(regex.steps_per_character().is_some_and(|steps| steps > 0));
     assert_eq!(regex.is_match(&text), Ok(false));
-    let regex = within("(a*)*b", Options { linear_instructions: 1, ..steps }).unwrap();
+    let regex = within(
+        "(a*)*b",
+        Options {
+            linear_instructions: 1,
+            ..steps
+        },
+    )
+    .unwrap();
     assert!(!regex.is_linear());
     assert_eq!(regex.steps_per_character(), None);
     assert_eq!(regex.is_match(&text), Err(SearchError::OutOfSteps));
@@ -287,7 +422,9 @@ fn a_match_is_found_in_linear_time_also_where_lookarounds_capture() {
     };
     let regex = Regex::with_options("(?:(?=(a*))a)*b", Flags::default(), steps).unwrap();
     assert!(regex.is_find_linear() && !regex.is_linear());
-    assert!(regex.find_steps_per_character().is_some_and(|steps| steps > 0));
+    assert!(regex
+        .find_steps_per_character()
+        .is_some_and(|steps| steps > 0));
     // At the last `a` that is consumed, `a*` consumes that one.
     let text = format!("{}b", "a".repeat(1000));
     let found = regex.find(&text).unwrap().unwrap();
@@ -315,14 +452,17 @@ fn threads_share_a_regex() {
     fn is_shared<T: Send + Sync>() {}
     is_shared::<Regex>();
     is_shared::<Match>();
+    is_shared::<LinearRegex>();
     let regex = Regex::new("a+").unwrap();
     thread::scope(|scope| {
-        for length in 1..5 {
+        for length in 1..9 {
             let regex = &regex;
             scope.spawn(move || {
                 let text = "a".repeat(length);
                 for _ in 0..100 {
                     assert_eq!(regex.find(&text).unwrap().unwrap().end(), length);
+                    assert_eq!(regex.find_all(&text).unwrap().len(), 1);
+                    assert_eq!(regex.replace_all(&text, "b").unwrap(), "b");
                 }
             });
         }

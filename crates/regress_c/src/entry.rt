@@ -15,9 +15,9 @@ use std::alloc::Global;
 /// The encoding is written only if it fits. Otherwise `words` is unchanged.
 ///
 /// # Errors
-/// Returns a status: 0 for success, 1 if the pattern is rejected, 2 if an allocation failed, 3 if `words` is too small,
-/// and 4 if the arguments are invalid. `words` is changed only with 0, `needed` is 0 unless the status is 0 or 3, and
-/// `kind` and `position` are 0 unless it is 1.
+/// Returns a status: 0 for success, 2 if an allocation failed, 3 if `words` is too small, 4 if the arguments are invalid,
+/// and 5 if the pattern is rejected. `words` is changed only with 0, `needed` is 0 unless the status is 0 or 3, and
+/// `kind` and `position` are 0 unless it is 5.
 #[unsafe(no_mangle)]
 pub extern "C" fn regress_front_parse_code_points(
     alloc: Global,
@@ -68,9 +68,9 @@ pub extern "C" fn regress_front_parse_text(
 /// `needed`; and the number of the kind of the same error to `kind`, and its code-point index to `position`.
 ///
 /// # Errors
-/// Returns a status: 0 if the pattern is accepted, 1 if it is rejected and the text is written, 2 if an allocation
-/// failed, 3 if it is rejected and `text` is too small, and 4 if the arguments are invalid. `text` is changed only with
-/// 1, and `needed`, `kind` and `position` are 0 unless the status is 1 or 3.
+/// Returns a status: 0 if the pattern is accepted, 2 if an allocation failed, 3 if it is rejected and `text` is too small,
+/// 4 if the arguments are invalid, and 5 if it is rejected and the text is written. `text` is changed only with 5, and
+/// `needed`, `kind` and `position` are 0 unless the status is 3 or 5.
 #[unsafe(no_mangle)]
 pub extern "C" fn regress_front_tell_fault(
     alloc: Global,

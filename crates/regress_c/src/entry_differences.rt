@@ -14,7 +14,7 @@ use std::alloc::Global;
 /// invalid, and 5 if the pattern is rejected. `differences` is changed only with 0, `needed` is 0 unless the status is 0
 /// or 3, and `kind` and `position` are 0 unless it is 5.
 #[unsafe(no_mangle)]
-pub extern "C" fn regress_differences(
+pub extern "C" fn regress_differences_raw(
     alloc: Global,
     pattern: &[u8],
     flags: u32,
@@ -39,7 +39,7 @@ pub extern "C" fn regress_differences(
 /// Returns a status: 0 for success, 3 if `out` is too small, and 4 if there is no such kind. `out` is changed only with
 /// 0, and `needed` is 0 unless the status is 0 or 3.
 #[unsafe(no_mangle)]
-pub extern "C" fn regress_difference_name(kind: u32, out: &mut [u8], needed: &mut usize) -> u32
+pub extern "C" fn regress_difference_name_raw(kind: u32, out: &mut [u8], needed: &mut usize) -> u32
     ensures status { TextResult (HasDifferenceKind kind) (IsDifferenceName kind) out.old result needed.new out.new }
 {
     differing::write_difference_name(kind, out, needed)
@@ -48,9 +48,9 @@ pub extern "C" fn regress_difference_name(kind: u32, out: &mut [u8], needed: &mu
 /// Writes the text of a kind of difference, in UTF-8. A zero follows if there is room.
 ///
 /// # Errors
-/// As `regress_difference_name`.
+/// As `regress_difference_name_raw`.
 #[unsafe(no_mangle)]
-pub extern "C" fn regress_difference_text(kind: u32, out: &mut [u8], needed: &mut usize) -> u32
+pub extern "C" fn regress_difference_text_raw(kind: u32, out: &mut [u8], needed: &mut usize) -> u32
     ensures status { TextResult (HasDifferenceKind kind) (IsDifferenceText kind) out.old result needed.new out.new }
 {
     differing::write_difference_text(kind, out, needed)

@@ -20,12 +20,12 @@ use regress_capi::searches::{self, Searched};
 use regress_capi::texts;
 use std::alloc::Global;
 
-const ABI_VERSION: u32 = 3;
+const ABI_VERSION: u32 = 4;
 
 /// Returns the version of these functions.
 #[unsafe(no_mangle)]
 pub extern "C" fn regress_abi_version() -> u32
-    ensures { result ≡ 3 }
+    ensures { result ≡ 4 }
 {
     ABI_VERSION
 }
@@ -37,7 +37,7 @@ pub extern "C" fn regress_abi_version() -> u32
 /// rejected, and 6 if it may have more nodes or instructions than the limits allow. `handle` is changed only with 0, and
 /// `kind` and `position` are 0 unless it is 5.
 #[unsafe(no_mangle)]
-pub extern "C" fn regress_compile(
+pub extern "C" fn regress_compile_raw(
     alloc: Global,
     pattern: &[u8],
     flags: u32,
@@ -65,7 +65,7 @@ pub extern "C" fn regress_compile(
 /// # Preconditions
 /// The handle is one of a compiled pattern.
 #[unsafe(no_mangle)]
-pub extern "C" fn regress_find(
+pub extern "C" fn regress_find_raw(
     alloc: Global,
     handle: &mut Handle,
     text: &[u8],
@@ -89,12 +89,12 @@ pub extern "C" fn regress_find(
 /// those of its groups.
 ///
 /// # Errors
-/// As `regress_find`, but with no match the status is 0.
+/// As `regress_find_raw`, but with no match the status is 0.
 ///
 /// # Preconditions
 /// The handle is one of a compiled pattern.
 #[unsafe(no_mangle)]
-pub extern "C" fn regress_find_all(
+pub extern "C" fn regress_find_all_raw(
     alloc: Global,
     handle: &mut Handle,
     text: &[u8],
@@ -122,7 +122,7 @@ pub extern "C" fn regress_find_all(
 /// # Preconditions
 /// The handle is one of a compiled pattern.
 #[unsafe(no_mangle)]
-pub extern "C" fn regress_is_match(alloc: Global, handle: &mut Handle, text: &[u8]) -> u32
+pub extern "C" fn regress_is_match_raw(alloc: Global, handle: &mut Handle, text: &[u8]) -> u32
     requires { handle.old.value ≡ None → ⊥ }
     ensures same { handle.new.value ≡ handle.old.value }
     ensures status { IfSome handle.old.value (λ regex. TestResult (IsUtf8 text.now)
@@ -140,7 +140,7 @@ pub extern "C" fn regress_is_match(alloc: Global, handle: &mut Handle, text: &[u
 /// # Preconditions
 /// The handle is one of a compiled pattern.
 #[unsafe(no_mangle)]
-pub extern "C" fn regress_is_linear(alloc: Global, handle: &mut Handle) -> u32
+pub extern "C" fn regress_is_linear_raw(alloc: Global, handle: &mut Handle) -> u32
     requires { handle.old.value ≡ None → ⊥ }
     ensures same { handle.new.value ≡ handle.old.value }
     ensures linear { IfSome handle.old.value (λ regex. result ≡ (if is_some (factor_of regex) then 1 else 0)) }
@@ -156,7 +156,7 @@ pub extern "C" fn regress_is_linear(alloc: Global, handle: &mut Handle) -> u32
 /// # Preconditions
 /// The handle is one of a compiled pattern.
 #[unsafe(no_mangle)]
-pub extern "C" fn regress_nonlinear(alloc: Global, handle: &mut Handle) -> u32
+pub extern "C" fn regress_nonlinear_raw(alloc: Global, handle: &mut Handle) -> u32
     requires { handle.old.value ≡ None → ⊥ }
     ensures same { handle.new.value ≡ handle.old.value }
     ensures reason { IfSome handle.old.value (λ regex. result ≡ reason_number (nonlinear_of regex)) }
@@ -173,7 +173,7 @@ pub extern "C" fn regress_nonlinear(alloc: Global, handle: &mut Handle) -> u32
 /// # Preconditions
 /// The handle is one of a compiled pattern.
 #[unsafe(no_mangle)]
-pub extern "C" fn regress_steps_per_character(alloc: Global, handle: &mut Handle) -> u64
+pub extern "C" fn regress_steps_per_character_raw(alloc: Global, handle: &mut Handle) -> u64
     requires { handle.old.value ≡ None → ⊥ }
     ensures same { handle.new.value ≡ handle.old.value }
     ensures steps { IfSome handle.old.value (λ regex. result ≡ unwrap_or (option_map (λ n. min n u64.MAX) (factor_of regex)) 0) }
@@ -190,7 +190,7 @@ pub extern "C" fn regress_steps_per_character(alloc: Global, handle: &mut Handle
 /// # Preconditions
 /// The handle is one of a compiled pattern.
 #[unsafe(no_mangle)]
-pub extern "C" fn regress_find_steps_per_character(alloc: Global, handle: &mut Handle) -> u64
+pub extern "C" fn regress_find_steps_per_character_raw(alloc: Global, handle: &mut Handle) -> u64
     requires { handle.old.value ≡ None → ⊥ }
     ensures same { handle.new.value ≡ handle.old.value }
     ensures steps { IfSome handle.old.value (λ regex. result ≡ unwrap_or (option_map (λ n. min n u64.MAX) (find_factor_of regex)) 0) }
@@ -206,7 +206,7 @@ pub extern "C" fn regress_find_steps_per_character(alloc: Global, handle: &mut H
 /// # Preconditions
 /// The handle is one of a compiled pattern.
 #[unsafe(no_mangle)]
-pub extern "C" fn regress_group_count(alloc: Global, handle: &mut Handle) -> usize
+pub extern "C" fn regress_group_count_raw(alloc: Global, handle: &mut Handle) -> usize
     requires { handle.old.value ≡ None → ⊥ }
     ensures same { handle.new.value ≡ handle.old.value }
     ensures count { IfSome handle.old.value (λ regex. result ≡ length (groups_of regex)) }
@@ -227,7 +227,7 @@ pub extern "C" fn regress_group_count(alloc: Global, handle: &mut Handle) -> usi
 /// # Preconditions
 /// The handle is one of a compiled pattern.
 #[unsafe(no_mangle)]
-pub extern "C" fn regress_group_name(
+pub extern "C" fn regress_group_name_raw(
     alloc: Global,
     handle: &mut Handle,
     group: usize,
@@ -252,7 +252,7 @@ pub extern "C" fn regress_group_name(
 /// Returns a status: 0 for success, 3 if `out` is too small, and 4 if there is no such kind. `out` is changed only with
 /// 0, and `needed` is 0 unless the status is 0 or 3.
 #[unsafe(no_mangle)]
-pub extern "C" fn regress_error_message(kind: u32, out: &mut [u8], needed: &mut usize) -> u32
+pub extern "C" fn regress_error_message_raw(kind: u32, out: &mut [u8], needed: &mut usize) -> u32
     ensures status { TextResult (HasKind kind) (IsTextOf kind) out.old result needed.new out.new }
 {
     texts::write_message(kind, out, needed)
@@ -263,7 +263,7 @@ pub extern "C" fn regress_error_message(kind: u32, out: &mut [u8], needed: &mut 
 /// # Preconditions
 /// The handle is one of a compiled pattern.
 #[unsafe(no_mangle)]
-pub extern "C" fn regress_free(alloc: Global, handle: &mut Handle)
+pub extern "C" fn regress_free_raw(alloc: Global, handle: &mut Handle)
     requires { handle.old.value ≡ None → ⊥ }
     ensures { handle.new.value ≡ None }
 {

@@ -20,7 +20,7 @@ use std::alloc::Global;
 /// # Preconditions
 /// The handle is one of a compiled pattern.
 #[unsafe(no_mangle)]
-pub extern "C" fn regress_replace(
+pub extern "C" fn regress_replace_raw(
     alloc: Global,
     handle: &mut Handle,
     text: &[u8],
@@ -48,12 +48,12 @@ pub extern "C" fn regress_replace(
 /// Writes the text with each of its non-overlapping matches replaced by the expansion of a template.
 ///
 /// # Errors
-/// As `regress_replace`.
+/// As `regress_replace_raw`.
 ///
 /// # Preconditions
 /// The handle is one of a compiled pattern.
 #[unsafe(no_mangle)]
-pub extern "C" fn regress_replace_all(
+pub extern "C" fn regress_replace_all_raw(
     alloc: Global,
     handle: &mut Handle,
     text: &[u8],
@@ -84,7 +84,7 @@ pub extern "C" fn regress_replace_all(
 /// Returns a status: 0 for success, 2 if an allocation failed, 3 if `out` is too small, and 4 if the text is not UTF-8.
 /// `out` is changed only with 0, and `needed` is 0 unless the status is 0 or 3.
 #[unsafe(no_mangle)]
-pub extern "C" fn regress_escape(
+pub extern "C" fn regress_escape_raw(
     alloc: Global,
     text: &[u8],
     out: &mut [u8],

@@ -43,8 +43,8 @@ module _ {setting : Setting} {source : Source} where
       (differences_little tt (items, are, count, subst (λ xs. length old < length xs) same left.1))
 
   pub differences-fault : {old : List NumberedDifference} (fault : PlacedFault) → IsFaultOf setting source fault →
-      DifferencesResult (Unit {0}) setting source old (of_fault 5 fault).status (of_fault 5 fault).needed (of_fault 5 fault).kind
-      (of_fault 5 fault).position old
+      DifferencesResult (Unit {0}) setting source old (of_fault fault).status (of_fault fault).needed (of_fault fault).kind
+      (of_fault fault).position old
   differences-fault (Syntax kind error position) is =
       differences_rejected tt is.rejected (record { kind = kind; numbered = refl; reported = is.reported })
   differences-fault (Memory e) is = differences_out_of_memory tt

@@ -29,8 +29,8 @@ module _ {Asked : Type 0} {setting : Setting} {source : Source} where
 
   pub words-fault : {optimized : Bool} {old : List ℕ} (fault : PlacedFault) → Asked →
       IsFaultOf setting source fault →
-      EncodingResult Asked setting source optimized old (of_fault 1 fault).status (of_fault 1 fault).needed (of_fault 1 fault).kind
-      (of_fault 1 fault).position old
+      EncodingResult Asked setting source optimized old (of_fault fault).status (of_fault fault).needed (of_fault fault).kind
+      (of_fault fault).position old
   words-fault (Syntax kind error position) asked is = rejected asked is.rejected (record { kind = kind; numbered = refl; reported = is.reported })
   words-fault (Memory e) asked is = words.out_of_memory asked
 

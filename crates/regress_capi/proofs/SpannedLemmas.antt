@@ -68,8 +68,8 @@ module _ {setting : Setting} {source : Source} {A : Type 0} {old_words : List �
       (spanned_little asked (xs, ys, are, count, spans_count, left.2)))
 
   pub spanned-fault : (fault : PlacedFault) → A → IsFaultOf setting source fault →
-      SpannedResult A setting source old_words old_spans (of_fault 1 fault).status (of_fault 1 fault).needed 0 (of_fault 1 fault).kind
-      (of_fault 1 fault).position old_words old_spans
+      SpannedResult A setting source old_words old_spans (of_fault fault).status (of_fault fault).needed 0 (of_fault fault).kind
+      (of_fault fault).position old_words old_spans
   spanned-fault (Syntax kind error position) asked is =
       spanned_rejected asked is.rejected (record { kind = kind; numbered = refl; reported = is.reported })
   spanned-fault (Memory e) asked is = spanned_out_of_memory asked

@@ -14,7 +14,7 @@ pub data EncodingResult (Asked : Type 0) (setting : Setting) (source : Source) (
       EncodingResult Asked setting source optimized old 0 needed 0 0 new
   -- the pattern is rejected, with the kind and the position of its syntax error
   rejected : {kind position : ℕ} → Asked → NoneIsAccepted setting source → IsError setting source kind position →
-      EncodingResult Asked setting source optimized old 1 0 kind position old
+      EncodingResult Asked setting source optimized old 5 0 kind position old
   -- an allocation failed
   out_of_memory : Asked → EncodingResult Asked setting source optimized old 2 0 0 0 old
   -- the buffer is too small

@@ -14,7 +14,7 @@ pub data ErrorResult (Asked : Type 0) (setting : Setting) (source : Source) (old
   faultless : (p : Pattern) → Asked → IsAccepted setting source p → ErrorResult Asked setting source old 0 0 0 0 old
   -- the pattern is rejected, and the text is written, with the kind and the position of the same syntax error
   reported : {needed kind position : ℕ} {new : List ℕ} → Asked → NoneIsAccepted setting source →
-      Gives (IsText setting source kind position) needed old new → ErrorResult Asked setting source old 1 needed kind position new
+      Gives (IsText setting source kind position) needed old new → ErrorResult Asked setting source old 5 needed kind position new
   -- an allocation failed
   out_of_memory : Asked → ErrorResult Asked setting source old 2 0 0 0 old
   -- the pattern is rejected, and the buffer is too small for the text

@@ -19,9 +19,9 @@ of_error status kind position = record { status = status; needed = 0; kind = kin
 
 -- a syntax error with the length of its text, by whether that fits in the buffer
 abbrev pub of_text : (fits : Bool) → (needed kind position : ℕ) → Reply
-of_text fits needed kind position = record { status = if fits then 1 else 3; needed = needed; kind = kind; position = position }
+of_text fits needed kind position = record { status = if fits then 5 else 3; needed = needed; kind = kind; position = position }
 
--- an error of the parser, with the status of a rejected pattern
-abbrev pub of_fault : (rejected : ℕ) → PlacedFault → Reply
-of_fault rejected (Syntax kind error position) = of_error rejected (number_of kind) position
-of_fault rejected (Memory e) = bare 2
+-- an error of the parser
+abbrev pub of_fault : PlacedFault → Reply
+of_fault (Syntax kind error position) = of_error 5 (number_of kind) position
+of_fault (Memory e) = bare 2

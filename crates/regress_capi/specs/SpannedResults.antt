@@ -57,7 +57,7 @@ pub data SpannedResult (Asked : Type 0) (setting : Setting) (source : Source) (o
       SpannedResult Asked setting source old_words old_spans 0 needed spans_needed 0 0 words spans
   -- the pattern is rejected, with the kind and the position of its syntax error
   spanned_rejected : {kind position : ℕ} → Asked → NoneIsAccepted setting source → IsError setting source kind position →
-      SpannedResult Asked setting source old_words old_spans 1 0 0 kind position old_words old_spans
+      SpannedResult Asked setting source old_words old_spans 5 0 0 kind position old_words old_spans
   -- an allocation failed
   spanned_out_of_memory : Asked → SpannedResult Asked setting source old_words old_spans 2 0 0 0 0 old_words old_spans
   -- a buffer is too small

@@ -8,12 +8,10 @@ use super::handle::Handle;
 use super::limits::Limits;
 use super::reply::Reply;
 use super::request::{are_options, make_tables, parse_flags};
-use super::results::{BAD_INPUT, MEMORY, OK};
+use super::results::{BAD_INPUT, MEMORY, OK, SYNTAX};
 use regress::{Error, Options, Regex};
 use std::alloc::Global;
 use std::sync::Arc;
-
-pub(crate) const SYNTAX: u32 = 5;
 
 const TOO_LARGE: u32 = 6;
 

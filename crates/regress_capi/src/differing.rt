@@ -9,7 +9,6 @@ ghost use Rattle.regress_capi.specs.Request.{setting_by, IsTextRequest};
 ghost use Rattle.regress_capi.specs.TextResults.{TextResult};
 
 use super::buffer::copy_to;
-use super::compiling::SYNTAX;
 use super::reply::Reply;
 use super::request::{make_tables, parse_flags, read_points};
 use super::results::{BAD_INPUT, MEMORY};
@@ -69,7 +68,7 @@ fn write_differences(
             let fits = copy_to(&items, buffer);
             Reply::of_items(fits, items.len())
         }
-        Err(fault) => Reply::of_fault(SYNTAX, &fault),
+        Err(fault) => Reply::of_fault(&fault),
     }
 }
 

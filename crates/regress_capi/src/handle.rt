@@ -33,6 +33,7 @@ impl Handle {
         ensures { result.value ≡ Some regex.value }
     {
         regex_is_send();
+        regex_is_sync();
         Handle::from_loose(Loose::of(regex))
     }
 
@@ -81,3 +82,11 @@ fn regex_is_send() {
 
 /// States by its bound that any thread may use a value of the type. The function does nothing.
 fn is_send<T: Send>() {}
+
+/// States that any number of threads may read a regular expression at the same time. The function does nothing.
+fn regex_is_sync() {
+    is_sync::<Regex>()
+}
+
+/// States by its bound that any number of threads may read a value of the type. The function does nothing.
+fn is_sync<T: Sync>() {}

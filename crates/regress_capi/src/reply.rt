@@ -3,7 +3,7 @@ ghost use Rattle.std.specs.Prelude.{◌≡◌};
 ghost use Rattle.regress_lexer.specs.FaultKinds.{number_of};
 ghost use Rattle.regress_capi.specs.Replies.{bare, of_error, of_fault, of_items, of_text};
 
-use super::results::{FAULT, MEMORY, OK, ROOM};
+use super::results::{MEMORY, OK, ROOM, SYNTAX};
 use regress_front::parse::{FaultKind, PlacedFault};
 
 /// A status, with the numbers that a call reports; those that it does not are 0.
@@ -61,7 +61,7 @@ impl Reply {
     pub(crate) fn of_text(fits: bool, needed: usize, kind: &FaultKind, position: usize) -> Reply
         ensures { result ≡ of_text fits needed (number_of kind.now) position }
     {
-        let status = if fits { FAULT } else { ROOM };
+        let status = if fits { SYNTAX } else { ROOM };
         Reply {
             status,
             needed,
@@ -70,13 +70,13 @@ impl Reply {
         }
     }
 
-    /// Returns the reply for an error of the parser, with the status of a rejected pattern.
-    pub(crate) fn of_fault(rejected: u32, fault: &PlacedFault) -> Reply
-        ensures { result ≡ of_fault rejected fault.now }
+    /// Returns the reply for an error of the parser.
+    pub(crate) fn of_fault(fault: &PlacedFault) -> Reply
+        ensures { result ≡ of_fault fault.now }
     {
         match fault {
             PlacedFault::Syntax { kind, position, .. } => {
-                Reply::of_error(rejected, kind, *position)
+                Reply::of_error(SYNTAX, kind, *position)
             }
             PlacedFault::Memory(_) => Reply::bare(MEMORY),
         }

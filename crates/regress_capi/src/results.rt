@@ -13,20 +13,20 @@ use std::alloc::Global;
 
 pub(crate) const OK: u32 = 0;
 
-pub(crate) const FAULT: u32 = 1;
-
 pub(crate) const MEMORY: u32 = 2;
 
 pub(crate) const ROOM: u32 = 3;
 
 pub(crate) const BAD_INPUT: u32 = 4;
 
+pub(crate) const SYNTAX: u32 = 5;
+
 /// Writes the encoding of a pattern's tree to `words`. Returns its length, or the kind and the position of the pattern's
 /// syntax error.
 ///
 /// # Errors
-/// The status is 1 if the pattern is rejected, 2 if an allocation failed, 3 if `words` is too small, and 4 if the
-/// arguments are invalid.
+/// The status is 2 if an allocation failed, 3 if `words` is too small, 4 if the arguments are invalid, and 5 if the
+/// pattern is rejected.
 pub fn write_encoding(
     alloc: Global,
     pattern: &[u32],
@@ -45,7 +45,7 @@ pub fn write_encoding(
             let fits = copy_to(&items, words);
             Reply::of_items(fits, items.len())
         }
-        Err(fault) => Reply::of_fault(FAULT, &fault),
+        Err(fault) => Reply::of_fault(&fault),
     }
 }
 
@@ -74,8 +74,8 @@ pub fn write_encoding_of_text(
 /// numbers if the pattern is accepted.
 ///
 /// # Errors
-/// The status is 1 if the pattern is rejected and the text is written, 2 if an allocation failed, 3 if it is rejected and
-/// `text` is too small, and 4 if the arguments are invalid.
+/// The status is 2 if an allocation failed, 3 if the pattern is rejected and `text` is too small, 4 if the arguments are
+/// invalid, and 5 if the pattern is rejected and the text is written.
 pub fn write_error(alloc: Global, pattern: &[u32], bits: u32, text: &mut [u8]) -> Reply
     ensures status { ErrorResult (IsRequest pattern.now bits 0) (setting_by bits) pattern.now
         text.old result.status result.needed result.kind result.position text.new }

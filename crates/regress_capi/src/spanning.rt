@@ -10,7 +10,7 @@ ghost use Rattle.regress_capi.specs.SpannedResults.{ArePlaced, AreSpannedWords, 
 
 use super::reply::Reply;
 use super::request::{is_request, make_tables, parse_flags, read_points};
-use super::results::{BAD_INPUT, FAULT, MEMORY};
+use super::results::{BAD_INPUT, MEMORY};
 use regress_encoding::{encode, postorder_numbers};
 use regress_front::parse::{PlacedFault, Span, SpannedRegex, try_parse_with_spans};
 use regress_front::types::Flags;
@@ -55,8 +55,8 @@ pub(crate) struct SpannedWords {
 /// Returns their lengths, or the kind and the position of the pattern's syntax error.
 ///
 /// # Errors
-/// The status is 1 if the pattern is rejected, 2 if an allocation failed, 3 if `words` or `spans` is too small, and 4 if
-/// the arguments are invalid.
+/// The status is 2 if an allocation failed, 3 if `words` or `spans` is too small, 4 if the arguments are invalid, and 5 if
+/// the pattern is rejected.
 pub fn write_encoding_with_spans(
     alloc: Global,
     pattern: &[u32],
@@ -115,7 +115,7 @@ fn write_spanned(
             }
         }
         Err(fault) => SpannedReply {
-            reply: Reply::of_fault(FAULT, &fault),
+            reply: Reply::of_fault(&fault),
             spans_needed: 0,
         },
     }

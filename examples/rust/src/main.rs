@@ -13,8 +13,8 @@ fn main() -> ExitCode {
             println!("{}", names.join(" "));
             ExitCode::SUCCESS
         }
-        Err(Fault::Syntax { text, place, .. }) => {
-            eprintln!("{text}, at code point {place}");
+        Err(Fault::Syntax { text, position, .. }) => {
+            eprintln!("{text}, at code point {position}");
             ExitCode::FAILURE
         }
         Err(fault) => {

@@ -4,6 +4,7 @@ use crate::ffi;
 use crate::flags::FlagsError;
 use crate::kind::FaultKind;
 use crate::library::{code_points, fault, Fault};
+use crate::regex::Nonlinear;
 use std::fmt;
 
 /// Why a pattern was not compiled.
@@ -18,9 +19,13 @@ pub enum Error {
         text: String,
         /// The position of the error: a code-point index of the pattern, at most its length.
         position: usize,
+        /// The same position as a byte offset of the pattern.
+        offset: usize,
     },
     /// The letters of the flags are rejected.
     Flags(FlagsError),
+    /// Searches do not take linear time, which [`LinearRegex`](crate::LinearRegex) requires.
+    Nonlinear(Nonlinear),
     /// The tree of the pattern may have more nodes than [`Options`](crate::Options) allow, or its program has too many
     /// instructions.
     TooLarge,
@@ -33,8 +38,11 @@ pub enum Error {
 impl fmt::Display for Error {
     fn fmt(&self, f: &mut fmt::Formatter<'_>) -> fmt::Result {
         match self {
-            Error::Syntax { text, position, .. } => write!(f, "{text}, at position {position}"),
+            Error::Syntax { text, position, .. } => {
+                write!(f, "{}, at position {position}", text.trim_end_matches('.'))
+            }
             Error::Flags(error) => error.fmt(f),
+            Error::Nonlinear(reason) => write!(f, "searches are not linear: {reason}"),
             Error::TooLarge => f.write_str("the pattern is too large"),
             Error::Memory => f.write_str("out of memory"),
             Error::Library => f.write_str("the library is of another version"),
@@ -46,6 +54,7 @@ impl std::error::Error for Error {
     fn source(&self) -> Option<&(dyn std::error::Error + 'static)> {
         match self {
             Error::Flags(error) => Some(error),
+            Error::Nonlinear(reason) => Some(reason),
             _ => None,
         }
     }
@@ -81,30 +90,39 @@ impl fmt::Display for SearchError {
 
 impl std::error::Error for SearchError {}
 
-impl From<Fault> for Error {
-    fn from(fault: Fault) -> Error {
-        match fault {
-            Fault::Syntax { kind, text, place } => Error::Syntax {
-                kind,
-                text,
-                position: place,
-            },
-            Fault::Memory => Error::Memory,
-            Fault::NoCodePoint | Fault::Library => Error::Library,
-        }
-    }
-}
-
 /// Returns the error of a pattern that was not compiled, for the status of the call and the flags as the library has
 /// them.
 pub(crate) fn compile_error(status: u32, pattern: &str, bits: u32) -> Error {
     match status {
-        // The call for trees also returns the text.
-        ffi::SYNTAX => fault(&code_points(pattern), bits).into(),
+        ffi::SYNTAX => syntax_error(pattern, bits),
         ffi::TOO_LARGE => Error::TooLarge,
         ffi::MEMORY => Error::Memory,
         _ => Error::Library,
     }
+}
+
+/// Returns the error of a pattern that is rejected. The call for trees also returns the text.
+pub(crate) fn syntax_error(pattern: &str, bits: u32) -> Error {
+    match fault(&code_points(pattern), bits) {
+        Fault::Syntax {
+            kind,
+            text,
+            position,
+        } => Error::Syntax {
+            kind,
+            text,
+            position,
+            offset: byte_offset(pattern, position),
+        },
+        Fault::Memory => Error::Memory,
+        Fault::NoCodePoint | Fault::Library => Error::Library,
+    }
+}
+
+/// Returns the byte offset of a code-point index of a text.
+fn byte_offset(text: &str, index: usize) -> usize {
+    let mut offsets = text.char_indices().map(|(offset, _)| offset);
+    offsets.nth(index).unwrap_or(text.len())
 }
 
 /// Returns the error of a search with this status.

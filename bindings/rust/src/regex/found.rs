@@ -1,39 +1,55 @@
 //! Matches.
 
+use super::names::Names;
+use super::spans::Spans;
 use super::{Regex, SearchError};
-use crate::ffi::UNSET;
 use std::fmt;
 use std::iter;
-use std::ops::Range;
+use std::ops::{Index, Range};
+use std::sync::Arc;
 
-/// A match of a regular expression in a text. All positions are byte offsets of the text, on character boundaries.
+/// A match of a regular expression in a text, with the captures of its groups. All positions are byte offsets of the
+/// text, on character boundaries.
+///
+/// A group is found by its number, from 1 in the order of the opening parentheses, or by its name. `found[2]` and
+/// `found["year"]` are the texts of captures.
+///
+/// ```
+/// use regress_front::Regex;
+///
+/// let date = Regex::new(r"(?<year>\d{4})-(\d\d)(-\d\d)?")?;
+/// if let Some(found) = date.captures("in 2024-05")? {
+///     assert_eq!((&found[0], &found["year"], &found[2]), ("2024-05", "2024", "05"));
+///     assert_eq!(found.name("year").map(|year| year.range()), Some(3..7));
+///     assert!(found.get(3).is_none());
+/// }
+/// # Ok::<(), Box<dyn std::error::Error>>(())
+/// ```
 #[derive(Clone)]
 pub struct Match<'t> {
     text: &'t str,
     range: Range<usize>,
-    groups: Vec<Option<Range<usize>>>,
-    regex: Regex,
+    spans: Spans,
+    /// The names of the groups, if some group has one.
+    names: Option<Arc<Names>>,
 }
 
+/// A match, which has the captures of its groups.
+pub type Captures<'t> = Match<'t>;
+
 impl<'t> Match<'t> {
-    /// Returns the match with these spans: two numbers for the match, and two for each group.
+    /// Returns the match with these spans.
     pub(crate) fn new(
         regex: &Regex,
         text: &'t str,
-        spans: &[usize],
+        spans: Spans,
     ) -> Result<Match<'t>, SearchError> {
-        let mut ranges = spans
-            .chunks(2)
-            .map(|span| range_in(text, span))
-            .collect::<Option<Vec<_>>>()
-            .ok_or(SearchError::Library)?
-            .into_iter();
-        match ranges.next() {
-            Some(Some(range)) => Ok(Match {
+        match spans.get(0) {
+            Some(range) if spans.are_in(text) => Ok(Match {
                 text,
                 range,
-                groups: ranges.collect(),
-                regex: regex.clone(),
+                spans,
+                names: regex.compiled.named.clone(),
             }),
             _ => Err(SearchError::Library),
         }
@@ -54,6 +70,16 @@ impl<'t> Match<'t> {
         self.range.end
     }
 
+    /// Returns the length of the match in bytes.
+    pub fn len(&self) -> usize {
+        self.range.len()
+    }
+
+    /// Returns whether the match is empty.
+    pub fn is_empty(&self) -> bool {
+        self.range.is_empty()
+    }
+
     /// Returns the text of the match.
     pub fn as_str(&self) -> &'t str {
         &self.text[self.range()]
@@ -64,10 +90,7 @@ impl<'t> Match<'t> {
     ///
     /// The result is `None` if the group is unset, or if the pattern has no group with this number.
     pub fn group(&self, number: usize) -> Option<Range<usize>> {
-        match number {
-            0 => Some(self.range()),
-            _ => self.groups.get(number - 1)?.clone(),
-        }
+        self.spans.get(number)
     }
 
     /// Returns the span that the group with a name has captured last.
@@ -80,23 +103,47 @@ impl<'t> Match<'t> {
             .find_map(|group| group.1)
     }
 
+    /// Returns the capture of a group by its number, as [`Match::group`]: a match without groups of its own.
+    pub fn get(&self, number: usize) -> Option<Match<'t>> {
+        self.group(number).map(|range| self.part(range))
+    }
+
+    /// Returns the capture of the group with a name, as [`Match::named_group`]: a match without groups of its own.
+    pub fn name(&self, name: &str) -> Option<Match<'t>> {
+        self.named_group(name).map(|range| self.part(range))
+    }
+
     /// Returns the span of the whole match, and then that of each group, `None` for an unset one.
     pub fn groups(&self) -> impl Iterator<Item = Option<Range<usize>>> + '_ {
-        iter::once(Some(self.range())).chain(self.groups.iter().cloned())
+        (0..=self.spans.groups()).map(|number| self.spans.get(number))
     }
 
     /// Returns the name and the span of each group that has a name, in the order of the opening parentheses; `None` for
     /// an unset group.
     pub fn named_groups(&self) -> impl Iterator<Item = (&str, Option<Range<usize>>)> {
-        let names = self.regex.compiled.names.iter();
+        let names = self.names.iter().flat_map(|names| names.iter());
         names
-            .zip(&self.groups)
-            .filter_map(|(name, span)| Some((name.as_deref()?, span.clone())))
+            .zip(1..)
+            .filter_map(|(name, number)| Some((name?, self.spans.get(number))))
     }
 
     /// Returns what a template expands to at this match, as by [`Regex::replace`].
     pub fn expand(&self, template: &str) -> String {
         super::replace::expand(template, self)
+    }
+
+    /// Returns the match of a part of the text.
+    fn part(&self, range: Range<usize>) -> Match<'t> {
+        let mut spans = Spans::unset(0);
+        spans
+            .numbers_mut()
+            .copy_from_slice(&[range.start, range.end]);
+        Match {
+            text: self.text,
+            range,
+            spans,
+            names: None,
+        }
     }
 
     /// Returns the text that was searched.
@@ -106,7 +153,37 @@ impl<'t> Match<'t> {
 
     /// Returns the number of groups, without the whole match.
     pub(crate) fn group_count(&self) -> usize {
-        self.groups.len()
+        self.spans.groups()
+    }
+}
+
+/// Returns the text that the group with a number has captured.
+///
+/// # Panics
+/// Panics if the group is unset, or if there is none with this number.
+impl Index<usize> for Match<'_> {
+    type Output = str;
+
+    fn index(&self, number: usize) -> &str {
+        match self.group(number) {
+            Some(range) => &self.text[range],
+            None => panic!("no capture of a group with the number {number}"),
+        }
+    }
+}
+
+/// Returns the text that the group with a name has captured.
+///
+/// # Panics
+/// Panics if no group with this name is set.
+impl Index<&str> for Match<'_> {
+    type Output = str;
+
+    fn index(&self, name: &str) -> &str {
+        match self.named_group(name) {
+            Some(range) => &self.text[range],
+            None => panic!("no capture of a group with the name {name}"),
+        }
     }
 }
 
@@ -115,17 +192,8 @@ impl fmt::Debug for Match<'_> {
         f.debug_struct("Match")
             .field("text", &self.as_str())
             .field("range", &self.range)
-            .field("groups", &self.groups)
+            .field("groups", &self.groups().skip(1).collect::<Vec<_>>())
             .finish()
-    }
-}
-
-/// Returns the range of a span, `None` within for an unset group; `None` if it is no range of the text.
-fn range_in(text: &str, span: &[usize]) -> Option<Option<Range<usize>>> {
-    match *span {
-        [UNSET, UNSET] => Some(None),
-        [start, end] => text.get(start..end).map(|_| Some(start..end)),
-        _ => None,
     }
 }
 
@@ -163,12 +231,22 @@ impl<'t> Iterator for Matches<'_, 't> {
         if let Some(error) = self.error.take() {
             return Some(Err(error));
         }
-        let after = self.next + 2 * (self.regex.group_count() + 1);
-        let spans = self.spans.get(self.next..after)?;
+        let mut spans = Spans::unset(self.regex.group_count());
+        let after = self.next + spans.numbers().len();
+        let numbers = self.spans.get(self.next..after)?;
+        spans.numbers_mut().copy_from_slice(numbers);
         self.next = after;
         Some(Match::new(self.regex, self.text, spans))
     }
+
+    fn size_hint(&self) -> (usize, Option<usize>) {
+        let width = 2 * (self.regex.group_count() + 1);
+        let count = (self.spans.len() - self.next) / width + usize::from(self.error.is_some());
+        (count, Some(count))
+    }
 }
+
+impl ExactSizeIterator for Matches<'_, '_> {}
 
 impl iter::FusedIterator for Matches<'_, '_> {}
 

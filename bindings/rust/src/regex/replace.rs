@@ -5,6 +5,62 @@ use super::{Match, SearchError};
 use crate::ffi::{self, Output};
 use std::borrow::Cow;
 
+/// What matches are replaced by: a template of JavaScript, or a function of the match that returns a text.
+///
+/// ```
+/// use regress_front::{Match, Regex};
+///
+/// let word = Regex::new(r"(\w)(\w*)")?;
+/// assert_eq!(word.replace_all("one two", "$2$1")?, "neo wot");
+/// assert_eq!(word.replace_all("one two", |found: &Match| found[1].to_uppercase())?, "O T");
+/// # Ok::<(), Box<dyn std::error::Error>>(())
+/// ```
+pub trait Replacer {
+    /// Appends what a match is replaced by.
+    fn append(&mut self, found: &Match<'_>, out: &mut String);
+
+    /// Returns the template, if it is one.
+    fn template(&self) -> Option<&str> {
+        None
+    }
+}
+
+impl<F: FnMut(&Match<'_>) -> T, T: AsRef<str>> Replacer for F {
+    fn append(&mut self, found: &Match<'_>, out: &mut String) {
+        out.push_str(self(found).as_ref());
+    }
+}
+
+impl Replacer for &str {
+    fn append(&mut self, found: &Match<'_>, out: &mut String) {
+        out.push_str(&found.expand(self));
+    }
+
+    fn template(&self) -> Option<&str> {
+        Some(self)
+    }
+}
+
+impl Replacer for &String {
+    fn append(&mut self, found: &Match<'_>, out: &mut String) {
+        self.as_str().append(found, out);
+    }
+
+    fn template(&self) -> Option<&str> {
+        Some(self)
+    }
+}
+
+impl Replacer for String {
+    fn append(&mut self, found: &Match<'_>, out: &mut String) {
+        self.as_str().append(found, out);
+    }
+
+    fn template(&self) -> Option<&str> {
+        Some(self)
+    }
+}
+
 /// Returns what the library has written for a text: the text itself if it is the same.
 pub(crate) fn written(text: &str, output: Output<u8>) -> Result<Cow<'_, str>, SearchError> {
     match output.status {
@@ -20,7 +76,7 @@ pub(crate) fn written(text: &str, output: Output<u8>) -> Result<Cow<'_, str>, Se
 pub(crate) fn replaced<'t>(
     text: &'t str,
     matches: &[Match<'t>],
-    mut replacement: impl FnMut(&Match<'t>) -> String,
+    mut replacement: impl Replacer,
 ) -> Cow<'t, str> {
     if matches.is_empty() {
         return Cow::Borrowed(text);
@@ -29,7 +85,7 @@ pub(crate) fn replaced<'t>(
     let mut from = 0;
     for found in matches {
         out.push_str(text.get(from..found.start()).unwrap_or_default());
-        out.push_str(&replacement(found));
+        replacement.append(found, &mut out);
         from = found.end();
     }
     out.push_str(text.get(from..).unwrap_or_default());

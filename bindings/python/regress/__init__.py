@@ -7,14 +7,17 @@ r"""Regular expressions in the syntax of JavaScript (ECMAScript), with the names
     ('12-31', '12', (6, 8))
     >>> pattern.sub('$2.$<month>.', 'on 12-31')
     'on 31.12.'
+    >>> regress.findall('[a-z]+', 'On 12-31 or 1-1', regress.I)
+    ['On', 'or']
 
-Patterns and what they match are those of JavaScript. Flags are JavaScript's letters:
+Patterns and what they match are those of JavaScript. Flags are JavaScript's letters, or the constants beside them,
+which have the numbers of re:
 
-    i   ignores case
-    m   ^ and $ match at each line
-    s   . also matches line terminators
-    u   Unicode: \u{..}, \p{..}, and stricter syntax
-    v   as u, with class sets such as [\w--\d]; excludes u
+    i   I, IGNORECASE   ignores case
+    m   M, MULTILINE    ^ and $ match at each line
+    s   S, DOTALL       . also matches line terminators
+    u   U, UNICODE      Unicode: \u{..}, \p{..}, and stricter syntax
+    v   V, SETS         as u, with class sets such as [\w--\d]; excludes u
 
 The letters d, g and y are accepted and do nothing. Templates are JavaScript's too:
 
@@ -24,41 +27,64 @@ The letters d, g and y are accepted and do nothing. Templates are JavaScript's t
     $1 to $99   a group
     $<name>     a group by its name
 
+A backslash is an ordinary character there: what is \2 and \g<name> in re is $2 and $<name> here.
+
 A pattern is a str or, in UTF-8, bytes, and searches for matches in texts of the same type. Positions are code points of
-a str or bytes of a bytes. A lone surrogate in a str raises UnicodeEncodeError, bytes that are not UTF-8 raise
-UnicodeDecodeError.
+a str or bytes of a bytes. A lone surrogate in a str, or bytes that are not UTF-8, raise error of the kind 'Unicode'.
 
 A search takes linear time, unless the pattern has a back reference or more than a thousand instructions, or a group in
 a lookaround that is not negated, for a search for all matches (Pattern.nonlinear, Pattern.is_find_linear). Then it
 backtracks within a limit of steps, so that it also ends for untrusted patterns and texts: at the limit it raises the
-exception error of the kind 'OutOfSteps'. Ctrl-C takes effect when the search has ended. Threads may search with a
-pattern at the same time; it is compiled once more for each search that begins while all others are being made.
+exception error of the kind 'OutOfSteps'. Ctrl-C takes effect when the search has ended. Any number of threads may use
+a pattern at the same time, and other threads run while a long text is searched.
 
-The module calls the shared library libregress.so in its folder, or the file that the environment variable
-REGRESS_LIBRARY names. The searches of the library are proved to be right; this module is tested.
+The module calls the library in its folder by the extension module _regress, or without that by ctypes; or by ctypes the
+shared library that the environment variable REGRESS_LIBRARY names. The searches of the library are proved to be right;
+this module is tested.
 """
 
 import collections
 import ctypes
 import operator
+import enum
+import functools
 import os
 import re as _re
 import sys
 
-__all__ = ['compile', 'differences', 'escape', 'node_bound', 'error', 'Difference', 'Pattern', 'Match']
+__all__ = ['compile', 'search', 'match', 'fullmatch', 'finditer', 'findall', 'sub', 'subn', 'split', 'escape', 'purge',
+           'differences', 'node_bound', 'error', 'Difference', 'Pattern', 'Match', 'Flag', 'I', 'IGNORECASE', 'M',
+           'MULTILINE', 'S', 'DOTALL', 'U', 'UNICODE', 'V', 'SETS']
 __version__ = '0.1.0'
 
 _OK, _NO_MATCH, _MEMORY, _ROOM, _BAD_INPUT, _SYNTAX, _TOO_LARGE, _OUT_OF_STEPS = range(8)
-# The status for a syntax error of the calls for trees.
-_FAULT = 1
-_ABI_VERSION = 3
-_UNSET = ctypes.c_size_t(-1).value
+_ABI_VERSION = 4
 
 # Why searches are not linear, by the numbers of the library.
 _NONLINEAR = None, 'back-reference', 'capturing-lookaround', 'too-many-instructions'
 
 # The flags of the library. JavaScript's v includes u.
 _FLAGS = {'i': 1, 'm': 2, 's': 4, 'u': 8, 'v': 8 | 16}
+
+
+class Flag(enum.IntFlag):
+    '''Flags of a pattern. Those that re has too have the same number.'''
+
+    NOFLAG = 0
+    IGNORECASE = I = 2
+    MULTILINE = M = 8
+    DOTALL = S = 16
+    UNICODE = U = 32
+    SETS = V = 1 << 16
+
+
+IGNORECASE = I = Flag.IGNORECASE
+MULTILINE = M = Flag.MULTILINE
+DOTALL = S = Flag.DOTALL
+UNICODE = U = Flag.UNICODE
+SETS = V = Flag.SETS
+
+_LETTERS = {'i': int(I), 'm': int(M), 's': int(S), 'u': int(U), 'v': int(V)}
 
 # The kinds of syntax errors, from 1 on, as docs/errors.md lists them.
 _KINDS = (
@@ -72,18 +98,19 @@ _KINDS = (
 
 
 class error(Exception):
-    """Raised if a pattern or its flags are rejected, or if a search takes too many steps.
+    """Raised if a pattern or its flags are rejected, if a search takes too many steps, or if a text is not Unicode.
 
     Attributes:
         msg: what is wrong
         pattern: the pattern
         pos: the position of a syntax error in the pattern, else None
         kind: the kind of the syntax error, such as 'UnbalancedParenthesis' (docs/errors.md lists them); or 'Flags',
-            'TooLarge' if the pattern needs more nodes than allowed, or its program more instructions; or 'OutOfSteps'
+            'TooLarge' if the pattern needs more nodes than allowed, or its program more instructions; 'OutOfSteps'; or
+            'Unicode' for a lone surrogate, and for bytes that are not UTF-8
     """
 
     def __init__(self, msg, pattern=None, pos=None, kind=None):
-        super().__init__(msg if pos is None else '%s at position %d' % (msg, pos))
+        super().__init__(msg if pos is None else '%s at position %d' % (msg.rstrip('.'), pos))
         self.msg = msg
         self.pattern = pattern
         self.pos = pos
@@ -93,7 +120,8 @@ class error(Exception):
 def compile(pattern, flags='', *, steps=None, nodes=None, instructions=None, linear_instructions=None):
     """Compiles a pattern to a Pattern.
 
-    flags are JavaScript's letters. A Pattern is returned as it is, if no flags are given. The limits are:
+    flags are JavaScript's letters, or constants such as I. A Pattern is returned as it is, if no flags are given. The
+    limits are:
 
         steps         the steps of one search that does not take linear time; a billion by default, which takes about a
                       minute at most
@@ -113,6 +141,63 @@ def compile(pattern, flags='', *, steps=None, nodes=None, instructions=None, lin
     return Pattern(pattern, flags, steps, nodes, instructions, linear_instructions)
 
 
+# The patterns of the calls below.
+@functools.lru_cache(maxsize=512)
+def _cached(kind, pattern, flags):
+    return Pattern(pattern, flags)
+
+
+def _compiled(pattern, flags):
+    if isinstance(pattern, Pattern):
+        return compile(pattern, flags)
+    return _cached(type(pattern), pattern, flags)
+
+
+def search(pattern, string, flags=''):
+    """Returns the leftmost Match of a pattern in a string, or None. The last 512 patterns are kept compiled."""
+    return _compiled(pattern, flags).search(string)
+
+
+def match(pattern, string, flags=''):
+    """Returns the Match at the start of a string, or None."""
+    return _compiled(pattern, flags).match(string)
+
+
+def fullmatch(pattern, string, flags=''):
+    """Returns the Match of a whole string, or None."""
+    return _compiled(pattern, flags).fullmatch(string)
+
+
+def finditer(pattern, string, flags=''):
+    """Returns an iterator over all non-overlapping matches, as Pattern.finditer()."""
+    return _compiled(pattern, flags).finditer(string)
+
+
+def findall(pattern, string, flags=''):
+    """Returns the list of all matches, as Pattern.findall()."""
+    return _compiled(pattern, flags).findall(string)
+
+
+def sub(pattern, repl, string, count=0, flags=''):
+    """Returns the string with matches replaced, as Pattern.sub()."""
+    return _compiled(pattern, flags).sub(repl, string, count)
+
+
+def subn(pattern, repl, string, count=0, flags=''):
+    """Returns the string with matches replaced, and their number, as Pattern.subn()."""
+    return _compiled(pattern, flags).subn(repl, string, count)
+
+
+def split(pattern, string, maxsplit=0, flags=''):
+    """Returns the parts of a string between matches, as Pattern.split()."""
+    return _compiled(pattern, flags).split(string, maxsplit)
+
+
+def purge():
+    """Frees the patterns that the functions of this module have compiled."""
+    _cached.cache_clear()
+
+
 def escape(text):
     r"""Returns the pattern that matches exactly this text, as JavaScript's RegExp.escape.
 
@@ -121,10 +206,10 @@ def escape(text):
         '\\x31\\+1'
     """
     if not isinstance(text, str):
-        return escape(bytes(text).decode()).encode()
-    data = text.encode()
+        return escape(_decoded(bytes(text))).encode()
+    data = _utf8(_plain(text))
     # Mostly less than twice as much is needed.
-    status, pattern = _call(ctypes.c_char, 2 * len(data), _OK, lambda *buffer: _library.regress_escape(
+    status, pattern = _call(ctypes.c_char, 2 * len(data), _OK, lambda *buffer: _library.regress_escape_raw(
         data, len(data), *buffer))
     if status != _OK:
         raise _failure(status)
@@ -174,7 +259,7 @@ def differences(pattern, flags=''):
     data = _utf8(_pattern_text(pattern))
     bits = _bits(_letters(flags, pattern))
     kind, position = ctypes.c_uint32(), ctypes.c_size_t()
-    status, found = _call(_Difference, 16, _OK, lambda *buffer: _library.regress_differences(
+    status, found = _call(_Difference, 16, _OK, lambda *buffer: _library.regress_differences_raw(
         data, len(data), bits, *buffer, ctypes.byref(kind), ctypes.byref(position)))
     if status == _SYNTAX:
         raise _syntax_error(data, bits, pattern)
@@ -183,6 +268,10 @@ def differences(pattern, flags=''):
     kinds = {each.kind: _kind_of_difference(each.kind) for each in found}
     return [Difference(kinds[each.kind][0], _position(pattern, each.start), _position(pattern, each.end),
                        kinds[each.kind][1]) for each in found]
+
+
+# The greatest position.
+_END = sys.maxsize
 
 
 class Pattern:
@@ -203,39 +292,40 @@ class Pattern:
 
     def __init__(self, pattern, flags='', steps=None, nodes=None, instructions=None, linear_instructions=None):
         self.pattern = _pattern_text(pattern)
-        self.flags = _letters(flags, pattern)
+        self.flags = _letters(flags, self.pattern)
         self._limits = (steps, nodes, instructions, linear_instructions)
-        self._program = _Program(_utf8(pattern), _bits(self.flags), self._limits, pattern)
+        self._program = program = _Program(_utf8(self.pattern), _bits(self.flags), self._limits, self.pattern)
         # For fullmatch, at its first call.
         self._full = None
-        self._names = self._program.names()
-        self.steps_per_character = self._program.steps_per_character or None
-        self.nonlinear = self._program.nonlinear
+        self._type = type(self.pattern)
+        self._names = program.names()
+        self.steps_per_character = program.steps_per_character or None
+        self.nonlinear = program.nonlinear
         self.is_linear = self.nonlinear is None
-        self.is_find_linear = self._program.find_steps_per_character > 0
-        self.groups = self._program.groups
+        self.is_find_linear = program.find_steps_per_character > 0
+        self.groups = program.groups
         self.groupindex = {}
         for number, name in enumerate(self._names, 1):
             if name:
                 self.groupindex.setdefault(name, number)
 
-    def search(self, string, pos=0, endpos=sys.maxsize):
+    def search(self, string, pos=0, endpos=_END):
         """Returns the leftmost Match that starts at pos or later, or None.
 
         The text before pos is seen by ^ and lookbehinds. Text from endpos on is not seen.
         """
-        text = _Text(self, string, pos, endpos)
-        return self._first(self._program, text)
+        return self._first(self._program, _Text(self, string, pos, endpos))
 
-    def match(self, string, pos=0, endpos=sys.maxsize):
+    def match(self, string, pos=0, endpos=_END):
         """Returns the Match that starts at pos, or None.
 
         It takes the time of search(), which it calls.
         """
-        found = self.search(string, pos, endpos)
-        return found if found and found._spans[0] == found._text.from_offset else None
+        text = _Text(self, string, pos, endpos)
+        found = self._first(self._program, text)
+        return found if found and found._spans[0] == text.from_offset else None
 
-    def fullmatch(self, string, pos=0, endpos=sys.maxsize):
+    def fullmatch(self, string, pos=0, endpos=_END):
         """Returns the Match that starts at pos and ends at endpos or at the end of the text, or None.
 
         It searches for (?:pattern)(?![^]), which is compiled at the first call. That raises error, of the kind
@@ -248,33 +338,40 @@ class Pattern:
         found = self._first(self._full, text)
         return found if found and found._spans[0] == text.from_offset else None
 
-    def finditer(self, string, pos=0, endpos=sys.maxsize):
+    def finditer(self, string, pos=0, endpos=_END):
         """Returns an iterator over all non-overlapping matches, from left to right.
 
         After an empty match the search goes on one character further. All matches are found by one search before this
         call returns.
         """
-        return iter(self._all(_Text(self, string, pos, endpos)))
+        text = _Text(self, string, pos, endpos)
+        return (Match(self, text, spans) for spans in self._all(text))
 
-    def findall(self, string, pos=0, endpos=sys.maxsize):
+    def findall(self, string, pos=0, endpos=_END):
         """Returns the list of all matches of finditer(): their texts, or those of the group if there is one, or tuples
         of those of the groups. An unset group is empty."""
-        empty = self.pattern[:0]
-        if self.groups <= 1:
-            return [found[self.groups] or empty for found in self.finditer(string, pos, endpos)]
-        return [found.groups(empty) for found in self.finditer(string, pos, endpos)]
+        text = _Text(self, string, pos, endpos)
+        part, empty = text.part, self.pattern[:0]
+        if self.groups == 0:
+            return [part(start, end) for start, end in self._all(text)]
+        if self.groups == 1:
+            return [part(start, end) if start >= 0 else empty for _, _, start, end in self._all(text)]
+        return [Match(self, text, spans).groups(empty) for spans in self._all(text)]
 
     def sub(self, repl, string, count=0):
-        """Returns the string with all matches replaced, or the first count of them.
+        r"""Returns the string with all matches replaced, or the first count of them.
 
         repl is a template, as the documentation of the module explains, or a function that returns a str, or bytes,
-        for a Match.
+        for a Match. A backslash in a template is an ordinary character: write $2 and $<name> for what is \2 and \g<name>
+        in re.
         """
         if callable(repl) or count not in (0, 1):
             return self.subn(repl, string, count)[0]
         text = _Text(self, string)
-        repl = _utf8(_same_type(self, repl))
-        return text.part(self._program.use(lambda handle: handle.replace(text.data, repl, count)))
+        out = _replace(self._program.address, text.data, _utf8(_same_type(self, repl)), count == 0)
+        if type(out) is int:
+            raise self._program.failure(out)
+        return text.decoded(out)
 
     def subn(self, repl, string, count=0):
         """Returns a tuple of the string as by sub(), and the number of matches that were replaced."""
@@ -284,17 +381,18 @@ class Pattern:
             del matches[count:]
         elif count < 0:
             matches = []
-        if not callable(repl):
-            expand = _expander(self, _utf8(_same_type(self, repl)))
-        parts = []
-        from_offset = 0
-        for found in matches:
-            start, end = found._spans[:2]
-            parts.append(text.data[from_offset:start])
-            parts.append(_utf8(_same_type(self, repl(found))) if callable(repl) else expand(found))
-            from_offset = end
-        parts.append(text.data[from_offset:])
-        return text.part(b''.join(parts)), len(matches)
+        if callable(repl):
+            def replaced(found):
+                return _utf8(_same_type(self, repl(found)))
+        else:
+            replaced = _expander(self, _utf8(_same_type(self, repl)))
+        data, parts, from_offset = text.data, [], 0
+        for spans in matches:
+            parts.append(data[from_offset:spans[0]])
+            parts.append(replaced(Match(self, text, spans)))
+            from_offset = spans[1]
+        parts.append(data[from_offset:])
+        return text.decoded(b''.join(parts)), len(matches)
 
     def split(self, string, maxsplit=0):
         """Returns the list of the parts of the string between the matches, with the groups of each match, or of the
@@ -305,36 +403,44 @@ class Pattern:
         """
         text = _Text(self, string)
         matches = self._all(text)
-        if not text.data and matches:
+        length = len(text.data)
+        if not length and matches:
             return []
         parts = []
         from_offset = 0
         splits = 0
-        for found in matches:
-            start, end = found._spans[:2]
-            if start == len(text.data) or end == from_offset:
+        for spans in matches:
+            start, end = spans[:2]
+            if start == length or end == from_offset:
                 continue
             if maxsplit < 0 or splits == maxsplit > 0:
                 break
-            parts.append(text.part(text.data[from_offset:start]))
-            parts.extend(found.groups())
+            parts.append(text.part(from_offset, start))
+            if self.groups:
+                parts.extend(Match(self, text, spans).groups())
             from_offset = end
             splits += 1
-        parts.append(text.part(text.data[from_offset:]))
+        parts.append(text.part(from_offset, length))
         return parts
 
     def _first(self, program, text):
         """Returns the leftmost match in a text."""
         if text.from_offset > len(text.data):
             return None
-        spans = program.use(lambda handle: handle.find(text.data, text.from_offset))
-        return spans and Match(self, text, spans)
+        spans = _find(program.address, program.width, text.data, text.from_offset)
+        if spans is None:
+            return None
+        if type(spans) is int:
+            raise program.failure(spans)
+        return Match(self, text, spans)
 
     def _all(self, text):
-        """Returns all matches in a text."""
-        spans = self._program.use(lambda handle: handle.find_all(text.data, text.from_offset))
-        width = 2 * (self.groups + 1)
-        return [Match(self, text, spans[at:at + width]) for at in range(0, len(spans), width)]
+        """Returns the list of the spans of all matches in a text."""
+        program = self._program
+        matches = _find_all(program.address, program.width, text.data, text.from_offset)
+        if type(matches) is int:
+            raise program.failure(matches)
+        return matches
 
     def __repr__(self):
         return 'regress.compile(%r%s)' % (self.pattern, self.flags and ', %r' % self.flags)
@@ -376,7 +482,7 @@ class Match:
     def __init__(self, pattern, text, spans):
         self.re = pattern
         self._text = text
-        # The byte offsets of the match and of each group.
+        # The byte offsets of the match and of each group, -1 for one that is unset.
         self._spans = spans
 
     string = property(lambda self: self._text.string)
@@ -385,19 +491,21 @@ class Match:
 
     def group(self, *groups):
         """Returns the text of a group, None if it is unset; a tuple for several groups; the match without argument."""
+        if not groups:
+            return self._text.part(*self._spans[:2])
         if len(groups) > 1:
             return tuple(self[group] for group in groups)
-        return self[groups[0] if groups else 0]
+        return self[groups[0]]
 
     def __getitem__(self, group):
         """Returns the text of a group, None if it is unset."""
         start, end = self._offsets(group)
-        return None if start == _UNSET else self._text.part(self._text.data[start:end])
+        return None if start < 0 else self._text.part(start, end)
 
     def groups(self, default=None):
         """Returns the tuple of the texts of all groups, with a default for those that are unset."""
-        texts = (self[number] for number in range(1, self.re.groups + 1))
-        return tuple(default if text is None else text for text in texts)
+        spans, part = self._spans, self._text.part
+        return tuple([default if spans[at] < 0 else part(spans[at], spans[at + 1]) for at in range(2, len(spans), 2)])
 
     def groupdict(self, default=None):
         """Returns the dict from the names of groups to their texts, with a default for those that are unset."""
@@ -407,7 +515,7 @@ class Match:
     def span(self, group=0):
         """Returns the tuple of the start and the end of a group, (-1, -1) if it is unset."""
         start, end = self._offsets(group)
-        return (-1, -1) if start == _UNSET else (self._text.index(start), self._text.index(end))
+        return (-1, -1) if start < 0 else (self._text.index(start), self._text.index(end))
 
     def start(self, group=0):
         """Returns the position at which a group starts, -1 if it is unset."""
@@ -419,7 +527,7 @@ class Match:
 
     def expand(self, template):
         """Returns what a template expands to, as by sub()."""
-        return self._text.part(_expander(self.re, _utf8(_same_type(self.re, template)))(self))
+        return self._text.decoded(_expander(self.re, _utf8(_same_type(self.re, template)))(self))
 
     def _offsets(self, group):
         if isinstance(group, str):
@@ -433,8 +541,8 @@ class Match:
         if name not in self.re.groupindex:
             raise IndexError('no such group')
         numbers = (number for number, other in enumerate(self.re._names, 1) if other == name)
-        spans = (self._offsets(number) for number in numbers)
-        return next((span for span in spans if span[0] != _UNSET), (_UNSET, _UNSET))
+        spans = (self._spans[2 * number:2 * number + 2] for number in numbers)
+        return next((span for span in spans if span[0] >= 0), (-1, -1))
 
     def __repr__(self):
         return '<regress.Match object; span=%r, match=%r>' % (self.span(), self[0])
@@ -446,24 +554,46 @@ class _Text:
     # If there are other characters than ASCII, the number of characters before each block of bytes is kept.
     BLOCK = 64
 
-    __slots__ = 'string', 'pos', 'endpos', 'data', 'from_offset', '_counts'
+    __slots__ = 'string', 'pos', 'endpos', 'data', 'from_offset', 'same', '_counts'
 
-    def __init__(self, pattern, string, pos=0, endpos=sys.maxsize):
-        self.string = _same_type(pattern, string)
-        self.endpos = min(max(operator.index(endpos), 0), len(self.string))
-        self.pos = min(max(operator.index(pos), 0), len(self.string))
-        self.data = _utf8(self.string[:self.endpos])
-        # Past the end if the search ends before it begins.
-        self.from_offset = len(_utf8(self.string[:self.pos]))
+    def __init__(self, pattern, string, pos=0, endpos=_END):
+        self.string = string
+        text = string if type(string) is pattern._type else _same_type(pattern, string)
+        length = len(text)
+        if pos:
+            pos = min(max(operator.index(pos), 0), length)
+        self.pos = pos
+        if endpos >= length:
+            self.endpos = length
+        else:
+            self.endpos = endpos = max(operator.index(endpos), 0)
+            text = text[:endpos]
+        # The text itself, if its positions are byte offsets.
+        self.same = text
+        if type(text) is bytes:
+            self.data = text
+            self.from_offset = pos
+        elif text.isascii():
+            self.data = text.encode()
+            self.from_offset = pos
+        else:
+            self.same = None
+            self.data = _utf8(text)
+            # Past the end if the search ends before it begins.
+            self.from_offset = len(text[:pos].encode()) if pos <= self.endpos else len(self.data) + 1
         self._counts = None
 
-    def part(self, data):
+    def part(self, start, end):
+        """Returns a part of the text."""
+        return self.data[start:end].decode() if self.same is None else self.same[start:end]
+
+    def decoded(self, data):
         """Returns bytes in the type of the text."""
-        return data.decode() if isinstance(self.string, str) else data
+        return data if type(self.same) is bytes else data.decode()
 
     def index(self, offset):
         """Returns the position of a byte offset."""
-        if not isinstance(self.string, str) or len(self.data) == self.endpos:
+        if self.same is not None:
             return offset
         if self._counts is None:
             self._counts = [0]
@@ -492,108 +622,91 @@ class _Difference(ctypes.Structure):
     _fields_ = [('kind', ctypes.c_uint32), ('start', ctypes.c_size_t), ('end', ctypes.c_size_t)]
 
 
-class _Handle:
-    """A handle of the library, and the calls with it. Only one call at a time uses it."""
-
-    def __init__(self, program):
-        self._source = program.source
-        self._regex = _Regex()
-        kind, position = ctypes.c_uint32(), ctypes.c_size_t()
-        status = _library.regress_compile(
-            program.pattern, len(program.pattern), program.flags, ctypes.byref(program.limits),
-            ctypes.byref(self._regex), ctypes.byref(kind), ctypes.byref(position))
-        if status == _SYNTAX:
-            raise _syntax_error(program.pattern, program.flags, program.source, program.offset)
-        self._check(status)
-        self.groups = _library.regress_group_count(ctypes.byref(self._regex))
-
-    def about(self):
-        """Returns what does not differ from handle to handle: the number of groups, the bounds for steps, and the number of
-        the reason why searches are not linear."""
-        regex = ctypes.byref(self._regex)
-        bounds = _library.regress_steps_per_character(regex), _library.regress_find_steps_per_character(regex)
-        return self.groups, *bounds, _library.regress_nonlinear(regex)
-
-    def __del__(self):
-        if self._regex.inside:
-            _library.regress_free(ctypes.byref(self._regex))
-
-    def find(self, data, start):
-        """Returns the spans of the leftmost match, or None."""
-        return self._spans(2 * (self.groups + 1), _library.regress_find, data, len(data), start)
-
-    def find_all(self, data, start):
-        """Returns the spans of all matches. If the first buffer is too small for them, the search is made again."""
-        room = max(64 * (self.groups + 1), len(data) // 4)
-        return self._spans(room, _library.regress_find_all, data, len(data), start)
-
-    def replace(self, data, template, count):
-        """Returns the text with its first match replaced by a template, or with count 0 all matches."""
-        function = _library.regress_replace if count else _library.regress_replace_all
-        regex = ctypes.byref(self._regex)
-        # If more is needed, the search is made again.
-        room = 2 * len(data) + len(template) + 64
-        status, out = _call(ctypes.c_char, room, _OK, lambda *buffer: function(
-            regex, data, len(data), template, len(template), *buffer))
-        self._check(status)
-        return out
-
-    def _spans(self, room, function, *arguments):
-        regex = ctypes.byref(self._regex)
-        status, spans = _call(ctypes.c_size_t, room, _OK, lambda *buffer: function(regex, *arguments, *buffer))
-        if status == _NO_MATCH:
-            return None
-        self._check(status)
-        return spans
-
-    def _check(self, status):
-        """Raises the exception of a status."""
-        if status == _OK:
-            return
-        if status == _TOO_LARGE:
-            raise error('the pattern is too large', self._source, kind='TooLarge')
-        if status == _OUT_OF_STEPS:
-            raise error('the search takes too many steps', self._source, kind='OutOfSteps')
-        raise _failure(status)
-
-
 class _Program:
-    """A pattern as the library has it. It has as many handles as searches with it were made at the same time."""
+    """A pattern as the library has it. Any number of calls may use it at the same time."""
 
     def __init__(self, pattern, flags, limits, source, offset=0):
+        self._regex = _Regex()
+        # The pattern of the caller.
+        self._source = source
         for limit in limits:
             if limit is not None and not 1 <= limit <= sys.maxsize:
                 raise ValueError('a limit is from 1 to sys.maxsize')
-        self.pattern = pattern
-        self.flags = flags
-        self.limits = _Limits(*[limit or 0 for limit in limits])
-        # The pattern of the caller, and the number of code points before it.
-        self.source = source
-        self.offset = offset
-        # The handles that no call uses. Threads may take from a list and append to it at the same time.
-        self._idle = []
-        self.groups, self.steps_per_character, self.find_steps_per_character, number = self.use(_Handle.about)
+        limits = _Limits(*[limit or 0 for limit in limits])
+        kind, position = ctypes.c_uint32(), ctypes.c_size_t()
+        status = _library.regress_compile_raw(
+            pattern, len(pattern), flags, ctypes.byref(limits), ctypes.byref(self._regex), ctypes.byref(kind),
+            ctypes.byref(position))
+        if status == _SYNTAX:
+            # `offset` code points are not the caller's.
+            raise _syntax_error(pattern, flags, source, offset)
+        if status != _OK:
+            raise self.failure(status)
+        self.address = self._regex.inside
+        self.groups = _library.regress_group_count_raw(self._copy())
+        self.width = 2 * (self.groups + 1)
+        self.steps_per_character = _library.regress_steps_per_character_raw(self._copy())
+        self.find_steps_per_character = _library.regress_find_steps_per_character_raw(self._copy())
+        number = _library.regress_nonlinear_raw(self._copy())
         self.nonlinear = _NONLINEAR[number] if number < len(_NONLINEAR) else 'other'
 
-    def use(self, call):
-        """Returns the result of a call with a handle that no other call uses."""
-        try:
-            handle = self._idle.pop()
-        except IndexError:
-            handle = _Handle(self)
-        try:
-            return call(handle)
-        finally:
-            self._idle.append(handle)
+    def __del__(self):
+        if self._regex.inside:
+            _library.regress_free_raw(ctypes.byref(self._regex))
+
+    def _copy(self):
+        """Returns the handle for a call, which changes it."""
+        return ctypes.byref(_Regex(self.address))
 
     def names(self):
         """Returns the list of the names of all groups, None for a group without one."""
-        names = [None] * self.groups
-        # Only a pattern with a name is parsed to its tree.
-        if b'(?<' in self.pattern:
-            for number, name in _group_names(_tree(self)):
-                names[number] = name
-        return names
+        return [self._name(group) for group in range(1, self.groups + 1)]
+
+    def _name(self, group):
+        status, name = _call(ctypes.c_char, 32, _OK, lambda *buffer: _library.regress_group_name_raw(
+            self._copy(), group, *buffer))
+        if status != _OK:
+            raise self.failure(status)
+        return name.decode() or None
+
+    def failure(self, status):
+        """Returns the exception of a status."""
+        if status == _TOO_LARGE:
+            return error('the pattern is too large', self._source, kind='TooLarge')
+        if status == _OUT_OF_STEPS:
+            return error('the search takes too many steps', self._source, kind='OutOfSteps')
+        if status == _BAD_INPUT and isinstance(self._source, bytes):
+            return error('the text is not UTF-8', self._source, kind='Unicode')
+        return _failure(status)
+
+
+def _find(address, width, data, start):
+    """Returns the tuple of the spans of the leftmost match, None if there is none, or the status of a failure."""
+    spans, needed = (ctypes.c_ssize_t * width)(), ctypes.c_size_t()
+    status = _library.regress_find_raw(_Regex(address), data, len(data), start, spans, width, needed)
+    if status == _OK:
+        return tuple(spans)
+    return None if status == _NO_MATCH else status
+
+
+def _find_all(address, width, data, start):
+    """Returns the list of the tuples of the spans of all matches, or the status of a failure. If the first buffer is
+    too small for them, the search is made again."""
+    room = 8 * width + len(data) // 4
+    status, spans = _call(ctypes.c_ssize_t, room, _OK, lambda *buffer: _library.regress_find_all_raw(
+        _Regex(address), data, len(data), start, *buffer))
+    if status != _OK:
+        return status
+    return list(zip(*[iter(spans)] * width))
+
+
+def _replace(address, data, template, replace_all):
+    """Returns the bytes of a text with its first match replaced by a template, or all matches, or the status of a
+    failure. If more room is needed than usually, the search is made again."""
+    function = _library.regress_replace_all_raw if replace_all else _library.regress_replace_raw
+    status, out = _call(ctypes.c_char, 2 * len(data) + len(template) + 64, _OK, lambda *buffer: function(
+        _Regex(address), data, len(data), template, len(template), *buffer))
+    return out if status == _OK else status
 
 
 def _call(item, room, written, function):
@@ -618,9 +731,9 @@ def _failure(status):
 def _syntax_error(data, bits, source, offset=0):
     """Returns the exception of a pattern that is rejected: the source, after a number of other code points."""
     kind, position = ctypes.c_uint32(), ctypes.c_size_t()
-    status, text = _call(ctypes.c_char, 128, _FAULT, lambda *buffer: _library.regress_front_tell_fault_of_text(
+    status, text = _call(ctypes.c_char, 128, _SYNTAX, lambda *buffer: _library.regress_front_tell_fault_of_text(
         data, len(data), bits, *buffer, ctypes.byref(kind), ctypes.byref(position)))
-    if status != _FAULT:
+    if status != _SYNTAX:
         return _failure(status)
     name = _KINDS[kind.value - 1] if kind.value <= len(_KINDS) else None
     return error(text.decode(), source, _position(source, position.value - offset), name)
@@ -634,7 +747,7 @@ def _position(source, index):
 def _kind_of_difference(number):
     """Returns the name and the text of a kind of difference."""
     texts = []
-    for function in (_library.regress_difference_name, _library.regress_difference_text):
+    for function in (_library.regress_difference_name_raw, _library.regress_difference_text_raw):
         status, text = _call(ctypes.c_char, 256, _OK, lambda *buffer: function(number, *buffer))
         if status != _OK:
             raise _failure(status)
@@ -642,64 +755,15 @@ def _kind_of_difference(number):
     return texts
 
 
-def _tree(program):
-    """Returns the words of the pattern's tree, as regress_front.h specifies them."""
-    kind, position = ctypes.c_uint32(), ctypes.c_size_t()
-    room = 16 * len(program.pattern) + 64
-    status, words = _call(ctypes.c_uint32, room, _OK, lambda *buffer: _library.regress_front_parse_text(
-        program.pattern, len(program.pattern), program.flags, 0, *buffer, ctypes.byref(kind), ctypes.byref(position)))
-    if status != _OK:
-        raise _failure(status)
-    return words
-
-
-# The kinds of nodes whose fields are a number of words and nothing else.
-_FIELDS = {0: 0, 1: 0, 2: 1, 7: 0, 8: 0, 9: 0, 10: 2, 11: 2, 16: 4, 17: 2}
-_LISTS = {3, 4, 5}
-_CAT, _CAPTURE_GROUP, _BRACKET, _LOOP, _LOOP_1_CHAR_BODY, _STRING_SET = 6, 12, 13, 14, 15, 18
-
-
-def _group_names(words):
-    """Yields the id and the name of each group that has one. The nodes inside a node follow its fields."""
-    at = 0
-    while at < len(words):
-        kind = words[at]
-        at += 1
-        if kind in _FIELDS:
-            at += _FIELDS[kind]
-        elif kind in _LISTS:
-            at += 2 + _wide(words, at)
-        elif kind == _CAT:
-            at += 2
-        elif kind == _CAPTURE_GROUP:
-            number, is_named = words[at:at + 2]
-            at += 2
-            if is_named:
-                end = at + 2 + _wide(words, at)
-                yield number, bytes(words[at + 2:end]).decode()
-                at = end
-        elif kind == _BRACKET:
-            at += 3 + 2 * _wide(words, at + 1)
-        elif kind in (_LOOP, _LOOP_1_CHAR_BODY):
-            # The groups inside a loop; then whether it is greedy, its minimum, and its maximum if it has one.
-            at += 2 if kind == _LOOP else 0
-            at += 6 if words[at + 3] else 4
-        elif kind == _STRING_SET:
-            strings = _wide(words, at + 1)
-            at += 3
-            for _ in range(strings):
-                at += 2 + _wide(words, at)
-        else:
-            raise RuntimeError('the tree has a node of the kind %d' % kind)
-
-
-def _wide(words, at):
-    """Returns the number that takes two words."""
-    return words[at] | words[at + 1] << 32
-
-
 def _letters(flags, pattern):
     """Returns the letters of flags that set something, in alphabetical order."""
+    if isinstance(flags, int):
+        letters = ''.join(letter for letter, number in _LETTERS.items() if flags & number)
+        if flags & ~sum(_LETTERS.values()):
+            raise error('unknown flags %d' % flags, pattern, kind='Flags')
+        flags = letters
+    if not isinstance(flags, str):
+        raise TypeError('flags are a str of letters or an int, not %s' % type(flags).__name__)
     for letter in flags:
         if letter not in 'dgimsuvy':
             raise error('unknown flag %s' % letter, pattern, kind='Flags')
@@ -715,30 +779,52 @@ def _bits(letters):
     return sum(_FLAGS[letter] for letter in letters)
 
 
+def _plain(string):
+    """Returns a str or bytes itself, or that of an object of a subclass, whose methods may differ."""
+    if isinstance(string, str):
+        return string if type(string) is str else str.__getitem__(string, slice(None))
+    return string if type(string) is bytes else bytes.__getitem__(string, slice(None))
+
+
 def _pattern_text(pattern):
     """Returns the text of a pattern, which has to be a str or bytes."""
     if not isinstance(pattern, (str, bytes)):
         raise TypeError('a pattern is a str or bytes, not %s' % type(pattern).__name__)
-    return pattern
+    return _plain(pattern)
 
 
 def _same_type(pattern, string):
     """Returns a text for a pattern, or a template, which has to be of the type of the pattern."""
-    if isinstance(pattern.pattern, str):
+    if pattern._type is str:
         if isinstance(string, str):
-            return string
+            return _plain(string)
         raise TypeError('a pattern that is a str needs a str, not %s' % type(string).__name__)
-    if isinstance(string, (bytes, bytearray, memoryview)):
+    if isinstance(string, bytes):
+        return _plain(string)
+    if isinstance(string, (bytearray, memoryview)):
         return bytes(string)
     raise TypeError('a pattern that is bytes needs bytes, not %s' % type(string).__name__)
 
 
 def _utf8(string):
-    """Returns a text in UTF-8. Raises UnicodeError if there is none."""
+    """Returns a text in UTF-8. Raises error if there is none."""
     if isinstance(string, str):
-        return string.encode()
-    string.decode()
+        try:
+            return string.encode()
+        except UnicodeEncodeError as cause:
+            failure = error('a lone surrogate at position %d' % cause.start, string, kind='Unicode')
+        raise failure
+    _decoded(string)
     return string
+
+
+def _decoded(data):
+    """Returns the text of bytes in UTF-8. Raises error if they are not."""
+    try:
+        return data.decode()
+    except UnicodeDecodeError as cause:
+        failure = error('not UTF-8 at position %d' % cause.start, data, kind='Unicode')
+    raise failure
 
 
 _CONTINUING = bytes(range(0x80, 0xC0))
@@ -774,7 +860,7 @@ def _pieces(pattern, reference):
     if letter == b'$':
         return [b'$']
     if letter == b'&':
-        return [lambda found: _capture(found, found._offsets(0))]
+        return [lambda found: _capture(found, found._spans[:2])]
     if letter == b'`':
         return [lambda found: found._text.data[:found._spans[0]]]
     if letter == b"'":
@@ -792,50 +878,65 @@ def _pieces(pattern, reference):
 
 def _capture(found, span):
     """Returns the bytes of a capture, which are empty if it is unset."""
-    return b'' if span[0] == _UNSET else found._text.data[span[0]:span[1]]
+    return b'' if span[0] < 0 else found._text.data[span[0]:span[1]]
 
 
 def _load():
-    """Returns the library, with the types of its calls."""
+    """Returns the library, with the types of its calls, and the extension module, None if there is none."""
     folder = os.path.dirname(os.path.abspath(__file__))
-    path = os.environ.get('REGRESS_LIBRARY') or os.path.join(folder, 'libregress.so')
+    path = os.environ.get('REGRESS_LIBRARY')
+    native = None
+    if not path:
+        # The extension module exports the calls of the library too.
+        files = os.path.join(folder, '_regress.abi3.so'), os.path.join(folder, 'libregress.so')
+        path = next(filter(os.path.exists, files), files[-1])
+        try:
+            from . import _regress as native
+        except ImportError:
+            pass
     try:
         library = ctypes.CDLL(path)
     except OSError as cause:
-        raise ImportError('the library cannot be loaded: %s (bindings/python/build makes it)' % cause) from cause
+        raise ImportError('the library cannot be loaded: %s (bindings/python/build makes it)' % cause) from None
     number, size, wide = ctypes.c_uint32, ctypes.c_size_t, ctypes.c_uint64
     handle, limits, data = ctypes.POINTER(_Regex), ctypes.POINTER(_Limits), ctypes.c_char_p
     numbers, sizes, octets = ctypes.POINTER(number), ctypes.POINTER(size), ctypes.POINTER(ctypes.c_char)
+    signed = ctypes.POINTER(ctypes.c_ssize_t)
     listed = ctypes.POINTER(_Difference)
+    finding = number, handle, data, size, size, signed, size, sizes
     replacing = number, handle, data, size, data, size, octets, size, sizes
     calls = {
         'regress_abi_version': (number,),
-        'regress_compile': (number, data, size, number, limits, handle, numbers, sizes),
-        'regress_find': (number, handle, data, size, size, sizes, size, sizes),
-        'regress_find_all': (number, handle, data, size, size, sizes, size, sizes),
-        'regress_replace': replacing,
-        'regress_replace_all': replacing,
-        'regress_group_count': (size, handle),
-        'regress_steps_per_character': (wide, handle),
-        'regress_find_steps_per_character': (wide, handle),
-        'regress_nonlinear': (number, handle),
-        'regress_escape': (number, data, size, octets, size, sizes),
-        'regress_free': (None, handle),
-        'regress_differences': (number, data, size, number, listed, size, sizes, numbers, sizes),
-        'regress_difference_name': (number, number, octets, size, sizes),
-        'regress_difference_text': (number, number, octets, size, sizes),
+        'regress_compile_raw': (number, data, size, number, limits, handle, numbers, sizes),
+        'regress_find_raw': finding,
+        'regress_find_all_raw': finding,
+        'regress_replace_raw': replacing,
+        'regress_replace_all_raw': replacing,
+        'regress_group_count_raw': (size, handle),
+        'regress_group_name_raw': (number, handle, size, octets, size, sizes),
+        'regress_steps_per_character_raw': (wide, handle),
+        'regress_find_steps_per_character_raw': (wide, handle),
+        'regress_nonlinear_raw': (number, handle),
+        'regress_escape_raw': (number, data, size, octets, size, sizes),
+        'regress_free_raw': (None, handle),
+        'regress_differences_raw': (number, data, size, number, listed, size, sizes, numbers, sizes),
+        'regress_difference_name_raw': (number, number, octets, size, sizes),
+        'regress_difference_text_raw': (number, number, octets, size, sizes),
         'regress_front_bound_nodes_of_text': (number, data, size, number, sizes),
-        'regress_front_parse_text': (number, data, size, number, number, numbers, size, sizes, numbers, sizes),
         'regress_front_tell_fault_of_text': (number, data, size, number, octets, size, sizes, numbers, sizes),
     }
     for name, (result, *arguments) in calls.items():
-        function = getattr(library, name)
+        function = getattr(library, name, None)
+        if function is None:
+            raise ImportError('%s is of another version: it has no %s' % (path, name))
         function.restype = result
         function.argtypes = arguments
     version = library.regress_abi_version()
     if version != _ABI_VERSION:
         raise ImportError('%s has version %d of the calls, and not %d' % (path, version, _ABI_VERSION))
-    return library
+    return library, native
 
 
-_library = _load()
+_library, _native = _load()
+if _native:
+    _find, _find_all, _replace = _native.find, _native.find_all, _native.replace

@@ -1,5 +1,5 @@
 use Rattle.regress_c.proofs.HandleLemmas.{held}
-use Rattle.regress_c.proofs.entry_replace.regress_replace_all.Goals as goal
+use Rattle.regress_c.proofs.entry_replace.regress_replace_all_raw.Goals as goal
 
 pub returns-clause-status : goal.returns-clause-status
 returns-clause-status c = held _ c.args.handle.now.value c.take-regex.result.value c.deref.result.now c.take-regex.ensures.taken (cc) c.write_all_replaced-status.ensures.status
