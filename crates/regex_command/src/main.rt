@@ -42,7 +42,7 @@ use pattern::{Pattern, pattern_text};
 use printing::print;
 use regex_options::{
     Action, Arguments, Asked, COMMANDS, OPTIONS, ParseError, Request, Search, Task, Topic,
-    UsageError, View, interpret, parse_arguments, topic_text, write_usage_error,
+    UsageError, View, allows_color, interpret, parse_arguments, topic_text, write_usage_error,
 };
 use regress_arguments::{ArgumentsError, arguments};
 use regress_display::Request as TreeRequest;
@@ -77,7 +77,7 @@ fn run<R: Env + Files + AllocGlobal, I: Read + Drop, W: Write + Drop, E: Write>(
                 commands: &COMMANDS,
                 options: &OPTIONS,
                 words: &args,
-                terminal,
+                terminal: terminal && allows_color(rt),
             };
             let (status, _) = run_buffered(rt, arguments, input, out, err);
             status

@@ -3,6 +3,7 @@
 #![tactic(auto)]
 
 mod command;
+mod environment;
 mod error;
 mod given;
 mod help;
@@ -15,6 +16,7 @@ mod task;
 mod values;
 
 pub use command::{COMMANDS, Command, CommandEntry, Operation};
+pub use environment::allows_color;
 pub use error::{ParseError, UsageError, write_usage_error};
 pub use help::{HELP_AFTER, HELP_BEFORE, OPTIONS_END, Topic, VERSION, topic_text};
 pub use request::{

@@ -93,7 +93,7 @@ pub struct Arguments<'a> {
     pub options: &'a [OptionEntry],
     /// The arguments, without the program's own name.
     pub words: &'a [String],
-    /// Whether the output is a terminal, where matches are in color by default.
+    /// Whether the output is a terminal with colors, where matches are in color by default.
     pub terminal: bool,
 }
 
