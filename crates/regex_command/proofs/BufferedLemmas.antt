@@ -21,6 +21,6 @@ module _ (input old start between new : Option (List ℕ)) (empty : start ≡ ap
   does_through flags text (explain form) found h = took_through old start between new empty kept _ h
 
   pub through : (found : Bool) (ask : Ask) → Prints input start between found ask → Prints input old new found ask
-  through found (help options) h = (h.0, appends_through old start between new empty kept _ h.1)
+  through found (help text) h = (h.0, appends_through old start between new empty kept _ h.1)
   through found (escape string) h = (h.0, took_through old start between new empty kept _ h.1)
   through found (apply request) h = (h.0, h.1, does_through request.flags h.0 request.action found h.2)

@@ -1,7 +1,6 @@
 -- What the program writes for a request, and where its pattern is.
 use Rattle.std.specs.Prelude.{◌≡◌, ⊤, ℕ, List, Bool, true, false, ◌⊎◌, ◌||◌, ◌++◌, Option, chars, codes}
 use Rattle.std.specs.Io.KnownBytes.{Appends}
-use Rattle.regex_options.specs.Table.{program_help}
 use Rattle.regex_options.specs.Plain.{Job, matching, replacing, splitting, Source, in_argument, in_file}
 use Rattle.regex_options.specs.Request.{Action, Ask, apply, escape, explain, help, lint, search, show}
 use Rattle.regex_options.specs.declared.request.View.{View}
@@ -119,9 +118,9 @@ module _ (flags : Flags) (text : List ℕ) where
   MayFailAt lint failure = IsLate failure
   MayFailAt (explain form) failure = MayFailToExplain form failure
 
--- What is written: the help, an escaped text, or the output for a pattern.
+-- What is written: a text about the program, an escaped text, or the output for a pattern.
 abbrev pub Prints : (input old new : Option (List ℕ)) → (found : Bool) → Ask → Type 0
-Prints input old new found (help options) = (found ≡ true) × Appends old new (program_help options)
+Prints input old new found (help text) = (found ≡ true) × Appends old new text
 Prints input old new found (escape string) = (found ≡ true) × PrintsEscaped old new string
 Prints input old new found (apply request) =
     OfText request.pattern (λ pattern. Does request.flags pattern request.action input old new found)
@@ -134,20 +133,20 @@ IsQuietAt quiet lint = ⊤
 IsQuietAt quiet (explain form) = ⊤
 
 abbrev pub IsQuiet : (quiet : Type 0) → Ask → Type 0
-IsQuiet quiet (help options) = quiet
+IsQuiet quiet (help text) = quiet
 IsQuiet quiet (escape string) = quiet
 IsQuiet quiet (apply request) = IsQuietAt quiet request.action
 
 -- What is written before a failure: nothing, or what an action begins with.
 abbrev pub PrintsSome : (input old new : Option (List ℕ)) → (nothing : Type 0) → Ask → Type 0
-PrintsSome input old new nothing (help options) = nothing
+PrintsSome input old new nothing (help text) = nothing
 PrintsSome input old new nothing (escape string) = nothing
 PrintsSome input old new nothing (apply request) =
     nothing ⊎ OfText request.pattern (λ pattern. Begins request.flags pattern request.action input old new)
 
 -- A failure is due.
 abbrev pub MayFail : Ask → Failure → Type 0
-MayFail (help options) failure = IsLate failure
+MayFail (help text) failure = IsLate failure
 MayFail (escape string) failure = IsLate failure
 MayFail (apply request) failure =
     LacksText request.pattern failure ⊎ OfText request.pattern (λ pattern. MayFailAt request.flags pattern request.action failure)

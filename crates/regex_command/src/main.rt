@@ -7,7 +7,7 @@
 ghost use Rattle.std.specs.Prelude.{◌≡◌, ◌≤◌, ◌⊎◌, true, false, IfSome, IfOk, IfErr, is_err, Ok, map, string_bytes};
 ghost use Rattle.std.specs.Io.KnownBytes.{Appends};
 ghost use Rattle.regress_display.specs.Request.{requested};
-ghost use Rattle.regex_options.specs.Table.{program_help};
+ghost use Rattle.regex_options.specs.Table.{topic_text};
 ghost use Rattle.regex_options.specs.Request.{action, ask, asked_by};
 ghost use Rattle.regex_command.specs.Ending.{IsLate, OrOutput};
 ghost use Rattle.regex_options.specs.Plain.{job, source};
@@ -41,8 +41,8 @@ use linting::print_lint;
 use pattern::{Pattern, pattern_text};
 use printing::print;
 use regex_options::{
-    Action, Arguments, Asked, OPTIONS, OptionEntry, Request, Search, Task, View, program_help,
-    read_arguments, write_usage_error,
+    Action, Arguments, Asked, COMMANDS, OPTIONS, ParseError, Request, Search, Task, Topic,
+    UsageError, View, allows_color, interpret, parse_arguments, topic_text, write_usage_error,
 };
 use regress_arguments::{ArgumentsError, arguments};
 use regress_display::Request as TreeRequest;
@@ -74,9 +74,10 @@ fn run<R: Env + Files + AllocGlobal, I: Read + Drop, W: Write + Drop, E: Write>(
     match arguments(rt) {
         Ok(args) => {
             let arguments = Arguments {
+                commands: &COMMANDS,
                 options: &OPTIONS,
                 words: &args,
-                terminal,
+                terminal: terminal && allows_color(rt),
             };
             let (status, _) = run_buffered(rt, arguments, input, out, err);
             status
@@ -115,8 +116,8 @@ fn run_buffered<R: Files + AllocGlobal, I: Read + Drop, W: Write + Drop, E: Writ
 
 /// Runs the program on its arguments, and returns its exit status.
 ///
-/// - 0: a line is selected; the output of `replace`, `split`, `escape`, `parse`, `draw`, `explain` or the help is
-///   written to `out`; or `lint` reports nothing;
+/// - 0: a line is selected; the output of `replace`, `split`, `escape`, `parse`, `draw` or `explain`, the help or the
+///   version is written to `out`; or `lint` reports nothing;
 /// - 1: no line is selected; `lint` reports a difference; or `parse`, `draw`, `lint` or `explain` rejects the pattern,
 ///   and writes why to `err`, or with `--json` to `out`;
 /// - 2: a failure, whose message is written to `err`.
@@ -140,13 +141,23 @@ pub fn run_regex<R: Files + AllocGlobal, I: Read + Drop, W: Write, E: Write>(
     ensures quiet { result ≡ 0 → err.new ≡ err.old }
     ensures quiet_none { result ≡ 1 → IfOk (asked_by arguments.entry) (IsQuiet (err.new ≡ err.old)) }
 {
-    match read_arguments(arguments) {
+    let parsed = match parse_arguments(rt.alloc(), arguments) {
+        Ok(parsed) => parsed,
+        Err(ParseError::Usage(error)) => return report_usage(error, arguments, err),
+        Err(ParseError::Memory) => return report(Failure::Memory, err),
+    };
+    match interpret(arguments, &parsed) {
         Ok(asked) => run_asked(rt, asked, input, out, err),
-        Err(error) => {
-            let _ = write_usage_error(error, err);
-            2
-        }
+        Err(error) => report_usage(error, arguments, err),
     }
+}
+
+/// Writes why the arguments are invalid, and returns the exit status. An error of that write is ignored.
+fn report_usage<E: Write>(error: UsageError<'_>, arguments: Arguments<'_>, err: &mut E) -> u8
+    ensures { result ≡ 2 }
+{
+    let _ = write_usage_error(error, arguments, err);
+    2
 }
 
 /// Writes what is asked for, or the message of a failure, and returns the exit status.
@@ -187,7 +198,7 @@ fn response<'a, R: Files + AllocGlobal, I: Read + Drop, W: Write, E: Write>(
     ensures quiet_none { IsQuiet (err.new ≡ err.old) (ask asked.entry) }
 {
     match asked {
-        Asked::Help(options) => print_help(rt.alloc(), options, out),
+        Asked::Help(topic) => print_topic(rt.alloc(), topic, out),
         Asked::Escape(text) => print_escaped(rt.alloc(), text, out),
         Asked::Apply(request) => apply(rt, request, input, out, err),
     }
@@ -316,18 +327,18 @@ fn print_escaped<'a, W: Write>(
     Ok(true)
 }
 
-/// Writes the help.
-fn print_help<'a, W: Write>(
+/// Writes about a topic.
+fn print_topic<'a, W: Write>(
     alloc: Global,
-    options: &[OptionEntry],
+    topic: Topic<'_>,
     out: &mut W,
 ) -> Result<bool, Failure<'a>>
-    ensures help { IfOk result (λ _. Appends (W.contents out.old) (W.contents out.new) (program_help options.now)) }
+    ensures about { IfOk result (λ _. Appends (W.contents out.old) (W.contents out.new) (topic_text topic.entry)) }
     ensures found { IfOk result (λ found. found ≡ true) }
     ensures first { IfErr result (OrOutput (out.new ≡ out.old)) }
     ensures late { IfErr result IsLate }
 {
-    let text = program_help(alloc, options)?;
+    let text = topic_text(alloc, topic)?;
     print(text.as_bytes(), out)?;
     Ok(true)
 }

@@ -1,2 +1,1 @@
 mod CountLemmas
-mod PrefixLemmas

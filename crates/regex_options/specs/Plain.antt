@@ -1,5 +1,7 @@
 -- Plain data: what is done with each line, where the pattern is, and why arguments are invalid.
-use Rattle.std.specs.Prelude.{ℕ, List, Option, Some, None, Result, Ok, Err}
+use Rattle.std.specs.Prelude.{◌≡◌, ⊤, ℕ, List, Option, Some, None, Result, Ok, Err}
+use Rattle.regex_options.specs.declared.error.ParseError.{ParseError}
+use Rattle.regex_options.specs.declared.error.ParseError.TheVariants.{Usage, Memory}
 use Rattle.regex_options.specs.declared.error.UsageError as code
 use Rattle.regex_options.specs.declared.error.UsageError.TheVariants.{Missing, UnknownCommand, UnknownOption, Invalid, OnlyOfMatch, ExcludedByJson, TextWithoutPage, Unexpected}
 use Rattle.regex_options.specs.declared.source.PatternSource.TheVariants.{Text, File}
@@ -56,6 +58,12 @@ usage_error (Unexpected word) = unexpected word.now
 abbrev pub plain_result : {X Y : Type 0} → (X → Y) → Result X code.UsageError → Result Y UsageError
 plain_result f (Ok x) = Ok (f x)
 plain_result f (Err error) = Err (usage_error error)
+
+-- The result is this one, as the code represents it, unless an allocation failed.
+abbrev pub IsParsed : {X Y : Type 0} → (X → Y) → Result X ParseError → Result Y UsageError → Type 0
+IsParsed f (Ok x) result = Ok (f x) ≡ result
+IsParsed f (Err (Usage error)) result = Err (usage_error error) ≡ result
+IsParsed f (Err Memory) result = ⊤
 
 -- the second result, if the first one is no error
 abbrev pub on_ok : {X Y : Type 0} → (X → Result Y UsageError) → Result X UsageError → Result Y UsageError

@@ -1,10 +1,10 @@
--- The options before the pattern, by the table.
+-- The options, by the table.
 use Rattle.std.specs.Borrow.{Bor}
-use Rattle.std.specs.Prelude.{ℕ, Bool, not, ◌&&◌, List, [], ◌∷◌, Option, Some, None, option_and_then, option_map, if◌then◌else◌, ◌==◌, bytes_eq, codes, drop, find, is_none, length, nat_lt, slice_index, Result, Ok, Err, String, string_bytes}
+use Rattle.std.specs.Prelude.{ℕ, Bool, not, ◌&&◌, List, [], ◌∷◌, Option, Some, None, ◌++◌, map, option_map, if◌then◌else◌, ◌==◌, bytes_eq, codes, drop, find, is_none, length, nat_lt, slice_index, Result, Ok, Err, String, string_bytes}
 use Rattle.std.specs.List.{after_first, before_first, position_or_len, starts_with}
 use Rattle.std.specs.declared.alloc.Global.{Global}
 use Rattle.regex_options.specs.Given.{Given, given_by, nothing_given, switched, valued}
-use Rattle.regex_options.specs.Table.{has, has_letter, has_long, is_joined, is_next, is_of_match_only, is_valued}
+use Rattle.regex_options.specs.Table.{has, has_letter, has_long, is_of_match_only, is_valued}
 use Rattle.regex_options.specs.Plain.{UsageError, first_error, invalid, missing, on_ok, only_of_match, or_error, unknown_option, usage_error}
 use Rattle.regex_options.specs.declared.command.Command.{Command}
 use Rattle.regex_options.specs.declared.reading.Reading as code
@@ -47,12 +47,17 @@ with_value argument text word r =
     or_error (invalid argument.kind.now word)
     (option_map (λ given. record { given = given; denied = r.denied; awaits = None }) (valued argument.value text r.given))
 
+-- An option of this word whose argument is not in the word. Without a default the next word is the argument.
+abbrev pub without_value : Argument → (default : Option (Bor (List ℕ))) → (word : List ℕ) → Reading → Result Reading UsageError
+without_value argument None word r = Ok (record r { awaits = Some argument })
+without_value argument (Some text) word r = with_value argument text.now word r
+
 -- an option of this word, with its argument if the word has that
 abbrev pub used : (word : List ℕ) → Sets → (value : Option (List ℕ)) → Reading → Result Reading UsageError
 used word (sets.Switch switch) None r = Ok (with_switch switch r)
 used word (sets.Switch switch) (Some text) r = Err (unknown_option word)
-used word (sets.Value argument) None r = if is_next argument.joining then Ok (record r { awaits = Some argument }) else Err (unknown_option word)
-used word (sets.Value argument) (Some text) r = if is_joined argument.joining then with_value argument text word r else Err (unknown_option word)
+used word (sets.Value argument) None r = without_value argument argument.default word r
+used word (sets.Value argument) (Some text) r = with_value argument text word r
 
 -- the name in front of the first `=`, and the text after it
 abbrev pub long_parts : (long : List ℕ) → List ℕ × Option (List ℕ)
@@ -67,17 +72,9 @@ parts_of parts = (parts.0.now, option_map (λ text. text.now) parts.1)
 abbrev pub unless_empty : List ℕ → Option (List ℕ)
 unless_empty text = if length text == 0 then None else Some text
 
--- the text after a prefix, if it has that
-abbrev pub after_prefix : List ℕ → List ℕ → Option (List ℕ)
-after_prefix prefix word = if starts_with (λ b c. b == c) word prefix then Some (drop (length prefix) word) else None
-
--- what a word has after the letter of an option
-abbrev pub after_short : Option (Bor (List ℕ)) → (word : List ℕ) → Option (List ℕ)
-after_short None word = None
-after_short (Some short) word = option_and_then unless_empty (after_prefix short.now word)
-
-abbrev pub short_value : OptionEntry → (word : List ℕ) → Option (List ℕ)
-short_value option word = after_short option.short word
+-- the word without the hyphen in front
+abbrev pub letters_of : (word : List ℕ) → List ℕ
+letters_of word = if starts_with (λ b c. b == c) word (codes "-") then drop 1 word else word
 
 -- a hyphen, and more
 abbrev pub is_option : List ℕ → Bool
@@ -93,24 +90,19 @@ module _ (options : List OptionEntry) (command : Command) (word : List ℕ) wher
   abbrev pub with_long : (long : List ℕ) → Reading → Result Reading UsageError
   with_long long r = with_found (long_parts long).1 r (find (has_long (long_parts long).0) options)
 
-  -- the options with these letters
+  -- The options with these letters, which are of ASCII. What follows the letter of an option with an argument is that
+  -- argument, if it is not empty.
   abbrev pub with_letters : (letters : List ℕ) → Reading → Result Reading UsageError
   with_letters [] r = Ok r
-  with_letters (c ∷ cs) r = on_ok (with_letters cs) (with_found None r (find (has_letter c) options))
-
-  -- an option with an argument, by its letter
-  abbrev pub with_valued : Reading → Option OptionEntry → Result Reading UsageError
-  with_valued r None = with_letters (drop 1 word) r
-  with_valued r (Some option) = used word option.sets (short_value option word) (noted command option.scope word r)
-
-  -- a letter and its argument, or letters of options without one
-  abbrev pub with_short : Reading → Result Reading UsageError
-  with_short r = with_valued r (find (is_valued word) options)
+  with_letters (c ∷ cs) r =
+      if not (nat_lt c 128) then Err (unknown_option word)
+      else if is_valued (find (has_letter c) options) then with_found (unless_empty cs) r (find (has_letter c) options)
+      else on_ok (with_letters cs) (with_found None r (find (has_letter c) options))
 
   -- an option, or the argument that the last one awaits
   abbrev pub with_awaited : Option Argument → Reading → Result Reading UsageError
   with_awaited (Some argument) r = with_value argument word word r
-  with_awaited None r = if starts_with (λ b c. b == c) word (codes "--") then with_long (drop 2 word) r else with_short r
+  with_awaited None r = if starts_with (λ b c. b == c) word (codes "--") then with_long (drop 2 word) r else with_letters (letters_of word) r
 
   abbrev pub with_word : Reading → Result Reading UsageError
   with_word r = with_awaited r.awaits r
@@ -121,15 +113,16 @@ or_denied denied (Ok r) = Ok r
 or_denied denied (Err error) = Err (first_error denied error)
 
 -- the end of the arguments
-abbrev pub ended : Reading → Option Argument → Result (Reading × List (String Global)) UsageError
-ended r None = Ok (r, [])
-ended r (Some argument) = Err (first_error r.denied (missing argument.name.now))
+abbrev pub ended : Reading → (operands : List (List ℕ)) → Option Argument → Result (Reading × List (List ℕ)) UsageError
+ended r operands None = Ok (r, operands)
+ended r operands (Some argument) = Err (first_error r.denied (missing argument.name.now))
 
 module _ (options : List OptionEntry) (command : Command) where
-  -- What the options specify, and the arguments after them. Options end at `--`, or before an argument that is none.
-  abbrev pub options_of : Reading → List (String Global) → Result (Reading × List (String Global)) UsageError
-  options_of r [] = ended r r.awaits
-  options_of r (first ∷ rest) =
-      if is_none r.awaits && not (is_option (string_bytes first)) then Ok (r, first ∷ rest)
-      else if is_none r.awaits && bytes_eq (string_bytes first) (codes "--") then Ok (r, rest)
-      else on_ok (λ more. options_of more rest) (or_denied r.denied (with_word options command (string_bytes first) r))
+  -- What the options specify, and the operands: the arguments that are neither options nor belong to one. `--` ends the
+  -- options.
+  abbrev pub options_of : Reading → (operands : List (List ℕ)) → List (String Global) → Result (Reading × List (List ℕ)) UsageError
+  options_of r operands [] = ended r operands r.awaits
+  options_of r operands (first ∷ rest) =
+      if is_none r.awaits && bytes_eq (string_bytes first) (codes "--") then Ok (r, operands ++ map string_bytes rest)
+      else if is_none r.awaits && not (is_option (string_bytes first)) then options_of r (operands ++ (string_bytes first ∷ [])) rest
+      else on_ok (λ more. options_of more operands rest) (or_denied r.denied (with_word options command (string_bytes first) r))

@@ -1,18 +1,21 @@
 -- The request that the arguments make.
 use Rattle.std.specs.Borrow.{Bor}
-use Rattle.std.specs.Prelude.{ℕ, Bool, true, false, not, ◌&&◌, ◌||◌, ◌==◌, List, [], ◌∷◌, map, Option, Some, None, Result, Ok, Err, is_some, option_map, if◌then◌else◌, bytes_eq, codes, slice_index, String, string_bytes}
+use Rattle.std.specs.Prelude.{⊤, ℕ, Bool, true, false, not, ◌&&◌, ◌||◌, ◌==◌, List, [], ◌∷◌, find, map, Option, Some, None, Result, Ok, Err, is_some, option_map, if◌then◌else◌, bytes_eq, codes, slice_index, String, string_bytes}
 use Rattle.std.specs.declared.alloc.Global.{Global}
 use Rattle.regress_base.specs.declared.types.Flags.{Flags}
 use Rattle.regress_display.specs.declared.request.Format.{Format}
 use Rattle.regress_display.specs.declared.request.Format.TheVariants.{Text, Json, Svg}
 use Rattle.regress_display.specs.declared.request.Stage.{Stage}
-use Rattle.regress_display.specs.declared.request.Stage.TheVariants.{Parsed, Both}
-use Rattle.regex_options.specs.Table.{command_of}
+use Rattle.regress_display.specs.declared.request.Stage.TheVariants as stages
+use Rattle.regex_options.specs.Table.{command_help, is_named, program_help, topic_text}
 use Rattle.regex_options.specs.Given.{Given}
 use Rattle.regex_options.specs.Plain.{Job, job, matching, replacing, splitting, Source, in_argument, source, UsageError, excluded_by_json, missing, on_ok, or_error, text_without_page, unexpected, unknown_command, unknown_option, unless_error}
-use Rattle.regex_options.specs.Reading.{Reading, options_of, start}
+use Rattle.regex_options.specs.Reading.{Reading, options_of, reading_of, start}
 use Rattle.regex_options.specs.declared.command.Command.{Command}
 use Rattle.regex_options.specs.declared.command.Command.TheVariants as commands
+use Rattle.regex_options.specs.declared.command.CommandEntry.{CommandEntry}
+use Rattle.regex_options.specs.declared.command.Operation.{Operation}
+use Rattle.regex_options.specs.declared.command.Operation.TheVariants as operations
 use Rattle.regex_options.specs.declared.given.Color.{Color}
 use Rattle.regex_options.specs.declared.given.Color.TheVariants as colors
 use Rattle.regex_options.specs.declared.given.Options.{Options}
@@ -23,6 +26,9 @@ use Rattle.regex_options.specs.declared.request.Asked.{Asked}
 use Rattle.regex_options.specs.declared.request.Asked.TheVariants.{Help, Escape, Apply}
 use Rattle.regex_options.specs.declared.request.Form as code_form
 use Rattle.regex_options.specs.declared.request.Form.TheVariants.{Lines, Page}
+use Rattle.regex_options.specs.declared.help.TheConstants.{VERSION}
+use Rattle.regex_options.specs.declared.request.Parsed as code_parsed
+use Rattle.regex_options.specs.declared.request.Parsed.TheVariants.{Topic, Line}
 use Rattle.regex_options.specs.declared.request.Request as code
 use Rattle.regex_options.specs.declared.request.View.{View}
 use Rattle.regex_options.specs.declared.source.PatternSource.{PatternSource}
@@ -55,11 +61,22 @@ pub record Request : Type 0 where
   pub flags : Flags
   pub action : Action
 
--- the help with these options, a text to escape, or something to do with a pattern
+-- a text about the program to write, a text to escape, or something to do with a pattern
 pub data Ask : Type 0 where
-  help : (options : List OptionEntry) → Ask
+  help : (text : List ℕ) → Ask
   escape : List ℕ → Ask
   apply : Request → Ask
+
+-- The arguments, parsed one by one: a text about the program, or a command with what its options specify, and with its
+-- operands, which are the arguments that are neither options nor belong to one.
+pub data Parsed : Type 0 where
+  about : (text : List ℕ) → Parsed
+  line : CommandEntry → Reading → (operands : List (List ℕ)) → Parsed
+
+-- the same, as the code represents it
+abbrev pub parsed_as : code_parsed.Parsed → Parsed
+parsed_as (Topic topic) = about (topic_text topic)
+parsed_as (Line l) = line l.entry (reading_of l.reading) (map string_bytes l.operands.items)
 
 -- what to do with a pattern, as the code represents it
 abbrev pub action : code_action.Action → Action
@@ -74,12 +91,12 @@ requested r = record { pattern = source r.pattern; flags = r.flags; action = act
 
 -- what the arguments ask for, as the code represents it
 abbrev pub ask : Asked → Ask
-ask (Help options) = help options.now
+ask (Help topic) = help (topic_text topic)
 ask (Escape text) = escape text.now
 ask (Apply r) = apply (requested r)
 
-abbrev pub search_with : Options → Job → (files : List (String Global)) → Action
-search_with options job files = search job options.multiline (map string_bytes files)
+abbrev pub search_with : Options → Job → (files : List (List ℕ)) → Action
+search_with options job files = search job options.multiline files
 
 -- the format of a printed tree
 abbrev pub printed_format : (json : Bool) → Format
@@ -88,9 +105,9 @@ printed_format json = if json then Json else Text
 -- the tree that the options name; without such an option both as text, or the parsed one in another format
 abbrev pub stage_of : Option Stage → Format → Stage
 stage_of (Some stage) format = stage
-stage_of None Text = Both
-stage_of None Json = Parsed
-stage_of None Svg = Parsed
+stage_of None Text = stages.Both
+stage_of None Json = stages.Parsed
+stage_of None Svg = stages.Parsed
 
 -- a tree in this format
 abbrev pub view_in : Options → Format → View
@@ -114,40 +131,44 @@ abbrev pub form_of : Given → Form
 form_of given = if given.options.html then page given.text else lines
 
 -- The files are searched. For `replace` the template is in front of them.
-abbrev pub replace_of : Options → List (String Global) → Result Action UsageError
+abbrev pub replace_of : Options → List (List ℕ) → Result Action UsageError
 replace_of options [] = Err (missing (codes "TEMPLATE"))
-replace_of options (template ∷ files) = Ok (search_with options (replacing (string_bytes template)) files)
+replace_of options (template ∷ files) = Ok (search_with options (replacing template) files)
+
+-- no argument is left
+abbrev pub no_more : List (List ℕ) → Result ⊤ UsageError
+no_more [] = Ok tt
+no_more (more ∷ others) = Err (unexpected more)
 
 -- the action, if no argument is left
-abbrev pub alone : Action → List (String Global) → Result Action UsageError
-alone action [] = Ok action
-alone action (more ∷ others) = Err (unexpected (string_bytes more))
+abbrev pub alone : Action → List (List ℕ) → Result Action UsageError
+alone action args = on_ok (λ _. Ok action) (no_more args)
 
--- what a command does with a pattern, with the arguments after the pattern
-abbrev pub action_of : (terminal : Bool) → Command → Given → List (String Global) → Result Action UsageError
-action_of terminal commands.Match given args = Ok (search_with given.options (matching (selection_of terminal given.options)) args)
-action_of terminal commands.Replace given args = replace_of given.options args
-action_of terminal commands.Split given args = Ok (search_with given.options splitting args)
-action_of terminal commands.Parse given args = alone (show (view_in given.options (printed_format given.options.json))) args
-action_of terminal commands.Draw given args = alone (show (view_in given.options Svg)) args
-action_of terminal commands.Lint given args = alone lint args
-action_of terminal commands.Explain given args = alone (explain (form_of given)) args
+-- what is done with a pattern, with the operands after the pattern
+abbrev pub action_of : (terminal : Bool) → Operation → Given → List (List ℕ) → Result Action UsageError
+action_of terminal operations.Match given args = Ok (search_with given.options (matching (selection_of terminal given.options)) args)
+action_of terminal operations.Replace given args = replace_of given.options args
+action_of terminal operations.Split given args = Ok (search_with given.options splitting args)
+action_of terminal operations.Parse given args = alone (show (view_in given.options (printed_format given.options.json))) args
+action_of terminal operations.Draw given args = alone (show (view_in given.options Svg)) args
+action_of terminal operations.Lint given args = alone lint args
+action_of terminal operations.Explain given args = alone (explain (form_of given)) args
 
--- the pattern, and the arguments after it, as the code represents them
-abbrev pub after_pattern : PatternSource × Bor (List (String Global)) → Source × List (String Global)
-after_pattern taken = (source taken.0, taken.1.now)
+-- the pattern, and the operands after it, as the code represents them
+abbrev pub after_pattern : PatternSource × Bor (List (String Global)) → Source × List (List ℕ)
+after_pattern taken = (source taken.0, map string_bytes taken.1.now)
 
--- the pattern, and the arguments after it: it is the first one, if no option has it
-abbrev pub taken_pattern : Option Source → List (String Global) → Option (Source × List (String Global))
+-- the pattern, and the operands after it: it is the first one, if no option has it
+abbrev pub taken_pattern : Option Source → List (List ℕ) → Option (Source × List (List ℕ))
 taken_pattern (Some pattern) args = Some (pattern, args)
 taken_pattern None [] = None
-taken_pattern None (pattern ∷ args) = Some (in_argument (string_bytes pattern), args)
+taken_pattern None (pattern ∷ args) = Some (in_argument pattern, args)
 
--- the request of a command, with the arguments after the options
-abbrev pub request_of : (terminal : Bool) → Command → Given → List (String Global) → Result Ask UsageError
-request_of terminal command given args =
+-- the request of an operation, with the operands
+abbrev pub request_of : (terminal : Bool) → Operation → Given → List (List ℕ) → Result Ask UsageError
+request_of terminal operation given args =
     on_ok (λ taken. on_ok (λ action. Ok (apply (record { pattern = taken.0; flags = given.options.flags; action = action })))
-    (action_of terminal command given taken.1)) (or_error (missing (codes "PATTERN")) (taken_pattern given.pattern args))
+    (action_of terminal operation given taken.1)) (or_error (missing (codes "PATTERN")) (taken_pattern given.pattern args))
 
 abbrev pub is_lines : Shown → Bool
 is_lines shows.Lines = true
@@ -164,49 +185,72 @@ conflict given =
     else if is_some given.text && not given.options.html then Some text_without_page
     else None
 
--- the request, if the command has all options and they go together; or the help
-abbrev pub after_reading : List OptionEntry → (terminal : Bool) → Command → Reading × List (String Global) → Result Ask UsageError
-after_reading options terminal command found =
-    if found.0.given.options.help then Ok (help options)
-    else unless_error found.0.denied (unless_error (conflict found.0.given) (request_of terminal command found.0.given found.1))
-
 -- one text
-abbrev pub escape_of : List (String Global) → Result Ask UsageError
+abbrev pub escape_of : List (List ℕ) → Result Ask UsageError
 escape_of [] = Err (missing (codes "TEXT"))
-escape_of (text ∷ []) = Ok (escape (string_bytes text))
-escape_of (text ∷ (more ∷ others)) = Err (unexpected (string_bytes more))
+escape_of (text ∷ []) = Ok (escape text)
+escape_of (text ∷ (more ∷ others)) = Err (unexpected more)
 
--- nothing more
-abbrev pub help_of : List OptionEntry → List (String Global) → Result Ask UsageError
-help_of options [] = Ok (help options)
-help_of options (more ∷ others) = Err (unexpected (string_bytes more))
+-- what a command asks for with its operands
+abbrev pub command_of : (terminal : Bool) → Command → Given → List (List ℕ) → Result Ask UsageError
+command_of terminal commands.Escape given args = escape_of args
+command_of terminal (commands.Pattern operation) given args = request_of terminal operation given args
 
 -- the error of a word that is no command
 abbrev pub unknown : (word : List ℕ) → UsageError
 unknown word = if slice_index word 0 == 45 then unknown_option word else unknown_command word
 
--- a command without a pattern, or the option for the help, and its arguments
-abbrev pub other_of : List OptionEntry → (word : List ℕ) → List (String Global) → Result Ask UsageError
-other_of options word args =
-    if bytes_eq word (codes "escape") then escape_of args
-    else if bytes_eq word (codes "--help") || bytes_eq word (codes "-h") then help_of options args
-    else Err (unknown word)
-
 module _ (options : List OptionEntry) (terminal : Bool) where
-  -- `[OPTION..] PATTERN` and what follows, or the help
-  abbrev pub command_with : Command → List (String Global) → Result Ask UsageError
-  command_with command words = on_ok (after_reading options terminal command) (options_of options command start words)
+  -- The help, the version, or what the command asks for, if it has all options and they go together.
+  abbrev pub line_interpreted : CommandEntry → Reading → (operands : List (List ℕ)) → Result Ask UsageError
+  line_interpreted entry r operands =
+      if r.given.options.help then Ok (help (command_help entry options))
+      else if r.given.options.version then Ok (help VERSION.now)
+      else unless_error r.denied (unless_error (conflict r.given) (command_of terminal entry.command r.given operands))
+
+  -- what parsed arguments ask for
+  abbrev pub interpreted : Parsed → Result Ask UsageError
+  interpreted (about text) = Ok (help text)
+  interpreted (line entry r operands) = line_interpreted entry r operands
+
+-- `[OPTION..] OPERAND..`, where options and operands may be in any order
+abbrev pub line_of : List OptionEntry → CommandEntry → List (String Global) → Result Parsed UsageError
+line_of options entry args = on_ok (λ found. Ok (line entry found.0 found.1)) (options_of options entry.command start [] args)
+
+module _ (commands : List CommandEntry) (options : List OptionEntry) where
+  -- the help of the command that was found by this name
+  abbrev pub help_found : (name : List ℕ) → Option CommandEntry → Result (List ℕ) UsageError
+  help_found name None = Err (unknown_command name)
+  help_found name (Some entry) = Ok (command_help entry options)
+
+  -- the help of the program, or of the command with this name
+  abbrev pub help_of : List (String Global) → Result (List ℕ) UsageError
+  help_of [] = Ok (program_help commands)
+  help_of (name ∷ []) = help_found (string_bytes name) (find (is_named (string_bytes name)) commands)
+  help_of (name ∷ (more ∷ others)) = Err (unexpected (string_bytes more))
+
+  -- the text that a word which is no command asks for with its arguments
+  abbrev pub topic_of : (word : List ℕ) → List (String Global) → Result (List ℕ) UsageError
+  topic_of word args =
+      if bytes_eq word (codes "help") then help_of args
+      else if bytes_eq word (codes "--help") || bytes_eq word (codes "-h") then on_ok (λ _. Ok (program_help commands)) (no_more (map string_bytes args))
+      else if bytes_eq word (codes "--version") || bytes_eq word (codes "-V") then on_ok (λ _. Ok VERSION.now) (no_more (map string_bytes args))
+      else Err (unknown word)
 
   -- the arguments after a word, which may be the name of this command
-  abbrev pub asked_after : Option Command → (word : List ℕ) → List (String Global) → Result Ask UsageError
-  asked_after (Some command) word args = command_with command args
-  asked_after None word args = other_of options word args
+  abbrev pub parsed_after : Option CommandEntry → (word : List ℕ) → List (String Global) → Result Parsed UsageError
+  parsed_after (Some entry) word args = line_of options entry args
+  parsed_after None word args = on_ok (λ text. Ok (about text)) (topic_of word args)
 
-  -- A command and its arguments, by the table of options. `terminal` states whether the output is a terminal.
-  abbrev pub asked_of : List (String Global) → Result Ask UsageError
-  asked_of [] = Err (missing (codes "COMMAND"))
-  asked_of (first ∷ rest) = asked_after (command_of (string_bytes first)) (string_bytes first) rest
+  -- a command and its arguments, by the tables of commands and options
+  abbrev pub parsed_of : List (String Global) → Result Parsed UsageError
+  parsed_of [] = Err (missing (codes "COMMAND"))
+  parsed_of (first ∷ rest) = parsed_after (find (is_named (string_bytes first)) commands) (string_bytes first) rest
 
--- the same, for the arguments as the code represents them
+abbrev pub parsed_by : Arguments → Result Parsed UsageError
+parsed_by arguments = parsed_of arguments.commands.now arguments.options.now arguments.words.now
+
+-- What the arguments of the program ask for. The first of their errors by themselves comes before any that they have
+-- together.
 abbrev pub asked_by : Arguments → Result Ask UsageError
-asked_by arguments = asked_of arguments.options.now arguments.terminal arguments.words.now
+asked_by arguments = on_ok (interpreted arguments.options.now arguments.terminal) (parsed_by arguments)

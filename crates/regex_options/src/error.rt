@@ -1,6 +1,9 @@
 //! Why arguments are invalid.
 
+use crate::command::find_command;
+use crate::request::Arguments;
 use regress_arguments::write_visible;
+use std::alloc::AllocError;
 use std::io::{self, Write};
 
 /// Why arguments are invalid.
@@ -23,32 +26,61 @@ pub enum UsageError<'a> {
     OnlyOfMatch(&'a str),
     /// `--json` is given with an option that selects what `match` shows.
     ExcludedByJson,
-    /// `--text` is given without `--html`.
+    /// `--on` is given without `--html`.
     TextWithoutPage,
     /// There is an argument more than the command has.
     Unexpected(&'a str),
 }
 
-/// The text after the message.
-const USAGE: &str = "\
-usage: regex match [OPTION..] PATTERN [FILE..]
-       regex replace [OPTION..] PATTERN TEMPLATE [FILE..]
-       regex split [OPTION..] PATTERN [FILE..]
-       regex escape TEXT
-       regex parse [OPTION..] PATTERN
-       regex draw [OPTION..] PATTERN
-       regex explain [OPTION..] PATTERN
-       regex lint [OPTION..] PATTERN
-";
+/// Why arguments are not parsed.
+#[derive(Clone, Copy)]
+pub enum ParseError<'a> {
+    /// They are invalid.
+    Usage(UsageError<'a>),
+    /// An allocation failed.
+    Memory,
+}
 
-/// Writes why arguments are invalid, and the usage.
+impl<'a> From<UsageError<'a>> for ParseError<'a> {
+    ghost use Rattle.std.specs.Prelude.{◌≡◌};
+    ghost use Rattle.regex_options.specs.declared.error.ParseError.TheVariants.{Usage};
+
+    ghost from_gives = { λ usage error. error ≡ Usage usage };
+
+    fn from(error: UsageError<'a>) -> ParseError<'a> {
+        ParseError::Usage(error)
+    }
+}
+
+impl<'a> From<AllocError> for ParseError<'a> {
+    ghost use Rattle.std.specs.Prelude.{◌≡◌};
+    ghost use Rattle.regex_options.specs.declared.error.ParseError.TheVariants.{Memory};
+
+    ghost from_gives = { λ _ error. error ≡ Memory };
+
+    fn from(_: AllocError) -> ParseError<'a> {
+        ParseError::Memory
+    }
+}
+
+/// Writes why these arguments are invalid, and which help to read.
 ///
 /// # Errors
 /// Returns the error of a write.
-pub fn write_usage_error<E: Write>(error: UsageError<'_>, to: &mut E) -> io::Result<()> {
+pub fn write_usage_error<E: Write>(
+    error: UsageError<'_>,
+    arguments: Arguments<'_>,
+    to: &mut E,
+) -> io::Result<()> {
     to.write_all(b"regex: ")?;
     write_error(error, to)?;
-    write!(to, "\n{USAGE}")
+    to.write_all(b"\ntry 'regex ")?;
+    if let [first, ..] = arguments.words {
+        if let Some(entry) = find_command(arguments.commands, first.as_str()) {
+            write!(to, "{} ", entry.name)?;
+        }
+    }
+    to.write_all(b"--help'\n")
 }
 
 fn write_error<E: Write>(error: UsageError<'_>, to: &mut E) -> io::Result<()> {
@@ -57,12 +89,12 @@ fn write_error<E: Write>(error: UsageError<'_>, to: &mut E) -> io::Result<()> {
         UsageError::UnknownCommand(word) => write_about("unknown command", word, to),
         UsageError::UnknownOption(word) => write_about("unknown option", word, to),
         UsageError::Invalid { kind, word } => {
-            to.write_all(b"invalid ")?;
-            write_about(kind, word, to)
+            write!(to, "invalid {kind}: ")?;
+            write_visible(word, to)
         }
         UsageError::OnlyOfMatch(word) => write_about("only match has the option", word, to),
         UsageError::ExcludedByJson => to.write_all(b"--json excludes -o, -c, -l and -q"),
-        UsageError::TextWithoutPage => to.write_all(b"--text needs --html"),
+        UsageError::TextWithoutPage => to.write_all(b"--on needs --html"),
         UsageError::Unexpected(word) => write_about("unexpected argument", word, to),
     }
 }

@@ -20,6 +20,7 @@ pub(crate) enum Color {
 #[derive(Clone, Copy)]
 pub(crate) struct Options {
     pub(crate) help: bool,
+    pub(crate) version: bool,
     pub(crate) flags: Flags,
     pub(crate) selection: Selection,
     /// Whether a text is searched as one, and not line by line.
@@ -51,6 +52,7 @@ pub(crate) fn nothing_given() -> Given<'static>
     Given {
         options: Options {
             help: false,
+            version: false,
             flags: Flags::default(),
             selection: Selection {
                 invert: false,

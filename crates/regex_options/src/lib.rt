@@ -1,8 +1,9 @@
-//! The arguments of the program `regex`: its commands, and a table of its options, by which arguments are parsed and the
+//! The arguments of the program `regex`: tables of its commands and its options, by which arguments are parsed and the
 //! help is written.
 #![tactic(auto)]
 
 mod command;
+mod environment;
 mod error;
 mod given;
 mod help;
@@ -14,10 +15,14 @@ mod table;
 mod task;
 mod values;
 
-pub use command::Command;
-pub use error::{UsageError, write_usage_error};
-pub use help::{HELP_AFTER, HELP_BEFORE, program_help};
-pub use request::{Action, Arguments, Asked, Form, Request, Search, View, read_arguments};
+pub use command::{COMMANDS, Command, CommandEntry, Operation};
+pub use environment::allows_color;
+pub use error::{ParseError, UsageError, write_usage_error};
+pub use help::{HELP_AFTER, HELP_BEFORE, OPTIONS_END, Topic, VERSION, topic_text};
+pub use request::{
+    Action, Arguments, Asked, CommandLine, Form, Parsed, Request, Search, View, interpret,
+    parse_arguments,
+};
 pub use source::PatternSource;
-pub use table::{Argument, Joining, OPTIONS, OptionEntry, Scope, Sets, Switch, Value};
+pub use table::{Argument, OPTIONS, OptionEntry, Scope, Sets, Switch, Value};
 pub use task::{Selection, Shown, Task};

@@ -1,16 +1,17 @@
-//! Parses the options before the pattern.
-ghost use Rattle.std.specs.Prelude.{◌≡◌, drop, find, option_map};
+//! Parses options.
+ghost use Rattle.std.specs.Prelude.{◌≡◌, ◌<◌, ◌++◌, ◌∷◌, [], OnOk, drop, find, length, map, option_map, slice_index, string_bytes};
 ghost use Rattle.regex_options.specs.Given.{given_by};
-ghost use Rattle.regex_options.specs.Reading.{after_prefix, is_option, lacked, long_parts, noted, options_of, parts_of, reading_of, short_value, start, used, with_letters, with_long, with_short, with_switch, with_value, with_word};
-ghost use Rattle.regex_options.specs.Table.{has_letter, has_long, is_valued};
-ghost use Rattle.regex_options.specs.Plain.{first_error, plain_result, usage_error};
+ghost use Rattle.regex_options.specs.Reading.{is_option, lacked, letters_of, long_parts, noted, options_of, parts_of, reading_of, start, unless_empty, used, with_letters, with_long, with_switch, with_value, with_word, without_value};
+ghost use Rattle.regex_options.specs.Table.{has_letter, has_long};
+ghost use Rattle.regex_options.specs.Plain.{IsParsed, first_error, plain_result, usage_error};
 
 use crate::command::Command;
-use crate::error::UsageError;
+use crate::error::{ParseError, UsageError};
 use crate::given::{Given, nothing_given};
 use crate::switches::switched;
-use crate::table::{Argument, Joining, OptionEntry, Scope, Sets, Switch};
+use crate::table::{Argument, OptionEntry, Scope, Sets, Switch};
 use crate::values::valued;
+use std::alloc::{AllocError, Global};
 
 /// What the arguments up to some point specify.
 #[derive(Clone, Copy)]
@@ -22,46 +23,70 @@ pub(crate) struct Reading<'a> {
     pub(crate) awaits: Option<Argument>,
 }
 
-/// Parses the options in front, and returns what they specify with the arguments after them.
+/// Parses the options, and returns what they specify, and the operands: the arguments that are neither options nor
+/// arguments of options.
 ///
 /// # Errors
-/// Returns the first error.
+/// Returns the first error, or [`ParseError::Memory`] if an allocation fails.
 pub(crate) fn read_options<'a>(
+    alloc: Global,
     options: &[OptionEntry],
     command: Command,
     args: &'a [String],
-) -> Result<(Reading<'a>, &'a [String]), UsageError<'a>>
-    ensures { plain_result (λ found. (reading_of found.0, found.1.now)) result ≡ options_of options.now command start args.now }
+) -> Result<(Reading<'a>, Vec<String>), ParseError<'a>>
+    ensures { IsParsed (λ found. (reading_of found.0, map string_bytes found.1.items)) result (options_of options.now command start [] args.now) }
 {
     let mut reading = Reading {
         given: nothing_given(),
         denied: None,
         awaits: None,
     };
+    let mut operands = Vec::new(alloc);
     let mut rest = args;
     while let [first, after @ ..] = rest {
         let word = first.as_str();
-        if reading.awaits.is_none() {
-            if !is_option(word) {
-                return Ok((reading, rest));
-            }
-            if word == "--" {
-                return Ok((reading, after));
-            }
+        if reading.awaits.is_none() && word == "--" {
+            add_operands(alloc, after, &mut operands)?;
+            return Ok((reading, operands));
         }
-        reading = match read_word(options, command, reading, word) {
-            Ok(next) => next,
-            Err(error) => return Err(first_error(reading.denied, error)),
-        };
+        if reading.awaits.is_none() && !is_option(word) {
+            add_operand(alloc, word, &mut operands)?;
+        } else {
+            reading = match read_word(options, command, reading, word) {
+                Ok(next) => next,
+                Err(error) => return Err(ParseError::Usage(first_error(reading.denied, error))),
+            };
+        }
         rest = after;
     }
     match reading.awaits {
-        Some(argument) => Err(first_error(reading.denied, UsageError::Missing(argument.name))),
-        None => Ok((reading, rest)),
+        Some(argument) => {
+            let error = UsageError::Missing(argument.name);
+            Err(ParseError::Usage(first_error(reading.denied, error)))
+        }
+        None => Ok((reading, operands)),
     }
 }
 
-/// Returns whether an argument is an option, or ends the options.
+/// Adds arguments to the operands.
+fn add_operands(alloc: Global, args: &[String], to: &mut Vec<String>) -> Result<(), AllocError>
+    ensures { OnOk result (map string_bytes to.new.items ≡ map string_bytes to.old.items ++ map string_bytes args.now) }
+{
+    for arg in args {
+        add_operand(alloc, arg.as_str(), to)?;
+    }
+    Ok(())
+}
+
+/// Adds an argument to the operands.
+fn add_operand(alloc: Global, arg: &str, to: &mut Vec<String>) -> Result<(), AllocError>
+    ensures { OnOk result (map string_bytes to.new.items ≡ map string_bytes to.old.items ++ (arg.now ∷ [])) }
+{
+    to.push(String::from_str(alloc, arg)?)?;
+    Ok(())
+}
+
+/// Returns whether an argument has options.
 fn is_option(word: &str) -> bool
     ensures { result ≡ is_option word.now }
 {
@@ -91,8 +116,18 @@ fn read_word<'a>(
         Some(argument) => with_value(argument, word, word, reading),
         None => match word.strip_prefix("--") {
             Some(long) => with_long(options, command, word, long, reading),
-            None => with_short(options, command, word, reading),
+            None => with_letters(options, command, word, letters_of(word), reading),
         },
+    }
+}
+
+/// Returns an argument without the hyphen in front.
+fn letters_of(word: &str) -> &str
+    ensures { result.now ≡ letters_of word.now }
+{
+    match word.strip_prefix("-") {
+        Some(letters) => letters,
+        None => word,
     }
 }
 
@@ -123,66 +158,50 @@ fn long_parts(long: &str) -> (&str, Option<&str>)
     }
 }
 
-/// Adds an option with an argument by its letter, or all those with these letters.
-fn with_short<'a>(
-    options: &[OptionEntry],
-    command: Command,
-    word: &'a str,
-    reading: Reading<'a>,
-) -> Result<Reading<'a>, UsageError<'a>>
-    ensures { plain_result reading_of result ≡ with_short options.now command word.now (reading_of reading.entry) }
-{
-    match find_valued(options, word) {
-        Some(option) => used(command, option, word, short_value(option, word), reading),
-        None => with_letters(options, command, word, letters_of(word), reading),
-    }
-}
-
-/// Returns the bytes after the first one.
-fn letters_of(word: &str) -> &[u8]
-    ensures { result.now ≡ drop 1 word.now }
-{
-    match word.as_bytes() {
-        [_, letters @ ..] => letters,
-        [] => &[],
-    }
-}
-
-/// Returns what is after the letter of an option, if there is something.
-fn short_value(option: OptionEntry, word: &str) -> Option<&str>
-    ensures { option_map (λ text. text.now) result ≡ short_value option word.now }
-{
-    match after_prefix(option.short?, word) {
-        Some("") | None => None,
-        value => value,
-    }
-}
-
-/// Returns the text after a prefix, if it has that.
-fn after_prefix<'a>(prefix: &str, word: &'a str) -> Option<&'a str>
-    ensures { option_map (λ text. text.now) result ≡ after_prefix prefix.now word.now }
-{
-    word.strip_prefix(prefix)
-}
-
-/// Adds the options with the letters of an argument.
+/// Adds the options with these letters of an argument. What follows the letter of an option with an argument is that
+/// argument, if it is not empty.
 fn with_letters<'a>(
     options: &[OptionEntry],
     command: Command,
     word: &'a str,
-    letters: &[u8],
+    letters: &'a str,
     reading: Reading<'a>,
 ) -> Result<Reading<'a>, UsageError<'a>>
     ensures { plain_result reading_of result ≡ with_letters options.now command word.now letters.now (reading_of reading.entry) }
 {
     let mut reading = reading;
-    for letter in letters {
+    let mut letters = letters;
+    while let Some(letter) = letters.as_bytes().first() {
+        if !letter.is_ascii() {
+            return Err(UsageError::UnknownOption(word));
+        }
         let Some(option) = find_letter(options, *letter) else {
             return Err(UsageError::UnknownOption(word));
         };
+        let after = after_first(letters);
+        if option.has_argument() {
+            return used(command, option, word, unless_empty(after), reading);
+        }
         reading = used(command, option, word, None, reading)?;
+        letters = after;
     }
     Ok(reading)
+}
+
+/// Returns the text after its first byte, which is ASCII.
+fn after_first(text: &str) -> &str
+    requires some { 0 < length text.now }
+    requires ascii { slice_index text.now 0 < 128 }
+    ensures { result.now ≡ drop 1 text.now }
+{
+    &text[1..]
+}
+
+/// Returns the text, unless it is empty.
+fn unless_empty(text: &str) -> Option<&str>
+    ensures { option_map (λ text. text.now) result ≡ unless_empty text.now }
+{
+    if text.is_empty() { None } else { Some(text) }
 }
 
 /// Adds an option of this argument, with its own argument if that is here.
@@ -199,14 +218,26 @@ fn used<'a>(
     let noted = noted(command, option.scope, word, reading);
     match (option.sets, value) {
         (Sets::Switch(switch), None) => Ok(with_switch(switch, noted)),
-        (Sets::Value(argument), Some(text)) if argument.is_joined() => {
-            with_value(argument, text, word, noted)
-        }
-        (Sets::Value(argument), None) if argument.is_next() => Ok(Reading {
+        (Sets::Switch(_), Some(_)) => Err(UsageError::UnknownOption(word)),
+        (Sets::Value(argument), Some(text)) => with_value(argument, text, word, noted),
+        (Sets::Value(argument), None) => without_value(argument, word, noted),
+    }
+}
+
+/// Adds an option that has no argument here: it takes effect with the default, or the next argument is its own.
+fn without_value<'a>(
+    argument: Argument,
+    word: &'a str,
+    reading: Reading<'a>,
+) -> Result<Reading<'a>, UsageError<'a>>
+    ensures { plain_result reading_of result ≡ without_value argument argument.default word.now (reading_of reading.entry) }
+{
+    match argument.default {
+        Some(text) => with_value(argument, text, word, reading),
+        None => Ok(Reading {
             awaits: Some(argument),
-            ..noted
+            ..reading
         }),
-        _ => Err(UsageError::UnknownOption(word)),
     }
 }
 
@@ -282,24 +313,12 @@ fn find_long(options: &[OptionEntry], name: &str) -> Option<OptionEntry>
     None
 }
 
-/// Returns the option without an argument that has this letter.
+/// Returns the option with this letter.
 fn find_letter(options: &[OptionEntry], letter: u8) -> Option<OptionEntry>
     ensures { result ≡ find (has_letter letter) options.now }
 {
     for option in options {
         if option.has_letter(letter) {
-            return Some(*option);
-        }
-    }
-    None
-}
-
-/// Returns the option with an argument with whose letter a word begins.
-fn find_valued(options: &[OptionEntry], word: &str) -> Option<OptionEntry>
-    ensures { result ≡ find (is_valued word.now) options.now }
-{
-    for option in options {
-        if option.is_valued(word) {
             return Some(*option);
         }
     }

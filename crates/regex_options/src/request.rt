@@ -1,24 +1,28 @@
 //! What the arguments ask for.
-ghost use Rattle.std.specs.Prelude.{◌≡◌, option_map};
+ghost use Rattle.std.specs.Prelude.{◌≡◌, map, option_map, string_bytes};
 ghost use Rattle.regex_options.specs.Given.{given_by};
-ghost use Rattle.regex_options.specs.Plain.{job, source, plain_result, usage_error};
-ghost use Rattle.regex_options.specs.Request.{action, action_of, after_pattern, alone, ask, asked_by, asked_form, command_with, conflict, escape_of, form_of, help_of, is_lines, other_of, paints, printed_format, replace_of, request_of, search_with, selection_of, stage_of, taken_pattern, unknown, view_in};
+ghost use Rattle.regex_options.specs.Plain.{IsParsed, job, source, plain_result, usage_error};
+ghost use Rattle.regex_options.specs.Reading.{reading_of};
+ghost use Rattle.regex_options.specs.Request.{action, action_of, after_pattern, alone, ask, asked_form, conflict, escape_of, form_of, help_of, interpreted, is_lines, line_interpreted, line_of, no_more, paints, parsed_as, parsed_by, printed_format, replace_of, request_of, search_with, selection_of, stage_of, taken_pattern, topic_of, unknown, view_in};
+ghost use Rattle.regex_options.specs.Table.{topic_text};
 
-use crate::command::{Command, command_of};
-use crate::error::UsageError;
+use crate::command::{Command, CommandEntry, Operation, find_command};
+use crate::error::{ParseError, UsageError};
 use crate::given::{Color, Given, Options};
+use crate::help::Topic;
 use crate::reading::{Reading, read_options};
 use crate::source::PatternSource;
 use crate::table::OptionEntry;
 use crate::task::{Selection, Shown, Task};
 use regress_base::types::Flags;
 use regress_display::{Format, Stage};
+use std::alloc::Global;
 
 /// What the arguments ask for.
 #[derive(Clone, Copy)]
 pub enum Asked<'a> {
-    /// Write the help, with these options.
-    Help(&'a [OptionEntry]),
+    /// Write about this topic.
+    Help(Topic<'a>),
     /// Write this text, escaped.
     Escape(&'a str),
     /// Do something with a pattern.
@@ -83,44 +87,105 @@ pub struct View {
 /// The arguments of the program.
 #[derive(Clone, Copy)]
 pub struct Arguments<'a> {
+    /// The table of commands.
+    pub commands: &'a [CommandEntry],
     /// The table of options.
     pub options: &'a [OptionEntry],
     /// The arguments, without the program's own name.
     pub words: &'a [String],
-    /// Whether the output is a terminal, where matches are in color by default.
+    /// Whether the output is a terminal with colors, where matches are in color by default.
     pub terminal: bool,
 }
 
-/// Parses the arguments of the program.
+/// The arguments, parsed one by one.
+#[derive(Drop)]
+pub enum Parsed<'a> {
+    /// They ask for what is written about this topic.
+    Topic(Topic<'a>),
+    /// They are those of a command.
+    Line(CommandLine<'a>),
+}
+
+/// A command with its options and its operands: the arguments that are neither options nor arguments of options.
+#[derive(Drop)]
+pub struct CommandLine<'a> {
+    pub(crate) entry: CommandEntry,
+    pub(crate) reading: Reading<'a>,
+    pub(crate) operands: Vec<String>,
+}
+
+/// Parses the arguments of the program one by one.
 ///
 /// # Errors
-/// Returns why the arguments are invalid: the first error in their order; and otherwise which options exclude or need
-/// others, or which argument after the options is missing, or one too many.
-pub fn read_arguments(arguments: Arguments<'_>) -> Result<Asked<'_>, UsageError<'_>>
-    ensures { plain_result ask result ≡ asked_by arguments.entry }
+/// Returns the first error of an argument by itself in their order, or [`ParseError::Memory`] if an allocation fails.
+pub fn parse_arguments<'a>(
+    alloc: Global,
+    arguments: Arguments<'a>,
+) -> Result<Parsed<'a>, ParseError<'a>>
+    ensures { IsParsed parsed_as result (parsed_by arguments.entry) }
 {
     let [first, rest @ ..] = arguments.words else {
-        return Err(UsageError::Missing("COMMAND"));
+        return Err(ParseError::Usage(UsageError::Missing("COMMAND")));
     };
     let word = first.as_str();
-    match command_of(word) {
-        Some(command) => read_command(arguments, command, rest),
-        None => read_other(arguments.options, word, rest),
+    match find_command(arguments.commands, word) {
+        Some(entry) => parse_line(alloc, arguments.options, entry, rest),
+        None => Ok(Parsed::Topic(topic_of(arguments, word, rest)?)),
     }
 }
 
-/// Parses a command without a pattern, or the option for the help, and its arguments.
-fn read_other<'a>(
-    options: &'a [OptionEntry],
+/// Parses the arguments of a command.
+fn parse_line<'a>(
+    alloc: Global,
+    options: &[OptionEntry],
+    entry: CommandEntry,
+    args: &'a [String],
+) -> Result<Parsed<'a>, ParseError<'a>>
+    ensures { IsParsed parsed_as result (line_of options.now entry args.now) }
+{
+    match read_options(alloc, options, entry.command, args) {
+        Ok((reading, operands)) => Ok(Parsed::Line(CommandLine {
+            entry,
+            reading,
+            operands,
+        })),
+        Err(error) => Err(error),
+    }
+}
+
+/// Returns the topic that a word which is no command asks for with its arguments.
+fn topic_of<'a>(
+    arguments: Arguments<'a>,
     word: &'a str,
     args: &'a [String],
-) -> Result<Asked<'a>, UsageError<'a>>
-    ensures { plain_result ask result ≡ other_of options.now word.now args.now }
+) -> Result<Topic<'a>, UsageError<'a>>
+    ensures { plain_result topic_text result ≡ topic_of arguments.entry.commands.now arguments.entry.options.now word.now args.now }
 {
     match word {
-        "escape" => read_escape(args),
-        "--help" | "-h" => read_help(options, args),
+        "help" => help_of(arguments, args),
+        "--help" | "-h" => {
+            no_more(args)?;
+            Ok(Topic::Program(arguments.commands))
+        }
+        "--version" | "-V" => {
+            no_more(args)?;
+            Ok(Topic::Version)
+        }
         _ => Err(unknown(word)),
+    }
+}
+
+/// Returns the topic of `help`: the program, or the command with this name.
+fn help_of<'a>(arguments: Arguments<'a>, args: &'a [String]) -> Result<Topic<'a>, UsageError<'a>>
+    ensures { plain_result topic_text result ≡ help_of arguments.entry.commands.now arguments.entry.options.now args.now }
+{
+    match args {
+        [] => Ok(Topic::Program(arguments.commands)),
+        [name] => match find_command(arguments.commands, name.as_str()) {
+            Some(entry) => Ok(Topic::Command(entry, arguments.options)),
+            None => Err(UsageError::UnknownCommand(name.as_str())),
+        },
+        [_, more, ..] => Err(UsageError::Unexpected(more.as_str())),
     }
 }
 
@@ -134,39 +199,47 @@ fn unknown(word: &str) -> UsageError<'_>
     }
 }
 
-fn read_escape(args: &[String]) -> Result<Asked<'_>, UsageError<'_>>
-    ensures { plain_result ask result ≡ escape_of args.now }
+/// Returns an error if there is an argument.
+fn no_more(args: &[String]) -> Result<(), UsageError<'_>>
+    ensures { plain_result (λ _. tt) result ≡ no_more (map string_bytes args.now) }
 {
     match args {
-        [] => Err(UsageError::Missing("TEXT")),
-        [text] => Ok(Asked::Escape(text.as_str())),
-        [_, more, ..] => Err(UsageError::Unexpected(more.as_str())),
-    }
-}
-
-fn read_help<'a>(
-    options: &'a [OptionEntry],
-    args: &'a [String],
-) -> Result<Asked<'a>, UsageError<'a>>
-    ensures { plain_result ask result ≡ help_of options.now args.now }
-{
-    match args {
-        [] => Ok(Asked::Help(options)),
+        [] => Ok(()),
         [more, ..] => Err(UsageError::Unexpected(more.as_str())),
     }
 }
 
-/// Parses the options of a command, its pattern, and what follows them.
-fn read_command<'a>(
-    arguments: Arguments<'a>,
-    command: Command,
-    args: &'a [String],
-) -> Result<Asked<'a>, UsageError<'a>>
-    ensures { plain_result ask result ≡ command_with arguments.entry.options.now arguments.entry.terminal command args.now }
+/// Returns what parsed arguments ask for.
+///
+/// # Errors
+/// Returns why the arguments are invalid: an option that the command lacks; otherwise which options exclude or need
+/// others, or which operand is missing, or one too many.
+pub fn interpret<'p>(
+    arguments: Arguments<'p>,
+    parsed: &'p Parsed<'p>,
+) -> Result<Asked<'p>, UsageError<'p>>
+    ensures { plain_result ask result ≡ interpreted arguments.entry.options.now arguments.entry.terminal (parsed_as parsed.now) }
 {
-    let (Reading { given, denied, .. }, rest) = read_options(arguments.options, command, args)?;
+    match parsed {
+        Parsed::Topic(topic) => Ok(Asked::Help(*topic)),
+        Parsed::Line(line) => interpret_line(arguments, line),
+    }
+}
+
+/// Returns what a command with its options and operands asks for.
+fn interpret_line<'p>(
+    arguments: Arguments<'p>,
+    line: &'p CommandLine<'p>,
+) -> Result<Asked<'p>, UsageError<'p>>
+    ensures { plain_result ask result ≡ line_interpreted arguments.entry.options.now arguments.entry.terminal
+        line.now.entry (reading_of line.now.reading) (map string_bytes line.now.operands.items) }
+{
+    let Reading { given, denied, .. } = line.reading;
     if given.options.help {
-        return Ok(Asked::Help(arguments.options));
+        return Ok(Asked::Help(Topic::Command(line.entry, arguments.options)));
+    }
+    if given.options.version {
+        return Ok(Asked::Help(Topic::Version));
     }
     if let Some(error) = denied {
         return Err(error);
@@ -174,7 +247,22 @@ fn read_command<'a>(
     if let Some(error) = conflict(given) {
         return Err(error);
     }
-    read_request(command, given, rest, arguments.terminal)
+    match line.entry.command {
+        Command::Escape => read_escape(&line.operands),
+        Command::Pattern(operation) => {
+            read_request(operation, given, &line.operands, arguments.terminal)
+        }
+    }
+}
+
+fn read_escape(args: &[String]) -> Result<Asked<'_>, UsageError<'_>>
+    ensures { plain_result ask result ≡ escape_of (map string_bytes args.now) }
+{
+    match args {
+        [] => Err(UsageError::Missing("TEXT")),
+        [text] => Ok(Asked::Escape(text.as_str())),
+        [_, more, ..] => Err(UsageError::Unexpected(more.as_str())),
+    }
 }
 
 /// Returns why options exclude each other, or one lacks another, if they do.
@@ -198,12 +286,12 @@ fn is_lines(shown: Shown) -> bool
 
 /// Parses the pattern, and what follows it.
 fn read_request<'a>(
-    command: Command,
+    operation: Operation,
     given: Given<'a>,
     args: &'a [String],
     terminal: bool,
 ) -> Result<Asked<'a>, UsageError<'a>>
-    ensures { plain_result ask result ≡ request_of terminal command (given_by given.entry) args.now }
+    ensures { plain_result ask result ≡ request_of terminal operation (given_by given.entry) (map string_bytes args.now) }
 {
     let Some((pattern, rest)) = take_pattern(given.pattern, args) else {
         return Err(UsageError::Missing("PATTERN"));
@@ -211,7 +299,7 @@ fn read_request<'a>(
     Ok(Asked::Apply(Request {
         pattern,
         flags: given.options.flags,
-        action: read_action(command, given, rest, terminal)?,
+        action: read_action(operation, given, rest, terminal)?,
     }))
 }
 
@@ -220,7 +308,7 @@ fn take_pattern<'a>(
     given: Option<PatternSource<'a>>,
     args: &'a [String],
 ) -> Option<(PatternSource<'a>, &'a [String])>
-    ensures { option_map after_pattern result ≡ taken_pattern (option_map source given.entry) args.now }
+    ensures { option_map after_pattern result ≡ taken_pattern (option_map source given.entry) (map string_bytes args.now) }
 {
     match (given, args) {
         (Some(pattern), _) => Some((pattern, args)),
@@ -231,35 +319,35 @@ fn take_pattern<'a>(
 
 /// Parses what follows the pattern.
 fn read_action<'a>(
-    command: Command,
+    operation: Operation,
     given: Given<'a>,
     args: &'a [String],
     terminal: bool,
 ) -> Result<Action<'a>, UsageError<'a>>
-    ensures { plain_result action result ≡ action_of terminal command (given_by given.entry) args.now }
+    ensures { plain_result action result ≡ action_of terminal operation (given_by given.entry) (map string_bytes args.now) }
 {
     let options = given.options;
-    match command {
-        Command::Match => Ok(search_for(
+    match operation {
+        Operation::Match => Ok(search_for(
             options,
             Task::Match(selection_of(options, terminal)),
             args,
         )),
-        Command::Replace => replace_of(options, args),
-        Command::Split => Ok(search_for(options, Task::Split, args)),
-        Command::Parse => alone(
+        Operation::Replace => replace_of(options, args),
+        Operation::Split => Ok(search_for(options, Task::Split, args)),
+        Operation::Parse => alone(
             Action::Show(view_in(options, printed_format(options.json))),
             args,
         ),
-        Command::Draw => alone(Action::Show(view_in(options, Format::Svg)), args),
-        Command::Lint => alone(Action::Lint, args),
-        Command::Explain => alone(Action::Explain(form_of(given)), args),
+        Operation::Draw => alone(Action::Show(view_in(options, Format::Svg)), args),
+        Operation::Lint => alone(Action::Lint, args),
+        Operation::Explain => alone(Action::Explain(form_of(given)), args),
     }
 }
 
 /// Parses a template, and the files after it.
 fn replace_of(options: Options, args: &[String]) -> Result<Action<'_>, UsageError<'_>>
-    ensures { plain_result action result ≡ replace_of options args.now }
+    ensures { plain_result action result ≡ replace_of options (map string_bytes args.now) }
 {
     match args {
         [template, files @ ..] => {
@@ -269,14 +357,12 @@ fn replace_of(options: Options, args: &[String]) -> Result<Action<'_>, UsageErro
     }
 }
 
-/// Returns an action, if no argument is left.
+/// Returns an action, if there is no argument more.
 fn alone<'a>(asked: Action<'a>, args: &'a [String]) -> Result<Action<'a>, UsageError<'a>>
-    ensures { plain_result action result ≡ alone (action asked.entry) args.now }
+    ensures { plain_result action result ≡ alone (action asked.entry) (map string_bytes args.now) }
 {
-    match args {
-        [] => Ok(asked),
-        [more, ..] => Err(UsageError::Unexpected(more.as_str())),
-    }
+    no_more(args)?;
+    Ok(asked)
 }
 
 /// Returns how to explain a pattern.
@@ -320,7 +406,7 @@ fn paints(color: Option<Color>, terminal: bool) -> bool
 }
 
 fn search_for<'a>(options: Options, task: Task<'a>, files: &'a [String]) -> Action<'a>
-    ensures { action result ≡ search_with options (job task.entry) files.now }
+    ensures { action result ≡ search_with options (job task.entry) (map string_bytes files.now) }
 {
     Action::Search(Search {
         task,

@@ -17,6 +17,10 @@ pub(crate) fn switched(switch: Switch, options: Options) -> Options
             help: true,
             ..options
         },
+        Switch::Version => Options {
+            version: true,
+            ..options
+        },
         Switch::IgnoreCase => Options {
             flags: Flags {
                 icase: true,

@@ -1,13 +1,13 @@
 //! The table of options.
 
-use crate::command::Command;
+use crate::command::{Command, Operation};
 use crate::task::Shown;
 use regress_display::Stage;
 
 /// An option.
 #[derive(Clone, Copy)]
 pub struct OptionEntry {
-    /// A hyphen and a letter.
+    /// A hyphen and a letter of ASCII.
     pub short: Option<&'static str>,
     /// The name after two hyphens.
     pub long: Option<&'static str>,
@@ -15,7 +15,7 @@ pub struct OptionEntry {
     pub sets: Sets,
     /// The commands that have it.
     pub scope: Scope,
-    /// Its line of the help.
+    /// Its lines of the help.
     pub line: &'static str,
 }
 
@@ -33,6 +33,8 @@ pub enum Sets {
 pub enum Switch {
     /// The help is written.
     Help,
+    /// The version is written.
+    Version,
     /// The flag i.
     IgnoreCase,
     /// A text is one line.
@@ -62,8 +64,8 @@ pub struct Argument {
     pub value: Value,
     /// Its name in the help.
     pub name: &'static str,
-    /// How it is given.
-    pub joining: Joining,
+    /// What it is if the option has none. Without this the argument is required.
+    pub default: Option<&'static str>,
     /// What it has to be.
     pub kind: &'static str,
 }
@@ -85,22 +87,11 @@ pub enum Value {
     Text,
 }
 
-/// Where the argument of an option is.
-#[derive(Clone, Copy)]
-pub enum Joining {
-    /// In the argument after the option.
-    Next,
-    /// After the letter, or after the long name and `=`.
-    Joined,
-    /// Either.
-    Either,
-}
-
 /// The commands that have an option.
 #[derive(Clone, Copy)]
 pub struct Scope {
-    /// The line of the help above the options of these commands.
-    pub heading: &'static str,
+    /// `escape` has it.
+    pub escaping: bool,
     /// `match` has it.
     pub matching: bool,
     /// `replace` has it.
@@ -119,7 +110,7 @@ pub struct Scope {
 
 impl OptionEntry {
     ghost use Rattle.std.specs.Prelude.{◌≡◌};
-    ghost use Rattle.regex_options.specs.Table.{has_letter, has_long, is_valued};
+    ghost use Rattle.regex_options.specs.Table.{has_argument, has_letter, has_long};
 
     /// Returns whether the option has this long name.
     pub(crate) fn has_long(&self, name: &str) -> bool
@@ -131,51 +122,26 @@ impl OptionEntry {
         }
     }
 
-    /// Returns whether the option has this letter, and no argument.
+    /// Returns whether the option has this letter.
     pub(crate) fn has_letter(&self, letter: u8) -> bool
         ensures { result ≡ has_letter letter self.now }
     {
-        match (self.sets, self.short) {
-            (Sets::Switch(_), Some(short)) => match short.as_bytes().get(1) {
+        match self.short {
+            Some(short) => match short.as_bytes().get(1) {
                 Some(found) => *found == letter,
                 None => false,
             },
-            _ => false,
+            None => false,
         }
     }
 
-    /// Returns whether the option has an argument, and this begins with its letter.
-    pub(crate) fn is_valued(&self, word: &str) -> bool
-        ensures { result ≡ is_valued word.now self.now }
+    /// Returns whether the option has an argument.
+    pub(crate) fn has_argument(&self) -> bool
+        ensures { result ≡ has_argument self.now }
     {
-        match (self.sets, self.short) {
-            (Sets::Value(_), Some(short)) => word.as_bytes().starts_with(short.as_bytes()),
-            _ => false,
-        }
-    }
-}
-
-impl Argument {
-    ghost use Rattle.std.specs.Prelude.{◌≡◌};
-    ghost use Rattle.regex_options.specs.Table.{is_joined, is_next};
-
-    /// Returns whether the argument may be the one after the option.
-    pub(crate) fn is_next(&self) -> bool
-        ensures { result ≡ is_next self.now.joining }
-    {
-        match self.joining {
-            Joining::Next | Joining::Either => true,
-            Joining::Joined => false,
-        }
-    }
-
-    /// Returns whether the argument may be after the letter, or after the long name and `=`.
-    pub(crate) fn is_joined(&self) -> bool
-        ensures { result ≡ is_joined self.now.joining }
-    {
-        match self.joining {
-            Joining::Joined | Joining::Either => true,
-            Joining::Next => false,
+        match self.sets {
+            Sets::Switch(_) => false,
+            Sets::Value(_) => true,
         }
     }
 }
@@ -189,13 +155,14 @@ impl Scope {
         ensures { result ≡ has self command }
     {
         match command {
-            Command::Match => self.matching,
-            Command::Replace => self.replacing,
-            Command::Split => self.splitting,
-            Command::Parse => self.parsing,
-            Command::Draw => self.drawing,
-            Command::Lint => self.linting,
-            Command::Explain => self.explaining,
+            Command::Escape => self.escaping,
+            Command::Pattern(Operation::Match) => self.matching,
+            Command::Pattern(Operation::Replace) => self.replacing,
+            Command::Pattern(Operation::Split) => self.splitting,
+            Command::Pattern(Operation::Parse) => self.parsing,
+            Command::Pattern(Operation::Draw) => self.drawing,
+            Command::Pattern(Operation::Lint) => self.linting,
+            Command::Pattern(Operation::Explain) => self.explaining,
         }
     }
 
@@ -203,7 +170,8 @@ impl Scope {
     pub(crate) fn is_of_match_only(self) -> bool
         ensures { result ≡ is_of_match_only self }
     {
-        let others = self.replacing
+        let others = self.escaping
+            || self.replacing
             || self.splitting
             || self.parsing
             || self.drawing
@@ -214,7 +182,7 @@ impl Scope {
 }
 
 const NO_COMMAND: Scope = Scope {
-    heading: "",
+    escaping: false,
     matching: false,
     replacing: false,
     splitting: false,
@@ -225,7 +193,7 @@ const NO_COMMAND: Scope = Scope {
 };
 
 const OF_ALL: Scope = Scope {
-    heading: "",
+    escaping: true,
     matching: true,
     replacing: true,
     splitting: true,
@@ -235,8 +203,12 @@ const OF_ALL: Scope = Scope {
     explaining: true,
 };
 
+const OF_PATTERNS: Scope = Scope {
+    escaping: false,
+    ..OF_ALL
+};
+
 const OF_LINES: Scope = Scope {
-    heading: "Of match, replace and split only:\n",
     matching: true,
     replacing: true,
     splitting: true,
@@ -244,63 +216,59 @@ const OF_LINES: Scope = Scope {
 };
 
 const OF_MATCH: Scope = Scope {
-    heading: "Of match only, and -no is -n -o:\n",
     matching: true,
     ..NO_COMMAND
 };
 
 const OF_MATCH_AND_PARSE: Scope = Scope {
-    heading: "Of match and parse only:\n",
     matching: true,
     parsing: true,
     ..NO_COMMAND
 };
 
 const OF_TREES: Scope = Scope {
-    heading: "Of parse and draw only:\n",
     parsing: true,
     drawing: true,
     ..NO_COMMAND
 };
 
 const OF_EXPLAIN: Scope = Scope {
-    heading: "Of explain only:\n",
     explaining: true,
     ..NO_COMMAND
 };
 
 /// The options, in the order of the help.
-pub const OPTIONS: [OptionEntry; 21] = [
+pub const OPTIONS: [OptionEntry; 23] = [
     OptionEntry {
         short: Some("-e"),
-        long: None,
+        long: Some("regexp"),
         sets: Sets::Value(Argument {
             value: Value::Pattern,
             name: "PATTERN",
-            joining: Joining::Next,
-            kind: "pattern",
+            default: None,
+            kind: "PATTERN (one -e or -f only; A|B matches both)",
         }),
-        scope: OF_ALL,
-        line: "  -e PATTERN       the pattern, which may begin with a hyphen; no argument is the pattern then\n",
+        scope: OF_PATTERNS,
+        line: "  -e, --regexp PATTERN      the pattern, which may begin with a hyphen; no other\n                            argument is the pattern then\n",
     },
     OptionEntry {
         short: Some("-f"),
-        long: None,
+        long: Some("file"),
         sets: Sets::Value(Argument {
             value: Value::File,
             name: "FILE",
-            joining: Joining::Next,
-            kind: "file",
+            default: None,
+            kind: "FILE (one -e or -f only)",
         }),
-        scope: OF_ALL,
-        line: "  -f FILE          the pattern is in FILE, without a line feed at the end\n",
+        scope: OF_PATTERNS,
+        line: "  -f, --file FILE           the pattern is in FILE, without a line feed at its\n                            end; no other argument is the pattern then\n",
     },
     OptionEntry {
         short: Some("-i"),
-        long: None,
+        long: Some("ignore-case"),
         sets: Sets::Switch(Switch::IgnoreCase),
-        scope: OF_ALL,
-        line: "  -i               ignore case\n",
+        scope: OF_PATTERNS,
+        line: "  -i, --ignore-case         ignore case, as --flags=i\n",
     },
     OptionEntry {
         short: None,
@@ -308,39 +276,39 @@ pub const OPTIONS: [OptionEntry; 21] = [
         sets: Sets::Value(Argument {
             value: Value::Flags,
             name: "LETTERS",
-            joining: Joining::Joined,
-            kind: "flags",
+            default: None,
+            kind: "LETTERS (of imsuv, each at most once; v includes u)",
         }),
-        scope: OF_ALL,
-        line: "  --flags=LETTERS  flags of JavaScript, of imsuv; none without this option\n",
-    },
-    OptionEntry {
-        short: Some("-h"),
-        long: Some("help"),
-        sets: Sets::Switch(Switch::Help),
-        scope: OF_ALL,
-        line: "  -h, --help       this help\n",
+        scope: OF_PATTERNS,
+        line: "      --flags LETTERS       flags of JavaScript, letters of imsuv, each at most\n                            once; v includes u; none by default\n",
     },
     OptionEntry {
         short: Some("-M"),
+        long: Some("whole"),
+        sets: Sets::Switch(Switch::Multiline),
+        scope: OF_LINES,
+        line: "  -M, --whole               search a file as one text, without the line feed at\n                            its end, and not line by line\n",
+    },
+    OptionEntry {
+        short: None,
         long: Some("multiline"),
         sets: Sets::Switch(Switch::Multiline),
         scope: OF_LINES,
-        line: "  -M  search a text as one line, without the line feed at its end; also --multiline\n",
+        line: "      --multiline           the same as --whole\n",
     },
     OptionEntry {
         short: Some("-a"),
-        long: None,
+        long: Some("text"),
         sets: Sets::Switch(Switch::Binary),
         scope: OF_MATCH,
-        line: "  -a      search lines that are not UTF-8 too; their bytes that are not match nowhere\n",
+        line: "  -a, --text                search lines that are not UTF-8 too; their bytes\n                            that are not match nowhere\n",
     },
     OptionEntry {
         short: Some("-v"),
-        long: None,
+        long: Some("invert-match"),
         sets: Sets::Switch(Switch::Invert),
         scope: OF_MATCH,
-        line: "  -v      select the lines without a match\n",
+        line: "  -v, --invert-match        select the lines without a match\n",
     },
     OptionEntry {
         short: Some("-m"),
@@ -348,46 +316,46 @@ pub const OPTIONS: [OptionEntry; 21] = [
         sets: Sets::Value(Argument {
             value: Value::Count,
             name: "NUM",
-            joining: Joining::Either,
-            kind: "number",
+            default: None,
+            kind: "NUM (a number from 0 to 2^64-1)",
         }),
         scope: OF_MATCH,
-        line: "  -m NUM  select at most NUM lines of each file, the first ones; also --max-count=NUM\n",
+        line: "  -m, --max-count NUM       select at most NUM lines of each file, the first\n                            ones\n",
     },
     OptionEntry {
         short: Some("-n"),
-        long: None,
+        long: Some("line-number"),
         sets: Sets::Switch(Switch::Numbers),
         scope: OF_MATCH,
-        line: "  -n      write the number of each line before it\n",
+        line: "  -n, --line-number         write the number of each line before it\n",
     },
     OptionEntry {
         short: Some("-o"),
-        long: None,
+        long: Some("only-matching"),
         sets: Sets::Switch(Switch::Shown(Shown::Matches)),
         scope: OF_MATCH,
-        line: "  -o      write each match that is not empty on a line, instead of the lines\n",
+        line: "  -o, --only-matching       write each match that is not empty on a line,\n                            instead of the lines\n",
     },
     OptionEntry {
         short: Some("-c"),
-        long: None,
+        long: Some("count"),
         sets: Sets::Switch(Switch::Shown(Shown::Count)),
         scope: OF_MATCH,
-        line: "  -c      write only how many lines are selected\n",
+        line: "  -c, --count               write only how many lines are selected\n",
     },
     OptionEntry {
         short: Some("-l"),
-        long: None,
+        long: Some("files-with-matches"),
         sets: Sets::Switch(Switch::Shown(Shown::Names)),
         scope: OF_MATCH,
-        line: "  -l      write only the names of the files in which a line is selected\n",
+        line: "  -l, --files-with-matches  write only the names of the files in which a line is\n                            selected\n",
     },
     OptionEntry {
         short: Some("-q"),
         long: Some("quiet"),
         sets: Sets::Switch(Switch::Shown(Shown::Nothing)),
         scope: OF_MATCH,
-        line: "  -q      write nothing, and end at the first selected line; also --quiet\n",
+        line: "  -q, --quiet               write nothing, and end at the first selected line\n",
     },
     OptionEntry {
         short: None,
@@ -395,57 +363,71 @@ pub const OPTIONS: [OptionEntry; 21] = [
         sets: Sets::Value(Argument {
             value: Value::Color,
             name: "WHEN",
-            joining: Joining::Joined,
-            kind: "color",
+            default: Some("auto"),
+            kind: "WHEN (always, never or auto)",
         }),
         scope: OF_MATCH,
-        line: "  --color=WHEN  matches in color: always, never, or auto, if the output is a terminal; auto by default\n",
+        line: "      --color[=WHEN]        matches in color: always, never, or auto, if the\n                            output is a terminal; auto by default\n",
     },
     OptionEntry {
         short: None,
         long: Some("json"),
         sets: Sets::Switch(Switch::Json),
         scope: OF_MATCH_AND_PARSE,
-        line: "  --json  a JSON object on a line: for each match, or of the tree, the parsed one without --optimized\n",
+        line: "      --json                write an object of JSON on a line for each match, or\n                            one of the tree, which is the parsed one without\n                            --optimized\n",
     },
     OptionEntry {
         short: None,
         long: Some("parsed"),
         sets: Sets::Switch(Switch::Stage(Stage::Parsed)),
         scope: OF_TREES,
-        line: "  --parsed     the parsed tree only\n",
+        line: "      --parsed              the parsed tree only\n",
     },
     OptionEntry {
         short: None,
         long: Some("optimized"),
         sets: Sets::Switch(Switch::Stage(Stage::Optimized)),
         scope: OF_TREES,
-        line: "  --optimized  the optimized tree only\n",
+        line: "      --optimized           the optimized tree only\n",
     },
     OptionEntry {
         short: None,
         long: Some("small"),
         sets: Sets::Switch(Switch::Small),
         scope: OF_TREES,
-        line: "  --small      with the small table: ASCII and a few more characters\n",
+        line: "      --small               with the small table: ASCII and a few more\n                            characters\n",
     },
     OptionEntry {
         short: None,
         long: Some("html"),
         sets: Sets::Switch(Switch::Html),
         scope: OF_EXPLAIN,
-        line: "  --html       an HTML page that needs no other file, with a railroad diagram\n",
+        line: "      --html                an HTML page that needs no other file, with a\n                            railroad diagram\n",
     },
     OptionEntry {
         short: None,
-        long: Some("text"),
+        long: Some("on"),
         sets: Sets::Value(Argument {
             value: Value::Text,
             name: "TEXT",
-            joining: Joining::Either,
-            kind: "text",
+            default: None,
+            kind: "TEXT",
         }),
         scope: OF_EXPLAIN,
-        line: "  --text TEXT  with --html: TEXT with its matches marked is in the page; also --text=TEXT\n",
+        line: "      --on TEXT             with --html: the page has TEXT, with its matches\n                            marked\n",
+    },
+    OptionEntry {
+        short: Some("-h"),
+        long: Some("help"),
+        sets: Sets::Switch(Switch::Help),
+        scope: OF_ALL,
+        line: "  -h, --help                this help\n",
+    },
+    OptionEntry {
+        short: Some("-V"),
+        long: Some("version"),
+        sets: Sets::Switch(Switch::Version),
+        scope: OF_ALL,
+        line: "  -V, --version             the version\n",
     },
 ];

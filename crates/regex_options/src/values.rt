@@ -1,6 +1,7 @@
 //! What options with an argument set.
 ghost use Rattle.std.specs.Prelude.{◌≡◌, option_map};
-ghost use Rattle.regex_options.specs.Given.{color_of, count_of, given_by, valued, with_color, with_count, with_flags};
+ghost use Rattle.regex_options.specs.Given.{color_of, count_of, given_by, valued, with_color, with_count, with_flags, with_pattern};
+ghost use Rattle.regex_options.specs.Plain.{source};
 
 use crate::given::{Color, Given, Options};
 use crate::source::PatternSource;
@@ -14,14 +15,8 @@ pub(crate) fn valued<'a>(value: Value, text: &'a str, given: Given<'a>) -> Optio
     ensures { option_map given_by result ≡ valued value text.now (given_by given.entry) }
 {
     match value {
-        Value::Pattern => Some(Given {
-            pattern: Some(PatternSource::Text(text)),
-            ..given
-        }),
-        Value::File => Some(Given {
-            pattern: Some(PatternSource::File(text)),
-            ..given
-        }),
+        Value::Pattern => with_pattern(PatternSource::Text(text), given),
+        Value::File => with_pattern(PatternSource::File(text), given),
         Value::Text => Some(Given {
             text: Some(text),
             ..given
@@ -36,6 +31,19 @@ pub(crate) fn valued<'a>(value: Value, text: &'a str, given: Given<'a>) -> Optio
         }),
         Value::Color => Some(Given {
             options: with_color(given.options, text)?,
+            ..given
+        }),
+    }
+}
+
+/// Sets the pattern; `None` if there is one already.
+fn with_pattern<'a>(pattern: PatternSource<'a>, given: Given<'a>) -> Option<Given<'a>>
+    ensures { option_map given_by result ≡ with_pattern (source pattern.entry) (given_by given.entry) }
+{
+    match given.pattern {
+        Some(_) => None,
+        None => Some(Given {
+            pattern: Some(pattern),
             ..given
         }),
     }

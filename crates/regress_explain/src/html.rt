@@ -58,7 +58,7 @@ pub fn page(
 
 /// How the page was made.
 const MADE: &str = "Made by regex explain --html. This page has no scripts: \
-for another pattern, or with --text for the matches in another text, run the program again.";
+for another pattern, or with --on for the matches in another text, run the program again.";
 
 /// Writes the sentence about the pattern, and its parts.
 fn write_explanation(
