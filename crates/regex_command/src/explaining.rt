@@ -64,11 +64,11 @@ fn explanation<'f>(
         Form::Lines => Ok(explain(alloc, points, parsed)?),
         Form::Page(None) => Ok(page_line(alloc, points, parsed, None)?),
         Form::Page(Some(text)) => {
-            let ranges = match_ranges(alloc, pattern, text)?;
+            let found = found_in(alloc, pattern, text)?;
             let matched = Matched {
                 text,
-                ranges: &ranges,
-                captures: &[],
+                ranges: &found.ranges,
+                captures: &found.captures,
             };
             Ok(page_line(alloc, points, parsed, Some(matched))?)
         }
@@ -89,19 +89,25 @@ fn page_line(
     Ok(html)
 }
 
-/// Returns the ranges of all matches of an accepted pattern in a text.
-fn match_ranges<'f>(
-    alloc: Global,
-    pattern: Pattern<'_>,
-    text: &str,
-) -> Result<Vec<Range<usize>>, Failure<'f>>
+/// The matches of a pattern in a text.
+#[derive(Drop)]
+struct Found {
+    ranges: Vec<Range<usize>>,
+    /// The ranges of the groups: those of the first match, then those of the next.
+    captures: Vec<Option<Range<usize>>>,
+}
+
+/// Returns all matches of an accepted pattern in a text.
+fn found_in<'f>(alloc: Global, pattern: Pattern<'_>, text: &str) -> Result<Found, Failure<'f>>
     requires { IsAcceptedPattern (unicode_setting pattern.flags) (chars pattern.text.now) }
-    ensures ranges { IfOk result (λ ranges. AreMatchRanges (unicode_setting pattern.entry.flags) pattern.entry.text.now text.now ranges.items) }
+    ensures ranges { IfOk result (λ found. AreMatchRanges (unicode_setting pattern.entry.flags) pattern.entry.text.now text.now found.ranges.items) }
     ensures due { IfErr result MayFailToFind }
 {
     let regex = compiled(alloc, pattern)?;
     let matches = regex.find_all(alloc, text)?;
-    Ok(ranges_of(alloc, &matches)?)
+    let ranges = ranges_of(alloc, &matches)?;
+    let captures = captures_of(alloc, regex.group_count(), &matches)?;
+    Ok(Found { ranges, captures })
 }
 
 fn ranges_of(alloc: Global, matches: &[Match<'_>]) -> Result<Vec<Range<usize>>, AllocError>
@@ -112,4 +118,19 @@ fn ranges_of(alloc: Global, matches: &[Match<'_>]) -> Result<Vec<Range<usize>>, 
         ranges.push(found.range())?;
     }
     Ok(ranges)
+}
+
+/// Returns the ranges of the groups, from 1 up to `groups`, of each match.
+fn captures_of(
+    alloc: Global,
+    groups: usize,
+    matches: &[Match<'_>],
+) -> Result<Vec<Option<Range<usize>>>, AllocError> {
+    let mut captures = Vec::new(alloc);
+    for found in matches {
+        for number in 0..groups {
+            captures.push(found.group(number + 1))?;
+        }
+    }
+    Ok(captures)
 }

@@ -17,6 +17,7 @@ pub(crate) enum Element {
     Heading,
     /// A text in which white space is kept.
     Paragraph,
+    /// A picture or a table, which may be wider than the page.
     Figure,
     Items,
     Item,

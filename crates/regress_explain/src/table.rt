@@ -27,6 +27,7 @@ pub(crate) fn write_table(
         Some(count) if count > 0 => count,
         _ => return Ok(()),
     };
+    page.tag(Tag::Open(Element::Figure))?;
     page.tag(Tag::Open(Element::Table))?;
     write_head(groups, names, page)?;
     for (range, captures) in matched
@@ -43,6 +44,7 @@ pub(crate) fn write_table(
         page.tag(Tag::Close(Element::Row))?;
     }
     page.tag(Tag::Close(Element::Table))?;
+    page.tag(Tag::Close(Element::Figure))?;
     write_rest(matched.ranges.len(), groups, page)
 }
 
