@@ -1,10 +1,11 @@
 //! `explain`.
-ghost use Rattle.std.specs.Prelude.{◌≡◌, true, Ok, IfOk, IfErr, chars, map, string_bytes};
+ghost use Rattle.std.specs.Prelude.{◌≡◌, ◌++◌, ℕ, List, true, Ok, IfOk, IfErr, chars, codes, map, option_map, string_bytes};
 ghost use Rattle.regress_arguments.specs.Output.{Took};
 ghost use Rattle.regress.specs.Unicode.{unicode_setting};
 ghost use Rattle.regress.specs.Found.{match_of};
 ghost use Rattle.regex_command.specs.Ending.{OrOutput};
-ghost use Rattle.regex_command.specs.Patterns.{AreMatchRanges, HasForm, IsAcceptedPattern, IsExplanationIn, IsPageLine, MayFailToExplain, MayFailToFind, range_of};
+ghost use Rattle.regress_explain.specs.Page.{IsPageOf};
+ghost use Rattle.regex_command.specs.Patterns.{AreMatchRanges, HasForm, IsAcceptedPattern, IsExplanationIn, MayFailToExplain, MayFailToFind, range_of};
 ghost use Rattle.regex_options.specs.Request.{asked_form};
 
 use crate::compiling::compiled;
@@ -31,7 +32,7 @@ pub(crate) fn print_explanation<'f, W: Write, E: Write>(
     err: &mut E,
 ) -> Result<bool, Failure<'f>>
     ensures explained { IfOk result (λ accepted. Took (W.contents out.old) (W.contents out.new)
-        (IsExplanationIn (asked_form form.entry) accepted (unicode_setting pattern.entry.flags) (chars pattern.entry.text.now))) }
+        (IsExplanationIn (asked_form form.entry) accepted (unicode_setting pattern.entry.flags) pattern.entry.text.now)) }
     ensures quiet { result ≡ Ok true → err.new ≡ err.old }
     ensures first { IfErr result (OrOutput (out.new ≡ out.old)) }
     ensures due { IfErr result (MayFailToExplain (asked_form form.entry)) }
@@ -56,8 +57,9 @@ fn explanation<'f>(
     points: &[u32],
     parsed: &SpannedRegex,
 ) -> Result<String, Failure<'f>>
-    requires { IsAcceptedPattern (unicode_setting pattern.flags) (chars pattern.text.now) }
-    ensures form { IfOk result (λ text. HasForm (asked_form form.entry) (string_bytes text)) }
+    requires accepted { IsAcceptedPattern (unicode_setting pattern.flags) (chars pattern.text.now) }
+    requires characters { points.now ≡ chars pattern.text.now }
+    ensures form { IfOk result (λ text. HasForm (asked_form form.entry) (unicode_setting pattern.entry.flags) pattern.entry.text.now (string_bytes text)) }
     ensures due { IfErr result (MayFailToExplain (asked_form form.entry)) }
 {
     match form {
@@ -82,7 +84,8 @@ fn page_line(
     parsed: &SpannedRegex,
     matched: Option<Matched<'_>>,
 ) -> Result<String, AllocError>
-    ensures { IfOk result (λ text. IsPageLine (string_bytes text)) }
+    ensures { IfOk result (λ text. (html : List ℕ)
+        × IsPageOf points.now (option_map (λ matched. (matched.text.now, matched.ranges.now)) matched.entry) html × (string_bytes text ≡ html ++ codes "\n")) }
 {
     let mut html = page(alloc, points, parsed, matched)?;
     html.push_str("\n")?;
