@@ -1,5 +1,5 @@
 -- What `parse`, `draw`, `lint` and `explain` write.
-use Rattle.std.specs.Prelude.{◌≡◌, ◌⊎◌, ⊤, ℕ, Bool, true, false, List, [], ◌==◌, ◌++◌, codes, length, map, Some, None}
+use Rattle.std.specs.Prelude.{◌≡◌, ◌⊎◌, ⊤, ℕ, Bool, true, false, List, [], ◌==◌, ◌++◌, chars, codes, length, map, Option, Some, None}
 use Rattle.std.specs.Fmt.{decimal}
 use Rattle.std.specs.List.{FoldsTo}
 use Rattle.std.specs.declared.ops.Range.{Range}
@@ -16,7 +16,7 @@ use Rattle.regress_display.specs.Request.{Request}
 use Rattle.regress_display.specs.Shown.{IsOutput}
 use Rattle.regress_display.specs.declared.request.Format.TheVariants.{Text, Json, Svg}
 use Rattle.regress_display.specs.declared.request.Format.{Format}
-use Rattle.regress_explain.specs.Page.{IsPage}
+use Rattle.regress_explain.specs.Page.{IsPageOf}
 use Rattle.regress_found.specs.Found.{start_of, state_of}
 use Rattle.regress_found.specs.Repeated.{AreAllMatches}
 use Rattle.regress_found.specs.declared.found.Match.{Match}
@@ -110,18 +110,41 @@ abbrev pub IsExplanation : (accepted : Bool) → Setting → (source : List ℕ)
 IsExplanation true setting source bytes = IsAcceptedPattern setting source
 IsExplanation false setting source bytes = NoneIsAccepted setting source × (bytes ≡ [])
 
--- a page and a line feed
-abbrev pub IsPageLine : List ℕ → Type 0
-IsPageLine bytes = (html : List ℕ) × IsPage html × (bytes ≡ html ++ codes "\n")
+-- the bytes that a match spans
+abbrev pub range_of : Match → Range ℕ
+range_of m = record { start = start_of m; end = (state_of m).position }
 
--- Some text, or a page. Which parts of a text the page marks is not stated: the contract of `page` does not state it.
-abbrev pub HasForm : Form → List ℕ → Type 0
-HasForm lines bytes = ⊤
-HasForm (page text) bytes = IsPageLine bytes
+-- The ranges are those of all matches of the pattern in the text, in order.
+abbrev pub AreMatchRanges : Setting → (source text : List ℕ) → List (Range ℕ) → Type 0
+AreMatchRanges setting source text ranges =
+    (r : Regex) × IsCompiled setting source r × ((ms : List Match) × AreAllMatches text (outcomes_of r text) ms × (ranges ≡ map range_of ms))
 
--- An explanation in this form.
+-- a text that a page shows, and the ranges that it marks in it
+abbrev pub MarkedText : Type 0
+MarkedText = List ℕ × List (Range ℕ)
+
+-- The text is shown, if one is given, and the ranges of all matches in it are marked.
+abbrev pub IsMarkedText : Setting → (source : List ℕ) → (text : Option (List ℕ)) → Option MarkedText → Type 0
+IsMarkedText setting source None marked = marked ≡ None
+IsMarkedText setting source (Some text) marked = (ranges : List (Range ℕ)) × AreMatchRanges setting source text ranges × (marked ≡ Some (text, ranges))
+
+-- a page about the pattern, and a line feed
+pub record IsPageLine (setting : Setting) (source : List ℕ) (text : Option (List ℕ)) (bytes : List ℕ) : Type 0 where
+  pub marked : Option MarkedText
+  pub matches : IsMarkedText setting source text marked
+  pub html : List ℕ
+  pub is : IsPageOf (chars source) marked html
+  pub line : bytes ≡ html ++ codes "\n"
+
+-- Some text, or a page.
+abbrev pub HasForm : Form → Setting → (source : List ℕ) → List ℕ → Type 0
+HasForm lines setting source bytes = ⊤
+HasForm (page text) setting source bytes = IsPageLine setting source text bytes
+
+-- An explanation in this form of a pattern in UTF-8.
 abbrev pub IsExplanationIn : Form → (accepted : Bool) → Setting → (source : List ℕ) → List ℕ → Type 0
-IsExplanationIn form accepted setting source bytes = IsExplanation accepted setting source bytes × (accepted ≡ true → HasForm form bytes)
+IsExplanationIn form accepted setting source bytes =
+    IsExplanation accepted setting (chars source) bytes × (accepted ≡ true → HasForm form setting source bytes)
 
 -- A failure that may occur when an accepted pattern is searched for: it may be too large.
 abbrev pub MayFailToFind : Failure → Type 0
@@ -136,12 +159,3 @@ HasText (page (Some text)) = ⊤
 -- A failure that may occur for an explanation: only with a text the pattern may be too large.
 abbrev pub MayFailToExplain : Form → Failure → Type 0
 MayFailToExplain form failure = IsLate failure ⊎ (HasText form × (failure ≡ TooLarge))
-
--- the bytes that a match spans
-abbrev pub range_of : Match → Range ℕ
-range_of m = record { start = start_of m; end = (state_of m).position }
-
--- The ranges are those of all matches of the pattern in the text, in order.
-abbrev pub AreMatchRanges : Setting → (source text : List ℕ) → List (Range ℕ) → Type 0
-AreMatchRanges setting source text ranges =
-    (r : Regex) × IsCompiled setting source r × ((ms : List Match) × AreAllMatches text (outcomes_of r text) ms × (ranges ≡ map range_of ms))

@@ -102,7 +102,7 @@ module _ (flags : Flags) (text : List ℕ) where
   Does (search job multiline files) input old new found = PrintsAll (unicode_setting flags) text job multiline files input old new found
   Does (show view) input old new found = Took old new (IsTreeOutput found (view_of view flags text))
   Does lint input old new found = Took old new (IsReport found (unicode_setting flags) (chars text))
-  Does (explain form) input old new found = Took old new (IsExplanationIn form found (unicode_setting flags) (chars text))
+  Does (explain form) input old new found = Took old new (IsExplanationIn form found (unicode_setting flags) text)
 
   -- What may be written before a failure: what a search writes for its first lines, or the first of two trees.
   abbrev pub Begins : Action → (input old new : Option (List ℕ)) → Type 0

@@ -1,10 +1,11 @@
 //! `explain`.
-ghost use Rattle.std.specs.Prelude.{◌≡◌, true, Ok, IfOk, IfErr, chars, map, string_bytes};
+ghost use Rattle.std.specs.Prelude.{◌≡◌, ◌++◌, ℕ, List, true, Ok, IfOk, IfErr, chars, codes, map, option_map, string_bytes};
 ghost use Rattle.regress_arguments.specs.Output.{Took};
 ghost use Rattle.regress.specs.Unicode.{unicode_setting};
 ghost use Rattle.regress.specs.Found.{match_of};
 ghost use Rattle.regex_command.specs.Ending.{OrOutput};
-ghost use Rattle.regex_command.specs.Patterns.{AreMatchRanges, HasForm, IsAcceptedPattern, IsExplanationIn, IsPageLine, MayFailToExplain, MayFailToFind, range_of};
+ghost use Rattle.regress_explain.specs.Page.{IsPageOf};
+ghost use Rattle.regex_command.specs.Patterns.{AreMatchRanges, HasForm, IsAcceptedPattern, IsExplanationIn, MayFailToExplain, MayFailToFind, range_of};
 ghost use Rattle.regex_options.specs.Request.{asked_form};
 
 use crate::compiling::compiled;
@@ -31,7 +32,7 @@ pub(crate) fn print_explanation<'f, W: Write, E: Write>(
     err: &mut E,
 ) -> Result<bool, Failure<'f>>
     ensures explained { IfOk result (λ accepted. Took (W.contents out.old) (W.contents out.new)
-        (IsExplanationIn (asked_form form.entry) accepted (unicode_setting pattern.entry.flags) (chars pattern.entry.text.now))) }
+        (IsExplanationIn (asked_form form.entry) accepted (unicode_setting pattern.entry.flags) pattern.entry.text.now)) }
     ensures quiet { result ≡ Ok true → err.new ≡ err.old }
     ensures first { IfErr result (OrOutput (out.new ≡ out.old)) }
     ensures due { IfErr result (MayFailToExplain (asked_form form.entry)) }
@@ -56,19 +57,20 @@ fn explanation<'f>(
     points: &[u32],
     parsed: &SpannedRegex,
 ) -> Result<String, Failure<'f>>
-    requires { IsAcceptedPattern (unicode_setting pattern.flags) (chars pattern.text.now) }
-    ensures form { IfOk result (λ text. HasForm (asked_form form.entry) (string_bytes text)) }
+    requires accepted { IsAcceptedPattern (unicode_setting pattern.flags) (chars pattern.text.now) }
+    requires characters { points.now ≡ chars pattern.text.now }
+    ensures form { IfOk result (λ text. HasForm (asked_form form.entry) (unicode_setting pattern.entry.flags) pattern.entry.text.now (string_bytes text)) }
     ensures due { IfErr result (MayFailToExplain (asked_form form.entry)) }
 {
     match form {
         Form::Lines => Ok(explain(alloc, points, parsed)?),
         Form::Page(None) => Ok(page_line(alloc, points, parsed, None)?),
         Form::Page(Some(text)) => {
-            let ranges = match_ranges(alloc, pattern, text)?;
+            let found = found_in(alloc, pattern, text)?;
             let matched = Matched {
                 text,
-                ranges: &ranges,
-                captures: &[],
+                ranges: &found.ranges,
+                captures: &found.captures,
             };
             Ok(page_line(alloc, points, parsed, Some(matched))?)
         }
@@ -82,26 +84,33 @@ fn page_line(
     parsed: &SpannedRegex,
     matched: Option<Matched<'_>>,
 ) -> Result<String, AllocError>
-    ensures { IfOk result (λ text. IsPageLine (string_bytes text)) }
+    ensures { IfOk result (λ text. (html : List ℕ)
+        × IsPageOf points.now (option_map (λ matched. (matched.text.now, matched.ranges.now)) matched.entry) html × (string_bytes text ≡ html ++ codes "\n")) }
 {
     let mut html = page(alloc, points, parsed, matched)?;
     html.push_str("\n")?;
     Ok(html)
 }
 
-/// Returns the ranges of all matches of an accepted pattern in a text.
-fn match_ranges<'f>(
-    alloc: Global,
-    pattern: Pattern<'_>,
-    text: &str,
-) -> Result<Vec<Range<usize>>, Failure<'f>>
+/// The matches of a pattern in a text.
+#[derive(Drop)]
+struct Found {
+    ranges: Vec<Range<usize>>,
+    /// The ranges of the groups: those of the first match, then those of the next.
+    captures: Vec<Option<Range<usize>>>,
+}
+
+/// Returns all matches of an accepted pattern in a text.
+fn found_in<'f>(alloc: Global, pattern: Pattern<'_>, text: &str) -> Result<Found, Failure<'f>>
     requires { IsAcceptedPattern (unicode_setting pattern.flags) (chars pattern.text.now) }
-    ensures ranges { IfOk result (λ ranges. AreMatchRanges (unicode_setting pattern.entry.flags) pattern.entry.text.now text.now ranges.items) }
+    ensures ranges { IfOk result (λ found. AreMatchRanges (unicode_setting pattern.entry.flags) pattern.entry.text.now text.now found.ranges.items) }
     ensures due { IfErr result MayFailToFind }
 {
     let regex = compiled(alloc, pattern)?;
     let matches = regex.find_all(alloc, text)?;
-    Ok(ranges_of(alloc, &matches)?)
+    let ranges = ranges_of(alloc, &matches)?;
+    let captures = captures_of(alloc, regex.group_count(), &matches)?;
+    Ok(Found { ranges, captures })
 }
 
 fn ranges_of(alloc: Global, matches: &[Match<'_>]) -> Result<Vec<Range<usize>>, AllocError>
@@ -112,4 +121,19 @@ fn ranges_of(alloc: Global, matches: &[Match<'_>]) -> Result<Vec<Range<usize>>, 
         ranges.push(found.range())?;
     }
     Ok(ranges)
+}
+
+/// Returns the ranges of the groups, from 1 up to `groups`, of each match.
+fn captures_of(
+    alloc: Global,
+    groups: usize,
+    matches: &[Match<'_>],
+) -> Result<Vec<Option<Range<usize>>>, AllocError> {
+    let mut captures = Vec::new(alloc);
+    for found in matches {
+        for number in 0..groups {
+            captures.push(found.group(number + 1))?;
+        }
+    }
+    Ok(captures)
 }

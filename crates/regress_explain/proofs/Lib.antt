@@ -1,1 +1,3 @@
+pub mod MarkedLemmas
 pub mod PageLemmas
+pub mod SourceLemmas

@@ -1,7 +1,16 @@
--- A page with one more piece.
-use Rattle.std.proofs.Common.{◌≡◌, ◌∙◌, ℕ, Bool, true, false, List, [], ◌∷◌, ◌++◌, ap, if◌then◌else◌}
+-- A page with more pieces, and what it contains.
+use Rattle.std.proofs.Common.{◌≡◌, ◌∙◌, ℕ, Bool, true, false, List, [], ◌∷◌, ◌++◌, Option, Some, None, ap, refl, subst, sym, append_assoc, append-nil, if◌then◌else◌}
+use Rattle.std.specs.declared.ops.Range.{Range}
 use Rattle.std.proofs.lemmas.List.{flat_map_more}
-use Rattle.regress_explain.specs.Page.{IsPage, Piece, piece_bytes}
+use Rattle.std.proofs.lemmas.List.Concat.{flat_map-append}
+use Rattle.regress_svg.specs.Escape.{escaped_text}
+use Rattle.regress_svg.specs.Markup.{IsDocument}
+use Rattle.regress_explain.specs.declared.markup.Element.{Element}
+use Rattle.regress_explain.specs.declared.markup.Element.TheVariants.{Figure, Paragraph}
+use Rattle.regress_explain.specs.declared.markup.Tag.{Tag}
+use Rattle.regress_explain.specs.declared.markup.Tag.TheVariants.{Open, Close}
+use Rattle.regress_explain.specs.Page.{Contains, ContainsMatches, IsPage, IsPageOf, IsParagraph, IsPicture, Piece, tag, text, picture, ShowsSource, element_bytes, piece_bytes, pieces_bytes, tag_bytes}
+use Rattle.regress_explain.specs.Written.{Adds, IsAnything}
 
 adds : (old new : List ℕ) (p : Piece) → new ≡ old ++ piece_bytes p → IsPage old → IsPage new
 adds old new p is (pieces, made) =
@@ -12,3 +21,151 @@ pub adds_if : (ok : Bool) (old new bytes : List ℕ) (p : Piece) → new ≡ (if
     IsPage old → IsPage new
 adds_if true old new bytes p is added page = adds old new p (is ∙ ap (λ all. old ++ all) added) page
 adds_if false old new bytes p is added (pieces, made) = (pieces, is ∙ made)
+
+-- Another page is added, or else nothing.
+pub appends_if : (ok : Bool) (old new bytes other : List ℕ) → new ≡ (if ok then old ++ bytes else old) → bytes ≡ other → IsPage other →
+    IsPage old → IsPage new
+appends_if true old new bytes other is same (more, other_made) (pieces, made) = (
+  pieces ++ more,
+  is ∙ ap (λ all. old ++ all) (same ∙ other_made) ∙ ap (λ all. all ++ pieces_bytes more) made
+      ∙ sym (flat_map-append piece_bytes pieces more),
+)
+appends_if false old new bytes other is same other_page (pieces, made) = (pieces, is ∙ made)
+
+pub adds_page : (old new other : List ℕ) → new ≡ old ++ other → IsPage other → Adds IsAnything old new
+adds_page old new other is (more, made) = record { pieces = more; has = tt; added = is ∙ ap (λ all. old ++ all) made }
+
+pub adds_one : (P : List Piece → Type 0) (p : Piece) (old new : List ℕ) → P (p ∷ []) → new ≡ old ++ piece_bytes p → Adds P old new
+adds_one P p old new has is =
+    record { pieces = p ∷ []; has = has; added = is ∙ ap (λ all. old ++ all) (sym (append-nil (piece_bytes p))) }
+
+pub adds_nothing : (P : List Piece → Type 0) (page : List ℕ) → P [] → Adds P page page
+adds_nothing P page has = record { pieces = []; has = has; added = sym (append-nil page) }
+
+-- pieces, and then more
+pub adds_both : (P Q R : List Piece → Type 0) (a b c : List ℕ) → ((ps qs : List Piece) → P ps → Q qs → R (ps ++ qs)) →
+    Adds P a b → Adds Q b c → Adds R a c
+adds_both P Q R a b c both first second = record {
+  pieces = first.pieces ++ second.pieces;
+  has = both first.pieces second.pieces first.has second.has;
+  added = second.added ∙ ap (λ all. all ++ pieces_bytes second.pieces) first.added
+      ∙ append_assoc a (pieces_bytes first.pieces) (pieces_bytes second.pieces)
+      ∙ ap (λ all. a ++ all) (sym (flat_map-append piece_bytes first.pieces second.pieces));
+}
+
+framed_bytes : (a b c d : List ℕ) → ((a ++ b) ++ c) ++ d ≡ a ++ (b ++ (c ++ (d ++ [])))
+framed_bytes a b c d = simp (append_assoc, append-nil)
+
+-- pieces between two
+pub adds_framed : (P Q : List Piece → Type 0) (first last : Piece) (a b c d : List ℕ) → ((ps : List Piece) → P ps → Q (first ∷ (ps ++ last ∷ []))) →
+    b ≡ a ++ piece_bytes first → Adds P b c → d ≡ c ++ piece_bytes last → Adds Q a d
+adds_framed P Q first last a b c d framed opened inside closed = record {
+  pieces = first ∷ (inside.pieces ++ last ∷ []);
+  has = framed inside.pieces inside.has;
+  added = closed ∙ ap (λ all. all ++ piece_bytes last) (inside.added ∙ ap (λ all. all ++ pieces_bytes inside.pieces) opened)
+      ∙ framed_bytes a (piece_bytes first) (pieces_bytes inside.pieces) (piece_bytes last)
+      ∙ ap (λ all. a ++ (piece_bytes first ++ all)) (sym (flat_map-append piece_bytes inside.pieces (last ∷ [])));
+}
+
+element_grouped : (a b c d : List ℕ) → a ++ (b ++ c ++ d) ≡ a ++ (b ++ (c ++ (d ++ [])))
+element_grouped a b c d = simp (append_assoc, append-nil)
+
+pub adds_element : (element : Element) (content old new : List ℕ) → new ≡ old ++ element_bytes element content → Adds IsAnything old new
+adds_element element content old new is = record {
+  pieces = tag (Open element) ∷ text content ∷ tag (Close element) ∷ [];
+  has = tt;
+  added = is ∙ element_grouped old (tag_bytes (Open element)) (escaped_text content) (tag_bytes (Close element));
+}
+
+-- anything, and then more
+pub adds_more : (a b c : List ℕ) → Adds IsAnything a b → Adds IsAnything b c → Adds IsAnything a c
+adds_more a b c = adds_both IsAnything IsAnything IsAnything a b c (λ ps qs one two. tt)
+
+pub adds_tag : (t : Tag) (old new : List ℕ) → new ≡ old ++ tag_bytes t → Adds IsAnything old new
+adds_tag t old new is = adds_one IsAnything (tag t) old new tt is
+
+after_others : (before front inside after : List Piece) → before ++ (front ++ inside ++ after) ≡ (before ++ front) ++ inside ++ after
+after_others before front inside after = simp append_assoc
+
+pub contains_after : (P : List Piece → Type 0) (before pieces : List Piece) → Contains P pieces → Contains P (before ++ pieces)
+contains_after P before pieces found = record {
+  before = before ++ found.before;
+  inside = found.inside;
+  after = found.after;
+  has = found.has;
+  is = ap (λ all. before ++ all) found.is ∙ after_others before found.before found.inside found.after;
+}
+
+pub contains_before : (P : List Piece → Type 0) (pieces after : List Piece) → Contains P pieces → Contains P (pieces ++ after)
+contains_before P pieces after found = record {
+  before = found.before;
+  inside = found.inside;
+  after = found.after ++ after;
+  has = found.has;
+  is = ap (λ all. all ++ after) found.is ∙ append_assoc (found.before ++ found.inside) found.after after;
+}
+
+-- anything, and then what is looked for
+pub adds_contained : (P : List Piece → Type 0) (a b c : List ℕ) → Adds IsAnything a b → Adds P b c → Adds (Contains P) a c
+adds_contained P a b c =
+    adds_both IsAnything P (Contains P) a b c
+    (λ ps qs any has. record { before = ps; inside = qs; after = []; has = has; is = sym (append-nil (ps ++ qs)) })
+
+-- what is looked for, and then anything
+pub adds_after : (P : List Piece → Type 0) (a b c : List ℕ) → Adds (Contains P) a b → Adds IsAnything b c → Adds (Contains P) a c
+adds_after P a b c = adds_both (Contains P) IsAnything (Contains P) a b c (λ ps qs found any. contains_before P ps qs found)
+
+-- a paragraph after a heading
+pub shows_paragraph : (P : List Piece → Type 0) (a b c d e : List ℕ) → Adds IsAnything a b → c ≡ b ++ tag_bytes (Open Paragraph) → Adds P c d →
+    e ≡ d ++ tag_bytes (Close Paragraph) → Adds (Contains (IsParagraph P)) a e
+shows_paragraph P a b c d e heading opened inside closed =
+    adds_contained (IsParagraph P) a b e heading
+    (adds_framed P (IsParagraph P) (tag (Open Paragraph)) (tag (Close Paragraph)) b c d e (λ ps has. record { inside = ps; has = has; is = refl })
+    opened inside closed)
+
+-- a picture after a heading
+pub shows_picture : (bytes : List ℕ) (is : IsDocument bytes) (a b c d e : List ℕ) → Adds IsAnything a b → c ≡ b ++ tag_bytes (Open Figure) →
+    d ≡ c ++ bytes → e ≡ d ++ tag_bytes (Close Figure) → Adds (Contains IsPicture) a e
+shows_picture bytes is a b c d e heading opened drawn closed =
+    let P : List Piece → Type 0 = λ ps. ps ≡ picture bytes is ∷ [] in
+    adds_contained IsPicture a b e heading
+    (adds_framed P IsPicture (tag (Open Figure)) (tag (Close Figure)) b c d e
+    (λ ps one. record { bytes = bytes; document = is; is = ap (λ all. tag (Open Figure) ∷ (all ++ tag (Close Figure) ∷ [])) one })
+    opened (adds_one P (picture bytes is) c d refl drawn) closed)
+
+matches_within : (matched : Option (List ℕ × List (Range ℕ))) (before pieces after : List Piece) → ContainsMatches matched pieces →
+    ContainsMatches matched ((before ++ pieces) ++ after)
+matches_within None before pieces after found = tt
+matches_within (Some m) before pieces after found = contains_before _ (before ++ pieces) after (contains_after _ before pieces found)
+
+-- the whole page
+pub whole_page : (pattern : List ℕ) (matched : Option (List ℕ × List (Range ℕ))) (a b c d e f : List ℕ) → Adds IsAnything [] a →
+    Adds (Contains (IsParagraph (ShowsSource 0 pattern))) a b → Adds (Contains IsPicture) b c → Adds IsAnything c d → Adds (ContainsMatches matched) d e →
+    Adds IsAnything e f → IsPageOf pattern matched f
+whole_page pattern matched a b c d e f head source diagram explanation matches foot =
+    let P : List Piece → Type 0 = Contains (IsParagraph (ShowsSource 0 pattern)) in
+    let one : Adds P [] b =
+    adds_both IsAnything P P [] a b (λ ps qs any found. contains_after (IsParagraph (ShowsSource 0 pattern)) ps qs found) head source in
+    let Q : List Piece → Type 0 = λ ps. P ps × Contains IsPicture ps in
+    let two : Adds Q [] c =
+    adds_both P (Contains IsPicture) Q [] b c
+    (λ ps qs shown drawn. (contains_before (IsParagraph (ShowsSource 0 pattern)) ps qs shown, contains_after IsPicture ps qs drawn)) one diagram in
+    let three : Adds Q [] d = adds_both Q IsAnything Q [] c d (λ ps qs has any. both_before ps qs has) two explanation in
+    let R : List Piece → Type 0 = λ ps. Q ps × ContainsMatches matched ps in
+    let four : Adds R [] e =
+    adds_both Q (ContainsMatches matched) R [] d e
+    (λ ps qs has found. (both_before ps qs has, matches_after ps qs found)) three matches in
+    let all : Adds R [] f =
+    adds_both R IsAnything R [] e f (λ ps qs has any. (both_before ps qs has.0, matches_before ps qs has.1)) four foot in
+    record { pieces = all.pieces; written = all.added; source = all.has.0.0; diagram = all.has.0.1; matches = all.has.1 }
+  where
+    both_before : (ps qs : List Piece) → Contains (IsParagraph (ShowsSource 0 pattern)) ps × Contains IsPicture ps →
+        Contains (IsParagraph (ShowsSource 0 pattern)) (ps ++ qs) × Contains IsPicture (ps ++ qs)
+    both_before ps qs has = (contains_before (IsParagraph (ShowsSource 0 pattern)) ps qs has.0, contains_before IsPicture ps qs has.1)
+
+    matches_after : (ps qs : List Piece) → ContainsMatches matched qs → ContainsMatches matched (ps ++ qs)
+    matches_after ps qs found =
+        subst (λ (all : List Piece). ContainsMatches matched all) (append-nil (ps ++ qs)) (matches_within matched ps qs [] found)
+
+    matches_before : (ps qs : List Piece) → ContainsMatches matched ps → ContainsMatches matched (ps ++ qs)
+    matches_before ps qs found = matches_within matched [] ps qs found

@@ -1,1 +1,3 @@
 pub mod Page
+pub mod Shown
+pub mod Written

@@ -1,8 +1,13 @@
--- A page (HTML): tags of a fixed list, escaped texts, and pictures.
-use Rattle.std.specs.Prelude.{◌≡◌, ℕ, List, ◌++◌, codes, flat_map}
+-- A page (HTML): tags of a fixed list, escaped texts, and pictures; and what it contains.
+use Rattle.std.specs.Prelude.{◌≡◌, ◌⊎◌, ⊤, ℕ, ◌+◌, ◌≤◌, List, [], ◌∷◌, ◌++◌, codes, drop, flat_map, length, Option, Some, None, slice_range}
 use Rattle.std.specs.Fmt.{decimal}
+use Rattle.std.specs.Str.{IsCharBoundary}
+use Rattle.std.specs.declared.ops.Range.{Range}
+use Rattle.regress_labels.specs.Symbols.{IsShownText}
+use Rattle.regress_parse.specs.declared.span.Span.{Span}
 use Rattle.regress_svg.specs.Escape.{escaped_text}
 use Rattle.regress_svg.specs.Markup.{IsDocument}
+use Rattle.regress_explain.specs.Shown.{shown_text}
 use Rattle.regress_explain.specs.declared.markup.Element.{Element}
 use Rattle.regress_explain.specs.declared.markup.Element.TheVariants.{Section, Heading, Paragraph, Figure, Items, Item, Code, Small, Mark, Division, Inline, Footer, Link, Table, Row, ColumnHead, Cell}
 use Rattle.regress_explain.specs.declared.markup.Tag.{Tag}
@@ -42,6 +47,10 @@ tag_bytes (Part span) = codes "<span class=\"m s" ++ decimal span.start ++ codes
 tag_bytes (Line span) = codes "<div class=\"m s" ++ decimal span.start ++ codes "-" ++ decimal span.end ++ codes "\" tabindex=\"0\">"
 tag_bytes (To span) = codes "<a href=\"#p" ++ decimal span.start ++ codes "-" ++ decimal span.end ++ codes "\">"
 
+-- an element that contains a text
+abbrev pub element_bytes : Element → (text : List ℕ) → List ℕ
+element_bytes element text = tag_bytes (Open element) ++ escaped_text text ++ tag_bytes (Close element)
+
 -- a piece of a page
 pub data Piece : Type 0 where
   tag : Tag → Piece
@@ -53,6 +62,92 @@ piece_bytes (tag t) = tag_bytes t
 piece_bytes (text t) = escaped_text t
 piece_bytes (picture bytes is) = bytes
 
+abbrev pub pieces_bytes : List Piece → List ℕ
+pieces_bytes pieces = flat_map piece_bytes pieces
+
 -- The bytes are those of a list of pieces.
 abbrev pub IsPage : List ℕ → Type 0
-IsPage bytes = (pieces : List Piece) × (bytes ≡ flat_map piece_bytes pieces)
+IsPage bytes = (pieces : List Piece) × (bytes ≡ pieces_bytes pieces)
+
+-- a pattern as a page shows it: characters, and elements for parts of the pattern
+pub data Source : Type 0 where
+  finish : Source
+  characters : (points shown : List ℕ) → IsShownText points shown → (after : Source) → Source
+  part : Span → (inside after : Source) → Source
+
+-- its code points
+abbrev pub source_points : Source → List ℕ
+source_points finish = []
+source_points (characters points shown is after) = points ++ source_points after
+source_points (part span inside after) = source_points inside ++ source_points after
+
+abbrev pub source_pieces : Source → List Piece
+source_pieces finish = []
+source_pieces (characters points shown is after) = text shown ∷ source_pieces after
+source_pieces (part span inside after) = tag (Part span) ∷ (source_pieces inside ++ tag (Close Inline) ∷ source_pieces after)
+
+-- Each part is at its span, if the source begins at that index.
+abbrev pub AreAtTheirSpans : (start : ℕ) → Source → Type 0
+AreAtTheirSpans start finish = ⊤
+AreAtTheirSpans start (characters points shown is after) = AreAtTheirSpans (start + length points) after
+AreAtTheirSpans start (part span inside after) = (span.start ≡ start) × (span.end ≡ start + length (source_points inside))
+    × AreAtTheirSpans start inside × AreAtTheirSpans span.end after
+
+-- The pieces show these code points of a pattern, which begin at that index.
+pub record ShowsSource (start : ℕ) (points : List ℕ) (pieces : List Piece) : Type 0 where
+  pub source : Source
+  pub whole : source_points source ≡ points
+  pub placed : AreAtTheirSpans start source
+  pub written : pieces ≡ source_pieces source
+
+-- The range begins at `at` or later and no later than it ends, and both are on character boundaries.
+pub record IsMarkable (text : List ℕ) (at : ℕ) (range : Range ℕ) : Type 0 where
+  pub after : at ≤ range.start
+  pub ordered : range.start ≤ range.end
+  pub from : IsCharBoundary text range.start
+  pub to : IsCharBoundary text range.end
+
+-- the text before a match, and the match
+abbrev pub match_pieces : (before found : List ℕ) → List Piece
+match_pieces before found = text (shown_text before) ∷ tag (Open Mark) ∷ text (shown_text found) ∷ tag (Close Mark) ∷ []
+
+-- The pieces show the text from `at` on. The ranges in it are marked, and nothing else is.
+abbrev pub ShowsMarked : (whole : List ℕ) → (at : ℕ) → List (Range ℕ) → List Piece → Type 0
+ShowsMarked whole at [] pieces = pieces ≡ text (shown_text (drop at whole)) ∷ []
+ShowsMarked whole at (range ∷ ranges) pieces =
+    (IsMarkable whole at range × ((rest : List Piece) × ShowsMarked whole range.end ranges rest
+    × (pieces ≡ match_pieces (slice_range whole at range.start) (slice_range whole range.start range.end) ++ rest)))
+    ⊎ ((¬ IsMarkable whole at range) × ShowsMarked whole at ranges pieces)
+
+-- The pieces are a paragraph, and of what is in it P holds.
+pub record IsParagraph (P : List Piece → Type 0) (pieces : List Piece) : Type 0 where
+  pub inside : List Piece
+  pub has : P inside
+  pub is : pieces ≡ tag (Open Paragraph) ∷ (inside ++ tag (Close Paragraph) ∷ [])
+
+-- The pieces are a picture.
+pub record IsPicture (pieces : List Piece) : Type 0 where
+  pub bytes : List ℕ
+  pub document : IsDocument bytes
+  pub is : pieces ≡ tag (Open Figure) ∷ picture bytes document ∷ tag (Close Figure) ∷ []
+
+-- Among the pieces are some, one after the other, of which P holds.
+pub record Contains (P : List Piece → Type 0) (pieces : List Piece) : Type 0 where
+  pub before : List Piece
+  pub inside : List Piece
+  pub after : List Piece
+  pub has : P inside
+  pub is : pieces ≡ before ++ inside ++ after
+
+-- The pieces contain a paragraph with the text, if one is given, and its matches.
+abbrev pub ContainsMatches : Option (List ℕ × List (Range ℕ)) → List Piece → Type 0
+ContainsMatches None pieces = ⊤
+ContainsMatches (Some matched) pieces = Contains (IsParagraph (ShowsMarked matched.0 0 matched.1)) pieces
+
+-- The bytes are those of a page about a pattern, with a text and the ranges of its matches if they are given.
+pub record IsPageOf (pattern : List ℕ) (matched : Option (List ℕ × List (Range ℕ))) (bytes : List ℕ) : Type 0 where
+  pub pieces : List Piece
+  pub written : bytes ≡ pieces_bytes pieces
+  pub source : Contains (IsParagraph (ShowsSource 0 pattern)) pieces
+  pub diagram : Contains IsPicture pieces
+  pub matches : ContainsMatches matched pieces

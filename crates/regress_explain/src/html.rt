@@ -1,6 +1,7 @@
 //! An explanation as a page.
-ghost use Rattle.std.specs.Prelude.{IfOk, string_bytes};
-ghost use Rattle.regress_explain.specs.Page.{IsPage};
+ghost use Rattle.std.specs.Prelude.{IfOk, OnOk, option_map, string_bytes};
+ghost use Rattle.regress_explain.specs.Page.{Contains, ContainsMatches, IsPageOf, IsParagraph, IsPicture};
+ghost use Rattle.regress_explain.specs.Written.{Adds};
 
 use crate::listing::write_list;
 use crate::markup::{Element, Markup, Tag, Written};
@@ -12,6 +13,7 @@ use crate::summary::summary;
 use regress_labels::group_names;
 use regress_parse::SpannedRegex;
 use regress_railroad::svg_with_marks;
+use regress_tree::ir::Node;
 use std::alloc::{AllocError, Global};
 
 /// Returns a page about a parsed pattern, as one HTML document that refers to no other file and needs no script: the
@@ -38,56 +40,81 @@ pub fn page(
     parsed: &SpannedRegex,
     matched: Option<Matched<'_>>,
 ) -> Result<String, AllocError>
-    // Nothing of the pattern or of the text is markup: each text is escaped, and the tags are fixed.
-    ensures { IfOk result (λ text. IsPage (string_bytes text)) }
+    // Nothing of the pattern or of the text is markup: each text is escaped, and the tags are fixed. The whole pattern is
+    // there, each part of it at the span that its element names, and a picture. The whole text is there, and the ranges
+    // in it are marked, and nothing else.
+    ensures { IfOk result (λ page. IsPageOf pattern.now (option_map (λ matched. (matched.text.now, matched.ranges.now)) matched.entry) (string_bytes page)) }
 {
     let parts = outline(alloc, pattern, parsed)?;
     let mut page = Markup::new(alloc);
-    write_head(&parts, &mut page)?;
+    page.append(&head(alloc, &parts)?)?;
     write_pattern(pattern, parsed.regex.flags, &parts, &mut page)?;
     write_diagram(pattern, parsed, &mut page)?;
-    write_explanation(&parts, pattern, parsed, &mut page)?;
-    if let Some(matched) = matched {
-        let names = group_names(alloc, &parsed.regex.node)?;
-        write_text(matched, &names, &mut page)?;
-    }
-    page.element(Element::Footer, MADE)?;
-    page.tag(Tag::End)?;
+    page.append(&explanation(alloc, &parts, pattern, parsed)?)?;
+    write_matches(matched, &parsed.regex.node, &mut page)?;
+    page.append(&foot(alloc)?)?;
     Ok(page.finish())
 }
 
-/// How the page was made.
-const MADE: &str = "Made by regex explain --html. This page has no scripts: \
-for another pattern, or with --on for the matches in another text, run the program again.";
-
-/// Writes the sentence about the pattern, and its parts.
-fn write_explanation(
-    parts: &[Part],
-    pattern: &[u32],
-    parsed: &SpannedRegex,
-    page: &mut Markup,
-) -> Written {
-    page.begin_section("Explanation")?;
-    let summary = summary(page.alloc(), &parsed.regex.node)?;
-    page.element(Element::Division, &summary)?;
-    write_list(parts, pattern, page)?;
-    page.tag(Tag::Close(Element::Section))
-}
-
-/// Writes what precedes the content.
-fn write_head(parts: &[Part], page: &mut Markup) -> Written {
+/// Returns what precedes the content.
+fn head(alloc: Global, parts: &[Part]) -> Result<Markup, AllocError> {
+    let mut page = Markup::new(alloc);
     page.tag(Tag::Head)?;
     page.text("Regular expression")?;
     page.tag(Tag::Style)?;
-    write_style(parts, page)?;
-    page.tag(Tag::Body)
+    write_style(parts, &mut page)?;
+    page.tag(Tag::Body)?;
+    Ok(page)
 }
 
-fn write_diagram(pattern: &[u32], parsed: &SpannedRegex, page: &mut Markup) -> Written {
+/// Writes the diagram.
+fn write_diagram(pattern: &[u32], parsed: &SpannedRegex, page: &mut Markup) -> Written
+    ensures { OnOk result (Adds (Contains IsPicture) page.old page.new) }
+{
     let picture = svg_with_marks(page.alloc(), &parsed.regex, pattern, &parsed.spans)?;
     page.begin_section("Diagram")?;
     page.tag(Tag::Open(Element::Figure))?;
     page.picture(&picture)?;
     page.tag(Tag::Close(Element::Figure))?;
     page.tag(Tag::Close(Element::Section))
+}
+
+/// Returns the sentence about the pattern, and its parts.
+fn explanation(
+    alloc: Global,
+    parts: &[Part],
+    pattern: &[u32],
+    parsed: &SpannedRegex,
+) -> Result<Markup, AllocError> {
+    let mut page = Markup::new(alloc);
+    page.begin_section("Explanation")?;
+    page.element(Element::Division, &summary(alloc, &parsed.regex.node)?)?;
+    write_list(parts, pattern, &mut page)?;
+    page.tag(Tag::Close(Element::Section))?;
+    Ok(page)
+}
+
+/// Writes the text with its matches, if one is given.
+fn write_matches(matched: Option<Matched<'_>>, root: &Node, page: &mut Markup) -> Written
+    ensures { OnOk result (Adds (ContainsMatches (option_map (λ matched. (matched.text.now, matched.ranges.now)) matched.entry)) page.old page.new) }
+{
+    match matched {
+        Some(matched) => {
+            let names = group_names(page.alloc(), root)?;
+            write_text(matched, &names, page)
+        }
+        None => Ok(()),
+    }
+}
+
+/// How the page was made.
+const MADE: &str = "Made by regex explain --html. This page has no scripts: \
+for another pattern, or with --on for the matches in another text, run the program again.";
+
+/// Returns what follows the content.
+fn foot(alloc: Global) -> Result<Markup, AllocError> {
+    let mut page = Markup::new(alloc);
+    page.element(Element::Footer, MADE)?;
+    page.tag(Tag::End)?;
+    Ok(page)
 }

@@ -1,8 +1,9 @@
 //! A page that is written piece by piece.
-ghost use Rattle.std.specs.Prelude.{◌≡◌, ◌++◌, OnOk, IfOk, string_bytes};
+ghost use Rattle.std.specs.Prelude.{◌≡◌, ◌++◌, [], OnOk, IfOk, string_bytes};
 ghost use Rattle.regress_svg.specs.Escape.{escaped_text};
 ghost use Rattle.regress_svg.specs.Markup.{IsDocument};
-ghost use Rattle.regress_explain.specs.Page.{IsPage, name_of, tag_bytes};
+ghost use Rattle.regress_explain.specs.Page.{element_bytes, name_of, tag_bytes};
+ghost use Rattle.regress_explain.specs.Written.{Adds, IsAnything};
 
 use regress_parse::Span;
 use regress_svg::Escaped;
@@ -17,6 +18,7 @@ pub(crate) enum Element {
     Heading,
     /// A text in which white space is kept.
     Paragraph,
+    /// A picture or a table, which may be wider than the page.
     Figure,
     Items,
     Item,
@@ -144,7 +146,9 @@ pub(crate) type Written = Result<(), AllocError>;
 
 impl Markup {
     /// Returns a page without content.
-    pub(crate) fn new(alloc: Global) -> Markup {
+    pub(crate) fn new(alloc: Global) -> Markup
+        ensures { result ≡ [] }
+    {
         let text = String::new(alloc);
         Markup { alloc, text }
     }
@@ -172,16 +176,27 @@ impl Markup {
     }
 
     /// Writes an element that contains a text.
-    pub(crate) fn element(&mut self, element: Element, text: &str) -> Written {
+    pub(crate) fn element(&mut self, element: Element, text: &str) -> Written
+        ensures { OnOk result (self.new ≡ self.old ++ element_bytes element text.now) }
+    {
         self.tag(Tag::Open(element))?;
         self.text(text)?;
         self.tag(Tag::Close(element))
     }
 
     /// Writes the start of a section.
-    pub(crate) fn begin_section(&mut self, heading: &str) -> Written {
+    pub(crate) fn begin_section(&mut self, heading: &str) -> Written
+        ensures { OnOk result (Adds IsAnything self.old self.new) }
+    {
         self.tag(Tag::Open(Element::Section))?;
         self.element(Element::Heading, heading)
+    }
+
+    /// Writes what has been written of another page.
+    pub(crate) fn append(&mut self, other: &Markup) -> Written
+        ensures { OnOk result (Adds IsAnything self.old self.new) }
+    {
+        self.text.push_str(&other.text)
     }
 
     /// Writes a picture.
@@ -197,7 +212,7 @@ impl Markup {
 
     /// Returns the page.
     pub(crate) fn finish(self) -> String
-        ensures { IsPage (string_bytes result) }
+        ensures { string_bytes result ≡ self }
     {
         self.text
     }

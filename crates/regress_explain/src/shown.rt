@@ -1,6 +1,8 @@
 //! Texts as they are shown: invisible characters by their numbers.
+ghost use Rattle.std.specs.Prelude.{◌≡◌, ◌++◌, IfOk, OnOk, string_bytes};
+ghost use Rattle.regress_explain.specs.Shown.{is_hidden, shown_character, shown_text};
 
-use regress_labels::push_symbol;
+use regress_labels::push_number;
 use regress_parse::Span;
 use regress_railroad::excerpt;
 use std::alloc::{AllocError, Global};
@@ -12,19 +14,29 @@ pub(crate) fn written(alloc: Global, pattern: &[u32], span: Span) -> Result<Stri
 
 /// Returns a text in which controls, other than tabs and line feeds, and invisible format characters are shown by their
 /// numbers.
-pub(crate) fn shown_text(alloc: Global, text: &str) -> Result<String, AllocError> {
+pub(crate) fn shown_text(alloc: Global, text: &str) -> Result<String, AllocError>
+    ensures { IfOk result (λ shown. string_bytes shown ≡ shown_text text.now) }
+{
     let mut shown = String::new(alloc);
     for c in text.chars() {
-        if is_hidden(c) {
-            push_symbol(u32::from(c), alloc, &mut shown)?;
-        } else {
-            shown.push(c)?;
-        }
+        push_shown(c, alloc, &mut shown)?;
     }
     Ok(shown)
 }
 
-fn is_hidden(c: char) -> bool {
+fn push_shown(c: char, alloc: Global, text: &mut String) -> Result<(), AllocError>
+    ensures { OnOk result (string_bytes text.new ≡ string_bytes text.old ++ shown_character c) }
+{
+    if is_hidden(c) {
+        push_number(u32::from(c), alloc, text)
+    } else {
+        text.push(c)
+    }
+}
+
+fn is_hidden(c: char) -> bool
+    ensures { result ≡ is_hidden c }
+{
     match c {
         '\t' | '\n' => false,
         '\0'..='\u{1F}' | '\u{7F}'..='\u{9F}' => true,

@@ -1,4 +1,7 @@
 //! The pattern as it is written, with an element for each part.
+ghost use Rattle.std.specs.Prelude.{◌≡◌, ◌≤◌, ℕ, true, OnOk, length, slice_range};
+ghost use Rattle.regress_explain.specs.Page.{Contains, IsParagraph, ShowsSource};
+ghost use Rattle.regress_explain.specs.Written.{Adds};
 
 use crate::markup::{Element, Markup, Tag, Written};
 use crate::outline::Part;
@@ -6,6 +9,7 @@ use regress_base::types::Flags;
 use regress_labels::flags_text;
 use regress_parse::Span;
 use regress_words::shown;
+use std::alloc::{AllocError, Global};
 
 /// Writes the section of the pattern, with its flags in the heading.
 pub(crate) fn write_pattern(
@@ -13,63 +17,71 @@ pub(crate) fn write_pattern(
     flags: Flags,
     parts: &[Part],
     page: &mut Markup,
-) -> Written {
-    write_heading(flags, page)?;
+) -> Written
+    ensures { OnOk result (Adds (Contains (IsParagraph (ShowsSource 0 pattern.now))) page.old page.new) }
+{
+    page.begin_section(&heading(page.alloc(), flags)?)?;
     page.tag(Tag::Open(Element::Paragraph))?;
-    let mut rest = Rest { pattern, at: 0 };
-    write_all(parts, &mut rest, page)?;
-    rest.write_up_to(pattern.len(), page)?;
+    let whole = Span {
+        start: 0,
+        end: pattern.len(),
+    };
+    write_range(pattern, whole, parts, page)?;
     page.tag(Tag::Close(Element::Paragraph))?;
     page.tag(Tag::Close(Element::Section))
 }
 
-fn write_heading(flags: Flags, page: &mut Markup) -> Written {
-    let flags = flags_text(page.alloc(), flags)?;
+fn heading(alloc: Global, flags: Flags) -> Result<String, AllocError> {
+    let flags = flags_text(alloc, flags)?;
     if flags.is_empty() {
-        return page.begin_section("Pattern");
+        return String::from_str(alloc, "Pattern");
     }
-    let heading = format!(in page.alloc(); "Pattern, {flags}")?;
-    page.begin_section(&heading)
+    Ok(format!(in alloc; "Pattern, {flags}")?)
 }
 
-/// What is not written yet of a pattern.
-#[derive(Drop)]
-struct Rest<'a> {
-    pattern: &'a [u32],
-    /// The index of its first character.
-    at: usize,
-}
-
-impl Rest<'_> {
-    /// Writes the characters up to an index, if it is ahead and in the pattern.
-    fn write_up_to(&mut self, end: usize, page: &mut Markup) -> Written {
-        let Some(next) = self.pattern.get(self.at..end) else {
-            return Ok(());
-        };
-        self.at = end;
-        let text = shown(page.alloc(), next)?;
-        page.text(&text)
-    }
-}
-
-#[cycle(write_all)]
-fn write_all(parts: &[Part], rest: &mut Rest<'_>, page: &mut Markup) -> Written {
+/// Writes a range of the pattern, with an element for each part that begins in it after the part before, is not empty,
+/// and does not end after it.
+#[cycle(write_range)]
+fn write_range(pattern: &[u32], range: Span, parts: &[Part], page: &mut Markup) -> Written
+    requires ordered { range.start ≤ range.end }
+    requires within { range.end ≤ length pattern.now }
+    ensures { OnOk result (Adds (ShowsSource range.start (slice_range pattern.now range.start range.end)) page.old page.new) }
+{
+    let mut at = range.start;
     for part in parts {
-        write_part(part, rest, page)?;
+        let span = part.span;
+        if !is_between(span, at, range.end) {
+            continue;
+        }
+        write_characters(&pattern[at..span.start], page)?;
+        write_part(pattern, span, &part.parts, page)?;
+        at = span.end;
     }
-    Ok(())
+    write_characters(&pattern[at..range.end], page)
 }
 
-/// Writes a part of the pattern, if anything of it is not written yet.
-#[cycle(write_all)]
-fn write_part(part: &Part, rest: &mut Rest<'_>, page: &mut Markup) -> Written {
-    let Span { start, end } = part.span;
-    if end <= rest.at {
-        return Ok(());
-    }
-    rest.write_up_to(start, page)?;
-    page.tag(Tag::Part(part.span))?;
-    write_all(&part.parts, rest, page)?;
-    rest.write_up_to(end, page)?;
+fn is_between(span: Span, start: usize, end: usize) -> bool
+    ensures { result ≡ true → (start ≤ span.start) × (span.start ≤ span.end) × (span.end ≤ end) }
+{
+    start <= span.start && span.start < span.end && span.end <= end
+}
+
+/// Writes the element of a part with these parts inside.
+#[cycle(write_range)]
+fn write_part(pattern: &[u32], span: Span, inside: &[Part], page: &mut Markup) -> Written
+    requires ordered { span.start ≤ span.end }
+    requires within { span.end ≤ length pattern.now }
+    ensures { OnOk result (Adds (ShowsSource span.start (slice_range pattern.now span.start span.end)) page.old page.new) }
+{
+    page.tag(Tag::Part(span))?;
+    write_range(pattern, span, inside, page)?;
     page.tag(Tag::Close(Element::Inline))
+}
+
+/// Writes characters of the pattern.
+fn write_characters(points: &[u32], page: &mut Markup) -> Written
+    ensures { OnOk result ((start : ℕ) → Adds (ShowsSource start points.now) page.old page.new) }
+{
+    let text = shown(page.alloc(), points)?;
+    page.text(&text)
 }

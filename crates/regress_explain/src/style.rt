@@ -25,16 +25,16 @@ code{background:var(--panel);border:1px solid var(--edge);border-radius:4px;padd
 small,footer,a{color:var(--dim)}\
 footer{margin-top:2rem;font-size:.85rem}\
 :focus-visible{outline:2px solid var(--rim);outline-offset:1px}\
-table{border-collapse:collapse;margin-top:.6rem;font-size:.9rem}\
-th,td{border:1px solid var(--edge);padding:.2rem .6rem;text-align:left;vertical-align:top;white-space:pre-wrap;\
-overflow-wrap:anywhere}\
-th{background:var(--panel)}\
+p+figure{box-sizing:border-box;width:fit-content;max-width:100%;margin-top:.6rem}\
+table{border-collapse:collapse;border-style:hidden;font-size:.9rem}\
+th,td{border:1px solid var(--edge);padding:.2rem .6rem;text-align:left;vertical-align:top;white-space:pre-wrap}\
+th{background:var(--panel);white-space:nowrap}\
 mark{background:var(--hit);color:inherit;border-radius:3px;box-shadow:inset 0 0 0 1px var(--rim)}\
 mark:empty{border-left:2px solid var(--glow)}\
 .m{border-radius:4px}\
 .m:not(g){filter:none!important}\
 @media print{:root{color-scheme:light}main{max-width:none}figure{overflow:visible;border:0}\
-figure svg{max-width:100%;height:auto}li,tr{break-inside:avoid}a{text-decoration:none}}";
+figure svg{max-width:100%;height:auto}th,td{white-space:pre-wrap;overflow-wrap:anywhere}li,tr{break-inside:avoid}a{text-decoration:none}}";
 
 /// The declarations for the parts that are marked: a background in the text, and a glow in the diagram.
 const MARKED: &str = "{background:var(--on);filter:drop-shadow(0 0 4px var(--glow))}";

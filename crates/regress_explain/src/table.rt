@@ -16,17 +16,24 @@ const COLUMNS: usize = 20;
 /// The maximum number of characters in a cell.
 const CELL_LENGTH: usize = 100;
 
-/// Writes a table of the matches, with a column for each group, unless no groups are known.
-pub(crate) fn write_table(
+/// Returns a table of the matches, with a column for each group; nothing if no groups are known.
+pub(crate) fn table(
+    alloc: Global,
     matched: Matched<'_>,
     names: &[Option<String>],
-    page: &mut Markup,
-) -> Written {
+) -> Result<Markup, AllocError> {
+    let mut table = Markup::new(alloc);
+    write_table(matched, names, &mut table)?;
+    Ok(table)
+}
+
+fn write_table(matched: Matched<'_>, names: &[Option<String>], page: &mut Markup) -> Written {
     let count = matched.captures.len().checked_div(matched.ranges.len());
     let groups = match count {
         Some(count) if count > 0 => count,
         _ => return Ok(()),
     };
+    page.tag(Tag::Open(Element::Figure))?;
     page.tag(Tag::Open(Element::Table))?;
     write_head(groups, names, page)?;
     for (range, captures) in matched
@@ -43,6 +50,7 @@ pub(crate) fn write_table(
         page.tag(Tag::Close(Element::Row))?;
     }
     page.tag(Tag::Close(Element::Table))?;
+    page.tag(Tag::Close(Element::Figure))?;
     write_rest(matched.ranges.len(), groups, page)
 }
 

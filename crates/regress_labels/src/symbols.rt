@@ -1,4 +1,7 @@
 //! Display of characters.
+ghost use Rattle.std.specs.Prelude.{◌≡◌, ◌≢◌, ◌≤◌, ◌++◌, true, OnOk, encode_utf8, string_bytes};
+ghost use Rattle.regress_tree.specs.Display.{code_point};
+ghost use Rattle.regress_labels.specs.Symbols.{ShowsAfter};
 
 use std::alloc::{AllocError, Global};
 use ucd_category::GeneralCategory;
@@ -28,8 +31,10 @@ fn is_within(ends: &[u32], c: u32) -> bool {
 }
 
 /// Returns whether a character has a visible shape of its own. Fonts have none for those that are not assigned.
-pub fn is_seen(c: u32) -> bool {
-    c < 0xE0000 && !is_within(&UNSEEN, c) && is_assigned(c)
+pub fn is_seen(c: u32) -> bool
+    ensures { 33 ≤ c → c ≤ 126 → result ≡ true }
+{
+    matches!(c, 0x21..=0x7E) || (c < 0xE0000 && !is_within(&UNSEEN, c) && is_assigned(c))
 }
 
 fn is_assigned(c: u32) -> bool {
@@ -50,12 +55,25 @@ pub fn joins_emoji(before: u32, c: u32) -> bool {
 ///
 /// # Errors
 /// Returns [`AllocError`] if an allocation fails.
-pub fn push_symbol(c: u32, alloc: Global, text: &mut String) -> Result<(), AllocError> {
+pub fn push_symbol(c: u32, alloc: Global, text: &mut String) -> Result<(), AllocError>
+    ensures shown { c ≢ 32 → OnOk result (ShowsAfter c (string_bytes text.old) (string_bytes text.new)) }
+    ensures space { c ≡ 32 → OnOk result (string_bytes text.new ≡ string_bytes text.old ++ encode_utf8 0x2423) }
+{
     match char::from_u32(c) {
         Some(' ') => text.push('␣'),
         Some(shown) if is_seen(c) => text.push(shown),
-        _ => text.push_str(&format!(in alloc; "U+{c:04X}")?),
+        _ => push_number(c, alloc, text),
     }
+}
+
+/// Appends the number of a character, as `U+000A`.
+///
+/// # Errors
+/// Returns [`AllocError`] if an allocation fails.
+pub fn push_number(c: u32, alloc: Global, text: &mut String) -> Result<(), AllocError>
+    ensures { OnOk result (string_bytes text.new ≡ string_bytes text.old ++ code_point c) }
+{
+    text.push_str(&format!(in alloc; "U+{c:04X}")?)
 }
 
 /// Appends a character after another one, as [`push_symbol`] does, or itself if it joins emoji.

@@ -2,6 +2,7 @@
 
 use crate::characters::{character_words, listed, name_of_character};
 use crate::properties::property_words;
+use regress_labels::{is_seen, push_symbol};
 use std::alloc::{AllocError, Global};
 
 /// The maximum number of members that a list has. Of a longer one the number of omitted members is at its end.
@@ -45,16 +46,21 @@ impl Member {
 
     /// Returns a range of characters.
     pub(crate) fn range(alloc: Global, first: u32, last: u32) -> Result<Member, AllocError> {
-        let (from, to) = (listed(alloc, first, false)?, listed(alloc, last, false)?);
+        let (from, to) = (end_of_range(alloc, first)?, end_of_range(alloc, last)?);
         let what = match (first, last) {
             (0x30..=0x39, 0x30..=0x39) => "a digit",
             (0x41..=0x5A, 0x41..=0x5A) | (0x61..=0x7A, 0x61..=0x7A) => "a letter",
             _ => "a character",
         };
+        let dash = if is_seen(first) && is_seen(last) {
+            "-"
+        } else {
+            " to "
+        };
         Ok(Member {
             alone: format!(in alloc; "{what} from {from} to {to}")?,
-            listed: format!(in alloc; "{from}-{to}")?,
-            except: format!(in alloc; "{from}-{to}")?,
+            listed: format!(in alloc; "{from}{dash}{to}")?,
+            except: format!(in alloc; "{from}{dash}{to}")?,
             kind: Kind::Range,
         })
     }
@@ -92,6 +98,17 @@ impl Member {
     fn is_plain(&self) -> bool {
         !matches!(self.kind, Kind::Nouns)
     }
+}
+
+/// Returns the first or the last character of a range: itself, or its number if it is invisible.
+fn end_of_range(alloc: Global, c: u32) -> Result<String, AllocError> {
+    let mut text = String::new(alloc);
+    if c == 0x20 {
+        text.push_str("a space")?;
+    } else {
+        push_symbol(c, alloc, &mut text)?;
+    }
+    Ok(text)
 }
 
 /// How the members of a class are combined.

@@ -1,4 +1,6 @@
 //! Texts of several characters in words.
+ghost use Rattle.std.specs.Prelude.{IfOk, OnOk, string_bytes};
+ghost use Rattle.regress_labels.specs.Symbols.{IsShownText, ShowsAfter};
 
 use crate::characters::{case_words, character_words, is_cased};
 use regress_labels::{Character, is_seen, joins_emoji, push_symbol};
@@ -92,7 +94,9 @@ pub fn text_words(alloc: Global, text: &[Character]) -> Result<String, AllocErro
 ///
 /// # Errors
 /// Returns [`AllocError`] if an allocation fails.
-pub fn shown(alloc: Global, text: &[u32]) -> Result<String, AllocError> {
+pub fn shown(alloc: Global, text: &[u32]) -> Result<String, AllocError>
+    ensures { IfOk result (λ shown. IsShownText text.now (string_bytes shown)) }
+{
     let mut shown = String::new(alloc);
     let mut before = 0;
     for c in text {
@@ -103,7 +107,9 @@ pub fn shown(alloc: Global, text: &[u32]) -> Result<String, AllocError> {
 }
 
 /// Appends a character after another one.
-fn push_after(before: u32, c: u32, alloc: Global, text: &mut String) -> Result<(), AllocError> {
+fn push_after(before: u32, c: u32, alloc: Global, text: &mut String) -> Result<(), AllocError>
+    ensures { OnOk result (ShowsAfter c (string_bytes text.old) (string_bytes text.new)) }
+{
     match char::from_u32(c) {
         Some(shown) if c == 0x20 || joins_emoji(before, c) => text.push(shown),
         _ => push_symbol(c, alloc, text),

@@ -8,13 +8,13 @@ use Rattle.regex_command.proofs.explaining.print_explanation.Goals as goal
 pub returns-in-Ok-clause-explained : goal.returns-in-Ok-clause-explained
 returns-in-Ok-clause-explained g c =
     let parsed = c.in-Ok.ensures.spanned in
-    explained c.args.pattern.flags c.deref.result.now _ (table_of c.in_ok-tables.tables) (c.deref.ensures.value ∙ c.in_ok-points.ensures.characters)
+    explained c.args.pattern.flags c.deref.result.now c.args.pattern.text.now (table_of c.in_ok-tables.tables) (c.deref.ensures.value ∙ c.in_ok-points.ensures.characters)
     c.in_ok-tables.ensures (asked_form c.args.form) (g.W.Write.contents c.args.out.now) (g.W.Write.contents c.print.new.out) _ _ parsed.0 parsed.1
     c.in_ok-text-in-Ok.ensures.form c.as_bytes.ensures.value c.in_ok-print-in-Ok.ensures.bytes
 
 pub returns-clause-explained : goal.returns-clause-explained
 returns-clause-explained g c =
-    unexplained c.args.pattern.flags c.deref.result.now _ (table_of c.in_ok-tables.tables) (c.deref.ensures.value ∙ c.in_ok-points.ensures.characters)
+    unexplained c.args.pattern.flags c.deref.result.now c.args.pattern.text.now (table_of c.in_ok-tables.tables) (c.deref.ensures.value ∙ c.in_ok-points.ensures.characters)
     c.in_ok-tables.ensures (asked_form c.args.form) (g.W.Write.contents c.args.out.now) _ c.reject.result c.reject.ensures
     (rejected_by (record { flags = c.args.pattern.flags; table = table_of c.in_ok-tables.tables }) c.deref.result.now c.in-Err.fault
     c.in-Err.ensures.rejected)

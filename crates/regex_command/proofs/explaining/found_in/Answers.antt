@@ -2,7 +2,7 @@ use Rattle.std.proofs.Common.{◌∙◌, List, ap, map}
 use Rattle.regress.specs.Found.{match_of}
 use Rattle.regress.specs.declared.found.Match.{Match}
 use Rattle.regex_command.specs.Patterns.{range_of}
-use Rattle.regex_command.proofs.explaining.match_ranges.Goals as goal
+use Rattle.regex_command.proofs.explaining.found_in.Goals as goal
 
 pub returns-clause-ranges : goal.returns-clause-ranges
 returns-clause-ranges c = (
@@ -11,6 +11,6 @@ returns-clause-ranges c = (
   (
     map match_of c.in_ok-matches.matches.items,
     c.in_ok-matches.ensures.all,
-    c.in_ok-ranges_of.ensures ∙ ap (λ (ms : List Match). map range_of (map match_of ms)) c.deref.ensures.value,
+    c.in_ok-ranges.ensures ∙ ap (λ (ms : List Match). map range_of (map match_of ms)) c.deref.ensures.value,
   ),
 )
