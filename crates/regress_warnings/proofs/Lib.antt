@@ -1,0 +1,5 @@
+mod VisitLemmas
+mod WalkedLemmas
+mod MarkLemmas
+mod BelowLemmas
+mod WithinLemmas
