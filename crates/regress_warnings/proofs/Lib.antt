@@ -1,4 +1,3 @@
-mod VisitLemmas
 mod WalkedLemmas
 mod MarkLemmas
 mod BelowLemmas

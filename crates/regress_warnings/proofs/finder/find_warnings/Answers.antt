@@ -6,7 +6,7 @@ use Rattle.regress_warnings.specs.declared.kind.Warning.{Warning}
 use Rattle.regress_warnings.specs.Warned.{warned}
 use Rattle.regress_warnings.specs.Walked.{AreClosed, Lists}
 use Rattle.regress_warnings.proofs.WalkedLemmas.{Lists-none, Lists-then, none_closed, ended}
-use Rattle.regress_warnings.proofs.VisitLemmas.{visited_adds}
+use Rattle.regress_spans.proofs.lemmas.Visits.{visited_adds}
 use Rattle.regress_warnings.proofs.finder.find_warnings.Goals as goal
 
 pub returns : goal.returns
