@@ -19,3 +19,4 @@ mod SetMeanings
 mod SpanExamples
 mod TableExamples
 mod TreeExamples
+mod WarningExamples

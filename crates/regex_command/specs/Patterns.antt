@@ -1,5 +1,5 @@
 -- What `parse`, `draw`, `lint` and `explain` write.
-use Rattle.std.specs.Prelude.{◌≡◌, ◌⊎◌, ⊤, ℕ, Bool, true, false, List, [], ◌==◌, ◌++◌, chars, codes, length, map, Option, Some, None}
+use Rattle.std.specs.Prelude.{◌≡◌, ◌⊎◌, ⊤, ℕ, Bool, true, false, List, [], ◌==◌, ◌&&◌, ◌++◌, chars, codes, length, map, Option, Some, None}
 use Rattle.std.specs.Fmt.{decimal}
 use Rattle.std.specs.List.{FoldsTo}
 use Rattle.std.specs.declared.ops.Range.{Range}
@@ -7,7 +7,7 @@ use Rattle.regex_options.specs.Request.{Form, lines, page}
 use Rattle.regress.specs.Compiled.{IsCompiled, outcomes_of}
 use Rattle.regress.specs.declared.pattern.Regex.{Regex}
 use Rattle.regress_differences.specs.CaseMode.{widest_flags}
-use Rattle.regress_differences.specs.Kinds.{name_of, text_of}
+use Rattle.regress_differences.specs.Kinds as differences
 use Rattle.regress_differences.specs.Reported.{reported}
 use Rattle.regress_differences.specs.declared.kind.Difference.{Difference}
 use Rattle.regress_display.specs.Request as display
@@ -21,9 +21,13 @@ use Rattle.regress_found.specs.Found.{start_of, state_of}
 use Rattle.regress_found.specs.Repeated.{AreAllMatches}
 use Rattle.regress_found.specs.declared.found.Match.{Match}
 use Rattle.regress_parse.specs.Accepted.{IsAccepted, NoneIsAccepted}
+use Rattle.regress_parse.specs.declared.span.Span.{Span}
 use Rattle.regress_spans.specs.Paired.{spanned_of}
 use Rattle.regress_syntax.specs.Syntax.{Pattern}
 use Rattle.regress_tree.specs.Setting.{Setting}
+use Rattle.regress_warnings.specs.Kinds as warnings
+use Rattle.regress_warnings.specs.Warned.{warned}
+use Rattle.regress_warnings.specs.declared.kind.Warning.{Warning}
 use Rattle.regex_command.specs.Ending.{IsLate}
 use Rattle.regex_command.specs.declared.failure.Failure.TheVariants.{Argument, Memory, Output, Syntax, TooLarge, OutOfSteps, Unreadable, NotUtf8, PatternNotUtf8, TooLong}
 use Rattle.regex_command.specs.declared.failure.Failure.{Failure}
@@ -69,28 +73,44 @@ abbrev pub HasDifferences : Setting → (source : List ℕ) → List Difference 
 HasDifferences setting source found = (p : Pattern) × (accepted : IsAccepted setting source p)
     × (found ≡ reported (widest_flags setting.flags source) source (spanned_of setting source p accepted.derived))
 
--- `1-4: case-closure: ` and the text of the kind, for the code points from 1 on before 4
+-- the warnings for an accepted pattern
+abbrev pub HasWarnings : Setting → (source : List ℕ) → List Warning → Type 0
+HasWarnings setting source found = (p : Pattern) × (accepted : IsAccepted setting source p)
+    × (found ≡ warned setting.flags.unicode_sets source [] (spanned_of setting source p accepted.derived))
+
+-- `1-4: case-closure: ` and a text, for the code points from 1 on before 4
+abbrev pub remark_line : Span → (name text : List ℕ) → List ℕ
+remark_line span name text = decimal span.start ++ codes "-" ++ decimal span.end ++ codes ": " ++ name ++ codes ": " ++ text ++ codes "\n"
+
+-- the line of a difference: its span, its kind and what differs
 abbrev pub difference_line : Difference → List ℕ
-difference_line d = decimal d.span.start ++ codes "-" ++ decimal d.span.end ++ codes ": " ++ name_of d.kind ++ codes ": " ++ text_of d.kind ++ codes "\n"
+difference_line d = remark_line d.span (differences.name_of d.kind) (differences.text_of d.kind)
 
--- one difference further: its line, and what shows it in the pattern
-abbrev pub IsListedNext : (before : List ℕ) → Difference → (after : List ℕ) → Type 0
-IsListedNext before d after = (shown : List ℕ) × (after ≡ before ++ (difference_line d ++ shown))
+-- the line of a warning
+abbrev pub warning_line : Warning → List ℕ
+warning_line w = remark_line w.span (warnings.name_of w.kind) (warnings.text_of w.kind)
 
--- all differences in order
-abbrev pub IsListed : List Difference → List ℕ → Type 0
-IsListed found bytes = FoldsTo IsListedNext [] found bytes
+-- one line further, and what shows the position in the pattern
+abbrev pub IsListedNext : (before line after : List ℕ) → Type 0
+IsListedNext before line after = (shown : List ℕ) × (after ≡ before ++ (line ++ shown))
 
--- there is no difference
-abbrev pub none_differs : List Difference → Bool
-none_differs found = length found == 0
+-- all differences in order, and then all warnings in order
+abbrev pub IsListed : List Difference → List Warning → List ℕ → Type 0
+IsListed found warned bytes = (middle : List ℕ) × FoldsTo IsListedNext [] (map difference_line found) middle
+    × FoldsTo IsListedNext middle (map warning_line warned) bytes
+
+-- there is no difference and no warning
+abbrev pub none_found : List Difference → List Warning → Bool
+none_found found warned = length found == 0 && length warned == 0
 
 -- what is written for an accepted pattern, which is clean if nothing is
 pub record IsReportOfAccepted (clean : Bool) (setting : Setting) (source : List ℕ) (bytes : List ℕ) : Type 0 where
   pub found : List Difference
+  pub warned : List Warning
   pub differ : HasDifferences setting source found
-  pub listed : IsListed found bytes
-  pub is_clean : clean ≡ none_differs found
+  pub warns : HasWarnings setting source warned
+  pub listed : IsListed found warned bytes
+  pub is_clean : clean ≡ none_found found warned
 
 -- Nothing is written to standard output for a rejected pattern.
 pub record IsReportOfRejected (clean : Bool) (setting : Setting) (source : List ℕ) (bytes : List ℕ) : Type 0 where

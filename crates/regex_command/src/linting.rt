@@ -1,8 +1,9 @@
 //! `lint`.
-ghost use Rattle.std.specs.Prelude.{◌≡◌, true, Ok, IfOk, IfErr, OnOk, chars, string_bytes};
+ghost use Rattle.std.specs.Prelude.{◌≡◌, true, Ok, IfOk, IfErr, OnOk, chars, string_bytes, map};
+ghost use Rattle.std.specs.List.{FoldsTo};
 ghost use Rattle.regress_arguments.specs.Output.{Took};
 ghost use Rattle.regex_command.specs.Ending.{IsLate, OrOutput};
-ghost use Rattle.regex_command.specs.Patterns.{IsListed, IsListedNext, IsReport, difference_line, none_differs};
+ghost use Rattle.regex_command.specs.Patterns.{IsListed, IsListedNext, IsReport, difference_line, none_found, remark_line, warning_line};
 ghost use Rattle.regress.specs.Unicode.{unicode_setting};
 
 use crate::failure::{Failure, reject};
@@ -12,11 +13,12 @@ use regress_arguments::write_with_caret;
 use regress_base::util::code_points;
 use regress_differences::{Difference, Span, differences};
 use regress_ucd::unicode_tables;
+use regress_warnings::{Warning, warnings};
 use std::alloc::{AllocError, Global};
 use std::io::Write;
 
-/// Writes what may match otherwise than in ECMA-262, or to `err` why the pattern is rejected. Returns whether it is
-/// accepted and nothing is written.
+/// Writes what may match otherwise than in ECMA-262, and then what is warned of, or to `err` why the pattern is
+/// rejected. Returns whether it is accepted and nothing is written.
 pub(crate) fn print_lint<'f, W: Write, E: Write>(
     alloc: Global,
     pattern: Pattern<'_>,
@@ -32,62 +34,116 @@ pub(crate) fn print_lint<'f, W: Write, E: Write>(
     let points = code_points(alloc, pattern.text)?;
     let tables = unicode_tables(alloc)?;
     match differences(alloc, &points, pattern.flags, &tables) {
-        Ok(found) => print_differences(alloc, pattern.text, &found, out),
+        Ok(found) => match warnings(alloc, &points, pattern.flags, &tables) {
+            Ok(warned) => print_findings(alloc, pattern.text, &found, &warned, out),
+            Err(fault) => reject(fault, pattern.text, err),
+        },
         Err(fault) => reject(fault, pattern.text, err),
     }
 }
 
-/// Writes the differences, and returns whether there is none.
-fn print_differences<'f, W: Write>(
+/// Writes the differences and the warnings, and returns whether there is none.
+fn print_findings<'f, W: Write>(
     alloc: Global,
     pattern: &str,
     found: &[Difference],
+    warned: &[Warning],
     out: &mut W,
 ) -> Result<bool, Failure<'f>>
-    ensures written { IfOk result (λ _. Took (W.contents out.old) (W.contents out.new) (IsListed found.now)) }
-    ensures clean { IfOk result (λ clean. clean ≡ none_differs found.now) }
+    ensures written { IfOk result (λ _. Took (W.contents out.old) (W.contents out.new) (IsListed found.now warned.now)) }
+    ensures clean { IfOk result (λ clean. clean ≡ none_found found.now warned.now) }
     ensures first { IfErr result (OrOutput (out.new ≡ out.old)) }
     ensures late { IfErr result IsLate }
 {
-    let text = listed(alloc, pattern, found)?;
-    print(&text, out)?;
-    Ok(found.is_empty())
-}
-
-/// Returns what is written for the differences.
-fn listed(alloc: Global, pattern: &str, found: &[Difference]) -> Result<Vec<u8>, AllocError>
-    ensures { IfOk result (λ text. IsListed found.now text.items) }
-{
     let mut text = Vec::new(alloc);
-    for difference in found {
-        add_difference(alloc, pattern, difference, &mut text)?;
-    }
-    Ok(text)
+    add_differences(alloc, pattern, found, &mut text)?;
+    add_warnings(alloc, pattern, warned, &mut text)?;
+    print(&text, out)?;
+    Ok(found.is_empty() && warned.is_empty())
 }
 
-/// Adds the line of a difference, and below it the pattern with a caret at the start of its span.
-fn add_difference(
+/// Adds the differences.
+fn add_differences(
     alloc: Global,
     pattern: &str,
-    difference: &Difference,
+    found: &[Difference],
     to: &mut Vec<u8>,
 ) -> Result<(), AllocError>
-    ensures { OnOk result (IsListedNext to.old.items difference.now to.new.items) }
+    ensures { OnOk result (FoldsTo IsListedNext to.old.items (map difference_line found.now) to.new.items) }
 {
-    let line = line_of(alloc, difference)?;
+    for difference in found {
+        let Difference { kind, span } = *difference;
+        add_remark(
+            alloc,
+            pattern,
+            Remark {
+                span,
+                name: kind.name(),
+                text: kind.text(),
+            },
+            to,
+        )?;
+    }
+    Ok(())
+}
+
+/// Adds the warnings.
+fn add_warnings(
+    alloc: Global,
+    pattern: &str,
+    warned: &[Warning],
+    to: &mut Vec<u8>,
+) -> Result<(), AllocError>
+    ensures { OnOk result (FoldsTo IsListedNext to.old.items (map warning_line warned.now) to.new.items) }
+{
+    for warning in warned {
+        let Warning { kind, span } = *warning;
+        add_remark(
+            alloc,
+            pattern,
+            Remark {
+                span,
+                name: kind.name(),
+                text: kind.text(),
+            },
+            to,
+        )?;
+    }
+    Ok(())
+}
+
+/// What is written of a part of a pattern.
+#[derive(Clone, Copy)]
+struct Remark {
+    span: Span,
+    /// The name of the kind of difference or warning.
+    name: &'static str,
+    /// A sentence about it.
+    text: &'static str,
+}
+
+/// Adds the line of a remark, and below it the pattern with a caret at the start of its span.
+fn add_remark(
+    alloc: Global,
+    pattern: &str,
+    remark: Remark,
+    to: &mut Vec<u8>,
+) -> Result<(), AllocError>
+    ensures { OnOk result (IsListedNext to.old.items (remark_line remark.span remark.name.now remark.text.now) to.new.items) }
+{
+    let line = line_of(alloc, remark)?;
     to.extend_from_slice(line.as_bytes())?;
     let mut shown = Vec::new(alloc);
-    write_with_caret(pattern, difference.span.start, &mut shown).map_err(|_| AllocError)?;
+    write_with_caret(pattern, remark.span.start, &mut shown).map_err(|_| AllocError)?;
     to.extend_from_slice(&shown)?;
     Ok(())
 }
 
-/// Returns a line with the span of a difference in code points, its kind and what differs.
-fn line_of(alloc: Global, difference: &Difference) -> Result<String, AllocError>
-    ensures { IfOk result (λ line. string_bytes line ≡ difference_line difference.now) }
+/// Returns a line with the span of a remark in code points, its name and its text.
+fn line_of(alloc: Global, remark: Remark) -> Result<String, AllocError>
+    ensures { IfOk result (λ line. string_bytes line ≡ remark_line remark.span remark.name.now remark.text.now) }
 {
-    let Span { start, end } = difference.span;
-    let name = difference.kind.name();
-    let text = difference.kind.text();
+    let Remark { span, name, text } = remark;
+    let Span { start, end } = span;
     Ok(format!(in alloc; "{start}-{end}: {name}: {text}\n")?)
 }

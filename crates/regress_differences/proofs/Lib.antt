@@ -6,4 +6,3 @@ mod WithinLemmas
 mod DiffersLemmas
 mod AcceptedLemmas
 mod ListedLemmas
-mod VisitLemmas

@@ -3,3 +3,4 @@ pub mod Paired
 pub mod Each
 pub mod Nesting
 pub mod Neighbours
+pub mod Visits

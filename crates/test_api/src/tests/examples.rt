@@ -16,6 +16,7 @@ use regress_front::unicode::{
 use regress_front::util::code_points;
 use regress_properties::general_category;
 use regress_ucd::unicode_tables;
+use regress_warnings::{WarningKind, warnings};
 use std::alloc::AllocError;
 use std::test::Fail;
 
@@ -368,6 +369,21 @@ fn the_example_of_differences_holds(rt: HostRuntime) -> Result<(), Fail> {
         assert_eq!(rt; found.len(), 1);
         assert_eq!(rt; found[0].kind, DifferenceKind::CaseClosure);
         assert_eq!(rt; found[0].span, Span { start: 1, end: 4 });
+    }
+    Ok(())
+}
+
+#[test]
+fn the_example_of_warnings_holds(rt: HostRuntime) -> Result<(), Fail> {
+    let alloc = rt.alloc();
+    // an alternative is hidden
+    {
+        let tables = Tables::small(alloc)?;
+        let points = code_points(alloc, "x(?:a|ab)")?;
+        let found = warnings(alloc, &points, Flags::default(), &tables)?;
+        assert_eq!(rt; found.len(), 1);
+        assert_eq!(rt; found[0].kind, WarningKind::HiddenAlternative);
+        assert_eq!(rt; found[0].span, Span { start: 4, end: 8 });
     }
     Ok(())
 }

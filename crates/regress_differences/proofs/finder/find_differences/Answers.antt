@@ -6,7 +6,7 @@ use Rattle.regress_differences.specs.declared.kind.Difference.{Difference}
 use Rattle.regress_differences.specs.Reported.{reported}
 use Rattle.regress_differences.specs.Listed.{Lists}
 use Rattle.regress_differences.proofs.ListedLemmas.{Lists-none, Lists-then, ended}
-use Rattle.regress_differences.proofs.VisitLemmas.{visited_adds}
+use Rattle.regress_spans.proofs.lemmas.Visits.{visited_adds}
 use Rattle.regress_differences.proofs.finder.find_differences.Goals as goal
 
 pub returns : goal.returns

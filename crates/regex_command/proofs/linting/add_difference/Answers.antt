@@ -1,8 +1,0 @@
-use Rattle.std.proofs.Common.{◌∙◌}
-use Rattle.regex_command.proofs.LintLemmas.{line_and_shown}
-use Rattle.regex_command.proofs.linting.add_difference.Goals as goal
-
-pub returns : goal.returns
-returns c =
-    line_and_shown c.args.to.now.items c.as_bytes.result.now c.deref.result.now c.extend_from_slice.new.self.items c.extend_from_slice-2.new.self.items
-    c.args.difference.now c.in_ok-extend_from_slice.ensures.items c.in_ok-extend_from_slice-2.ensures.items (c.as_bytes.ensures.value ∙ c.in_ok-line.ensures)

@@ -1,0 +1,4 @@
+mod WalkedLemmas
+mod MarkLemmas
+mod BelowLemmas
+mod WithinLemmas

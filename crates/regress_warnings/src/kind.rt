@@ -1,0 +1,99 @@
+//! What is warned of.
+ghost use Rattle.std.specs.Prelude.{◌≡◌};
+ghost use Rattle.regress_warnings.specs.Kinds.{name_of, number_of, text_of};
+
+use regress_parse::Span;
+
+/// Why a part of a pattern may not be what its author meant.
+#[derive(Clone, Copy, Debug, PartialEq, Eq)]
+pub enum WarningKind {
+    /// An alternation with an empty alternative: nothing before, between or after two `|`.
+    EmptyAlternative,
+    /// An alternative that begins with all of the literals that the one before it consists of.
+    HiddenAlternative,
+    /// An alternation that begins with an alternative that has `^`, and ends with one that has `$`.
+    SplitAnchors,
+    /// A quantifier after a part that can match the empty text.
+    EmptyIteration,
+    /// A back reference by number to a group that ends after it.
+    UnsetReference,
+    /// A class with all code points from an upper-case to a lower-case ASCII letter.
+    LetterRange,
+    /// A `.` between two digits.
+    DotBetweenDigits,
+    /// A class with an ASCII character in two of its parts.
+    RepeatedMember,
+}
+
+impl WarningKind {
+    /// Returns the name of the kind, which never changes, such as `empty-alternative`.
+    pub fn name(&self) -> &'static str
+        ensures { result.now ≡ name_of self.now }
+    {
+        match self {
+            WarningKind::EmptyAlternative => "empty-alternative",
+            WarningKind::HiddenAlternative => "hidden-alternative",
+            WarningKind::SplitAnchors => "split-anchors",
+            WarningKind::EmptyIteration => "empty-iteration",
+            WarningKind::UnsetReference => "unset-reference",
+            WarningKind::LetterRange => "letter-range",
+            WarningKind::DotBetweenDigits => "dot-between-digits",
+            WarningKind::RepeatedMember => "repeated-member",
+        }
+    }
+
+    /// Returns the number of the kind, which never changes: from 1 to 8, in the order of the variants.
+    pub fn number(&self) -> u32
+        ensures { result ≡ number_of self.now }
+    {
+        match self {
+            WarningKind::EmptyAlternative => 1,
+            WarningKind::HiddenAlternative => 2,
+            WarningKind::SplitAnchors => 3,
+            WarningKind::EmptyIteration => 4,
+            WarningKind::UnsetReference => 5,
+            WarningKind::LetterRange => 6,
+            WarningKind::DotBetweenDigits => 7,
+            WarningKind::RepeatedMember => 8,
+        }
+    }
+
+    /// Returns a sentence about what the pattern does, with an example, without a full stop. It has the word "may" where
+    /// the pattern can be what its author meant.
+    pub fn text(&self) -> &'static str
+        ensures { result.now ≡ text_of self.now }
+    {
+        match self {
+            WarningKind::EmptyAlternative =>
+                "an alternative is empty, so it matches the empty text everywhere: a||b matches before c",
+            WarningKind::HiddenAlternative =>
+                "an alternative begins with all of the one before it, so it is tried only where that one leads to no \
+                 match: a|ab matches a of ab",
+            WarningKind::SplitAnchors =>
+                "^ belongs to one alternative only, and $ to another one, so they may be meant for all: ^a|b$ matches \
+                 ac, ^(?:a|b)$ does not",
+            WarningKind::EmptyIteration =>
+                "what is repeated can match the empty text, which may hide a mistake: (a*)* matches no more than a*",
+            WarningKind::UnsetReference =>
+                "the group ends after this back reference, so it is not set there, and the reference matches the empty \
+                 text: \\1(a) matches a",
+            WarningKind::LetterRange =>
+                "the class has all characters from an upper-case to a lower-case letter, which may be more than letters: \
+                 [A-z] matches _ and ^",
+            WarningKind::DotBetweenDigits =>
+                ". between digits matches any character, and may be meant as the character itself: 1.5 matches 1x5, \
+                 1\\.5 does not",
+            WarningKind::RepeatedMember =>
+                "a character is in a class twice, where another one may be meant: [aab] matches what [ab] matches",
+        }
+    }
+}
+
+/// A part of a pattern that may not be what its author meant.
+#[derive(Clone, Copy, Debug, PartialEq, Eq)]
+pub struct Warning {
+    /// Why it is listed.
+    pub kind: WarningKind,
+    /// Where it is in the pattern.
+    pub span: Span,
+}
