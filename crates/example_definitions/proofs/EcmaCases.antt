@@ -10,8 +10,10 @@ use Rattle.regress_base.specs.Classes.{line_terminators}
 use Rattle.regress_base.specs.Intervals.{Bounds, code_point_max, is_member, is_within}
 use Rattle.regress_base.specs.Table.{Table, named as value_named}
 use Rattle.regress_base.specs.declared.types.Flags.{Flags}
+use Rattle.regress_classes.specs.declared.parameters.Parameters.{Parameters}
 use Rattle.regress_classes.specs.ClassSets.{set_character_at, strings_by}
 use Rattle.regress_classes.specs.Properties.{property_at}
+use Rattle.regress_lexer.specs.declared.dialect.Dialect.TheVariants.{Regress}
 use Rattle.regress_lexer.specs.Digits.{front, after}
 use Rattle.regress_lexer.specs.Escapes.{escape_at, unicode_at}
 use Rattle.regress_lexer.specs.Source.{Source}
@@ -92,11 +94,15 @@ takes rer (class flags inverted members) ch = differ inverted (is_found letters 
 takes rer (class_set flags negated value) ch = is_found letters rer value.members ch
 takes rer other ch = false
 
+-- the parameters of the productions, beside groups without names
+abbrev parameters_of : Flags → Parameters
+parameters_of rer = record { dialect = Regress; unicode = rer.unicode; named = false }
+
 -- the kinds that the class matches, by the transcription
 abbrev taken : Flags → Source → Option (List ℕ)
 taken rer t =
     option_map (λ found. filter (takes rer (compile_character_class letters rer found.0)) kinds)
-    (character_class_at letters rer.unicode rer.unicode_sets t)
+    (character_class_at letters (parameters_of rer) rer.unicode_sets t)
 
 -- The source is a class that matches these kinds.
 abbrev Takes : Flags → Source → List ℕ → Type 0
@@ -140,7 +146,7 @@ unfoldable computed : Flags → Source → Option (List ℕ)
 unfolding character_class_at class_ranges_by class_set_by class_union_by operands_by operand_at set_character_at strings_by escape_at unicode_at
     front after property_at value_named is_member is_within
 computed rer t =
-    option_map (λ found. filter (is_matched rer found.0) kinds) (character_class_at letters rer.unicode rer.unicode_sets t)
+    option_map (λ found. filter (is_matched rer found.0) kinds) (character_class_at letters (parameters_of rer) rer.unicode_sets t)
 
 -- lists of what passes tests that agree on the elements
 filter_agree : (p q test : ℕ → Bool) → ((c : ℕ) → test c ≡ true → p c ≡ q c) → (xs : List ℕ) → list_all test xs ≡ true →
@@ -158,7 +164,7 @@ module _ (rer : Flags) (test : (node : CharacterClass) (ch : ℕ) → is_in_orde
     takes rer (compile_character_class letters rer node) ch ≡ is_matched rer node ch) (kinds_are : list_all (is_in_order rer) kinds ≡ true) where
   computes : (t : Source) → taken rer t ≡ computed rer t
   unfolding computed
-  computes t = by_result (character_class_at letters rer.unicode rer.unicode_sets t)
+  computes t = by_result (character_class_at letters (parameters_of rer) rer.unicode_sets t)
     where
       by_result : (found : Option (CharacterClass × Source)) →
           option_map (λ found. filter (takes rer (compile_character_class letters rer found.0)) kinds) found
@@ -503,7 +509,7 @@ string_end rer t text =
     (λ found.
     option_map (λ x. x.end_index)
     (compile_atom letters [] rer forwards (compile_character_class letters rer found.0) (record { input = text; end_index = 0; captures = [] }) accept))
-    (character_class_at letters rer.unicode rer.unicode_sets t)
+    (character_class_at letters (parameters_of rer) rer.unicode_sets t)
 
 a_string_matches_in_each_case : (string_end iv (codes "\\q{KK|k}]") (codes "kK") ≡ Some (Some 2))
     × (string_end iv (codes "\\q{KK|k}]") (kelvin ∷ kelvin ∷ codes "k") ≡ Some (Some 2))

@@ -2,6 +2,7 @@ mod AssertionMeanings
 mod CharacterMeanings
 mod CharacterSets
 mod ClassSetExamples
+mod DialectExamples
 mod DuplicateExamples
 mod EcmaCases
 mod EcmaClasses

@@ -21,6 +21,8 @@ use Rattle.regress_tree.specs.Matching.{matches}
 use Rattle.regress_tree.specs.Setting.{Setting}
 use Rattle.regress_classes.specs.ClassProductions.{class_at, class_parts_by}
 use Rattle.regress_classes.specs.ClassSets.{class_set_by, parts_by, operands_by, operand_at, set_character_at, strings_by}
+use Rattle.regress_lexer.specs.declared.dialect.Dialect.{Dialect}
+use Rattle.regress_lexer.specs.declared.dialect.Dialect.TheVariants.{Regress}
 use Rattle.regress_lexer.specs.Digits.{front, after}
 use Rattle.regress_lexer.specs.Escapes.{escape_at, unicode_at}
 use Rattle.regress_syntax.specs.Meaning.{meaning}
@@ -84,19 +86,25 @@ whole None = None
 whole (Some (p, [])) = Some p
 whole (Some (p, c ∷ rest)) = None
 
-abbrev of_groups : Setting → List (Option Name) → Context
-of_groups setting names = record { setting = setting; groups = length names; names = names }
+abbrev of_groups : Dialect → Setting → List (Option Name) → Context
+of_groups dialect setting names = record { dialect = dialect; setting = setting; groups = length names; names = names }
 
 -- the context with the groups that the scan finds in the source
-unfoldable pub context : Setting → Source → Context
+unfoldable pub context : Dialect → Setting → Source → Context
 unfolding tokens name_at rest_of_name_by unicode_at is_member is_within
-context setting source = of_groups setting (named_by (tokens setting.flags.unicode_sets setting.table outside_classes source))
+context dialect setting source =
+    of_groups dialect setting (named_by (tokens setting.flags.unicode_sets setting.table outside_classes source))
 
--- the pattern that the whole source is, or `None`
-unfoldable pub pattern_of : Setting → Source → Option Pattern
+-- the pattern that the whole source is in a dialect, or `None`
+unfoldable pub pattern_in : Dialect → Setting → Source → Option Pattern
 unfolding context pattern_at parse_terms head_at optional_quantifier_at quantifier_at front after escape_at class_at class_parts_by
     class_set_by parts_by operands_by operand_at set_character_at strings_by property_at value_named modifiers_at
-pattern_of setting source = whole (pattern_at (context setting source) source)
+pattern_in dialect setting source = whole (pattern_at (context dialect setting source) source)
+
+-- the same in the dialect of `try_parse`
+unfoldable pub pattern_of : Setting → Source → Option Pattern
+unfolding pattern_in
+pattern_of setting source = pattern_in Regress setting source
 
 -- a position where all groups of the pattern are unset
 abbrev pub start : Pattern → ℕ → MatchState

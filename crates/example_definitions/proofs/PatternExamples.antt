@@ -7,6 +7,7 @@ use Rattle.regress_tree.specs.Shapes.{is_flattened_away}
 use Rattle.regress_tree.specs.Steps.{one_character, capture as captures, same_state}
 use Rattle.regress_tree.specs.Tree.{Tree, Trees, leaf, empty, goal, char, cat, alt, wrapped, capture_group, loop, no_trees, more_trees}
 use Rattle.regress_tree.specs.Units.{units}
+use Rattle.regress_lexer.specs.declared.dialect.Dialect.TheVariants.{Regress}
 use Rattle.regress_syntax.specs.Meaning.{meaning}
 use Rattle.regress_syntax.specs.Syntax.{Pattern, Terms, Item, one, either, no_terms, more_terms, atom, literal, boundary, class, group, grouping, capture, counts, nesting}
 use Rattle.regress_parse.specs.Reader.{pattern_at}
@@ -65,7 +66,7 @@ unfolding pattern_of
 no_pattern = refl
 
 -- The source is parsed up to an unmatched closing parenthesis, which remains.
-left_over : pattern_at (context plain (codes "a)")) (codes "a)") ≡ Some (one (word (letter 97)), 41 ∷ [])
+left_over : pattern_at (context Regress plain (codes "a)")) (codes "a)") ≡ Some (one (word (letter 97)), 41 ∷ [])
 unfolding pattern_of
 left_over = refl
 

@@ -6,6 +6,7 @@ use Rattle.regress_base.specs.Intervals.{Bounds, is_within, is_member, IsCanonic
 use Rattle.regress_base.proofs.lemmas.Sets.{or_assoc, is_member-one, is_member-append}
 use Rattle.regress_base.specs.Table.{Table}
 use Rattle.regress_lexer.specs.Source.{Source, Found, ◌>>=◌, is_at}
+use Rattle.regress_classes.specs.declared.parameters.Parameters.{Parameters}
 use Rattle.regress_classes.specs.ClassProductions.{ClassAtom, point, range_of, atom_members, class_atom_at, complement, begins_range, range_at, class_part_at, class_parts_by, class_at}
 use Rattle.regress_classes.specs.ClassViews.{HasMembers, Adds}
 use Rattle.regress_classes.proofs.lemmas.Values.{complement_is}
@@ -39,36 +40,36 @@ pub no_front : (k : ℕ) (t : Source) → length t ≡ 0 → is_at k t ≡ false
 no_front k [] e = refl
 no_front k (c ∷ t) e = absurd (omega arith)
 
-module _ (table : Table) (unicode : Bool) where
+module _ (table : Table) (parameters : Parameters) where
   -- An atom that starts no range is a part.
-  pub alone_read : (t rest : Source) (atom : ClassAtom) → class_atom_at table unicode t ≡ Some (atom, rest) →
-      begins_range rest ≡ false → class_part_at table unicode t ≡ Some (atom_members atom, rest)
+  pub alone_read : (t rest : Source) (atom : ClassAtom) → class_atom_at table parameters t ≡ Some (atom, rest) →
+      begins_range rest ≡ false → class_part_at table parameters t ≡ Some (atom_members atom, rest)
   alone_read t rest atom found alone =
       ap (λ (first : Found ClassAtom). first >>= λ (x : ClassAtom × Source).
-      cond (begins_range x.1) (range_at table unicode x.0 (drop 1 x.1)) (Some (atom_members x.0, x.1))) found
+      cond (begins_range x.1) (range_at table parameters x.0 (drop 1 x.1)) (Some (atom_members x.0, x.1))) found
       ∙ cond-false _ _ _ alone
 
   -- ---- literal code points
 
-  literal_parsed : (s t : Source) (c : ℕ) → s ≡ c ∷ t → (not (c == 93) && not (c == 92)) ≡ true → class_atom_at table unicode s ≡ Some (point c, t)
+  literal_parsed : (s t : Source) (c : ℕ) → s ≡ c ∷ t → (not (c == 93) && not (c == 92)) ≡ true → class_atom_at table parameters s ≡ Some (point c, t)
   literal_parsed s t c front plain =
       let parts = and_parts (not (c == 93)) (not (c == 92)) plain in
-      ap (class_atom_at table unicode) front ∙ cond-false _ _ _ (no (c == 93) parts.0) ∙ cond-false _ _ _ (no (c == 92) parts.1)
+      ap (class_atom_at table parameters) front ∙ cond-false _ _ _ (no (c == 93) parts.0) ∙ cond-false _ _ _ (no (c == 92) parts.1)
 
   pub plain_point_read : (s t : Source) (c : ℕ) → s ≡ c ∷ t → (not (c == 93) && not (c == 92)) ≡ true → is_at 45 t ≡ false →
-      class_part_at table unicode s ≡ Some (record { first = c; last = c } ∷ [], t)
+      class_part_at table parameters s ≡ Some (record { first = c; last = c } ∷ [], t)
   plain_point_read s t c front plain alone =
       alone_read s t (point c) (literal_parsed s t c front plain) (ap (λ b. b && not (is_at 93 (drop 1 t))) alone)
 
   pub plain_range_read : (s t u v : Source) (a b : ℕ) → s ≡ a ∷ t → t ≡ 45 ∷ u → u ≡ b ∷ v → (not (a == 93) && not (a == 92)) ≡ true →
-      (not (b == 93) && not (b == 92)) ≡ true → a ≤ b → class_part_at table unicode s ≡ Some (record { first = a; last = b } ∷ [], v)
+      (not (b == 93) && not (b == 92)) ≡ true → a ≤ b → class_part_at table parameters s ≡ Some (record { first = a; last = b } ∷ [], v)
   plain_range_read s t u v a b front hyphen after plain plain' le =
       ap (λ (first : Found ClassAtom). first >>= λ (x : ClassAtom × Source).
-      cond (begins_range x.1) (range_at table unicode x.0 (drop 1 x.1)) (Some (atom_members x.0, x.1))) (literal_parsed s t a front plain)
+      cond (begins_range x.1) (range_at table parameters x.0 (drop 1 x.1)) (Some (atom_members x.0, x.1))) (literal_parsed s t a front plain)
       ∙ cond-true _ _ _ (ap begins_range (hyphen ∙ ap (λ (r : Source). 45 ∷ r) after) ∙ (and_parts (not (b == 93)) (not (b == 92)) plain').0)
-      ∙ ap (λ (r : Source). range_at table unicode (point a) (drop 1 r)) hyphen
+      ∙ ap (λ (r : Source). range_at table parameters (point a) (drop 1 r)) hyphen
       ∙ ap (λ (last : Found ClassAtom). last >>= λ (x : ClassAtom × Source).
-      elim (range_of unicode (point a) x.0) as (λ _. Found (List Bounds)) [ None ↦ None | Some members ↦ Some (members, x.1) ])
+      elim (range_of parameters.unicode (point a) x.0) as (λ _. Found (List Bounds)) [ None ↦ None | Some members ↦ Some (members, x.1) ])
       (literal_parsed u v b after plain')
       ∙ ap (λ (o : Option (List Bounds)). elim o as (λ _. Found (List Bounds)) [ None ↦ None | Some members ↦ Some (members, v) ])
       (cond-true (nat_le a b) _ _ (le-leb a b le))
@@ -78,41 +79,41 @@ module _ (table : Table) (unicode : Bool) where
   -- From `t`, the parts were parsed up to `rest`, and the set has their members.
   pub record ReadUpTo (t rest : Source) (set : List Bounds) : Type 0 where
     pub members : List Bounds
-    pub whole : class_parts_by table unicode (length t + 1) t ≡ more_parts members (class_parts_by table unicode (length rest + 1) rest)
+    pub whole : class_parts_by table parameters (length t + 1) t ≡ more_parts members (class_parts_by table parameters (length rest + 1) rest)
     pub held : (c : ℕ) → is_member set c ≡ is_member members c
 
   pub one_more_read : (t rest after : Source) (set new members : List Bounds) → ReadUpTo t rest set →
-      is_at 93 rest ≡ false → class_part_at table unicode rest ≡ Some (members, after) → Adds members set new → ReadUpTo t after new
+      is_at 93 rest ≡ false → class_part_at table parameters rest ≡ Some (members, after) → Adds members set new → ReadUpTo t after new
   one_more_read t rest after set new members so_far goes_on found adds = record {
     members = so_far.members ++ members;
     whole = so_far.whole
         ∙ ap (more_parts so_far.members)
-        (parts_go_on table unicode rest goes_on
-        ∙ ap (λ (part : Found (List Bounds)). part >>= λ (x : List Bounds × Source). more_parts x.0 (class_parts_by table unicode (length x.1 + 1) x.1)) found)
-        ∙ more_parts-more so_far.members members (class_parts_by table unicode (length after + 1) after);
+        (parts_go_on table parameters rest goes_on
+        ∙ ap (λ (part : Found (List Bounds)). part >>= λ (x : List Bounds × Source). more_parts x.0 (class_parts_by table parameters (length x.1 + 1) x.1)) found)
+        ∙ more_parts-more so_far.members members (class_parts_by table parameters (length after + 1) after);
     held = λ c. adds c ∙ ap (λ b. b || is_member members c) (so_far.held c) ∙ sym (is_member-append so_far.members members c);
   }
 
   pub all_read : (t rest : Source) (gathered set : List Bounds) → ReadUpTo t rest gathered → is_at 93 rest ≡ true →
-      HasMembers gathered set → (members : List Bounds) × (class_parts_by table unicode (length t + 1) t ≡ Some (members, drop 1 rest)) × HasMembers members set
+      HasMembers gathered set → (members : List Bounds) × (class_parts_by table parameters (length t + 1) t ≡ Some (members, drop 1 rest)) × HasMembers members set
   all_read t rest gathered set so_far closes has = (
     so_far.members,
-    so_far.whole ∙ ap (more_parts so_far.members) (parts_closed table unicode rest closes)
+    so_far.whole ∙ ap (more_parts so_far.members) (parts_closed table parameters rest closes)
         ∙ ap (λ (l : List Bounds). Some (l, drop 1 rest)) (append-nil so_far.members),
     record { canonical = has.canonical; each = λ c. has.each c ∙ so_far.held c },
   )
 
   pub none_after : (t rest : Source) (set : List Bounds) → ReadUpTo t rest set → is_at 93 rest ≡ false →
-      class_part_at table unicode rest ≡ None → class_parts_by table unicode (length t + 1) t ≡ None
+      class_part_at table parameters rest ≡ None → class_parts_by table parameters (length t + 1) t ≡ None
   none_after t rest set so_far goes_on none =
       so_far.whole
       ∙ ap (more_parts so_far.members)
-      (parts_go_on table unicode rest goes_on
-      ∙ ap (λ (part : Found (List Bounds)). part >>= λ (x : List Bounds × Source). more_parts x.0 (class_parts_by table unicode (length x.1 + 1) x.1)) none)
+      (parts_go_on table parameters rest goes_on
+      ∙ ap (λ (part : Found (List Bounds)). part >>= λ (x : List Bounds × Source). more_parts x.0 (class_parts_by table parameters (length x.1 + 1) x.1)) none)
 
   -- A class is its parts, after a `^` if there is one.
   pub class_is : (inverted : Bool) (t inside : Source) (parts : Found (List Bounds)) → inverted ≡ is_at 94 t →
-      inside ≡ cond inverted (drop 1 t) t → class_parts_by table unicode (length inside + 1) inside ≡ parts →
-      class_at table unicode t ≡ parts >>= λ (x : List Bounds × Source). Some ((inverted, x.0), x.1)
+      inside ≡ cond inverted (drop 1 t) t → class_parts_by table parameters (length inside + 1) inside ≡ parts →
+      class_at table parameters t ≡ parts >>= λ (x : List Bounds × Source). Some ((inverted, x.0), x.1)
   unfolding class_at
   class_is inverted t inside parts found moves e = rw (← found, ← moves, e) refl

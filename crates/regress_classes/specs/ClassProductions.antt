@@ -7,7 +7,9 @@ use Rattle.regress_base.specs.Intervals.{Bounds, is_member, intervals_of}
 use Rattle.regress_base.specs.Table.{Table}
 use Rattle.regress_lexer.specs.Source.{Source, Found, ◌>>=◌, found_map, Production, when, otherwise, first_production, char, is_one_of, is_at}
 use Rattle.regress_lexer.specs.Digits.{is_decimal, is_letter, control}
-use Rattle.regress_lexer.specs.Escapes.{escape_at}
+use Rattle.regress_lexer.specs.Escapes.{character_escape_at}
+use Rattle.regress_lexer.specs.Dialects.{reserves_k}
+use Rattle.regress_classes.specs.declared.parameters.Parameters.{Parameters}
 use Rattle.regress_classes.specs.Properties.{Property, points_of, property_at}
 
 -- ---- class escapes
@@ -73,17 +75,19 @@ class_property negated (property, t) =
 abbrev pub class_property_at : Table → Bool → Source → Found ClassAtom
 class_property_at table negated t = property_at false table t >>= class_property negated
 
-module _ (table : Table) (unicode : Bool) where
+module _ (table : Table) (parameters : Parameters) where
   -- the productions of an escape in a class that starts with c and is no class escape, after its backslash (ECMA-262,
   -- ClassEscape)
   abbrev pub class_escape_productions : ℕ → Source → List (Production ClassAtom)
   class_escape_productions c t =
       -- `\b` is backspace
       when (c == char "b") (Some (point 8, t))
-      ∷ when (c == char "-" && unicode) (Some (point (char "-"), t))
-      ∷ when (c == char "c" && not unicode) (class_control_at t)
-      ∷ when (is_one_of "pP" c && unicode) (class_property_at table (c == char "P") t)
-      ∷ otherwise (found_map point (escape_at unicode (c ∷ t))) ∷ []
+      ∷ when (c == char "-" && parameters.unicode) (Some (point (char "-"), t))
+      ∷ when (c == char "c" && not parameters.unicode) (class_control_at t)
+      ∷ when (is_one_of "pP" c && parameters.unicode) (class_property_at table (c == char "P") t)
+      -- beside a group with a name `\k` may be an error
+      ∷ when (c == char "k" && parameters.named && reserves_k parameters.dialect) None
+      ∷ otherwise (found_map point (character_escape_at parameters.dialect parameters.unicode (c ∷ t))) ∷ []
 
   -- an escape in a class that starts with c, after its backslash
   abbrev pub class_escape_by : ℕ → Source → Found ClassAtom
@@ -124,17 +128,17 @@ range_of unicode (set members) (set others) = members_with_hyphen unicode member
 abbrev pub begins_range : Source → Bool
 begins_range t = is_at (char "-") t && not (is_at (char "]") (drop 1 t))
 
-module _ (table : Table) (unicode : Bool) where
+module _ (table : Table) (parameters : Parameters) where
   -- the rest of a range, after its first atom and the hyphen
   abbrev pub range_at : ClassAtom → Source → Found (List Bounds)
   range_at first t =
-      class_atom_at table unicode t >>= λ (last, rest).
-      elim (range_of unicode first last) [ None ↦ None | Some members ↦ Some (members, rest) ]
+      class_atom_at table parameters t >>= λ (last, rest).
+      elim (range_of parameters.unicode first last) [ None ↦ None | Some members ↦ Some (members, rest) ]
 
   -- an atom or a range (ECMA-262, NonemptyClassRanges)
   abbrev pub class_part_at : Source → Found (List Bounds)
   class_part_at t =
-      class_atom_at table unicode t >>= λ (first, rest).
+      class_atom_at table parameters t >>= λ (first, rest).
       (if begins_range rest then range_at first (drop 1 rest) else Some (atom_members first, rest))
 
   -- ---- the class

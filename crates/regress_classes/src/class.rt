@@ -1,5 +1,5 @@
 //! Parses classes without the flag v.
-ghost use Rattle.std.specs.Prelude.{◌≡◌, ◌+◌, ◌==◌, ◌&&◌, not, Bool, true, drop, if◌then◌else◌, Some, None, List, [], ◌∷◌, length, OnOk, IfSome, IfNone};
+ghost use Rattle.std.specs.Prelude.{◌≡◌, ◌+◌, ◌==◌, ◌&&◌, not, true, drop, if◌then◌else◌, Some, None, List, [], ◌∷◌, length, OnOk, IfSome, IfNone};
 ghost use Rattle.regress_base.specs.Intervals.{Bounds};
 ghost use Rattle.regress_classes.specs.ClassProductions.{complement_if, atom_members, begins_range, range_of, range_at, class_part_at, class_parts_by, class_at};
 ghost use Rattle.regress_base.specs.Table.{Table};
@@ -7,12 +7,14 @@ ghost use Rattle.regress_unicode.specs.TableOf.{table_of};
 ghost use Rattle.regress_lexer.specs.Source.{char};
 ghost use Rattle.regress_lexer.specs.Fault.{FailsByNoLimit, FailsOnlyIf};
 ghost use Rattle.regress_lexer.specs.Reads.{ParsesAs};
+ghost use Rattle.regress_classes.specs.declared.parameters.Parameters.{Parameters};
 ghost use Rattle.regress_classes.specs.ClassViews.{class_atom_of, IsClassAtomInRange, HasMembers, Adds, IsClassRead};
 ghost use Rattle.regress_lexer.specs.Views.{source};
 
 use crate::class_atom::{ClassAtom, read_class_atom};
 use crate::class_escape::class_members;
 use crate::gathered::IntervalCollector;
+use crate::parameters::Parameters;
 use regress_base::codepointset::{CodePointSet, Interval};
 use regress_lexer::cursor::Cursor;
 use regress_lexer::fault::{Fault, FaultKind, rejected};
@@ -30,7 +32,7 @@ pub struct Class {
 
 /// Parses a class after its `[` (ECMA-262, CharacterClass, with annex B).
 ///
-/// `unicode` is the flag u, and `opened` the number of code points that remained before the `[`. Afterwards `cursor` is
+/// `opened` is the number of code points that remained before the `[`. Afterwards `cursor` is
 /// after the `]`.
 ///
 /// # Errors
@@ -44,14 +46,14 @@ pub struct Class {
 pub fn parse_class(
     cursor: &mut Cursor,
     tables: &Tables,
-    unicode: bool,
+    parameters: Parameters,
     opened: usize,
 ) -> Result<Class, Fault>
-    ensures value { ParsesAs IsClassRead (source cursor.new) result (class_at (table_of tables.now) unicode (source cursor.old)) }
+    ensures value { ParsesAs IsClassRead (source cursor.new) result (class_at (table_of tables.now) parameters (source cursor.old)) }
     ensures kind { FailsByNoLimit result }
 {
     let inverted = cursor.try_consume('^');
-    let set = parse_parts(cursor, tables, unicode, opened)?;
+    let set = parse_parts(cursor, tables, parameters, opened)?;
     Ok(Class { inverted, set })
 }
 
@@ -59,16 +61,16 @@ pub fn parse_class(
 fn parse_parts(
     cursor: &mut Cursor,
     tables: &Tables,
-    unicode: bool,
+    parameters: Parameters,
     opened: usize,
 ) -> Result<CodePointSet, Fault>
     ensures value { let t = source cursor.old in
-        ParsesAs (λ set members. HasMembers members set) (source cursor.new) result (class_parts_by (table_of tables.now) unicode (length t + 1) t) }
+        ParsesAs (λ set members. HasMembers members set) (source cursor.new) result (class_parts_by (table_of tables.now) parameters (length t + 1) t) }
     ensures kind { FailsByNoLimit result }
 {
     let mut gathered = IntervalCollector::new(cursor.alloc);
     while !cursor.is_at(']') {
-        parse_part(cursor, tables, unicode, opened, &mut gathered)?;
+        parse_part(cursor, tables, parameters, opened, &mut gathered)?;
     }
     cursor.try_consume(']');
     Ok(gathered.into_set()?)
@@ -78,24 +80,24 @@ fn parse_parts(
 fn parse_part(
     cursor: &mut Cursor,
     tables: &Tables,
-    unicode: bool,
+    parameters: Parameters,
     opened: usize,
     set: &mut IntervalCollector,
 ) -> Result<(), Fault>
-    ensures value { ParsesAs (λ _ members. Adds members set.old set.new) (source cursor.new) result (class_part_at (table_of tables.now) unicode (source cursor.old)) }
+    ensures value { ParsesAs (λ _ members. Adds members set.old set.new) (source cursor.new) result (class_part_at (table_of tables.now) parameters (source cursor.old)) }
     ensures kind { FailsByNoLimit result }
 {
     if let Some(interval) = take_plain_part(cursor) {
         set.add(interval)?;
         return Ok(());
     }
-    read_any_part(cursor, tables, unicode, opened, set)
+    read_any_part(cursor, tables, parameters, opened, set)
 }
 
 /// Consumes a literal code point, or a range of two literal code points, if one is next. Most parts are such.
 fn take_plain_part(cursor: &mut Cursor) -> Option<Interval>
-    ensures some { IfSome result (λ part. (table : Table) (unicode : Bool) →
-        class_part_at table unicode (source cursor.old) ≡ Some (part ∷ [], source cursor.new)) }
+    ensures some { IfSome result (λ part. (table : Table) (parameters : Parameters) →
+        class_part_at table parameters (source cursor.old) ≡ Some (part ∷ [], source cursor.new)) }
     ensures none { IfNone result (source cursor.new ≡ source cursor.old) }
 {
     let (first, after) = split_plain(cursor.rest)?;
@@ -134,17 +136,17 @@ fn is_literal(c: u32) -> bool
 fn read_any_part(
     cursor: &mut Cursor,
     tables: &Tables,
-    unicode: bool,
+    parameters: Parameters,
     opened: usize,
     set: &mut IntervalCollector,
 ) -> Result<(), Fault>
-    ensures value { ParsesAs (λ _ members. Adds members set.old set.new) (source cursor.new) result (class_part_at (table_of tables.now) unicode (source cursor.old)) }
+    ensures value { ParsesAs (λ _ members. Adds members set.old set.new) (source cursor.new) result (class_part_at (table_of tables.now) parameters (source cursor.old)) }
     ensures kind { FailsByNoLimit result }
 {
     let left = cursor.rest.len();
-    let first = read_class_atom(cursor, tables, unicode, opened)?;
+    let first = read_class_atom(cursor, tables, parameters, opened)?;
     if try_consume_hyphen(cursor) {
-        read_range(cursor, tables, unicode, opened, first, left, set)
+        read_range(cursor, tables, parameters, opened, first, left, set)
     } else {
         add_atom(set, cursor.alloc, first)?;
         Ok(())
@@ -176,18 +178,18 @@ fn begins_range(source: &[u32]) -> bool
 fn read_range(
     cursor: &mut Cursor,
     tables: &Tables,
-    unicode: bool,
+    parameters: Parameters,
     opened: usize,
     first: ClassAtom,
     left: usize,
     set: &mut IntervalCollector,
 ) -> Result<(), Fault>
     requires { IsClassAtomInRange first }
-    ensures value { ParsesAs (λ _ members. Adds members set.old set.new) (source cursor.new) result (range_at (table_of tables.now) unicode (class_atom_of first) (source cursor.old)) }
+    ensures value { ParsesAs (λ _ members. Adds members set.old set.new) (source cursor.new) result (range_at (table_of tables.now) parameters (class_atom_of first) (source cursor.old)) }
     ensures kind { FailsByNoLimit result }
 {
-    let last = read_class_atom(cursor, tables, unicode, opened)?;
-    add_range(set, cursor.alloc, unicode, left, first, last)
+    let last = read_class_atom(cursor, tables, parameters, opened)?;
+    add_range(set, cursor.alloc, parameters.unicode, left, first, last)
 }
 
 /// Adds the members of two atoms with a hyphen between them. `left` is the number of code points that remained at the

@@ -1,5 +1,6 @@
 //! Parses the atoms of a class without the flag v.
-ghost use Rattle.std.specs.Prelude.{◌≡◌, ◌∷◌, Some, IfOk};
+ghost use Rattle.std.specs.Prelude.{◌≡◌, ◌∷◌, ◌&&◌, ◌==◌, Some, IfOk};
+ghost use Rattle.regress_lexer.specs.Dialects.{reserves_k};
 ghost use Rattle.regress_classes.specs.ClassProductions.{class_atom_at, class_escape_at, class_control_at, class_property_at};
 ghost use Rattle.regress_lexer.specs.Source.{char};
 ghost use Rattle.regress_lexer.specs.Fault.{FailsByNoLimit};
@@ -9,12 +10,13 @@ ghost use Rattle.regress_lexer.specs.Views.{source};
 ghost use Rattle.regress_unicode.specs.TableOf.{table_of};
 
 use crate::class_escape::class_letter;
+use crate::parameters::Parameters;
 use crate::property::{Property, is_property_letter, parse_property};
 use regress_base::charclasses::CharacterClassType;
 use regress_base::codepointset::CodePointSet;
 use regress_lexer::cursor::Cursor;
 use regress_lexer::digits::{control, is_decimal, is_letter};
-use regress_lexer::escape::{escape_fault, parse_escape};
+use regress_lexer::escape::{escape_fault, parse_character_escape};
 use regress_lexer::fault::{Fault, FaultKind, rejected};
 use regress_unicode::Tables;
 
@@ -41,7 +43,7 @@ pub enum ClassAtom {
 
 /// Parses an atom of a class (ECMA-262, ClassAtom, with annex B).
 ///
-/// `unicode` is the flag u, and `opened` the number of code points that remained before the `[` of the class.
+/// `opened` is the number of code points that remained before the `[` of the class.
 ///
 /// # Errors
 /// - [`Fault::Rejected`] if the next code point is `]`, if none remains, or if an escape or a property is invalid.
@@ -51,16 +53,16 @@ pub enum ClassAtom {
 pub fn read_class_atom(
     cursor: &mut Cursor,
     tables: &Tables,
-    unicode: bool,
+    parameters: Parameters,
     opened: usize,
 ) -> Result<ClassAtom, Fault>
-    ensures value { Reads class_atom_of (source cursor.new) result (class_atom_at (table_of tables.now) unicode (source cursor.old)) }
+    ensures value { Reads class_atom_of (source cursor.new) result (class_atom_at (table_of tables.now) parameters (source cursor.old)) }
     ensures in_range { IfOk result IsClassAtomInRange }
     ensures kind { FailsByNoLimit result }
 {
     let begin = cursor.rest.len();
     match cursor.next() {
-        Some(c) if c == u32::from('\\') => read_escaped_atom(cursor, tables, unicode, begin),
+        Some(c) if c == u32::from('\\') => read_escaped_atom(cursor, tables, parameters, begin),
         Some(c) if c != u32::from(']') => Ok(ClassAtom::Point(c)),
         _ => Err(rejected(opened, FaultKind::UnbalancedBracket)),
     }
@@ -71,10 +73,10 @@ pub fn read_class_atom(
 fn read_escaped_atom(
     cursor: &mut Cursor,
     tables: &Tables,
-    unicode: bool,
+    parameters: Parameters,
     begin: usize,
 ) -> Result<ClassAtom, Fault>
-    ensures value { Reads class_atom_of (source cursor.new) result (class_escape_at (table_of tables.now) unicode (source cursor.old)) }
+    ensures value { Reads class_atom_of (source cursor.new) result (class_escape_at (table_of tables.now) parameters (source cursor.old)) }
     ensures in_range { IfOk result IsClassAtomInRange }
     ensures kind { FailsByNoLimit result }
 {
@@ -82,6 +84,7 @@ fn read_escaped_atom(
         return Err(rejected(begin, FaultKind::UnterminatedEscape));
     };
     let c = *c;
+    let unicode = parameters.unicode;
     if let Some((kind, negated)) = class_letter(c) {
         cursor.rest = rest;
         Ok(ClassAtom::Class { kind, negated })
@@ -98,13 +101,23 @@ fn read_escaped_atom(
     } else if is_property_letter(c) && unicode {
         cursor.rest = rest;
         read_class_property(cursor, tables, c == u32::from('P'))
+    } else if is_reserved(c, parameters) {
+        Err(rejected(begin, FaultKind::InvalidEscape))
     } else {
-        let Some((point, after)) = parse_escape(cursor.rest, unicode) else {
+        let Some((point, after)) = parse_character_escape(cursor.rest, parameters.dialect, unicode)
+        else {
             return Err(rejected(begin, escape_fault(cursor.rest)));
         };
         cursor.rest = after;
         Ok(ClassAtom::Point(point))
     }
+}
+
+/// Returns whether `c` is the `k` of `\k`, and that is an error in a class.
+fn is_reserved(c: u32, parameters: Parameters) -> bool
+    ensures { result ≡ (c == char "k" && parameters.named && reserves_k parameters.dialect) }
+{
+    c == u32::from('k') && parameters.named && parameters.dialect.reserves_k()
 }
 
 /// Parses a property of code points after its `\p` or `\P`.

@@ -6,7 +6,9 @@ mod class_atom;
 pub mod class_escape;
 pub mod class_sets;
 mod gathered;
+mod parameters;
 pub mod property;
 
 pub use class_escape::class_escape_set;
 pub use class_sets::Value;
+pub use parameters::Parameters;

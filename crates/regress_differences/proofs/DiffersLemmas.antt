@@ -46,7 +46,7 @@ mutual
   terms-ends ctx no_terms t rest h = subst (λ (s : Source). IsSuffix t s) h.1 (after_same t)
   terms-ends ctx (more_terms x q xs) t rest (mid, after, first, times, others) =
       after_after t mid rest (item-ends ctx x t mid first)
-      (after_after mid after rest ((optional_quantifier_at-ends ctx (allows ctx.setting.flags.unicode (head_of_item x)) mid).each (q, after) times)
+      (after_after mid after rest ((optional_quantifier_at-ends ctx (allows ctx (head_of_item x)) mid).each (q, after) times)
       (terms-ends ctx xs after rest others))
 
   item-ends : (ctx : Context) (x : Item) (t rest : Source) → IsItem ctx x t rest → IsSuffix t rest
@@ -234,7 +234,7 @@ module _ (all : List (Option Name)) (widest : Flags) (source : Source) where
         (item_same ctx d n x t mid w item (split (IsQuiet widest source) item_nodes _ parts.0).0)
         (terms_same ctx d m xs after rest
         (covered-after ctx t after (after_after t mid after (item-ends ctx x t mid item)
-        ((optional_quantifier_at-ends ctx (allows ctx.setting.flags.unicode (head_of_item x)) mid).each (q, after) times)) w) others parts.1)
+        ((optional_quantifier_at-ends ctx (allows ctx (head_of_item x)) mid).each (q, after) times)) w) others parts.1)
 
     item_same : (ctx : Context) (d : Direction) (n : ℕ) (x : Item) (t rest : Source) → IsCovered ctx t → (h : IsItem ctx x t rest) →
         All (IsQuiet widest source) (spanned_of_item whole ctx d n x t rest h) → differs_in_item all ctx.setting.flags x ≡ false

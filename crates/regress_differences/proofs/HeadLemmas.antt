@@ -6,7 +6,7 @@ use Rattle.regress_base.specs.Table.{Table}
 use Rattle.regress_base.specs.declared.charclasses.CharacterClassType.{CharacterClassType}
 use Rattle.regress_lexer.specs.Source.{Source, Found, opening, question_mark, first_production, is_at}
 use Rattle.regress_lexer.specs.Digits.{is_decimal, number, front}
-use Rattle.regress_lexer.specs.Escapes.{escape_at}
+use Rattle.regress_lexer.specs.Escapes.{character_escape_at}
 use Rattle.regress_lexer.specs.Modifiers.{switched, modifiers_at}
 use Rattle.regress_lexer.specs.Quantifiers.{quantifier_at}
 use Rattle.regress_lexer.proofs.lemmas.InRange.{Finds, finds_none, finds_some, finds_cond, finds_then, finds_map}
@@ -17,7 +17,7 @@ use Rattle.regress_classes.specs.ClassSets.{Value, has_strings, unless_negated_s
 use Rattle.regress_base.specs.Limits.{max_nesting_depth}
 use Rattle.regress_syntax.specs.Syntax.{Atom, literal, dot, anchor, boundary, class_escape, class, class_set, string_property, back_reference, by_number, by_name, grouping, modified, capture, look}
 use Rattle.regress_syntax.specs.Names.{group_name_at}
-use Rattle.regress_syntax.specs.Productions.{Context, Head, single, opens, angle_at, after_question_mark_at, has_names, has_name, character_at, property_atom, property_atom_at, number_reference_at, name_reference_at, escape_productions, escaped_by, escaped_at, brackets_at, atom_productions, atom_by, head_at}
+use Rattle.regress_syntax.specs.Productions.{class_parameters, Context, Head, single, opens, angle_at, after_question_mark_at, has_names, has_name, character_at, property_atom, property_atom_at, number_reference_at, name_reference_at, escape_productions, escaped_by, escaped_at, brackets_at, atom_productions, atom_by, head_at}
 use Rattle.regress_differences.specs.CaseMode.{has_icase, switches_on}
 use Rattle.regress_differences.specs.Reported.{class_escape_at}
 
@@ -63,7 +63,7 @@ module _ (ctx : Context) where
 
   module _ (s : Source) where
     character_fits : (c : ℕ) (t : Source) → Finds (AtomFits s) (character_at ctx c t)
-    character_fits c t = finds_map (λ _. Unit {0}) (AtomFits s) _ (escape_at ctx.setting.flags.unicode (c ∷ t)) (λ x _. tt) (any_found _)
+    character_fits c t = finds_map (λ _. Unit {0}) (AtomFits s) _ (character_escape_at ctx.dialect ctx.setting.flags.unicode (c ∷ t)) (λ x _. tt) (any_found _)
 
     property_fits : is_at 92 s ≡ true → class_escape_at s ≡ None → (negated : Bool) (x : Property × Source) →
         Finds (AtomFits s) (property_atom ctx negated x)
@@ -130,7 +130,7 @@ module _ (ctx : Context) where
       finds_cond (AtomFits s) ctx.setting.flags.unicode_sets _ _
       (λ sets. finds_map AreApart (AtomFits s) _ (class_set_at ctx.setting.table ctx.setting.flags.unicode t) (λ x apart. (none, sets, apart))
       (class_set_by-apart ctx.setting.table ctx.setting.flags.unicode max_nesting_depth t))
-      (λ _. finds_map (λ _. Unit {0}) (AtomFits s) _ (class_at ctx.setting.table ctx.setting.flags.unicode t) (λ x _. none) (any_found _))
+      (λ _. finds_map (λ _. Unit {0}) (AtomFits s) _ (class_at ctx.setting.table (class_parameters ctx) t) (λ x _. none) (any_found _))
 
   -- an opening bracket is no backslash
   opens_no_escape : (c : ℕ) (t : Source) → (c == 91) ≡ true → class_escape_at (c ∷ t) ≡ None

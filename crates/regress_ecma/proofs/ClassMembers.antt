@@ -10,8 +10,10 @@ use Rattle.regress_base.specs.declared.charclasses.CharacterClassType.TheVariant
 use Rattle.regress_base.specs.declared.types.Flags.{Flags}
 use Rattle.regress_base.proofs.lemmas.Sets.{is_member-nil, is_member-append, canonical_is, intervals_of-agree, intervals_of-member}
 use Rattle.regress_lexer.specs.Digits.{is_decimal, is_letter}
-use Rattle.regress_lexer.specs.Escapes.{escape_at}
+use Rattle.regress_lexer.specs.Dialects.{reserves_k}
+use Rattle.regress_lexer.specs.Escapes.{character_escape_at}
 use Rattle.regress_lexer.specs.Source.{Source, Found, first_production, char, is_one_of, is_at}
+use Rattle.regress_classes.specs.declared.parameters.Parameters.{Parameters}
 use Rattle.regress_classes.specs.ClassProductions.{members_of, class_letter, complement_if, class_members, point, set, one_point, atom_members, class_control_at, class_property, class_property_at, class_escape_productions, begins_range, members_with_hyphen, points_between, range_of, class_parts_by, class_at}
 use Rattle.regress_classes.specs.ClassProductions as ClassProductions
 use Rattle.regress_classes.specs.Properties.{Property, of_points, of_strings, property_at}
@@ -272,41 +274,44 @@ module _ (table : Table) (maps : HasCaseDataOfUnicode table) (rer : Flags) (with
         (refl, covers-same table rer _ _ (property_is negated members))
     property_follows negated (of_strings written) t = follows_none IsAtomOf _
 
-    module _ (unicode : Bool) where
+    module _ (parameters : Parameters) where
       escapes_follow : (c : ℕ) (t : Source) →
-          Follows IsAtomOf (first_production (class_escape_productions table unicode c t)) (first_production (escape_productions table unicode c t))
+          Follows IsAtomOf (first_production (class_escape_productions table parameters c t)) (first_production (escape_productions table parameters c t))
       escapes_follow c t =
           follows_if IsAtomOf (c == char "b") _ _ _ _ (λ _. follows_some IsAtomOf (character 8) (point 8) t refl)
-          (λ _. follows_if IsAtomOf (c == char "-" && unicode) _ _ _ _ (λ _. follows_some IsAtomOf (character (char "-")) (point (char "-")) t refl)
-          (λ _. follows_if IsAtomOf (c == char "c" && not unicode) _ _ _ _ (λ _. control_follows t)
-          (λ _. follows_if IsAtomOf (is_one_of "pP" c && unicode) _ _ _ _
+          (λ _. follows_if IsAtomOf (c == char "-" && parameters.unicode) _ _ _ _ (λ _. follows_some IsAtomOf (character (char "-")) (point (char "-")) t refl)
+          (λ _. follows_if IsAtomOf (c == char "c" && not parameters.unicode) _ _ _ _ (λ _. control_follows t)
+          (λ _. follows_if IsAtomOf (is_one_of "pP" c && parameters.unicode) _ _ _ _
           (λ _.
           follows_then (λ (y x : Property). y ≡ x) IsAtomOf (property_at false table t) (property_at false table t) _ _ (follows_same _)
           (λ p q u same. subst (λ (r : Property). Follows IsAtomOf (class_property (c == char "P") (p, u)) (Some (property_node (c == char "P") r, u))) (sym same)
           (property_follows (c == char "P") p u)))
           (λ _.
-          follows_map (λ (y x : ℕ). y ≡ x) IsAtomOf point character (escape_at unicode (c ∷ t)) (escape_at unicode (c ∷ t)) (follows_same _)
-          (λ x y same. ap character same)))))
+          follows_if IsAtomOf (c == char "k" && parameters.named && reserves_k parameters.dialect) _ _ _ _ (λ _. follows_none IsAtomOf None)
+          (λ _.
+          follows_map (λ (y x : ℕ). y ≡ x) IsAtomOf point character
+          (character_escape_at parameters.dialect parameters.unicode (c ∷ t)) (character_escape_at parameters.dialect parameters.unicode (c ∷ t)) (follows_same _)
+          (λ x y same. ap character same))))))
 
-      class_escape_follows : (t : Source) → Follows IsAtomOf (ClassProductions.class_escape_at table unicode t) (class_escape_at table unicode t)
+      class_escape_follows : (t : Source) → Follows IsAtomOf (ClassProductions.class_escape_at table parameters t) (class_escape_at table parameters t)
       class_escape_follows [] = follows_none IsAtomOf None
       class_escape_follows (c ∷ t) = by (class_letter c)
         where
           by : (letter : Option (CharacterClassType × Bool)) →
               Follows IsAtomOf
               (elim letter as (λ _. Found ClassProductions.ClassAtom) [
-                | None ↦ first_production (class_escape_productions table unicode c t)
+                | None ↦ first_production (class_escape_productions table parameters c t)
                 | Some named ↦ Some (set (class_members named), t)
               ])
               (elim letter as (λ _. Found ClassAtom) [
-                | None ↦ first_production (escape_productions table unicode c t)
+                | None ↦ first_production (escape_productions table parameters c t)
                 | Some named ↦ Some (class_escape named.0 named.1, t)
               ])
           by None = escapes_follow c t
           by (Some (kind, capital)) =
               follows_some IsAtomOf (class_escape kind capital) (set (class_members (kind, capital))) t (refl, escape_is kind capital)
 
-      atom_follows : (t : Source) → Follows IsAtomOf (ClassProductions.class_atom_at table unicode t) (class_atom_at table unicode t)
+      atom_follows : (t : Source) → Follows IsAtomOf (ClassProductions.class_atom_at table parameters t) (class_atom_at table parameters t)
       atom_follows [] = follows_none IsAtomOf None
       atom_follows (c ∷ t) =
           follows_if IsAtomOf (c == char "]") _ _ _ _ (λ _. follows_none IsAtomOf None)
@@ -378,9 +383,9 @@ module _ (table : Table) (maps : HasCaseDataOfUnicode table) (rer : Flags) (with
           range_or_union (atom_to_char_set table rer first) (atom_to_char_set table rer last) (character_of first) (character_of last)
           ≡ with_hyphen (atom_to_char_set table rer first) (atom_to_char_set table rer last) →
           Follows IsPart
-          (elim (members_with_hyphen unicode (atom_members a) (atom_members b)) as (λ _. Found (List Bounds)) [ None ↦ None | Some members ↦ Some (members, t) ])
+          (elim (members_with_hyphen parameters.unicode (atom_members a) (atom_members b)) as (λ _. Found (List Bounds)) [ None ↦ None | Some members ↦ Some (members, t) ])
           (Some (range_then first last, t))
-      hyphen_follows first last a b t is_first is_last hyphen = by_test unicode
+      hyphen_follows first last a b t is_first is_last hyphen = by_test parameters.unicode
         where
           by_test : (u : Bool) →
               Follows IsPart
@@ -406,7 +411,7 @@ module _ (table : Table) (maps : HasCaseDataOfUnicode table) (rer : Flags) (with
 
       range_follows : (first last : ClassAtom) (a b : ClassProductions.ClassAtom) (t : Source) → IsAtomOf first a → IsAtomOf last b →
           Follows IsPart
-          (elim (range_of unicode a b) as (λ _. Found (List Bounds)) [ None ↦ None | Some members ↦ Some (members, t) ])
+          (elim (range_of parameters.unicode a b) as (λ _. Found (List Bounds)) [ None ↦ None | Some members ↦ Some (members, t) ])
           (Some (range_then first last, t))
       range_follows first last (point a) (point b) t is_first is_last = points_follow first last a b t is_first is_last
       range_follows first last (point a) (set others) t is_first is_last =
@@ -416,7 +421,7 @@ module _ (table : Table) (maps : HasCaseDataOfUnicode table) (rer : Flags) (with
       range_follows first last (set members) (set others) t is_first is_last =
           hyphen_follows first last (set members) (set others) t is_first is_last (first_none (atom_to_char_set table rer first) (atom_to_char_set table rer last) (character_of first) (character_of last) is_first.0)
 
-      part_follows : (t : Source) → Follows IsPart (ClassProductions.class_part_at table unicode t) (class_part_at table unicode t)
+      part_follows : (t : Source) → Follows IsPart (ClassProductions.class_part_at table parameters t) (class_part_at table parameters t)
       part_follows t =
           follows_then IsAtomOf IsPart _ _ _ _ (atom_follows t)
           (λ a first rest is_first.
@@ -426,7 +431,7 @@ module _ (table : Table) (maps : HasCaseDataOfUnicode table) (rer : Flags) (with
           (λ b last after is_last. range_follows first last a b after is_first is_last))
           (λ _. follows_some IsPart (atom_then first) (atom_members a) rest (atom_part first a is_first)))
 
-      ranges_follow : (n : ℕ) (t : Source) → Follows IsContents (class_parts_by table unicode n t) (class_ranges_by table unicode n t)
+      ranges_follow : (n : ℕ) (t : Source) → Follows IsContents (class_parts_by table parameters n t) (class_ranges_by table parameters n t)
       unfolding class_parts_by class_ranges_by
       ranges_follow zero t = follows_none IsContents None
       ranges_follow (suc n) t =
@@ -443,7 +448,7 @@ module _ (table : Table) (maps : HasCaseDataOfUnicode table) (rer : Flags) (with
         pub invert : node.invert ≡ read.0
         pub contents : IsContents node.contents read.1
 
-      pub class_follows : (t : Source) → Follows IsClass (class_at table unicode t) (character_class_at table unicode false t)
+      pub class_follows : (t : Source) → Follows IsClass (class_at table parameters t) (character_class_at table parameters false t)
       unfolding class_at character_class_at
       class_follows t =
           let inside : Source = if is_at (char "^") t then drop 1 t else t in

@@ -7,6 +7,7 @@ use Rattle.regress_base.specs.Table.{Table}
 use Rattle.regress_base.specs.declared.charclasses.CharacterClassType.{CharacterClassType}
 use Rattle.regress_base.specs.declared.types.Flags.{Flags}
 use Rattle.regress_lexer.specs.Source.{Source, Found, found_map, first_production, char, is_one_of, is_at}
+use Rattle.regress_classes.specs.declared.parameters.Parameters.{Parameters}
 use Rattle.regress_classes.specs.ClassProductions.{members_of, class_letter, complement_if, class_members, one_point, points_between}
 use Rattle.regress_classes.specs.ClassProductions as ClassProductions
 use Rattle.regress_classes.specs.ClassSets.{Value, nothing, has_strings, joined, folded_left, common, without, value_of_string, value_of_strings, nested, unless_negated_strings, Operand, value_of, range_of, escaped_character_at, set_character_at, strings_by, quoted_at, property_operand, are_at, class_set_at}
@@ -356,6 +357,7 @@ module _ (table : Table) (maps : HasCaseDataOfUnicode table) (rer : Flags) (with
           by_test false e =
               follows_some IsClassSet _ (negated, value) rest (record { invert = refl; contents = is; no_strings = e })
 
-  pub class_set_follows : (unicode : Bool) (t : Source) → Follows IsClassSet (class_set_at table unicode t) (character_class_at table unicode true t)
+  pub class_set_follows : (parameters : Parameters) (t : Source) →
+      Follows IsClassSet (class_set_at table parameters.unicode t) (character_class_at table parameters true t)
   unfolding character_class_at
-  class_set_follows unicode t = set_follows unicode max_nesting_depth t
+  class_set_follows parameters t = set_follows parameters.unicode max_nesting_depth t

@@ -7,7 +7,7 @@ use Rattle.regress_base.specs.declared.charclasses.CharacterClassType.{Character
 use Rattle.regress_base.specs.declared.types.Flags.{Flags}
 use Rattle.regress_base.specs.declared.types.Quantifier.{Quantifier}
 use Rattle.regress_lexer.specs.Digits.{is_decimal, number, front}
-use Rattle.regress_lexer.specs.Escapes.{escape_at}
+use Rattle.regress_lexer.specs.Escapes.{character_escape_at}
 use Rattle.regress_lexer.specs.Modifiers.{Change, changed, modifiers_at, switched as switched_to}
 use Rattle.regress_lexer.specs.Source.{Source, Found, ◌>>=◌, found_map, first_production, is_at, opening, colon, question_mark}
 use Rattle.regress_lexer.proofs.lemmas.Sources.{EachProduction, no_more, ◌also◌, first_production-has}
@@ -16,7 +16,7 @@ use Rattle.regress_classes.specs.ClassSets.{class_set_at}
 use Rattle.regress_classes.specs.Properties.{Property, of_points, of_strings, property_at}
 use Rattle.regress_syntax.specs.Grammar.{IsPattern, AreTerms, IsItem}
 use Rattle.regress_syntax.specs.Names.{group_name_at}
-use Rattle.regress_syntax.specs.Productions.{Context, context_inside, Head, single, opens, head_of_item, allows, head_at, optional_quantifier_at, character_at, property_atom, number_reference_at, name_reference_at, has_name, escape_productions, escaped_by, escaped_at, brackets_at, atom_productions, atom_by, angle_at, after_question_mark_at}
+use Rattle.regress_syntax.specs.Productions.{class_parameters, Context, context_inside, Head, single, opens, head_of_item, allows, head_at, optional_quantifier_at, character_at, property_atom, number_reference_at, name_reference_at, has_name, escape_productions, escaped_by, escaped_at, brackets_at, atom_productions, atom_by, angle_at, after_question_mark_at}
 use Rattle.regress_syntax.specs.Syntax.{Atom, class_escape, class, Group, grouping, modified, capture, look, Pattern, Terms, Item, one, either, no_terms, more_terms, atom, group}
 use Rattle.regress_syntax.proofs.lemmas.Productions.{optional_quantifier_at-ordered}
 use Rattle.regress_tree.specs.Reading.{forwards, backwards}
@@ -58,7 +58,7 @@ module _ (ctx : Context) where
   HasFlags a = flags_of a ≡ ctx.setting.flags
 
   character_holds : (c : ℕ) (t : Source) → Holds HasFlags (character_at ctx c t)
-  character_holds c t = holds_map HasFlags _ (escape_at ctx.setting.flags.unicode (c ∷ t)) (λ a. refl)
+  character_holds c t = holds_map HasFlags _ (character_escape_at ctx.dialect ctx.setting.flags.unicode (c ∷ t)) (λ a. refl)
 
   class_if : (b : Bool) (members others : _) (negated : Bool) →
       flags_of (if b then class ctx.setting.flags false members else class ctx.setting.flags negated others) ≡ ctx.setting.flags
@@ -109,7 +109,7 @@ module _ (ctx : Context) where
   brackets_hold t =
       holds_if HasFlags ctx.setting.flags.unicode_sets _ _
       (holds_map HasFlags _ (class_set_at ctx.setting.table ctx.setting.flags.unicode t) (λ a. refl))
-      (holds_map HasFlags _ (class_at ctx.setting.table ctx.setting.flags.unicode t) (λ a. refl))
+      (holds_map HasFlags _ (class_at ctx.setting.table (class_parameters ctx) t) (λ a. refl))
 
   atoms_hold : (c : ℕ) (t : Source) → EachProduction (Holds HasFlags) (atom_productions ctx c t)
   atoms_hold c t =
@@ -207,7 +207,7 @@ mutual
   terms_proper ctx no_terms t rest derived = tt
   terms_proper ctx (more_terms x q xs) t rest derived = (
     item_proper ctx x t derived.0 derived.2,
-    in_order ctx (allows ctx.setting.flags.unicode (head_of_item x)) derived.0 q derived.1 derived.3,
+    in_order ctx (allows ctx (head_of_item x)) derived.0 q derived.1 derived.3,
     terms_proper ctx xs derived.1 rest derived.4,
   )
 

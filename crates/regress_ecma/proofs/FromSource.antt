@@ -11,7 +11,7 @@ use Rattle.regress_tree.specs.Reading.{Direction, forwards, backwards, IsText}
 use Rattle.regress_tree.specs.Setting.{Setting}
 use Rattle.regress_base.specs.declared.types.AnchorType.TheVariants.{StartOfLine, EndOfLine}
 use Rattle.regress_lexer.specs.Digits.{is_decimal, number, front}
-use Rattle.regress_lexer.specs.Escapes.{escape_at}
+use Rattle.regress_lexer.specs.Escapes.{character_escape_at}
 use Rattle.regress_lexer.specs.Modifiers.{modifiers_at}
 use Rattle.regress_lexer.specs.Source.{Source, Found, ◌>>=◌, found_map, first_production, char, is_at, opening, colon, question_mark}
 use Rattle.regress_lexer.proofs.lemmas.Sources.{EachProduction, no_more, ◌also◌, first_production-has}
@@ -22,7 +22,7 @@ use Rattle.regress_classes.specs.Properties.{Property, of_points, of_strings, pr
 use Rattle.regress_syntax.specs.Grammar.{IsPattern, AreTerms, IsItem}
 use Rattle.regress_syntax.specs.Meaning.{is_in_class, meaning}
 use Rattle.regress_syntax.specs.Names.{group_name_at}
-use Rattle.regress_syntax.specs.Productions.{Context, context_inside, Head, single, opens, head_at, character_at, point_property, property_atom, number_reference_at, name_reference_at, has_name, escape_productions, escaped_by, escaped_at, brackets_at, atom_productions, atom_by, angle_at, after_question_mark_at}
+use Rattle.regress_syntax.specs.Productions.{class_parameters, Context, context_inside, Head, single, opens, head_at, character_at, point_property, property_atom, number_reference_at, name_reference_at, has_name, escape_productions, escaped_by, escaped_at, brackets_at, atom_productions, atom_by, angle_at, after_question_mark_at}
 use Rattle.regress_syntax.specs.Syntax.{Name, names, Atom, literal, dot, anchor, boundary, class_escape, class, class_set, string_property, back_reference, by_number, by_name, Group, grouping, modified, capture, look, Pattern, Terms, Item, one, either, no_terms, more_terms, atom, group}
 use Rattle.regress_ecma.specs.Notation.{CharSet}
 use Rattle.regress_ecma.specs.Assertions.{accept}
@@ -105,19 +105,19 @@ module _ (setting : Setting) (maps : HasCaseDataOfUnicode setting.table) (with_u
         elim found as (λ _. Atom) [ None ↦ class flags' false [] | Some read ↦ compile_character_class ctx.setting.table flags' read.0 ]
 
     compiled_is : (c : ℕ) (t : Source) (sets : Bool) (node : CharacterClass) (rest : Source) → (c == char "[") ≡ true → flags'.unicode_sets ≡ sets →
-        character_class_at ctx.setting.table flags'.unicode sets t ≡ Some (node, rest) →
+        character_class_at ctx.setting.table (class_parameters ctx) sets t ≡ Some (node, rest) →
         compiled ctx (c ∷ t) ≡ compile_character_class ctx.setting.table flags' node
     compiled_is c t sets node rest first is_sets found =
         ap (λ (b : Bool). if b then class_compiled ctx t else property_compiled ctx t) first
-        ∙ ap (λ (b : Bool). by_class (character_class_at ctx.setting.table flags'.unicode b t)) is_sets
+        ∙ ap (λ (b : Bool). by_class (character_class_at ctx.setting.table (class_parameters ctx) b t)) is_sets
         ∙ ap by_class found
 
     class_good : (c : ℕ) (t : Source) (inverted : Bool) (members : CharSet) (rest : Source) → (c == char "[") ≡ true →
-        flags'.unicode_sets ≡ false → class_at ctx.setting.table flags'.unicode t ≡ Some ((inverted, members), rest) →
+        flags'.unicode_sets ≡ false → class_at ctx.setting.table (class_parameters ctx) t ≡ Some ((inverted, members), rest) →
         IsGood (c ∷ t) (class flags' inverted members)
     class_good c t inverted members rest first no_sets found d flags none =
         let read =
-        (class_follows ctx.setting.table here flags' (with_u_of flags' flags) (no_fold_of flags' members none) flags'.unicode t).each
+        (class_follows ctx.setting.table here flags' (with_u_of flags' flags) (no_fold_of flags' members none) (class_parameters ctx) t).each
         (inverted, members) rest found in
         let set' : CharSet = (compile_to_char_set ctx.setting.table flags' read.value.contents).characters in
         let is : compiled ctx (c ∷ t) ≡ class flags' inverted set' =
@@ -133,7 +133,7 @@ module _ (setting : Setting) (maps : HasCaseDataOfUnicode setting.table) (with_u
         IsGood (c ∷ t) (class_set flags' negated value)
     class_set_good c t negated value rest first sets found d flags none =
         let plain : flags'.icase ≡ false = (or_parts flags'.icase (negated && has_strings value) none).0 in
-        let read = (class_set_follows ctx.setting.table here flags' (with_u_of flags' flags) plain flags'.unicode t).each (negated, value) rest found in
+        let read = (class_set_follows ctx.setting.table here flags' (with_u_of flags' flags) plain (class_parameters ctx) t).each (negated, value) rest found in
         let is : compiled ctx (c ∷ t) ≡ class_of ctx.setting.table flags' (if negated then complement ctx.setting.table flags' (elements value) else elements value) =
         compiled_is c t true read.value rest first sets read.found
         ∙ ap (λ (b : Bool). if b then class_of ctx.setting.table flags' (if read.value.invert then complement ctx.setting.table flags' (compile_to_char_set ctx.setting.table flags' read.value.contents) else compile_to_char_set ctx.setting.table flags' read.value.contents) else class flags' read.value.invert (compile_to_char_set ctx.setting.table flags' read.value.contents).characters) sets
@@ -155,12 +155,12 @@ module _ (setting : Setting) (maps : HasCaseDataOfUnicode setting.table) (with_u
             Holds (IsGood (c ∷ t))
             (if v
             then found_map (λ (negated, value). class_set flags' negated value) (class_set_at ctx.setting.table flags'.unicode t)
-            else found_map (λ (inverted, members). class flags' inverted members) (class_at ctx.setting.table flags'.unicode t))
+            else found_map (λ (inverted, members). class flags' inverted members) (class_at ctx.setting.table (class_parameters ctx) t))
         by_test true e =
             holds_found (IsGood (c ∷ t)) (λ (negated, value). class_set flags' negated value) (class_set_at ctx.setting.table flags'.unicode t)
             (λ (negated, value) rest found. class_set_good c t negated value rest first e found)
         by_test false e =
-            holds_found (IsGood (c ∷ t)) (λ (inverted, members). class flags' inverted members) (class_at ctx.setting.table flags'.unicode t)
+            holds_found (IsGood (c ∷ t)) (λ (inverted, members). class flags' inverted members) (class_at ctx.setting.table (class_parameters ctx) t)
             (λ (inverted, members) rest found. class_good c t inverted members rest first e found)
 
     -- ---- properties
@@ -240,7 +240,7 @@ module _ (setting : Setting) (maps : HasCaseDataOfUnicode setting.table) (with_u
       literal_good c = alike (literal flags' c)
 
       character_good : (c : ℕ) (t : Source) → Holds (IsGood s) (character_at ctx c t)
-      character_good c t = holds_map (IsGood s) (literal flags') (escape_at flags'.unicode (c ∷ t)) literal_good
+      character_good c t = holds_map (IsGood s) (literal flags') (character_escape_at ctx.dialect flags'.unicode (c ∷ t)) literal_good
 
       number_good : (c : ℕ) (t : Source) → Holds (IsGood s) (number_reference_at ctx c t)
       number_good c t =
@@ -410,11 +410,11 @@ module _ (ctx : Context) (maps : HasCaseDataOfUnicode ctx.setting.table)
   without_i = record ctx.setting.flags { icase = false }
 
   abbrev EndsAt : Source → Bool → Source → Type 0
-  EndsAt t sets rest = (node : CharacterClass) × (character_class_at ctx.setting.table ctx.setting.flags.unicode sets t ≡ Some (node, rest))
+  EndsAt t sets rest = (node : CharacterClass) × (character_class_at ctx.setting.table (class_parameters ctx) sets t ≡ Some (node, rest))
 
-  class_ends : (t : Source) (x : (Bool × CharSet) × Source) → class_at ctx.setting.table ctx.setting.flags.unicode t ≡ Some x → EndsAt t false x.1
+  class_ends : (t : Source) (x : (Bool × CharSet) × Source) → class_at ctx.setting.table (class_parameters ctx) t ≡ Some x → EndsAt t false x.1
   class_ends t (read, rest) e =
-      let found = (class_follows ctx.setting.table maps without_i with_u (and_false ctx.setting.flags.unicode_sets) ctx.setting.flags.unicode t).each read rest e in
+      let found = (class_follows ctx.setting.table maps without_i with_u (and_false ctx.setting.flags.unicode_sets) (class_parameters ctx) t).each read rest e in
       (found.value, found.found)
     where
       and_false : (b : Bool) → (b && false) ≡ false
@@ -423,7 +423,7 @@ module _ (ctx : Context) (maps : HasCaseDataOfUnicode ctx.setting.table)
 
   class_set_ends : (t : Source) (x : (Bool × Value) × Source) → class_set_at ctx.setting.table ctx.setting.flags.unicode t ≡ Some x → EndsAt t true x.1
   class_set_ends t (read, rest) e =
-      let found = (class_set_follows ctx.setting.table maps without_i with_u refl ctx.setting.flags.unicode t).each read rest e in
+      let found = (class_set_follows ctx.setting.table maps without_i with_u refl (class_parameters ctx) t).each read rest e in
       (found.value, found.found)
 
   mapped_end : {A B : Type 0} (f : A → B) (found : Found A) (y : B) (rest : Source) → found_map f found ≡ Some (y, rest) →
@@ -439,18 +439,18 @@ module _ (ctx : Context) (maps : HasCaseDataOfUnicode ctx.setting.table)
       by_test : (v : Bool) →
           (if v
           then found_map (λ (negated, value). class_set ctx.setting.flags negated value) (class_set_at ctx.setting.table ctx.setting.flags.unicode t)
-          else found_map (λ (inverted, members). class ctx.setting.flags inverted members) (class_at ctx.setting.table ctx.setting.flags.unicode t))
+          else found_map (λ (inverted, members). class ctx.setting.flags inverted members) (class_at ctx.setting.table (class_parameters ctx) t))
           ≡ Some (a, rest) → EndsAt t v rest
       by_test true h =
           let found = mapped_end (λ (negated, value). class_set ctx.setting.flags negated value) (class_set_at ctx.setting.table ctx.setting.flags.unicode t) a rest h in
           class_set_ends t (found.0, rest) found.1
       by_test false h =
-          let found = mapped_end (λ (inverted, members). class ctx.setting.flags inverted members) (class_at ctx.setting.table ctx.setting.flags.unicode t) a rest h in
+          let found = mapped_end (λ (inverted, members). class ctx.setting.flags inverted members) (class_at ctx.setting.table (class_parameters ctx) t) a rest h in
           class_ends t (found.0, rest) found.1
 
   pub node_ends : (t rest : Source) (a : Atom) → head_at ctx (char "[" ∷ t) ≡ Some (single a, rest) →
       (node : CharacterClass)
-      × (character_class_at ctx.setting.table ctx.setting.flags.unicode ctx.setting.flags.unicode_sets t ≡ Some (node, rest))
+      × (character_class_at ctx.setting.table (class_parameters ctx) ctx.setting.flags.unicode_sets t ≡ Some (node, rest))
   unfolding head_at
   node_ends t rest a e =
       let found = mapped_end single (brackets_at ctx t) (single a) rest e in

@@ -5,7 +5,9 @@ use Rattle.regress_base.specs.Limits.{max_nesting_depth}
 use Rattle.regress_base.specs.Table.{Table}
 use Rattle.regress_lexer.specs.Source.{Source, Found, ◌>>=◌, found_map, Production, when, otherwise, first_production, char, is_one_of, is_at}
 use Rattle.regress_lexer.specs.Digits.{is_decimal, is_letter, control}
-use Rattle.regress_lexer.specs.Escapes.{escape_at}
+use Rattle.regress_lexer.specs.Dialects.{reserves_k}
+use Rattle.regress_lexer.specs.Escapes.{character_escape_at}
+use Rattle.regress_classes.specs.declared.parameters.Parameters.{Parameters}
 use Rattle.regress_classes.specs.ClassProductions.{class_letter, begins_range}
 use Rattle.regress_classes.specs.ClassSets.{escaped_character_at, set_character_at, strings_by, are_at}
 use Rattle.regress_classes.specs.Properties.{Property, of_points, of_strings, property_at}
@@ -25,15 +27,17 @@ control_at (d ∷ t) =
     if is_letter d || is_decimal d || d == char "_" then Some (character (control d), t)
     else Some (character (char "\\"), char "c" ∷ d ∷ t)
 
-module _ (table : Table) (unicode : Bool) where
+module _ (table : Table) (parameters : Parameters) where
   -- ClassEscape and CharacterEscape, from c on
   abbrev pub escape_productions : ℕ → Source → List (Production ClassAtom)
   escape_productions c t =
       when (c == char "b") (Some (character 8, t))
-      ∷ when (c == char "-" && unicode) (Some (character (char "-"), t))
-      ∷ when (c == char "c" && not unicode) (control_at t)
-      ∷ when (is_one_of "pP" c && unicode) (found_map (property_node (c == char "P")) (property_at false table t))
-      ∷ otherwise (found_map character (escape_at unicode (c ∷ t))) ∷ []
+      ∷ when (c == char "-" && parameters.unicode) (Some (character (char "-"), t))
+      ∷ when (c == char "c" && not parameters.unicode) (control_at t)
+      ∷ when (is_one_of "pP" c && parameters.unicode) (found_map (property_node (c == char "P")) (property_at false table t))
+      -- IdentityEscape, SourceCharacterIdentityEscape with NamedCaptureGroups
+      ∷ when (c == char "k" && parameters.named && reserves_k parameters.dialect) None
+      ∷ otherwise (found_map character (character_escape_at parameters.dialect parameters.unicode (c ∷ t))) ∷ []
 
   -- after a backslash
   abbrev pub class_escape_at : Source → Found ClassAtom
@@ -148,10 +152,10 @@ module _ (table : Table) (unicode : Bool) where
       (contents_at (class_set_by n) (if invert then drop 1 t else t))
 
 -- CharacterClass, after its `[`
-unfoldable pub character_class_at : Table → (unicode sets : Bool) → Source → Found CharacterClass
-character_class_at table unicode sets t =
+unfoldable pub character_class_at : Table → Parameters → (sets : Bool) → Source → Found CharacterClass
+character_class_at table parameters sets t =
     let invert = is_at (char "^") t in
     let inside = if invert then drop 1 t else t in
-    if sets then class_set_by table unicode max_nesting_depth t
+    if sets then class_set_by table parameters.unicode max_nesting_depth t
     else found_map (λ contents. record { invert = invert; contents = contents })
-    (class_ranges_by table unicode (length inside + 1) inside)
+    (class_ranges_by table parameters (length inside + 1) inside)

@@ -4,7 +4,7 @@ use Rattle.std.specs.Prelude.{false, [], drop, Some, None, if◌then◌else◌}
 use Rattle.regress_lexer.specs.Source.{Source, char, is_at}
 use Rattle.regress_classes.specs.Properties.{property_at}
 use Rattle.regress_syntax.specs.Grammar.{IsPattern, AreTerms, IsItem}
-use Rattle.regress_syntax.specs.Productions.{Context, context_inside}
+use Rattle.regress_syntax.specs.Productions.{Context, context_inside, class_parameters}
 use Rattle.regress_syntax.specs.Syntax.{Atom, class, class_set, Pattern, Terms, Item, one, either, no_terms, more_terms, atom, group}
 use Rattle.regress_ecma.specs.CharSets.{atom_to_char_set, compile_character_class}
 use Rattle.regress_ecma.specs.ClassGrammar.{property_node, character_class_at}
@@ -13,7 +13,7 @@ module _ (ctx : Context) where
   -- 22.2.2.7 CompileAtom, CharacterClass: after its `[`
   abbrev pub class_compiled : Source → Atom
   class_compiled t =
-      elim (character_class_at ctx.setting.table ctx.setting.flags.unicode ctx.setting.flags.unicode_sets t) [
+      elim (character_class_at ctx.setting.table (class_parameters ctx) ctx.setting.flags.unicode_sets t) [
         | None ↦ class ctx.setting.flags false []
         | Some found ↦ compile_character_class ctx.setting.table ctx.setting.flags found.0
       ]

@@ -6,7 +6,7 @@ ghost use Rattle.regress_tree.specs.Steps.{MatchState, IsStateOf};
 ghost use Rattle.regress_lexer.specs.Source.{Source, char};
 ghost use Rattle.regress_syntax.specs.Grammar.{IsPattern};
 ghost use Rattle.regress_syntax.specs.Meaning.{meaning};
-ghost use Rattle.regress_syntax.specs.Productions.{Context, head_at, single};
+ghost use Rattle.regress_syntax.specs.Productions.{class_parameters, Context, head_at, single};
 ghost use Rattle.regress_syntax.specs.Syntax.{Atom, Pattern, names};
 ghost use Rattle.regress_ucd.specs.UnicodeTable.{unicode_table};
 ghost use Rattle.regress_ecma.specs.Assertions.{accept};
@@ -54,7 +54,7 @@ pub fn first_outcome_is_the_match()
     ensures ends { (ctx : Context) → HasCaseDataOfUnicode ctx.setting.table →
         (ctx.setting.flags.unicode_sets ≡ true → ctx.setting.flags.unicode ≡ true) →
         (t rest : Source) (a : Atom) → head_at ctx (char "[" ∷ t) ≡ Some (single a, rest) → (node : CharacterClass)
-        × (character_class_at ctx.setting.table ctx.setting.flags.unicode ctx.setting.flags.unicode_sets t ≡ Some (node, rest)) }
+        × (character_class_at ctx.setting.table (class_parameters ctx) ctx.setting.flags.unicode_sets t ≡ Some (node, rest)) }
 
     // Each syntax tree of the grammar has the flags in force, and quantifiers in order.
     ensures proper { (ctx : Context) (p : Pattern) (t rest : Source) → IsPattern ctx p t rest → IsProper ctx.setting.flags p }

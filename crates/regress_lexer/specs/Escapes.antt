@@ -2,6 +2,8 @@
 use Rattle.std.specs.Prelude.{ℕ, ◌+◌, ◌-◌, ◌*◌, Bool, false, not, ◌&&◌, ◌||◌, [], ◌∷◌, length, take, drop, Option, Some, None, if◌then◌else◌, nat_le, ◌==◌}
 use Rattle.regress_base.specs.Intervals.{code_point_max}
 use Rattle.regress_lexer.specs.Source.{Source, Found, ◌>>=◌, char, is_one_of, is_at}
+use Rattle.regress_lexer.specs.declared.dialect.Dialect.{Dialect}
+use Rattle.regress_lexer.specs.Dialects.{is_lone_u}
 use Rattle.regress_lexer.specs.Digits.{is_between, is_decimal, is_octal, is_letter, is_hex, number, front, after, hex_at, control}
 
 -- at least one hexadecimal digit and `}`, after a `{`, with the value of a code point
@@ -92,3 +94,8 @@ other_escape unicode c t =
 unfoldable pub escape_at : Bool → Source → Found ℕ
 escape_at unicode [] = None
 escape_at unicode (c ∷ t) = elim (letter_escape c) [ None ↦ other_escape unicode c t | Some x ↦ Some (x, t) ]
+
+-- The same in a dialect, where braces may make no escape: then a `u` before them is a letter.
+abbrev pub character_escape_at : Dialect → Bool → Source → Found ℕ
+character_escape_at dialect unicode [] = None
+character_escape_at dialect unicode (c ∷ t) = if is_lone_u dialect unicode c t then Some (c, t) else escape_at unicode (c ∷ t)

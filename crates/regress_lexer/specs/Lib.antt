@@ -4,6 +4,7 @@ pub mod Escapes
 pub mod Quantifiers
 pub mod FirstCodePoint
 pub mod Modifiers
+pub mod Dialects
 pub mod Fault
 pub mod FaultKinds
 pub mod Reads

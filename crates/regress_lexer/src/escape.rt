@@ -14,12 +14,15 @@ ghost use Rattle.regress_lexer.specs.Escapes.{
   control_at,
   other_escape,
   escape_at,
+  character_escape_at,
 };
+ghost use Rattle.regress_lexer.specs.Dialects.{is_lone_u};
 ghost use Rattle.regress_lexer.specs.Source.{IsCodePoint, char};
 ghost use Rattle.regress_lexer.specs.Fault.{is_limit};
 ghost use Rattle.regress_lexer.specs.Digits as digits_spec;
 ghost use Rattle.regress_lexer.specs.Reads.{returned};
 
+use crate::dialect::Dialect;
 use crate::digits::{
     Read, control, digit, hex_length, is_decimal, is_letter, is_octal, number_from, octal_length,
     parse_hex, strip_char,
@@ -211,6 +214,33 @@ pub fn parse_escape<'a>(source: &'a [u32], unicode: bool) -> Read<'a, u32>
         Some(value) => Some((value, rest)),
         None => read_other(*c, rest, unicode),
     }
+}
+
+/// Returns whether `c`, which follows a backslash, is a `u` that is a letter, since the brace after it makes no escape.
+/// `source` is what follows `c`.
+fn is_lone_u(c: u32, source: &[u32], dialect: Dialect, unicode: bool) -> bool
+    ensures { result ≡ is_lone_u dialect unicode c source.now }
+{
+    if dialect.has_braces(unicode) {
+        return false;
+    }
+    c == u32::from('u') && source.first() == Some(&u32::from('{'))
+}
+
+/// Parses an escape as [`parse_escape`] does, in a dialect: where braces make no escape, a `u` before them is a letter.
+pub fn parse_character_escape<'a>(
+    source: &'a [u32],
+    dialect: Dialect,
+    unicode: bool,
+) -> Read<'a, u32>
+    ensures value { returned result ≡ character_escape_at dialect unicode source.now }
+    ensures in_range { All IsCodePoint source.now → IfSome result (λ found. IsCodePoint found.0) }
+{
+    let (c, rest) = source.split_first()?;
+    if is_lone_u(*c, rest, dialect, unicode) {
+        return Some((*c, rest));
+    }
+    parse_escape(source, unicode)
 }
 
 /// Returns the kind of syntax error for a backslash that begins no valid escape; `source` is what follows the

@@ -3,6 +3,7 @@ use Rattle.std.proofs.Common.{◌≡◌, ℕ, ◌<◌, ◌≤◌, ◌&&◌, Bool
 use Rattle.std.specs.Option.{IfSome}
 use Rattle.regress_base.specs.Intervals.{Bounds}
 use Rattle.regress_tree.specs.declared.ir.node.Node.{Node}
+use Rattle.regress_lexer.specs.declared.dialect.Dialect.{Dialect}
 use Rattle.regress_lexer.specs.declared.fault.Fault.{Fault}
 use Rattle.regress_lexer.specs.Source.{Source, Found}
 use Rattle.regress_lexer.specs.Reads.{ParsesAs}
@@ -17,9 +18,10 @@ nesting_of_either : (b : Bool) (x y : Atom) → nesting_of_atom x ≤ 0 → nest
 nesting_of_either true x y h k = h
 nesting_of_either false x y h k = k
 
-either_allows : (b : Bool) (x y : Atom) → atom_allows x ≡ true → atom_allows y ≡ true → atom_allows (cond b x y) ≡ true
-either_allows true x y h k = h
-either_allows false x y h k = k
+either_allows : (dialect : Dialect) (b : Bool) (x y : Atom) → atom_allows dialect x ≡ true → atom_allows dialect y ≡ true →
+    atom_allows dialect (cond b x y) ≡ true
+either_allows dialect true x y h k = h
+either_allows dialect false x y h k = k
 
 module _ (ctx : Context) where
   pub property-nesting : (negated : Bool) (members : List Bounds) → nesting_of_atom (point_property ctx negated members) ≤ 0
@@ -27,9 +29,9 @@ module _ (ctx : Context) where
       nesting_of_either (negated && ctx.setting.flags.icase) (class ctx.setting.flags false (complement members))
       (class ctx.setting.flags negated members) (omega arith) (omega arith)
 
-  pub property-allows : (negated : Bool) (members : List Bounds) → atom_allows (point_property ctx negated members) ≡ true
+  pub property-allows : (negated : Bool) (members : List Bounds) → atom_allows ctx.dialect (point_property ctx negated members) ≡ true
   property-allows negated members =
-      either_allows (negated && ctx.setting.flags.icase) (class ctx.setting.flags false (complement members))
+      either_allows ctx.dialect (negated && ctx.setting.flags.icase) (class ctx.setting.flags false (complement members))
       (class ctx.setting.flags negated members) refl refl
 
   -- An item without a nested class parses alike at each remaining depth.

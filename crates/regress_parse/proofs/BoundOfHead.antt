@@ -9,7 +9,7 @@ use Rattle.regress_tree.specs.Tree.{Leaf}
 use Rattle.regress_tree.specs.Visits.{nodes}
 use Rattle.regress_lexer.specs.Source.{Source, Found, found_map, opening, first_production, is_at}
 use Rattle.regress_lexer.specs.Digits.{is_decimal, number, front}
-use Rattle.regress_lexer.specs.Escapes.{escape_at}
+use Rattle.regress_lexer.specs.Escapes.{character_escape_at}
 use Rattle.regress_lexer.specs.Quantifiers.{quantifier_at}
 use Rattle.regress_lexer.specs.Modifiers.{modifiers_at}
 use Rattle.regress_lexer.proofs.lemmas.InRange.{Finds, finds_none, finds_some, finds_cond, finds_then, finds_map}
@@ -19,7 +19,7 @@ use Rattle.regress_classes.specs.ClassProductions.{complement, class_letter, cla
 use Rattle.regress_classes.specs.ClassSets.{class_set_at}
 use Rattle.regress_syntax.specs.Syntax.{Name, Atom, class, class_set, class_escape, grouping, modified, capture, look, groups_named}
 use Rattle.regress_syntax.specs.Names.{group_name_at}
-use Rattle.regress_syntax.specs.Productions.{Context, Head, single, opens, angle_at, after_question_mark_at, group_at, has_names, has_name, character_at, property_atom, property_atom_at, number_reference_at, name_reference_at, escape_productions, escaped_by, escaped_at, brackets_at, atom_productions, atom_by, head_by}
+use Rattle.regress_syntax.specs.Productions.{class_parameters, Context, Head, single, opens, angle_at, after_question_mark_at, group_at, has_names, has_name, character_at, property_atom, property_atom_at, number_reference_at, name_reference_at, escape_productions, escaped_by, escaped_at, brackets_at, atom_productions, atom_by, head_by}
 use Rattle.regress_parse.specs.TreeOf.{references, alternation, strings_or_points, tree_of_atom}
 use Rattle.regress_parse.specs.Bound.{opens_name, nodes_at}
 use Rattle.regress_parse.proofs.BoundOfSource.{nodes_at-some}
@@ -97,7 +97,7 @@ module _ (table : Table) (ctx : Context) (most : ℕ) (few : (name : Name) → l
 
   character_at-one : (c : ℕ) (t : Source) → Finds (AtMost 1) (character_at ctx c t)
   character_at-one c t =
-      finds_map (λ _. Unit {0}) (AtMost 1) _ (escape_at ctx.setting.flags.unicode (c ∷ t)) (λ x _. omega arith) (any_found _)
+      finds_map (λ _. Unit {0}) (AtMost 1) _ (character_escape_at ctx.dialect ctx.setting.flags.unicode (c ∷ t)) (λ x _. omega arith) (any_found _)
 
   property_atom-one : (negated : Bool) (x : Property × Source) → Finds (AtMost 1) (property_atom ctx negated x)
   property_atom-one negated (of_points members, t) = alone _ t (by (negated && ctx.setting.flags.icase) false negated (complement members) members)
@@ -180,7 +180,7 @@ module _ (table : Table) (ctx : Context) (most : ℕ) (few : (name : Name) → l
           (cond sets (found_map (λ (negated, value). class_set ctx.setting.flags negated value)
           (class_set_at ctx.setting.table ctx.setting.flags.unicode t))
           (found_map (λ (inverted, members). class ctx.setting.flags inverted members)
-          (class_at ctx.setting.table ctx.setting.flags.unicode t)))
+          (class_at ctx.setting.table (class_parameters ctx) t)))
       by true = finds_map (λ _. Unit {0}) (AtMost 5) _ _ (λ x _. class-nodes _ _ _ _ _) (any_found _)
       by false = finds_map (λ _. Unit {0}) (AtMost 1) _ _ (λ x _. omega arith) (any_found _)
 

@@ -61,7 +61,7 @@ mutual
       named (names_of_terms ts) + positions opens_name rest ≤ positions opens_name t
   names-terms ctx no_terms t rest h = omega (arith, ap (positions opens_name) h.1)
   names-terms ctx (more_terms x q xs) t rest (mid, after, first, times, others) =
-      let allowed = allows ctx.setting.flags.unicode (head_of_item x) in
+      let allowed = allows ctx (head_of_item x) in
       omega (
         arith,
         named-append (names_of_item x) (names_of_terms xs),

@@ -86,7 +86,7 @@ module _ (table : Table) (most : ℕ) (by : Bool × List (Option Name)) (few : F
         nodes_in_list (trees_of_terms table by.1 d n ts) + counted most by.0 rest ≤ counted most by.0 t
     terms-nodes ctx d n no_terms t rest same h = omega (arith, ap (counted most by.0) h.1)
     terms-nodes ctx d n (more_terms x q xs) t rest same (mid, after, first, times, others) =
-        let allowed = allows ctx.setting.flags.unicode (head_of_item x) in
+        let allowed = allows ctx (head_of_item x) in
         omega (
           arith,
           item-nodes ctx d n x t mid same first,

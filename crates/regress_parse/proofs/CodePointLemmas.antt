@@ -9,17 +9,17 @@ use Rattle.regress_base.specs.Table.{Table, IsValidTable}
 use Rattle.regress_classes.specs.ClassProductions.{complement, class_letter, class_at}
 use Rattle.regress_classes.specs.ClassSets.{Value}
 use Rattle.regress_lexer.specs.Digits.{is_between, is_decimal, digit, number_from, number, front}
-use Rattle.regress_lexer.specs.Escapes.{escape_at}
+use Rattle.regress_lexer.specs.Escapes.{character_escape_at}
 use Rattle.regress_lexer.specs.Modifiers.{Change, modifiers_at}
 use Rattle.regress_syntax.specs.Names.{group_name_at}
 use Rattle.regress_classes.specs.Properties.{Property, of_points, of_strings, property_at}
 use Rattle.regress_lexer.specs.Quantifiers.{quantifier_at}
-use Rattle.regress_syntax.specs.Productions.{Context, Head, single, opens, angle_at, after_question_mark_at, group_at, property_atom, property_atom_at, has_name, character_at, number_reference_at, name_reference_at, escape_productions, escaped_by, escaped_at, brace_by, brackets_at, atom_productions, atom_by, head_at}
+use Rattle.regress_syntax.specs.Productions.{class_parameters, Context, Head, single, opens, angle_at, after_question_mark_at, group_at, property_atom, property_atom_at, has_name, character_at, number_reference_at, name_reference_at, escape_productions, escaped_by, escaped_at, brace_by, brackets_at, atom_productions, atom_by, head_at}
 use Rattle.regress_lexer.specs.Source.{Source, Found, IsCodePoint, opening, colon, question_mark, is_at, first_production}
 use Rattle.regress_syntax.specs.Syntax.{Target, by_number, by_name, Atom, literal, dot, anchor, boundary, class_escape, class, class_set, string_property, back_reference, Group, grouping, modified, capture, look}
 use Rattle.regress_lexer.proofs.lemmas.After.{Ends, after_all}
 use Rattle.regress_classes.proofs.lemmas.ClassStrings.{OfCodePoints, PropertyInRange, property_at-in_range, class_set_at-in_range}
-use Rattle.regress_lexer.proofs.lemmas.InRange.{Finds, finds_none, finds_some, finds_cond, finds_then, finds_map, escape_at-in_range}
+use Rattle.regress_lexer.proofs.lemmas.InRange.{Finds, finds_none, finds_some, finds_cond, finds_then, finds_map, character_escape_at-in_range}
 use Rattle.regress_syntax.proofs.lemmas.NameEnds.{IsName, name_characters}
 use Rattle.regress_lexer.proofs.lemmas.Sources.{EachProduction, no_more, ◌also◌, first_production-has}
 
@@ -104,8 +104,8 @@ number-least c t e =
 module _ (ctx : Context) (lawful : IsValidTable ctx.setting.table) (n : ℕ) (within : ctx.groups ≤ n) where
   character_at-good : (c : ℕ) (t : Source) → AreCodePoints (c ∷ t) → Finds (IsGoodAtom n) (character_at ctx c t)
   character_at-good c t all =
-      finds_map IsCodePoint (IsGoodAtom n) (literal ctx.setting.flags) (escape_at ctx.setting.flags.unicode (c ∷ t)) (λ d h. h)
-      (escape_at-in_range ctx.setting.flags.unicode (c ∷ t) all.each)
+      finds_map IsCodePoint (IsGoodAtom n) (literal ctx.setting.flags) (character_escape_at ctx.dialect ctx.setting.flags.unicode (c ∷ t)) (λ d h. h)
+      (character_escape_at-in_range ctx.dialect ctx.setting.flags.unicode (c ∷ t) all.each)
 
   property_atom-good : (negated : Bool) (x : Property × Source) → PropertyInRange x.0 → Finds (IsGoodAtom n) (property_atom ctx negated x)
   property_atom-good negated (of_points members, t) h =
@@ -170,7 +170,7 @@ module _ (ctx : Context) (lawful : IsValidTable ctx.setting.table) (n : ℕ) (wi
       (λ (negated, value). class_set ctx.setting.flags negated value) _ (λ found h. h)
       (class_set_at-in_range ctx.setting.table lawful ctx.setting.flags.unicode t all.each))
       (λ _. finds_map (λ (_ : Bool × List Bounds). Unit {0}) (IsGoodAtom n) (λ (inverted, members). class ctx.setting.flags inverted members) _
-      (λ x holds. tt) (finds_any (class_at ctx.setting.table ctx.setting.flags.unicode t)))
+      (λ x holds. tt) (finds_any (class_at ctx.setting.table (class_parameters ctx) t)))
 
   atom_productions-good : (c : ℕ) (t : Source) → IsCodePoint c → AreCodePoints t → EachProduction (Finds (IsGoodAtom n)) (atom_productions ctx c t)
   atom_productions-good c t h all =

@@ -1,12 +1,25 @@
 -- Which production an escape belongs to, by its first code point.
-use Rattle.std.proofs.Common.{◌≡◌, ℕ, Bool, true, false, cond, ◌&&◌, ◌||◌, ◌==◌, ◌∷◌, Option, Some, None, ⊎_elim, ap, subst, eqb-true, sym, ◌∙◌, arith}
-use Rattle.std.proofs.lemmas.Bool.{cond-true, cond-false, or_cases, and_parts}
+use Rattle.std.proofs.Common.{◌≡◌, ℕ, Bool, true, false, not, cond, ◌&&◌, ◌||◌, ◌==◌, ◌∷◌, Option, Some, None, ⊎_elim, refl, ap, subst, eqb-true, sym, ◌∙◌, arith}
+use Rattle.std.proofs.lemmas.Bool.{cond-true, cond-false, or_cases, and_parts, ne_eqb}
+use Rattle.std.proofs.lemmas.Option.{none-some}
 use Rattle.std.proofs.lemmas.Bool.Decides.{nat_tests}
 use Rattle.regress_base.specs.declared.charclasses.CharacterClassType.{CharacterClassType}
+use Rattle.regress_lexer.specs.Dialects.{quantifies_boundaries}
 use Rattle.regress_lexer.specs.Source.{Source, Found, first_production, is_one_of}
 use Rattle.regress_classes.specs.ClassProductions.{class_letter}
 use Rattle.regress_syntax.specs.Syntax.{Atom, literal, boundary, class_escape}
 use Rattle.regress_syntax.specs.Productions.{Context, is_lone_backslash, begins_number, has_names, character_at, number_reference_at, name_reference_at, property_atom_at, escape_productions, escaped_by, escaped_at}
+use Rattle.regress_parse.specs.Parsing.{is_lone_boundary}
+
+-- ---- whether a quantifier may follow
+
+nothing_lone : (b : Bool) → true ≡ not (not b && false)
+nothing_lone true = refl
+nothing_lone false = refl
+
+lone_unless : (b : Bool) → b ≡ not (not b && true)
+lone_unless true = refl
+lone_unless false = refl
 
 module _ (ctx : Context) (s : Source) (c : ℕ) (t : Source) (front : s ≡ c ∷ t) where
   by_letter : (letter : Option (CharacterClassType × Bool)) → class_letter c ≡ letter →
@@ -25,6 +38,22 @@ module _ (ctx : Context) (s : Source) (c : ℕ) (t : Source) (front : s ≡ c �
   pub class_read : (named : CharacterClassType × Bool) → class_letter c ≡ Some named →
       escaped_at ctx s ≡ Some (class_escape ctx.setting.flags named.0 named.1, t)
   class_read named letter = by_letter (Some named) letter
+
+  -- No quantifier may follow `\b` and `\B` in some dialects; one may follow every other escape.
+  pub quantifiable : (c == 98) ≡ false → (c == 66) ≡ false → true ≡ not (is_lone_boundary ctx.dialect s)
+  quantifiable small large = rw (front, small, large) (nothing_lone (quantifies_boundaries ctx.dialect))
+
+  pub class_quantifiable : (named : CharacterClassType × Bool) → class_letter c ≡ Some named → true ≡ not (is_lone_boundary ctx.dialect s)
+  class_quantifiable named letter =
+      quantifiable
+      (ne_eqb c 98 (λ e. none-some named (sym (ap class_letter e) ∙ letter)))
+      (ne_eqb c 66 (λ e. none-some named (sym (ap class_letter e) ∙ letter)))
+
+  pub boundary_quantifiable : c ≡ 98 → quantifies_boundaries ctx.dialect ≡ not (is_lone_boundary ctx.dialect s)
+  boundary_quantifiable e = rw (front, e) (lone_unless (quantifies_boundaries ctx.dialect))
+
+  pub no_boundary_quantifiable : c ≡ 66 → quantifies_boundaries ctx.dialect ≡ not (is_lone_boundary ctx.dialect s)
+  no_boundary_quantifiable e = rw (front, e) (lone_unless (quantifies_boundaries ctx.dialect))
 
   -- a word boundary
   pub boundary_read : c ≡ 98 → escaped_at ctx s ≡ Some (boundary ctx.setting.flags false, t)

@@ -57,7 +57,7 @@ mutual
       (λ (goes_on : (ends_alternative t ≡ false) × (_ ≡ Some y)).
       let term = found_then (term_by (parse_pattern n) ctx t) (more_by (parse_terms n ctx)) y goes_on.1 in
       let first = found_then (item_by (parse_pattern n) ctx t) (quantified ctx) term.0 term.1 in
-      let times = found_then (optional_quantifier_at ctx (allows ctx.setting.flags.unicode (head_of_item first.0.0)) first.0.1)
+      let times = found_then (optional_quantifier_at ctx (allows ctx (head_of_item first.0.0)) first.0.1)
       (λ (q : Option Quantifier × Source). Some ((first.0.0, q.0), q.1)) term.0 first.2 in
       let others = found_then (parse_terms n ctx term.0.1) _ y term.2 in
       let same : ((first.0.0, times.0.0), times.0.1) ≡ term.0 = same_Some _ term.0 times.2 in

@@ -3,6 +3,7 @@
 use Rattle.std.proofs.Common.{◌≡◌, ap, IsTrue}
 use Rattle.regress_base.specs.Table.{IsValidTable}
 use Rattle.regress_tree.specs.Setting.{Setting}
+use Rattle.regress_lexer.specs.declared.dialect.Dialect.TheVariants.{Regress}
 use Rattle.regress_lexer.specs.Source.{Source}
 use Rattle.regress_syntax.specs.Syntax.{Pattern}
 use Rattle.regress_syntax.specs.GroupTokens.{tokens_of}
@@ -28,4 +29,4 @@ module _ (setting : Setting) (source : Source) where
       tree_of setting.table p ≡ tree_of setting.table q
   same_tree lawful p q h k =
       ap (tree_of setting.table)
-      (same_derived setting source (gives_tokens setting.flags.unicode_sets setting.table source lawful) p q h.derived k.derived)
+      (same_derived Regress setting source (gives_tokens setting.flags.unicode_sets setting.table source lawful) p q h.derived k.derived)

@@ -170,7 +170,7 @@ groups_of_term x (Some q) = omega arith
 quantified-costs : (ctx : Context) (t : Source) (x : Item × Source) (y : Term × Source) → Costs (counts_of_item x.0) t x.1 → quantified ctx x ≡ Some y →
     Costs (counts_of_term y.0.0 y.0.1) t y.1
 quantified-costs ctx t x y h e =
-    let allowed = allows ctx.setting.flags.unicode (head_of_item x.0) in
+    let allowed = allows ctx (head_of_item x.0) in
     let found = found_then (optional_quantifier_at ctx allowed x.1) (λ (q : Option Quantifier × Source). Some ((x.0, q.0), q.1)) y e in
     let same = same_Some ((x.0, found.0.0), found.0.1) y found.2 in
     subst (λ (z : Term × Source). Costs (counts_of_term z.0.0 z.0.1) t z.1) same (record {

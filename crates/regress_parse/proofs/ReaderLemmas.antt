@@ -40,7 +40,7 @@ item_by-shortens inner h ctx t y e =
 
 quantified-shortens : (ctx : Context) (x : Item × Source) (y : Term × Source) → quantified ctx x ≡ Some y → length y.1 ≤ length x.1
 quantified-shortens ctx x y e =
-    let allowed = allows ctx.setting.flags.unicode (head_of_item x.0) in
+    let allowed = allows ctx (head_of_item x.0) in
     let found = found_then (optional_quantifier_at ctx allowed x.1) (λ (q : Option Quantifier × Source). Some ((x.0, q.0), q.1)) y e in
     omega (arith, optional_quantifier_at-shortens ctx allowed x.1 found.0 found.1, ap (λ (z : Term × Source). length z.1) (same_Some _ y found.2))
 

@@ -83,7 +83,7 @@ module _ (ctx : Context) where
           now' ≡ now ++ span_of_group kind (between whole t new) → RecordsItem whole ctx d t before new now' (group_allows ctx.setting.flags.unicode kind)
       group-records mid now new now' reads closes added =
           each_group
-          (λ x rest h. (group_allows ctx.setting.flags.unicode kind ≡ allows ctx.setting.flags.unicode (head_of_item x))
+          (λ x rest h. (group_allows ctx.setting.flags.unicode kind ≡ allows ctx (head_of_item x))
           × Adds before new now' rest (spans_of_item whole ctx d x t rest h))
           (λ p rest head body.
           let a = reads p (closing ∷ rest) body in
@@ -115,7 +115,7 @@ module _ (ctx : Context) where
           let e = sym (atom_head t none ∙ ap (found_map single) reads.1) ∙ h in
           let same = single-is reads.0 a new rest e in
           let end : new ≡ rest = after-is (single reads.0, new) (single a, rest) e in (
-            sym reads.2.allows ∙ ap atom_allows same,
+            sym reads.2.allows ∙ ap (atom_allows ctx.dialect) same,
             record {
               rest = end;
               spans =
@@ -130,10 +130,10 @@ module _ (ctx : Context) where
 
     module _ (mid : Source) (now : List Span) (allowed : Bool) (reads : RecordsItem whole ctx d t before mid now allowed) where
       same_times : (x : Item) (after : Source) (h : IsItem ctx x t after) →
-          optional_quantifier_at ctx allowed mid ≡ optional_quantifier_at ctx (allows ctx.setting.flags.unicode (head_of_item x)) after
+          optional_quantifier_at ctx allowed mid ≡ optional_quantifier_at ctx (allows ctx (head_of_item x)) after
       same_times x after h =
           let a = reads x after h in
-          ap (λ b. optional_quantifier_at ctx b mid) a.0 ∙ ap (optional_quantifier_at ctx (allows ctx.setting.flags.unicode (head_of_item x))) a.1.rest
+          ap (λ b. optional_quantifier_at ctx b mid) a.0 ∙ ap (optional_quantifier_at ctx (allows ctx (head_of_item x))) a.1.rest
 
       pub term-records : (q : Option Quantifier) (new : Source) (now' : List Span) → optional_quantifier_at ctx allowed mid ≡ Some (q, new) →
           now' ≡ now ++ span_of_times q (between whole t new) → RecordsTerm whole ctx d t before new now'

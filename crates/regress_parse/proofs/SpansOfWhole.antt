@@ -2,12 +2,13 @@
 use Rattle.std.proofs.Common.{◌≡◌, List, [], ◌∷◌, ◌++◌, length, ap, ◌∙◌, subst}
 use Rattle.regress_tree.specs.Reading.{forwards}
 use Rattle.regress_tree.specs.Setting.{Setting}
+use Rattle.regress_lexer.specs.declared.dialect.Dialect.{Dialect}
 use Rattle.regress_lexer.specs.Source.{Source}
 use Rattle.regress_syntax.specs.Syntax.{Pattern}
 use Rattle.regress_syntax.specs.Productions.{Context}
-use Rattle.regress_parse.specs.Accepted.{own_context, IsAccepted}
+use Rattle.regress_parse.specs.Accepted.{own_context_in, IsAcceptedIn}
 use Rattle.regress_parse.specs.declared.span.Span.{Span}
-use Rattle.regress_parse.specs.Spans.{spans_of_pattern, spans_of}
+use Rattle.regress_parse.specs.Spans.{spans_of_pattern, spans_in}
 use Rattle.regress_parse.specs.Recorded.{span_to, RecordsPattern, HasSpans}
 
 -- The spans of the source's nodes, the final `Goal` and the root.
@@ -23,6 +24,6 @@ whole-spans ctx t before new now now' empty reads ends added p h =
     ∙ ap (λ (u : Source). body ++ (span_to n 0 u ∷ span_to n n u ∷ [])) ends
 
 -- They are those of an accepted pattern, in the pattern's own context.
-pub accepted-spans : (setting : Setting) (t : Source) (p : Pattern) (accepted : IsAccepted setting t p) (ctx : Context) → ctx ≡ own_context setting p →
-    (now : List Span) → HasSpans ctx t now → now ≡ spans_of setting t p accepted.derived
-accepted-spans setting t p accepted ctx same now has = subst (λ (c : Context). HasSpans c t now) same has p accepted.derived
+pub accepted-spans : (dialect : Dialect) (setting : Setting) (t : Source) (p : Pattern) (accepted : IsAcceptedIn dialect setting t p) (ctx : Context) → ctx ≡ own_context_in dialect setting p →
+    (now : List Span) → HasSpans ctx t now → now ≡ spans_in dialect setting t p accepted.derived
+accepted-spans dialect setting t p accepted ctx same now has = subst (λ (c : Context). HasSpans c t now) same has p accepted.derived

@@ -61,11 +61,11 @@ module _ (table : Table) (names : List (Option Name)) (ctx : Context) where
 
   -- An item with the quantifier that is parsed after it is a term.
   pub term_read : (t : Source) (head : Head × Source) (x : Item × Source) (allowed : Bool) (times : Found (Option Quantifier)) →
-      head_at ctx t ≡ Some head → item_after_head pattern_at ctx head ≡ Some x → allowed ≡ allows ctx.setting.flags.unicode head.0 →
+      head_at ctx t ≡ Some head → item_after_head pattern_at ctx head ≡ Some x → allowed ≡ allows ctx head.0 →
       optional_quantifier_at ctx allowed x.1 ≡ times → term_at ctx t ≡ found_map (λ q. (x.0, q)) times
   term_read t head x allowed times front item allowed_is found =
-      let same : allows ctx.setting.flags.unicode (head_of_item x.0) ≡ allowed =
-      ap (allows ctx.setting.flags.unicode) (head-same head x item) ∙ sym allowed_is in
+      let same : allows ctx (head_of_item x.0) ≡ allowed =
+      ap (allows ctx) (head-same head x item) ∙ sym allowed_is in
       term_at-is ctx t
       ∙ ap (λ found. found >>= quantified ctx) (item_from_head t head front ∙ item)
       ∙ ap (λ b. found_map (λ (q : Option Quantifier). (x.0, q)) (optional_quantifier_at ctx b x.1)) same
@@ -148,7 +148,7 @@ module _ (table : Table) (names : List (Option Name)) (ctx : Context) where
   times-fail kind found before depth rejected =
       from_each (found >>= quantified ctx) _ (λ x read.
       let item = found_then found (quantified ctx) x read in
-      let times = found_then (optional_quantifier_at ctx (allows ctx.setting.flags.unicode (head_of_item item.0.0)) item.0.1)
+      let times = found_then (optional_quantifier_at ctx (allows ctx (head_of_item item.0.0)) item.0.1)
       (λ (q : Option Quantifier × Source). Some ((item.0.0, q.0), q.1)) x item.2 in
       let same : (item.0.0, times.0.0) ≡ x.0 = ap (λ (z : Term × Source). z.0) (same_Some _ x times.2) in
       subst (λ (z : Term). Exceeds kind before depth (term_part table names z)) same
@@ -157,7 +157,7 @@ module _ (table : Table) (names : List (Option Name)) (ctx : Context) where
 
   -- the quantifier that is parsed after an item
   pub times_read : (found : Found Item) (x : Item × Source) (allowed : Bool) (times : Found (Option Quantifier)) → found ≡ Some x →
-      allowed ≡ allows ctx.setting.flags.unicode (head_of_item x.0) → optional_quantifier_at ctx allowed x.1 ≡ times →
+      allowed ≡ allows ctx (head_of_item x.0) → optional_quantifier_at ctx allowed x.1 ≡ times →
       found >>= quantified ctx ≡ found_map (λ q. (x.0, q)) times
   times_read found x allowed times read allowed_is after =
       ap (λ found. found >>= quantified ctx) read
@@ -241,9 +241,9 @@ module _ (table : Table) (names : List (Option Name)) (ctx : Context) where
   -- whether a quantifier may follow it
   pub atom_allowed : (left : ℕ) (allowed : Bool) (new : Source) (r : Result Node Fault) (t : Source) → is_at opening t ≡ false →
       ReadsAtom ctx left allowed new r (atom_at ctx t) →
-      IfOk r (λ node. (x : Item × Source) → item_at ctx t ≡ Some x → allowed ≡ allows ctx.setting.flags.unicode (head_of_item x.0))
+      IfOk r (λ node. (x : Item × Source) → item_at ctx t ≡ Some x → allowed ≡ allows ctx (head_of_item x.0))
   atom_allowed left allowed new (Ok node) t none h =
       λ x found.
       let same = same_Some _ x (sym (atom_item t none ∙ ap (found_map atom) h.1) ∙ found) in
-      sym h.2.allows ∙ ap (λ (y : Item × Source). allows ctx.setting.flags.unicode (head_of_item y.0)) same
+      sym h.2.allows ∙ ap (λ (y : Item × Source). allows ctx (head_of_item y.0)) same
   atom_allowed left allowed new (Err fault) t none h = tt

@@ -18,6 +18,7 @@ use Rattle.regress_base.proofs.lemmas.Literals.{class_of-bounded, class_of-few}
 use Rattle.regress_tree.proofs.lemmas.ReversedParts.{PartsAllowed-reverse_trees}
 use Rattle.regress_classes.specs.ClassProductions.{members_of}
 use Rattle.regress_classes.specs.ClassSets.{Value}
+use Rattle.regress_lexer.specs.declared.dialect.Dialect.{Dialect}
 use Rattle.regress_lexer.specs.Source.{Source, IsCodePoint}
 use Rattle.regress_syntax.specs.Syntax.{Name, is_named, Target, by_number, by_name, Atom, literal, dot, anchor, boundary, class_escape, class, class_set, string_property, back_reference, Group, grouping, modified, capture, look, Pattern, Terms, Item, one, either, no_terms, more_terms, atom, group, opened_by, counts, counts_of_terms, counts_of_term, counts_of_item, names, direction_of_group, groups_named}
 use Rattle.regress_syntax.specs.Meaning.{is_in_class, longest_first, referred}
@@ -27,7 +28,7 @@ use Rattle.regress_classes.proofs.lemmas.ClassStrings.{OfCodePoints}
 use Rattle.regress_syntax.proofs.lemmas.NameEnds.{IsName}
 use Rattle.regress_syntax.proofs.lemmas.Productions.{head_at-ends, optional_quantifier_at-ends, optional_quantifier_at-ordered}
 use Rattle.regress_parse.specs.TreeOf.{concatenation, tree_of_group, tree_of_quantified, leaf_of_members, references, alternation, tree_of_class, tree_of_atom, tree_of_pattern, trees_of_terms, tree_of_item, tree_of, in_direction}
-use Rattle.regress_parse.specs.Accepted.{IsDerived, own_context}
+use Rattle.regress_parse.specs.Accepted.{IsDerivedIn, own_context_in}
 use Rattle.regress_parse.proofs.CodePointLemmas.{AreCodePoints, rest_of, after_found, IsGoodTarget, IsGoodAtom, IsGoodGroup, head_at-good}
 use Rattle.regress_parse.specs.ClassParts.{class_parts}
 use Rattle.regress_parse.proofs.ClassTreeLemmas.{tree_of_class-parts}
@@ -190,7 +191,7 @@ module _ (m : ℕ) (table : Table) (lawful : IsValidTable table) (all : List (Op
         PartsAllowed m (trees_of_terms table all d n ts) inside × AreCodePoints rest
     terms_occur ctx d n no_terms t rest known h points derived = (tt, subst AreCodePoints derived.1 points)
     terms_occur ctx d n (more_terms x q xs) t rest known h points derived =
-        let allowed = allows ctx.setting.flags.unicode (head_of_item x) in
+        let allowed = allows ctx (head_of_item x) in
         let first = item_occurs ctx d n x t derived.0 known (omega arith) points derived.2 in
         let next = after_found _ derived.0 (q, derived.1) (optional_quantifier_at-ends ctx allowed derived.0) derived.3 first.1 in
         let others = terms_occur ctx d (n + (counts_of_term x q).groups) xs derived.1 rest known (omega arith) next derived.4 in
@@ -219,13 +220,13 @@ module _ (m : ℕ) (table : Table) (lawful : IsValidTable table) (all : List (Op
 -- The tree of a derived pattern is well formed: the ids are 0 up to the number of groups, each once; a loop and a
 -- lookaround have the range of the ids inside; references are to existing groups; literals and members of classes are
 -- code points; no name is empty; and the goal is last.
-pub tree_of-well_formed : (setting : Setting) (source : Source) (p : Pattern) → IsValidTable setting.table → All IsCodePoint source →
-    IsDerived setting source p → IsWellFormed (tree_of setting.table p)
-tree_of-well_formed setting source p lawful points derived =
+pub tree_of-well_formed : (dialect : Dialect) (setting : Setting) (source : Source) (p : Pattern) → IsValidTable setting.table → All IsCodePoint source →
+    IsDerivedIn dialect setting source p → IsWellFormed (tree_of setting.table p)
+tree_of-well_formed dialect setting source p lawful points derived =
     let m = length (captures (tree_of setting.table p)) in
     let known : (counts p).groups ≤ m = omega (arith, length-captures-tree_of setting.table p) in
     let few : length (names p) ≤ m = omega (arith, known, length-names p) in
-    let body = pattern_occurs m setting.table lawful (names p) few (own_context setting p) forwards 0 p source []
+    let body = pattern_occurs m setting.table lawful (names p) few (own_context_in dialect setting p) forwards 0 p source []
     (record { lawful = lawful; groups = known }) (omega (arith, known))
     (record { each = points }) derived in
     record {

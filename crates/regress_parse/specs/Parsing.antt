@@ -1,11 +1,13 @@
 -- How the parser's values relate to what the grammar derives. Of the public contracts only those on atoms cite this.
-use Rattle.std.specs.Prelude.{◌≡◌, ◌⊎◌, ℕ, ◌+◌, ◌-◌, ◌<◌, ◌≤◌, Bool, ◌||◌, List, [], ◌∷◌, ◌++◌, length, Option, Some, None, IfSome, string_bytes, Result, Ok, Err}
+use Rattle.std.specs.Prelude.{◌≡◌, ◌⊎◌, ℕ, ◌+◌, ◌-◌, ◌<◌, ◌≤◌, Bool, not, ◌&&◌, ◌||◌, List, [], ◌∷◌, ◌++◌, drop, length, Option, Some, None, IfSome, string_bytes, Result, Ok, Err}
 use Rattle.std.specs.Option.{IsSomeAnd}
 use Rattle.regress_tree.specs.declared.ir.node.Node.{Node}
 use Rattle.regress_tree.specs.Reading.{Direction, forwards, direction_if}
 use Rattle.regress_base.specs.Table.{Table}
 use Rattle.regress_unicode.specs.TableOf.{table_of}
 use Rattle.regress_tree.specs.Tree.{Tree, tree, alt}
+use Rattle.regress_lexer.specs.declared.dialect.Dialect.{Dialect}
+use Rattle.regress_lexer.specs.Dialects.{quantifies_boundaries}
 use Rattle.regress_lexer.specs.declared.fault.Fault.{Fault}
 use Rattle.regress_lexer.specs.declared.fault.Fault.TheVariants.{Rejected}
 use Rattle.regress_parse.specs.declared.fault.PlacedFault.{PlacedFault}
@@ -118,15 +120,20 @@ abbrev pub atom_at : Context → Source → Found Atom
 atom_at ctx [] = None
 atom_at ctx (c ∷ t) = atom_by ctx c t
 
--- whether the source starts with `^` or `$`, which no quantifier may follow
-abbrev pub is_anchor : Source → Bool
-is_anchor t = is_at (char "^") t || is_at (char "$") t
+-- whether what follows a backslash is a `b` or `B` that no quantifier may follow
+abbrev pub is_lone_boundary : Dialect → Source → Bool
+is_lone_boundary dialect t = not (quantifies_boundaries dialect) && (is_at (char "b") t || is_at (char "B") t)
+
+-- whether the source starts with an item that no quantifier may follow: `^` or `$`, or in some dialects `\b` or `\B`
+abbrev pub begins_lone : Dialect → Source → Bool
+begins_lone dialect t =
+    is_at (char "^") t || is_at (char "$") t || (is_at (char "\\") t && is_lone_boundary dialect (drop 1 t))
 
 -- The node is the tree of this atom, with classes nested at most this deep. A quantifier may follow it or not.
 pub record IsNode (ctx : Context) (most : ℕ) (allowed : Bool) (built : Node) (a : Atom) : Type 0 where
   pub node : tree built ≡ tree_of_atom ctx.setting.table ctx.names a
   pub nesting : nesting_of_atom a ≤ most
-  pub allows : atom_allows a ≡ allowed
+  pub allows : atom_allows ctx.dialect a ≡ allowed
 
 -- A node with this tree was added at the end of a list.
 pub record Pushes (t : Tree) (old new : List Node) : Type 0 where

@@ -24,7 +24,7 @@ item_by inner ctx t = head_at ctx t >>= item_after_head inner ctx
 
 -- the quantifier after an item
 abbrev pub quantified : Context → Item × Source → Found Term
-quantified ctx (x, t) = found_map (λ q. (x, q)) (optional_quantifier_at ctx (allows ctx.setting.flags.unicode (head_of_item x)) t)
+quantified ctx (x, t) = found_map (λ q. (x, q)) (optional_quantifier_at ctx (allows ctx (head_of_item x)) t)
 
 -- a parsed item with the quantifier after it
 abbrev pub with_quantifier : Context → Found Item → Found Term

@@ -55,14 +55,14 @@ module _ (whole : ℕ) (ctx : Context) where
   abbrev pub RecordsTerm : Direction → Source → List Span → Source → List Span → Type 0
   RecordsTerm d t before new now =
       (x : Item) (q : Option Quantifier) (mid rest : Source) (h : IsItem ctx x t mid) →
-      optional_quantifier_at ctx (allows ctx.setting.flags.unicode (head_of_item x)) mid ≡ Some (q, rest) →
+      optional_quantifier_at ctx (allows ctx (head_of_item x)) mid ≡ Some (q, rest) →
       Adds before new now rest (spans_of_item whole ctx d x t mid h ++ span_of_times q (between whole t rest))
 
   -- the same for an item, with whether a quantifier may follow it
   abbrev pub RecordsItem : Direction → Source → List Span → Source → List Span → (allowed : Bool) → Type 0
   RecordsItem d t before new now allowed =
       (x : Item) (rest : Source) (h : IsItem ctx x t rest) →
-      (allowed ≡ allows ctx.setting.flags.unicode (head_of_item x)) × Adds before new now rest (spans_of_item whole ctx d x t rest h)
+      (allowed ≡ allows ctx (head_of_item x)) × Adds before new now rest (spans_of_item whole ctx d x t rest h)
 
 -- These are the spans of the whole source, in postorder, and then those of the final `Goal` and of the root.
 abbrev pub HasSpans : Context → Source → List Span → Type 0

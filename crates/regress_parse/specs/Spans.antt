@@ -5,11 +5,13 @@ use Rattle.regress_base.specs.declared.types.Quantifier.{Quantifier}
 use Rattle.regress_tree.specs.Reading.{Direction, forwards, backwards}
 use Rattle.regress_tree.specs.Setting.{Setting}
 use Rattle.regress_tree.specs.Visits.{nodes}
+use Rattle.regress_lexer.specs.declared.dialect.Dialect.{Dialect}
+use Rattle.regress_lexer.specs.declared.dialect.Dialect.TheVariants.{Regress}
 use Rattle.regress_lexer.specs.Source.{Source, closing, bar}
 use Rattle.regress_syntax.specs.Syntax.{Group, grouping, modified, capture, look, Pattern, Terms, Item, one, either, no_terms, more_terms, atom, group, direction_of_group}
 use Rattle.regress_syntax.specs.Productions.{Context, context_inside}
 use Rattle.regress_syntax.specs.Grammar.{IsPattern, AreTerms, IsItem}
-use Rattle.regress_parse.specs.Accepted.{own_context, IsDerived}
+use Rattle.regress_parse.specs.Accepted.{own_context_in, IsDerivedIn, IsDerived}
 use Rattle.regress_parse.specs.TreeOf.{tree_of_atom}
 use Rattle.regress_parse.specs.declared.span.Span.{Span}
 
@@ -82,9 +84,13 @@ module _ (whole : ℕ) where
         spans_of_pattern (context_inside kind ctx) (direction_of_group kind d) p mid (closing ∷ rest) body
         ++ span_of_group kind (between t rest)
 
--- The spans of the tree of a whole pattern. After those of its nodes come the final `Goal`, empty and at the end, and
--- the root, which has all of the pattern.
-abbrev pub spans_of : (setting : Setting) (source : Source) (p : Pattern) → IsDerived setting source p → List Span
-spans_of setting source p derived =
-    spans_of_pattern (length source) (own_context setting p) forwards p source [] derived
+-- The spans of the tree of a whole pattern in a dialect. After those of its nodes come the final `Goal`, empty and at the
+-- end, and the root, which has all of the pattern.
+abbrev pub spans_in : (dialect : Dialect) (setting : Setting) (source : Source) (p : Pattern) → IsDerivedIn dialect setting source p → List Span
+spans_in dialect setting source p derived =
+    spans_of_pattern (length source) (own_context_in dialect setting p) forwards p source [] derived
     ++ between (length source) [] [] ∷ between (length source) source [] ∷ []
+
+-- the same in the dialect of `try_parse`
+abbrev pub spans_of : (setting : Setting) (source : Source) (p : Pattern) → IsDerived setting source p → List Span
+spans_of = spans_in Regress

@@ -10,7 +10,7 @@ ghost use Rattle.regress_lexer.specs.Views.{source};
 ghost use Rattle.regress_syntax.specs.Productions.{atom_by, brace_by, is_lone_backslash, begins_number, has_names, escaped_at, number_reference_at, name_reference_at, character_at, brackets_at, property_atom_at};
 ghost use Rattle.regress_syntax.specs.Syntax.{atom, back_reference, by_number};
 ghost use Rattle.regress_syntax.specs.Views.{context_of};
-ghost use Rattle.regress_parse.specs.Parsing.{atom_at, is_anchor, IsNode, ReadsAtom, TakesOneAtom};
+ghost use Rattle.regress_parse.specs.Parsing.{atom_at, begins_lone, is_lone_boundary, IsNode, ReadsAtom, TakesOneAtom};
 ghost use Rattle.regress_parse.specs.Reader.{term_at};
 
 use crate::build::{
@@ -24,11 +24,11 @@ use regress_classes::class_sets::parse_class_set;
 use regress_classes::property::{Property, is_property_letter, parse_property};
 use regress_lexer::cursor::is_plain;
 use regress_lexer::digits::{is_between, is_letter};
-use regress_lexer::escape::{escape_fault, parse_escape};
+use regress_lexer::escape::{escape_fault, parse_character_escape};
 use regress_lexer::quantifier::{may_begin, parse_quantifier};
 use regress_syntax::fault::{FaultKind, rejected};
 use regress_syntax::{
-    Cursor, Fault, Scope, has_references_by_name, parse_group_number, parse_reference,
+    Cursor, Dialect, Fault, Scope, has_references_by_name, parse_group_number, parse_reference,
 };
 use regress_tree::ir::{AnchorType, Node, NodeList};
 use std::alloc::AllocError;
@@ -52,7 +52,7 @@ use std::alloc::AllocError;
 /// [`MAX_NESTING_DEPTH`].
 pub(crate) fn parse_atom(cursor: &mut Cursor, scope: &Scope, left: u32) -> Result<Node, Fault>
     requires { left ≤ max_nesting_depth }
-    ensures value { ReadsAtom (context_of scope.now) left (not (is_anchor (source cursor.old))) (source cursor.new) result
+    ensures value { ReadsAtom (context_of scope.now) left (not (begins_lone scope.now.dialect (source cursor.old))) (source cursor.new) result
         (atom_at (context_of scope.now) (source cursor.old)) }
     ensures kind { FailsByDepthOnlyIf result (left < length (source cursor.old)) }
 {
@@ -121,12 +121,30 @@ fn next_reference(cursor: &mut Cursor, scope: &Scope) -> Option<u32>
     Some(group)
 }
 
-/// Returns whether `source` starts with `^` or `$`, which no quantifier may follow.
-pub(crate) fn begins_anchor(source: &[u32]) -> bool
-    ensures { result ≡ is_anchor source.now }
+/// Returns whether `source` starts with an item that no quantifier may follow: `^` or `$`, or in some dialects `\b` or
+/// `\B`.
+pub(crate) fn begins_lone(source: &[u32], dialect: Dialect) -> bool
+    ensures { result ≡ begins_lone dialect source.now }
 {
     match source {
-        [c, ..] => *c == u32::from('^') || *c == u32::from('$'),
+        [c, rest @ ..] => {
+            *c == u32::from('^')
+                || *c == u32::from('$')
+                || (*c == u32::from('\\') && is_lone_boundary(rest, dialect))
+        }
+        [] => false,
+    }
+}
+
+/// Returns whether `source`, which follows a backslash, starts with a `b` or `B` that no quantifier may follow.
+fn is_lone_boundary(source: &[u32], dialect: Dialect) -> bool
+    ensures { result ≡ is_lone_boundary dialect source.now }
+{
+    if dialect.quantifies_boundaries() {
+        return false;
+    }
+    match source {
+        [c, ..] => *c == u32::from('b') || *c == u32::from('B'),
         [] => false,
     }
 }
@@ -136,7 +154,7 @@ fn read_other(cursor: &mut Cursor, scope: &Scope, c: u32, front: &[u32]) -> Resu
     requires code_point { IsCodePoint c }
     requires no_class { (c == char "[") ≡ false }
     requires front { front.now ≡ c ∷ source cursor.now }
-    ensures value { ParsesAs (IsNode (context_of scope.now) 0 (not (c == char "^" || c == char "$"))) (source cursor.new) result
+    ensures value { ParsesAs (IsNode (context_of scope.now) 0 (not (begins_lone scope.now.dialect (c ∷ source cursor.old)))) (source cursor.new) result
         (atom_by (context_of scope.now) c (source cursor.old)) }
     ensures kind { FailsByNoLimit result }
 {
@@ -169,7 +187,7 @@ fn read_brackets(
     ensures kind { FailsByDepthOnlyIf result (left ≤ length (source cursor.old)) }
 {
     if !scope.flags.unicode_sets {
-        let class = parse_class(cursor, scope.tables, scope.flags.unicode, opened)?;
+        let class = parse_class(cursor, scope.tables, scope.class_parameters(), opened)?;
         return Ok(make_class(class.inverted, class.set, scope)?);
     }
     let class = parse_class_set(
@@ -205,7 +223,8 @@ fn read_brace(cursor: &mut Cursor, scope: &Scope, c: u32, front: &[u32]) -> Resu
 
 /// Parses an escape after its backslash. `begin` is the number of code points that remained before the backslash.
 fn read_escaped(cursor: &mut Cursor, scope: &Scope, begin: usize) -> Result<Node, Fault>
-    ensures value { ParsesAs (IsNode (context_of scope.now) 0 true) (source cursor.new) result (escaped_at (context_of scope.now) (source cursor.old)) }
+    ensures value { ParsesAs (IsNode (context_of scope.now) 0 (not (is_lone_boundary scope.now.dialect (source cursor.old)))) (source cursor.new) result
+        (escaped_at (context_of scope.now) (source cursor.old)) }
     ensures kind { FailsByNoLimit result }
 {
     let Some((c, rest)) = cursor.rest.split_first() else {
@@ -315,7 +334,11 @@ fn read_character(cursor: &mut Cursor, scope: &Scope, c: u32, begin: usize) -> R
         (character_at (context_of scope.now) c (drop 1 (source cursor.old))) }
     ensures kind { FailsByNoLimit result }
 {
-    let Some((found, rest)) = parse_escape(cursor.rest, scope.flags.unicode) else {
+    let Some((found, rest)) = parse_character_escape(
+        cursor.rest,
+        scope.dialect,
+        scope.flags.unicode,
+    ) else {
         return Err(rejected(begin, escape_fault(cursor.rest)));
     };
     cursor.rest = rest;

@@ -4,24 +4,25 @@ ghost use Rattle.regress_unicode.specs.TableOf.{table_of};
 ghost use Rattle.regress_syntax.specs.SettingOf.{setting_of};
 ghost use Rattle.regress_tree.specs.Tree.{tree};
 ghost use Rattle.regress_tree.specs.WellFormed.{IsWellFormed};
+ghost use Rattle.regress_lexer.specs.Dialects.{flags_in_force};
 ghost use Rattle.regress_lexer.specs.Fault.{FailsBy};
 ghost use Rattle.regress_lexer.specs.Source.{IsCodePoint};
 ghost use Rattle.regress_syntax.specs.Syntax.{Pattern, nothing_counted};
 ghost use Rattle.regress_syntax.specs.Scanning.{NotesFirst, IsLocated, FailsAt};
 ghost use Rattle.regress_syntax.specs.Views.{context_of};
 ghost use Rattle.regress_parse.specs.TreeOf.{tree_of};
-ghost use Rattle.regress_parse.specs.Accepted.{IsAccepted, NoneIsAccepted, IsTrueOf, MayExceed, OneIsDerived, OfAccepted, Means};
+ghost use Rattle.regress_parse.specs.Accepted.{IsAccepted, NoneIsAccepted, IsTrueOf, MayExceed, OneIsDerived, OfAccepted, Means, IsAcceptedIn, IsTrueIn, OneIsDerivedIn, OfAcceptedIn};
 ghost use Rattle.regress_parse.specs.Fault.{RejectedOnlyIf, ReportsKind};
-ghost use Rattle.regress_parse.specs.Settled.{IsFinal, IsAtFirstDuplicate, IsFaultOf};
+ghost use Rattle.regress_parse.specs.Settled.{IsAtFirstDuplicate, IsFaultOf, IsFinalIn, IsFaultIn};
 ghost use Rattle.regress_parse.specs.Parsing.{YieldsWhole, Reaches};
-ghost use Rattle.regress_parse.specs.Spans.{spans_of};
+ghost use Rattle.regress_parse.specs.Spans.{spans_of, spans_in};
 ghost use Rattle.regress_parse.specs.Recorded.{HasSpans};
 
 use crate::fault::{ParseFault, PlacedFault, position};
 use crate::parser::{Parser, PartContext};
 use crate::span::Span;
 use regress_base::types::Flags;
-use regress_syntax::{Cursor, Fault, FaultKind, FirstErrors, Scope, scan_groups};
+use regress_syntax::{Cursor, Dialect, Fault, FaultKind, FirstErrors, Scope, scan_groups};
 use regress_tree::ir::{Node, Regex};
 use regress_unicode::Tables;
 use std::alloc::Global;
@@ -143,7 +144,59 @@ pub fn try_parse_with_position(
     ensures well_formed { IfOk result (λ r. IsWellFormed (tree r.node)) }
     ensures flags { IfOk result (λ r. r.flags ≡ flags) }
 {
-    match parse::<false>(alloc, pattern, flags, tables) {
+    try_parse_in(alloc, pattern, flags, tables, Dialect::Regress)
+}
+
+/// Parses a pattern of a dialect as [`try_parse_with_position`] parses one of [`Dialect::Regress`]. `docs/syntax.md`
+/// has the rules in which the dialects differ.
+///
+/// The tree has the flags in force ([`Dialect::flags_in_force`]).
+///
+/// # Preconditions
+/// Each element of `pattern` is a code point, at most U+10FFFF.
+///
+/// # Errors
+/// As for [`try_parse_with_position`].
+///
+/// # Complexity
+/// As for [`try_parse`].
+///
+/// # Examples
+/// ```
+/// let tables = Tables::small(alloc)?;
+/// let points = code_points(alloc, "\\b+")?;
+/// let parsed = try_parse_in(alloc, &points, Flags::default(), &tables, Dialect::Ecma);
+/// assert!(rt; parsed.is_err());
+/// ```
+pub fn try_parse_in(
+    alloc: Global,
+    pattern: &[u32],
+    flags: Flags,
+    tables: &Tables,
+    dialect: Dialect,
+) -> Result<Regex, PlacedFault>
+    requires { All IsCodePoint pattern.now }
+
+    // These hold for every outcome of allocations: a tree only for a pattern that the grammar derives within the
+    // limits, and a syntax error only for one that it does not.
+    ensures accepted { let setting = setting_of (flags_in_force dialect flags) tables.now in IfOk result (λ r. (p : Pattern)
+        × IsAcceptedIn dialect setting pattern.now p × (tree r.node ≡ tree_of (table_of tables.now) p)) }
+    ensures rejected { IfErr result (IsFaultIn dialect (setting_of (flags_in_force dialect flags) tables.now) pattern.now) }
+    ensures only { OneIsDerivedIn dialect (setting_of (flags_in_force dialect flags) tables.now) pattern.now }
+
+    // Properties of the tree.
+    ensures meaning { let setting = setting_of (flags_in_force dialect flags) tables.now in
+        IfOk result (λ r. OfAcceptedIn dialect setting pattern.now (Means setting (tree r.node))) }
+    ensures well_formed { IfOk result (λ r. IsWellFormed (tree r.node)) }
+    ensures flags { IfOk result (λ r. r.flags ≡ flags_in_force dialect flags) }
+{
+    match parse::<false>(
+        alloc,
+        pattern,
+        dialect.flags_in_force(flags),
+        tables,
+        dialect,
+    ) {
         Ok(parsed) => Ok(parsed.regex),
         Err(fault) => Err(position(alloc, fault, pattern.len())),
     }
@@ -180,7 +233,7 @@ pub fn parse_with_spans(
     ensures well_formed { IfOk result (λ r. IsWellFormed (tree r.regex.node)) }
     ensures flags { IfOk result (λ r. r.regex.flags ≡ flags) }
 {
-    match parse::<true>(alloc, pattern, flags, tables) {
+    match parse::<true>(alloc, pattern, flags, tables, Dialect::Regress) {
         Ok(parsed) => Ok(parsed),
         Err(fault) => Err(position(alloc, fault, pattern.len())),
     }
@@ -193,25 +246,27 @@ fn parse<const RECORDS: bool>(
     pattern: &[u32],
     flags: Flags,
     tables: &Tables,
+    dialect: Dialect,
 ) -> Result<SpannedRegex, Fault>
     requires { All IsCodePoint pattern.now }
     ensures accepted { IfOk result (λ r. (p : Pattern)
-        × IsAccepted (setting_of flags tables.now) pattern.now p × (tree r.regex.node ≡ tree_of (table_of tables.now) p)) }
-    ensures spans { RECORDS ≡ true → IfOk result (λ r. (p : Pattern) (accepted : IsAccepted (setting_of flags tables.now) pattern.now p) →
-        r.spans.items ≡ spans_of (setting_of flags tables.now) pattern.now p accepted.derived) }
-    ensures reported { FailsBy result (IsTrueOf (setting_of flags tables.now) pattern.now) }
+        × IsAcceptedIn dialect (setting_of flags tables.now) pattern.now p × (tree r.regex.node ≡ tree_of (table_of tables.now) p)) }
+    ensures spans { RECORDS ≡ true → IfOk result (λ r. (p : Pattern) (accepted : IsAcceptedIn dialect (setting_of flags tables.now) pattern.now p) →
+        r.spans.items ≡ spans_in dialect (setting_of flags tables.now) pattern.now p accepted.derived) }
+    ensures reported { FailsBy result (IsTrueIn dialect (setting_of flags tables.now) pattern.now) }
     ensures limits { FailsBy result (MayExceed pattern.now) }
-    ensures settled { FailsAt result (λ kind left. IsFinal (setting_of flags tables.now) pattern.now kind (length pattern.now - left)) }
+    ensures settled { FailsAt result (λ kind left. IsFinalIn dialect (setting_of flags tables.now) pattern.now kind (length pattern.now - left)) }
     ensures duplicate { FailsAt result (λ kind left. IsAtFirstDuplicate (setting_of flags tables.now) pattern.now kind (length pattern.now - left)) }
-    ensures only { OneIsDerived (setting_of flags tables.now) pattern.now }
+    ensures only { OneIsDerivedIn dialect (setting_of flags tables.now) pattern.now }
     ensures meaning { let setting = setting_of flags tables.now in
-        IfOk result (λ r. OfAccepted setting pattern.now (Means setting (tree r.regex.node))) }
+        IfOk result (λ r. OfAcceptedIn dialect setting pattern.now (Means setting (tree r.regex.node))) }
     ensures well_formed { IfOk result (λ r. IsWellFormed (tree r.regex.node)) }
     ensures flags { IfOk result (λ r. r.regex.flags ≡ flags) }
 {
     let found = scan_groups(alloc, pattern, flags.unicode_sets, tables)?;
     let scope = Scope {
         flags,
+        dialect,
         tables,
         groups: &found.groups,
     };

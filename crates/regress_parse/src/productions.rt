@@ -11,7 +11,7 @@ ghost use Rattle.regress_parse.specs.Parsing.{text, counted, direction_of, conte
 ghost use Rattle.regress_parse.specs.Recorded.{RecordsPattern, RecordsAlternative, RecordsTerm, RecordsItem};
 ghost use Rattle.regress_parse.specs.declared.span.Span.{Span};
 
-use crate::atom::{begins_anchor, parse_atom, push_simple_term};
+use crate::atom::{begins_lone, parse_atom, push_simple_term};
 use crate::build::{make_alt, make_cat, make_group, make_literal, make_loop};
 use crate::heads::{parse_head, try_open};
 use crate::parser::{Parser, PartContext};
@@ -185,7 +185,7 @@ impl Parser<'_> {
             let item = self.consume_group::<RECORDS>(kind, opened, around)?;
             return self.consume_times::<RECORDS>(item, allowed, first, opened, around);
         }
-        let allowed = !begins_anchor(self.cursor.rest);
+        let allowed = !begins_lone(self.cursor.rest, around.scope.dialect);
         let left = MAX_NESTING_DEPTH - around.depth;
         let item = parse_atom(&mut self.cursor, &around.scope, left)?;
         record_nodes::<RECORDS>(&item, &mut self.spans, around, opened, &self.cursor)?;
@@ -203,7 +203,7 @@ impl Parser<'_> {
         opened: usize,
         around: &PartContext,
     ) -> Result<Node, Fault>
-        ensures value { (x : Item) (before : Counts) → before.groups ≡ first → allowed ≡ allows around.now.scope.flags.unicode (head_of_item x) →
+        ensures value { (x : Item) (before : Counts) → before.groups ≡ first → allowed ≡ allows (context_in around.now) (head_of_item x) →
             Builds (direction_of around.now) around.now.depth before self.old item (item_part (table_in around.now) (names_in_context around.now) x) (text self.old) →
             Yields (term_part (table_in around.now) (names_in_context around.now)) (direction_of around.now) around.now.depth before self.new result
             (with_quantifier (context_in around.now) (Some (x, text self.old))) }

@@ -7,12 +7,13 @@ use Rattle.regress_base.specs.declared.charclasses.CharacterClassType.{Character
 use Rattle.regress_base.specs.Table.{Table}
 use Rattle.regress_lexer.specs.Source.{Source, Found, is_at, first_production}
 use Rattle.regress_lexer.specs.Digits.{is_decimal, is_letter, control, after, front}
-use Rattle.regress_lexer.specs.Escapes.{escape_at}
+use Rattle.regress_lexer.specs.Escapes.{character_escape_at}
 use Rattle.regress_classes.specs.Properties.{Property, points_of, is_property_character, closed_property, property_at, property_word_at}
+use Rattle.regress_classes.specs.declared.parameters.Parameters.{Parameters}
 use Rattle.regress_classes.specs.ClassProductions.{ClassAtom, point, set, complement_if, class_letter, class_members, class_control_at, class_property_at, class_escape_productions, class_escape_by, class_escape_at, class_atom_at, atom_members, begins_range, range_of, range_at, class_part_at, class_parts_by, class_at}
 use Rattle.regress_syntax.specs.Scan.{plain, class, class_escape, tokens, is_insignificant}
 use Rattle.regress_lexer.proofs.lemmas.Digits.{and_both}
-use Rattle.regress_syntax.proofs.ScanLemmas.{Passes, Leads, Home, in_class, home, passes_same, passes_then, leads_none, leads_some, leads_after, leads_then, leads_map, leads_cond, pass_quiet, pass_at, pass_backslash, pass_escaped, pass_after, lead_escape_at}
+use Rattle.regress_syntax.proofs.ScanLemmas.{Passes, Leads, Home, in_class, home, passes_same, passes_then, leads_none, leads_some, leads_after, leads_then, leads_map, leads_cond, pass_quiet, pass_at, pass_backslash, pass_escaped, pass_after, lead_character_escape_at}
 use Rattle.regress_lexer.proofs.lemmas.Sources.{EachProduction, no_more, ◌also◌, first_production-has}
 
 -- The scan passes over a class, whether its members are valid or not.
@@ -70,34 +71,36 @@ module _ {table : Table} where
       (leads_then (property_at false table t) _ (lead_property_at (in_class 0 0) false table t)
       (λ x. lead_made (in_class 0 0) (λ members. set (complement_if negated members)) (points_of x.0) x.1))
 
-  class_escape_productions_lead : (unicode : Bool) (c : ℕ) (t : Source) →
-      EachProduction (Leads false table (class_escape 0 0) (c ∷ t) (class 0 0)) (class_escape_productions table unicode c t)
-  class_escape_productions_lead unicode c t =
+  class_escape_productions_lead : (parameters : Parameters) (c : ℕ) (t : Source) →
+      EachProduction (Leads false table (class_escape 0 0) (c ∷ t) (class 0 0)) (class_escape_productions table parameters c t)
+  class_escape_productions_lead parameters c t =
       (λ _. leads_some (point 8, t) (pass_escaped (in_class 0 0) c t))
       also (λ _. leads_some (point 45, t) (pass_escaped (in_class 0 0) c t))
       also (λ e. subst (λ k. Leads false table (class_escape 0 0) (k ∷ t) (class 0 0) (class_control_at t)) (sym (eqb-true c 99 (and_both _ _ e).0))
       (lead_class_control_at t))
       also (λ _. lead_class_property_at _ c t)
-      also (λ _. leads_map point (escape_at unicode (c ∷ t)) (lead_escape_at (in_class 0 0) unicode (c ∷ t)))
+      also (λ _. leads_none)
+      also (λ _. leads_map point (character_escape_at parameters.dialect parameters.unicode (c ∷ t))
+      (lead_character_escape_at (in_class 0 0) parameters.dialect parameters.unicode (c ∷ t)))
       also no_more
 
-  lead_class_escape_by : (unicode : Bool) (c : ℕ) (t : Source) →
-      Leads false table (class_escape 0 0) (c ∷ t) (class 0 0) (class_escape_by table unicode c t)
-  lead_class_escape_by unicode c t = by (class_letter c)
+  lead_class_escape_by : (parameters : Parameters) (c : ℕ) (t : Source) →
+      Leads false table (class_escape 0 0) (c ∷ t) (class 0 0) (class_escape_by table parameters c t)
+  lead_class_escape_by parameters c t = by (class_letter c)
     where
       by : (letter : Option (CharacterClassType × Bool)) →
           Leads false table (class_escape 0 0) (c ∷ t) (class 0 0)
           (elim letter as (λ _. Found ClassAtom) [
             | Some named ↦ Some (set (class_members named), t)
-            | None ↦ first_production (class_escape_productions table unicode c t)
+            | None ↦ first_production (class_escape_productions table parameters c t)
           ])
       by (Some named) = leads_some (set (class_members named), t) (pass_escaped (in_class 0 0) c t)
-      by None = first_production-has (Leads false table (class_escape 0 0) (c ∷ t) (class 0 0)) (class_escape_productions table unicode c t) leads_none
-          (class_escape_productions_lead unicode c t)
+      by None = first_production-has (Leads false table (class_escape 0 0) (c ∷ t) (class 0 0)) (class_escape_productions table parameters c t) leads_none
+          (class_escape_productions_lead parameters c t)
 
-  lead_class_escape_at : (unicode : Bool) (t : Source) → Leads false table (class_escape 0 0) t (class 0 0) (class_escape_at table unicode t)
-  lead_class_escape_at unicode [] = leads_none
-  lead_class_escape_at unicode (c ∷ t) = lead_class_escape_by unicode c t
+  lead_class_escape_at : (parameters : Parameters) (t : Source) → Leads false table (class_escape 0 0) t (class 0 0) (class_escape_at table parameters t)
+  lead_class_escape_at parameters [] = leads_none
+  lead_class_escape_at parameters (c ∷ t) = lead_class_escape_by parameters c t
 
   -- Here a `[` opens no class.
   pass_member : (c : ℕ) (t : Source) → (c == 93) ≡ false → (c == 92) ≡ false → Passes false table (class 0 0) (c ∷ t) (class 0 0) t
@@ -109,29 +112,29 @@ module _ {table : Table} where
       by true = refl
       by false = refl
 
-  lead_class_atom_at : (unicode : Bool) (t : Source) → Leads false table (class 0 0) t (class 0 0) (class_atom_at table unicode t)
-  lead_class_atom_at unicode [] = leads_none
-  lead_class_atom_at unicode (c ∷ t) =
+  lead_class_atom_at : (parameters : Parameters) (t : Source) → Leads false table (class 0 0) t (class 0 0) (class_atom_at table parameters t)
+  lead_class_atom_at parameters [] = leads_none
+  lead_class_atom_at parameters (c ∷ t) =
       leads_cond (c == 93) _ _ (λ _. leads_none)
       (λ goes_on. leads_cond (c == 92) _ _
-      (λ e. subst (λ k. Leads false table (class 0 0) (k ∷ t) (class 0 0) (class_escape_at table unicode t)) (sym (eqb-true c 92 e))
-      (leads_after (pass_backslash (in_class 0 0) t) (lead_class_escape_at unicode t)))
+      (λ e. subst (λ k. Leads false table (class 0 0) (k ∷ t) (class 0 0) (class_escape_at table parameters t)) (sym (eqb-true c 92 e))
+      (leads_after (pass_backslash (in_class 0 0) t) (lead_class_escape_at parameters t)))
       (λ e. leads_some (point c, t) (pass_member c t goes_on e)))
 
-  lead_range_at : (unicode : Bool) (first : ClassAtom) (t : Source) → Leads false table (class 0 0) t (class 0 0) (range_at table unicode first t)
-  lead_range_at unicode first t =
-      leads_then (class_atom_at table unicode t) _ (lead_class_atom_at unicode t)
-      (λ x. lead_made (in_class 0 0) (λ members. members) (range_of unicode first x.0) x.1)
+  lead_range_at : (parameters : Parameters) (first : ClassAtom) (t : Source) → Leads false table (class 0 0) t (class 0 0) (range_at table parameters first t)
+  lead_range_at parameters first t =
+      leads_then (class_atom_at table parameters t) _ (lead_class_atom_at parameters t)
+      (λ x. lead_made (in_class 0 0) (λ members. members) (range_of parameters.unicode first x.0) x.1)
 
   -- A hyphen that begins a range is passed.
   pass_hyphen : (t : Source) → begins_range t ≡ true → Passes false table (class 0 0) t (class 0 0) (drop 1 t)
   pass_hyphen t e = pass_at (in_class 0 0) 45 t refl (and_both _ _ e).0
 
-  lead_class_part_at : (unicode : Bool) (t : Source) → Leads false table (class 0 0) t (class 0 0) (class_part_at table unicode t)
-  lead_class_part_at unicode t =
-      leads_then (class_atom_at table unicode t) _ (lead_class_atom_at unicode t)
+  lead_class_part_at : (parameters : Parameters) (t : Source) → Leads false table (class 0 0) t (class 0 0) (class_part_at table parameters t)
+  lead_class_part_at parameters t =
+      leads_then (class_atom_at table parameters t) _ (lead_class_atom_at parameters t)
       (λ x. leads_cond (begins_range x.1) _ _
-      (λ e. leads_after (pass_hyphen x.1 e) (lead_range_at unicode x.0 (drop 1 x.1)))
+      (λ e. leads_after (pass_hyphen x.1 e) (lead_range_at parameters x.0 (drop 1 x.1)))
       (λ _. leads_some (atom_members x.0, x.1) passes_same))
 
   pass_bracket : (t : Source) → is_at 93 t ≡ true → Passes false table (class 0 0) t plain (drop 1 t)
@@ -139,13 +142,13 @@ module _ {table : Table} where
   pass_bracket [] e = absurd (false≢true e)
   pass_bracket (c ∷ t) e = subst (λ k. Passes false table (class 0 0) (k ∷ t) plain t) (sym (eqb-true c 93 e)) (record { same = refl })
 
-  lead_class_parts_by : (n : ℕ) (unicode : Bool) (t : Source) → Leads false table (class 0 0) t plain (class_parts_by table unicode n t)
+  lead_class_parts_by : (n : ℕ) (parameters : Parameters) (t : Source) → Leads false table (class 0 0) t plain (class_parts_by table parameters n t)
   unfolding class_parts_by
-  lead_class_parts_by zero unicode t = leads_none
-  lead_class_parts_by (suc n) unicode t =
+  lead_class_parts_by zero parameters t = leads_none
+  lead_class_parts_by (suc n) parameters t =
       leads_cond (is_at 93 t) _ _ (λ e. leads_some ([], drop 1 t) (pass_bracket t e))
-      (λ _. leads_then (class_part_at table unicode t) _ (lead_class_part_at unicode t)
-      (λ x. leads_then (class_parts_by table unicode n x.1) _ (lead_class_parts_by n unicode x.1)
+      (λ _. leads_then (class_part_at table parameters t) _ (lead_class_part_at parameters t)
+      (λ x. leads_then (class_parts_by table parameters n x.1) _ (lead_class_parts_by n parameters x.1)
       (λ y. leads_some (_, y.1) passes_same)))
 
 -- An optional `^` at the start of a class is passed.
@@ -156,10 +159,10 @@ pass_caret {sets} {table} w t = by (is_at 94 t) refl
     by true e = pass_at w 94 t refl e
     by false e = passes_same
 
-pub lead_class_at : {table : Table} (unicode : Bool) (t : Source) → Leads false table (class 0 0) t plain (class_at table unicode t)
+pub lead_class_at : {table : Table} (parameters : Parameters) (t : Source) → Leads false table (class 0 0) t plain (class_at table parameters t)
 unfolding class_at
-lead_class_at {table} unicode t =
+lead_class_at {table} parameters t =
     leads_after (pass_caret (in_class 0 0) t)
-    (leads_then (class_parts_by table unicode (length (cond (is_at 94 t) (drop 1 t) t) + 1) (cond (is_at 94 t) (drop 1 t) t)) _
-    (lead_class_parts_by (length (cond (is_at 94 t) (drop 1 t) t) + 1) unicode (cond (is_at 94 t) (drop 1 t) t))
+    (leads_then (class_parts_by table parameters (length (cond (is_at 94 t) (drop 1 t) t) + 1) (cond (is_at 94 t) (drop 1 t) t)) _
+    (lead_class_parts_by (length (cond (is_at 94 t) (drop 1 t) t) + 1) parameters (cond (is_at 94 t) (drop 1 t) t))
     (λ x. leads_some (_, x.1) passes_same))

@@ -6,9 +6,11 @@ use Rattle.std.proofs.lemmas.Option.{none-some, same_Some}
 use Rattle.std.specs.List.{list_all}
 use Rattle.regress_base.specs.Intervals.{code_point_max}
 use Rattle.regress_base.specs.Table.{Table}
+use Rattle.regress_lexer.specs.declared.dialect.Dialect.{Dialect}
+use Rattle.regress_lexer.specs.Dialects.{is_lone_u}
 use Rattle.regress_lexer.specs.Source.{Source, Found, ◌>>=◌, found_map, opening, closing, bar, question_mark, is_at, is_plain}
 use Rattle.regress_lexer.specs.Digits.{is_between, is_decimal, is_letter, is_octal, is_hex, control, number, front, after, hex_at}
-use Rattle.regress_lexer.specs.Escapes.{braced_hex_at, unit_at, trail_surrogate_at, paired, with_trail_surrogate, unicode_at, or_identity_escape, octal_digits, letter_escape, begins_with_digit, is_syntax_character, control_at, other_escape, escape_at}
+use Rattle.regress_lexer.specs.Escapes.{braced_hex_at, unit_at, trail_surrogate_at, paired, with_trail_surrogate, unicode_at, or_identity_escape, octal_digits, letter_escape, begins_with_digit, is_syntax_character, control_at, other_escape, escape_at, character_escape_at}
 use Rattle.regress_lexer.specs.Quantifiers.{RepeatBounds, count_at, closed_brace, maximum_at, quantifier_prefix_by, greedy_or_lazy, quantifier_at}
 use Rattle.regress_syntax.specs.GroupTokens.{GroupToken}
 use Rattle.regress_syntax.specs.Scan.{Mode, plain, escape, class, class_escape, is_insignificant, tokens}
@@ -282,6 +284,13 @@ module _ {sets : Bool} {table : Table} where
   unfolding escape_at
   lead_escape_at w unicode [] = leads_none
   lead_escape_at w unicode (c ∷ t) = leads_after (pass_escaped w c t) (lead_escape_by w unicode c t (letter_escape c))
+
+  pub lead_character_escape_at : (w : Home) (dialect : Dialect) (unicode : Bool) (t : Source) →
+      Leads sets table (after_backslash w) t (home w) (character_escape_at dialect unicode t)
+  lead_character_escape_at w dialect unicode [] = leads_none
+  lead_character_escape_at w dialect unicode (c ∷ t) =
+      leads_cond (is_lone_u dialect unicode c t) _ _ (λ _. leads_after (pass_escaped w c t) (leads_some (c, t) passes_same))
+      (λ _. lead_escape_at w unicode (c ∷ t))
 
   -- ---- quantifiers, outside of classes
 

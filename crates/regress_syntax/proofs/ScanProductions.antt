@@ -9,7 +9,7 @@ use Rattle.regress_base.specs.declared.charclasses.CharacterClassType.{Character
 use Rattle.regress_base.specs.Table.{Table, HasWordAscii, IsValidTable}
 use Rattle.regress_lexer.specs.Source.{Source, Found, ◌>>=◌, found_map, opening, closing, colon, bar, full_stop, question_mark, is_one_of, is_at, first_production}
 use Rattle.regress_lexer.specs.Digits.{is_decimal, number, front, after}
-use Rattle.regress_lexer.specs.Escapes.{unicode_at, escape_at}
+use Rattle.regress_lexer.specs.Escapes.{unicode_at, character_escape_at}
 use Rattle.regress_base.specs.declared.types.Quantifier.{Quantifier}
 use Rattle.regress_lexer.specs.Quantifiers.{quantifier_at, is_ordered}
 use Rattle.regress_classes.specs.Properties.{Property, of_points, of_strings, property_at}
@@ -19,12 +19,12 @@ use Rattle.regress_lexer.specs.Modifiers.{is_modifier, letters_off, after_letter
 use Rattle.regress_syntax.specs.Names.{is_dollar_or_underscore, begins_name, continues_name, name_character_at, rest_of_name_by, name_at, group_name_at}
 use Rattle.regress_syntax.specs.Syntax.{Name, Atom, literal, Group, modified, capture}
 use Rattle.regress_syntax.specs.Syntax as Syntax
-use Rattle.regress_syntax.specs.Productions.{Context, Head, single, opens, angle_at, modified_at, after_question_mark_at, group_at, has_name, character_at, property_atom, property_atom_at, number_reference_at, name_reference_at, escape_productions, escaped_by, escaped_at, brace_by, brackets_at, atom_productions, atom_by, head_at, no_quantifier_at, this_quantifier, optional_quantifier_at}
+use Rattle.regress_syntax.specs.Productions.{class_parameters, Context, Head, single, opens, angle_at, modified_at, after_question_mark_at, group_at, has_name, character_at, property_atom, property_atom_at, number_reference_at, name_reference_at, escape_productions, escaped_by, escaped_at, brace_by, brackets_at, atom_productions, atom_by, head_at, no_quantifier_at, this_quantifier, optional_quantifier_at}
 use Rattle.regress_syntax.specs.Scan.{Mode, plain, escape, class, opened_at, tokens, is_insignificant}
 use Rattle.regress_syntax.specs.GroupTokens.{GroupToken, captures, token_of_group, tokens_of_atom}
 use Rattle.regress_syntax.specs.GroupTokens as GroupTokens
 use Rattle.regress_lexer.proofs.lemmas.Digits.{and_both, drop_one_more}
-use Rattle.regress_syntax.proofs.ScanLemmas.{quiet_decimal, quiet_plain, Passes, Leads, Gives, in_text, gives_none, gives_some, gives_after, gives_then, gives_map, gives_cond, gives_leads, passes_same, passes_then, leads_none, leads_some, leads_after, leads_then, leads_map, leads_cond, pass_quiet, pass_at, pass_backslash, pass_escaped, pass_after, lead_unicode_at, lead_escape_at, lead_quantifier_at}
+use Rattle.regress_syntax.proofs.ScanLemmas.{quiet_decimal, quiet_plain, Passes, Leads, Gives, in_text, gives_none, gives_some, gives_after, gives_then, gives_map, gives_cond, gives_leads, passes_same, passes_then, leads_none, leads_some, leads_after, leads_then, leads_map, leads_cond, pass_quiet, pass_at, pass_backslash, pass_escaped, pass_after, lead_unicode_at, lead_character_escape_at, lead_quantifier_at}
 use Rattle.regress_syntax.proofs.ScanClasses.{lead_property_at, lead_class_at}
 use Rattle.regress_syntax.proofs.ScanSets.{gives_class_set_at}
 use Rattle.regress_lexer.proofs.lemmas.Sources.{EachProduction, no_more, ◌also◌, first_production-has}
@@ -149,8 +149,8 @@ module _ (ctx : Context) (lawful : IsValidTable ctx.setting.table) where
 
   gives_character_at : (c : ℕ) (t : Source) → Gives (tokens_in ctx escape (c ∷ t)) (after_atom ctx) (character_at ctx c t)
   gives_character_at c t =
-      gives_unmarked (literal ctx.setting.flags) (escape_at ctx.setting.flags.unicode (c ∷ t)) (λ x. refl)
-      (lead_escape_at in_text ctx.setting.flags.unicode (c ∷ t))
+      gives_unmarked (literal ctx.setting.flags) (character_escape_at ctx.dialect ctx.setting.flags.unicode (c ∷ t)) (λ x. refl)
+      (lead_character_escape_at in_text ctx.dialect ctx.setting.flags.unicode (c ∷ t))
 
   gives_property_atom : (negated : Bool) (x : Property × Source) → Gives (tokens_in ctx plain x.1) (after_atom ctx) (property_atom ctx negated x)
   gives_property_atom negated (of_points members, t) = gives_some (_, t) (by (negated && ctx.setting.flags.icase))
@@ -245,9 +245,9 @@ module _ (ctx : Context) (lawful : IsValidTable ctx.setting.table) where
       (found_map (λ (x : Bool × Value). Syntax.class_set ctx.setting.flags x.0 x.1)
       (class_set_at ctx.setting.table ctx.setting.flags.unicode t))
       (found_map (λ (x : Bool × List Bounds). Syntax.class ctx.setting.flags x.0 x.1)
-      (class_at ctx.setting.table ctx.setting.flags.unicode t)))
+      (class_at ctx.setting.table (class_parameters ctx) t)))
   gives_class true t = gives_map _ _ _ (gives_class_set_at ctx.setting.table ctx.setting.flags.unicode t) (λ x rest. refl)
-  gives_class false t = gives_map _ _ _ (gives_leads (lead_class_at ctx.setting.flags.unicode t)) (λ x rest. refl)
+  gives_class false t = gives_map _ _ _ (gives_leads (lead_class_at (class_parameters ctx) t)) (λ x rest. refl)
 
   same_open_bracket : (t : Source) → tokens_in ctx plain (91 ∷ t) ≡ tokens_in ctx (class 0 0) t
   unfolding tokens

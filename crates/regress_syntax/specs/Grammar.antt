@@ -16,7 +16,7 @@ abbrev mutual
   AreTerms ctx no_terms t rest = (ends_alternative t ≡ true) × (t ≡ rest)
   AreTerms ctx (more_terms x q xs) t rest =
       (mid : Source) × (after : Source) × IsItem ctx x t mid
-      × (optional_quantifier_at ctx (allows ctx.setting.flags.unicode (head_of_item x)) mid ≡ Some (q, after)) × AreTerms ctx xs after rest
+      × (optional_quantifier_at ctx (allows ctx (head_of_item x)) mid ≡ Some (q, after)) × AreTerms ctx xs after rest
 
   -- a single token, or the opening of a group, its body and `)` (ECMA-262, Term without its Quantifier)
   pub IsItem : Context → Item → Source → Source → Type 0

@@ -8,10 +8,13 @@ use Rattle.regress_base.specs.declared.types.Quantifier.{Quantifier}
 use Rattle.regress_tree.specs.Setting.{Setting}
 use Rattle.regress_tree.specs.Reading.{forwards, backwards}
 use Rattle.regress_base.specs.Table.{Table}
+use Rattle.regress_lexer.specs.declared.dialect.Dialect.{Dialect}
+use Rattle.regress_lexer.specs.Dialects.{quantifies_boundaries}
 use Rattle.regress_lexer.specs.Source.{Source, Found, ◌>>=◌, found_map, Production, when, otherwise, first_production, char, is_one_of, opening, full_stop, colon, question_mark, is_at, is_plain}
 use Rattle.regress_lexer.specs.Digits.{is_between, is_decimal, number, front, after}
-use Rattle.regress_lexer.specs.Escapes.{begins_with_letter, escape_at}
+use Rattle.regress_lexer.specs.Escapes.{begins_with_letter, character_escape_at}
 use Rattle.regress_lexer.specs.Quantifiers.{quantifier_at, is_ordered}
+use Rattle.regress_classes.specs.declared.parameters.Parameters.{Parameters}
 use Rattle.regress_classes.specs.Properties.{Property, of_points, of_strings, property_at}
 use Rattle.regress_classes.specs.ClassProductions.{complement, class_letter, class_at}
 use Rattle.regress_classes.specs.ClassSets.{class_set_at}
@@ -19,9 +22,10 @@ use Rattle.regress_lexer.specs.Modifiers.{changed, modifiers_at}
 use Rattle.regress_syntax.specs.Names.{group_name_at}
 use Rattle.regress_syntax.specs.Syntax.{Name, is_named, by_number, by_name, Atom, literal, dot, anchor, boundary, class_escape, class, class_set, string_property, back_reference, Group, grouping, modified, capture, look, Item, atom, group}
 
--- The context on which the productions depend besides the source: the flags in force and the Unicode table, and the
--- number of capture groups of the whole pattern with their names, `None` for a group without a name.
+-- The context on which the productions depend besides the source: the dialect, the flags in force and the Unicode table,
+-- and the number of capture groups of the whole pattern with their names, `None` for a group without a name.
 pub record Context : Type 0 where
+  pub dialect : Dialect
   pub setting : Setting
   pub groups : ℕ
   pub names : List (Option Name)
@@ -71,17 +75,17 @@ after_question_mark_at table t =
 abbrev pub group_at : Table → Source → Found Head
 group_at table t = if is_at question_mark t then after_question_mark_at table (drop 1 t) else Some (opens (capture None), t)
 
--- A quantifier may follow every item but `^` and `$`.
-abbrev pub atom_allows : Atom → Bool
-atom_allows (literal flags c) = true
-atom_allows (dot flags) = true
-atom_allows (anchor flags kind) = false
-atom_allows (boundary flags inverted) = true
-atom_allows (class_escape flags kind negated) = true
-atom_allows (class flags inverted members) = true
-atom_allows (class_set flags negated value) = true
-atom_allows (string_property flags written) = true
-atom_allows (back_reference flags to) = true
+-- A quantifier may follow every item but `^` and `$`, and `\b` and `\B` only in some dialects.
+abbrev pub atom_allows : Dialect → Atom → Bool
+atom_allows dialect (literal flags c) = true
+atom_allows dialect (dot flags) = true
+atom_allows dialect (anchor flags kind) = false
+atom_allows dialect (boundary flags inverted) = quantifies_boundaries dialect
+atom_allows dialect (class_escape flags kind negated) = true
+atom_allows dialect (class flags inverted members) = true
+atom_allows dialect (class_set flags negated value) = true
+atom_allows dialect (string_property flags written) = true
+atom_allows dialect (back_reference flags to) = true
 
 -- A quantifier may follow a lookahead only without the flag u, and no lookbehind (ECMA-262, QuantifiableAssertion).
 abbrev pub group_allows : (unicode : Bool) → Group → Bool
@@ -92,9 +96,9 @@ group_allows unicode (look negate forwards) = not unicode
 group_allows unicode (look negate backwards) = false
 
 -- A quantifier may follow an item that starts with this.
-abbrev pub allows : (unicode : Bool) → Head → Bool
-allows unicode (single a) = atom_allows a
-allows unicode (opens kind) = group_allows unicode kind
+abbrev pub allows : Context → Head → Bool
+allows ctx (single a) = atom_allows ctx.dialect a
+allows ctx (opens kind) = group_allows ctx.setting.flags.unicode kind
 
 -- 1 to 9
 abbrev pub begins_number : ℕ → Bool
@@ -107,6 +111,10 @@ has_names names = list_any is_some names
 abbrev pub has_name : Name → List (Option Name) → Bool
 has_name name names = list_any (is_named name) names
 
+-- the parameters of the productions of a class
+abbrev pub class_parameters : Context → Parameters
+class_parameters ctx = record { dialect = ctx.dialect; unicode = ctx.setting.flags.unicode; named = has_names ctx.names }
+
 -- Without the flag u a backslash before a `c` that no letter follows is a literal, and the `c` is parsed next
 -- (ECMA-262, B.1.2).
 abbrev pub is_lone_backslash : (unicode : Bool) → ℕ → Source → Bool
@@ -115,7 +123,7 @@ is_lone_backslash unicode c t = c == char "c" && not unicode && not (begins_with
 module _ (ctx : Context) where
   -- the escape of one character
   abbrev pub character_at : ℕ → Source → Found Atom
-  character_at c t = found_map (literal ctx.setting.flags) (escape_at ctx.setting.flags.unicode (c ∷ t))
+  character_at c t = found_map (literal ctx.setting.flags) (character_escape_at ctx.dialect ctx.setting.flags.unicode (c ∷ t))
 
   -- A property of code points. With the flag i the complement of a negated one is taken before the closure.
   abbrev pub point_property : (negated : Bool) → List Bounds → Atom
@@ -188,7 +196,7 @@ module _ (ctx : Context) where
       then found_map (λ (negated, value). class_set ctx.setting.flags negated value)
       (class_set_at ctx.setting.table ctx.setting.flags.unicode t)
       else found_map (λ (inverted, members). class ctx.setting.flags inverted members)
-      (class_at ctx.setting.table ctx.setting.flags.unicode t)
+      (class_at ctx.setting.table (class_parameters ctx) t)
 
   -- the productions of an item without a body whose first code point is c
   abbrev pub atom_productions : ℕ → Source → List (Production Atom)

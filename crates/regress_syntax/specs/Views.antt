@@ -18,6 +18,7 @@ names_in groups = map (option_map (λ name. name.items)) groups.names.items
 -- the context that a scope represents
 abbrev pub context_of : Scope → Context
 context_of scope = record {
+  dialect = scope.dialect;
   setting = setting_of scope.flags scope.tables.now;
   groups = scope.groups.now.count;
   names = names_in scope.groups.now;

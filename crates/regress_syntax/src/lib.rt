@@ -15,7 +15,7 @@ pub use groups::Groups;
 pub use names::{Name, name_text};
 pub use references::{has_references_by_name, parse_group_number, parse_reference};
 pub use regress_classes::{Value, class_escape_set};
-pub use regress_lexer::{Change, Cursor, Fault, FaultKind, fault};
+pub use regress_lexer::{Change, Cursor, Dialect, Fault, FaultKind, fault};
 pub use scan::{Findings, FirstErrors, scan as scan_groups};
 pub use scope::Scope;
 pub use times::parse_optional_quantifier;

@@ -5,7 +5,8 @@ ghost use Rattle.regress_tree.specs.WellFormed.{IsWellFormed};
 
 use regress_base::types::Flags;
 use regress_parse::{
-    Error, ParseFault, PlacedFault, node_bound, try_parse, try_parse_with_position,
+    Dialect, Error, ParseFault, PlacedFault, node_bound, try_parse, try_parse_in,
+    try_parse_with_position,
 };
 use regress_spans::{Span, try_parse_with_spans};
 use regress_tree::ir::Regex;
@@ -62,6 +63,16 @@ pub(crate) fn find_fault(call: &mut Call, flags: Flags, tables: &Tables) {
             call.report(&position);
             call.report(&error);
         }
+        Err(PlacedFault::Memory(_)) => call.fail(Fault::Memory),
+    }
+}
+
+/// Reports whether a pattern is accepted in the dialect `Ecma`.
+pub(crate) fn report_ecma(call: &mut Call, flags: Flags, tables: &Tables) {
+    let points = call.pattern();
+    match try_parse_in(call.alloc(), &points, flags, tables, Dialect::Ecma) {
+        Ok(_) => call.say("accepted"),
+        Err(PlacedFault::Syntax { .. }) => call.say("rejected"),
         Err(PlacedFault::Memory(_)) => call.fail(Fault::Memory),
     }
 }

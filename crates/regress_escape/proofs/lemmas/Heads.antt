@@ -13,7 +13,7 @@ use Rattle.regress_syntax.specs.Syntax.{literal}
 use Rattle.regress_syntax.specs.Productions.{Context, single, head_at}
 use Rattle.regress_syntax.proofs.lemmas.Plain.{plain_head}
 use Rattle.regress_escape.specs.Escape.{numeric_escape, control_letter, is_other_punctuator, is_space, encoded_by, encoded, encoded_first}
-use Rattle.regress_escape.proofs.lemmas.Numeric.{two_digits, four_digits_alone, x_head, u_head}
+use Rattle.regress_escape.proofs.lemmas.Numeric.{hex_digit_no_brace, two_digits, four_digits_alone, x_head, u_head}
 
 -- one of two values, each under its condition
 by_cases : {A : Type 0} (P : A → Type 0) (b : Bool) (x y : A) → (b ≡ true → P x) → (b ≡ false → P y) → P (if b then x else y)
@@ -78,7 +78,7 @@ module _ (ctx : Context) where
   numeric_literal c t below single_unit =
       by_cases (λ written. IsLiteral c (written ++ t) t) (nat_le c 0xFF) _ _
       (λ short. x_head ctx _ c t (two_digits c t (grind (arith, nat_tests))))
-      (λ long. u_head ctx _ c t (four_digits_alone c t below single_unit))
+      (λ long. u_head ctx _ c t (hex_digit_no_brace (c / 16 / 16 / 16 % 16) (omega arith)) (four_digits_alone c t below single_unit))
 
   syntax_head : (c : ℕ) (t : Source) → is_syntax_character c ≡ true →
       head_at ctx (char "\\" ∷ c ∷ t) ≡ found_map single (found_map (literal ctx.setting.flags) (escape_at ctx.setting.flags.unicode (c ∷ t)))

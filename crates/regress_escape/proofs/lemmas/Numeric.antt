@@ -1,9 +1,10 @@
 -- An escape by the code of a character is parsed to that character, under all flags.
-use Rattle.std.proofs.Common.{◌≡◌, ℕ, ◌/◌, ◌%◌, ◌<◌, true, false, ◌==◌, ◌∷◌, ◌++◌, Some, ap, ◌∙◌, arith}
+use Rattle.std.proofs.Common.{◌≡◌, ℕ, ◌/◌, ◌%◌, ◌<◌, true, false, not, ◌==◌, ◌∷◌, ◌++◌, Some, ap, ◌∙◌, arith}
 use Rattle.std.specs.Char.{digit_char}
 use Rattle.std.proofs.lemmas.Bool.Decides.{nat_tests}
-use Rattle.std.proofs.lemmas.Bool.{cond-false}
-use Rattle.regress_lexer.specs.Source.{Source, found_map, char, ◌>>=◌}
+use Rattle.std.proofs.lemmas.Bool.{cond-false, and_right}
+use Rattle.regress_lexer.specs.Source.{Source, found_map, char, is_at, ◌>>=◌}
+use Rattle.regress_lexer.specs.Dialects.{has_braces}
 use Rattle.regress_lexer.specs.Digits.{is_hex, is_between, digit, hex_at}
 use Rattle.regress_lexer.specs.Escapes.{escape_at, unicode_at, or_identity_escape, with_trail_surrogate}
 use Rattle.regress_syntax.specs.Syntax.{literal}
@@ -18,7 +19,7 @@ hex_digit d below = grind (arith, nat_tests)
 hex_digit_value : (d : ℕ) → d < 16 → digit (digit_char d) ≡ d
 hex_digit_value d below = grind (arith, nat_tests)
 
-hex_digit_no_brace : (d : ℕ) → d < 16 → (digit_char d == char "{") ≡ false
+pub hex_digit_no_brace : (d : ℕ) → d < 16 → (digit_char d == char "{") ≡ false
 hex_digit_no_brace d below = grind (arith, nat_tests)
 
 pub two_digits : (c : ℕ) (t : Source) → c < 0x100 → hex_at 2 (hex_digits 2 c ++ t) ≡ Some (c, t)
@@ -61,7 +62,10 @@ module _ (ctx : Context) (t : Source) (c : ℕ) (rest : Source) where
   x_head e =
       ap (λ found. found_map single (found_map (literal ctx.setting.flags) (or_identity_escape ctx.setting.flags.unicode (char "x") t found))) e
 
-  pub u_head : unicode_at t ≡ Some (c, rest) → head_at ctx (char "\\" ∷ char "u" ∷ t) ≡ Some (single (literal ctx.setting.flags c), rest)
+  pub u_head : is_at (char "{") t ≡ false → unicode_at t ≡ Some (c, rest) →
+      head_at ctx (char "\\" ∷ char "u" ∷ t) ≡ Some (single (literal ctx.setting.flags c), rest)
   unfolding head_at escape_at
-  u_head e =
-      ap (λ found. found_map single (found_map (literal ctx.setting.flags) (or_identity_escape ctx.setting.flags.unicode (char "u") t found))) e
+  u_head plain e =
+      ap (λ found. found_map single (found_map (literal ctx.setting.flags) found))
+      (cond-false _ _ _ (and_right (not (has_braces ctx.dialect ctx.setting.flags.unicode)) (is_at (char "{") t) plain))
+      ∙ ap (λ found. found_map single (found_map (literal ctx.setting.flags) (or_identity_escape ctx.setting.flags.unicode (char "u") t found))) e

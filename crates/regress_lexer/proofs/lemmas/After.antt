@@ -5,9 +5,11 @@ use Rattle.std.proofs.lemmas.List.{drop-drop}
 use Rattle.std.proofs.lemmas.List.Elements.{All-drop}
 use Rattle.std.specs.List.{All}
 use Rattle.regress_base.specs.declared.types.Quantifier.{Quantifier}
+use Rattle.regress_lexer.specs.declared.dialect.Dialect.{Dialect}
+use Rattle.regress_lexer.specs.Dialects.{is_lone_u}
 use Rattle.regress_lexer.specs.Source.{Source, Found, ◌>>=◌, found_map, IsCodePoint, is_at, question_mark}
 use Rattle.regress_lexer.specs.Digits.{is_decimal, is_octal, is_hex, number, after, hex_at}
-use Rattle.regress_lexer.specs.Escapes.{braced_hex_at, unit_at, trail_surrogate_at, paired, with_trail_surrogate, unicode_at, or_identity_escape, octal_digits, letter_escape, begins_with_digit, is_syntax_character, control_at, other_escape, escape_at}
+use Rattle.regress_lexer.specs.Escapes.{braced_hex_at, unit_at, trail_surrogate_at, paired, with_trail_surrogate, unicode_at, or_identity_escape, octal_digits, letter_escape, begins_with_digit, is_syntax_character, control_at, other_escape, escape_at, character_escape_at}
 use Rattle.regress_lexer.specs.Quantifiers.{RepeatBounds, count_at, closed_brace, maximum_at, quantifier_prefix_by, greedy_or_lazy, quantifier_at}
 
 -- rest is t without its first `count` code points
@@ -137,6 +139,11 @@ pub escape_at-ends : (unicode : Bool) (t : Source) → Ends (escape_at unicode t
 unfolding escape_at
 escape_at-ends unicode [] = ends_none []
 escape_at-ends unicode (c ∷ t) = escape_by-ends unicode c t (letter_escape c)
+
+pub character_escape_at-ends : (dialect : Dialect) (unicode : Bool) (t : Source) → Ends (character_escape_at dialect unicode t) t
+character_escape_at-ends dialect unicode [] = ends_none []
+character_escape_at-ends dialect unicode (c ∷ t) =
+    ends_cond (is_lone_u dialect unicode c t) _ _ (c ∷ t) (one-ends c c t) (escape_at-ends unicode (c ∷ t))
 
 pub count_at-ends : (t : Source) → Ends (count_at t) t
 count_at-ends t = ends_cond _ _ _ t (ends_none t) (ends_some _ t (after_front is_decimal t))

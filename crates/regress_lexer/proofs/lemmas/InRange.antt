@@ -5,9 +5,11 @@ use Rattle.std.proofs.lemmas.List.Elements.{All-head}
 use Rattle.std.specs.List.{All, list_all}
 use Rattle.std.specs.Option.{IfSome, option_map}
 use Rattle.regress_base.specs.Intervals.{code_point_max}
+use Rattle.regress_lexer.specs.declared.dialect.Dialect.{Dialect}
+use Rattle.regress_lexer.specs.Dialects.{is_lone_u}
 use Rattle.regress_lexer.specs.Source.{Source, Found, ◌>>=◌, found_map, IsCodePoint, char, is_at}
 use Rattle.regress_lexer.specs.Digits.{is_between, is_letter, is_octal, is_hex, control, number, front, after, hex_at}
-use Rattle.regress_lexer.specs.Escapes.{braced_hex_at, unit_at, trail_surrogate_at, paired, with_trail_surrogate, unicode_at, or_identity_escape, octal_digits, letter_escape, begins_with_digit, is_syntax_character, control_at, other_escape, escape_at}
+use Rattle.regress_lexer.specs.Escapes.{braced_hex_at, unit_at, trail_surrogate_at, paired, with_trail_surrogate, unicode_at, or_identity_escape, octal_digits, letter_escape, begins_with_digit, is_syntax_character, control_at, other_escape, escape_at, character_escape_at}
 use Rattle.regress_lexer.proofs.lemmas.Digits.{and_both, hex_fits, octal_number_fits}
 
 -- Whatever is found has the property.
@@ -130,3 +132,10 @@ pub value_in_range : {R : Type 0} (view : R → Source) (unicode : Bool) (t : So
     option_map (λ found. (found.0, view found.1)) response ≡ escape_at unicode t → IfSome response (λ found. IsCodePoint found.0)
 value_in_range view unicode t None h e = tt
 value_in_range view unicode t (Some x) h e = (escape_at-in_range unicode t h).each (x.0, view x.1) (sym e)
+
+pub character_escape_at-in_range : (dialect : Dialect) (unicode : Bool) (t : Source) → All IsCodePoint t →
+    Finds IsCodePoint (character_escape_at dialect unicode t)
+character_escape_at-in_range dialect unicode [] h = finds_none _
+character_escape_at-in_range dialect unicode (c ∷ t) h =
+    finds_cond _ (is_lone_u dialect unicode c t) _ _ (λ _. finds_some _ (c, t) (All-head IsCodePoint c t h))
+    (λ _. escape_at-in_range unicode (c ∷ t) h)

@@ -134,7 +134,7 @@ module _ (whole : ℕ) where
     nest_of_terms ctx d (more_terms x q xs) t rest h =
         let item = item-within whole ctx d x t h.0 h.2 in
         let to_mid = item-shortens ctx x t h.0 h.2 in
-        let to_after = optional_quantifier_at-shortens ctx (allows ctx.setting.flags.unicode (head_of_item x)) h.0 (q, h.1) h.3 in
+        let to_after = optional_quantifier_at-shortens ctx (allows ctx (head_of_item x)) h.0 (q, h.1) h.3 in
         joined_in_reverse d _ _ (term-before_others ctx d x q xs t rest h)
         (apart_turned t h.1 h.1 rest _ _ (omega arith) (term-within whole ctx d x q xs t rest h) (terms-within whole ctx d xs h.1 rest h.4))
         (repeated q _ (between whole t h.1) (wider whole t t h.0 h.1 _ (omega arith) to_after item) (nest_of_item ctx d x t h.0 h.2))

@@ -28,7 +28,7 @@ mutual
       omega (
         arith,
         item-shortens ctx x t h.0 h.2,
-        optional_quantifier_at-shortens ctx (allows ctx.setting.flags.unicode (head_of_item x)) h.0 (q, h.1) h.3,
+        optional_quantifier_at-shortens ctx (allows ctx (head_of_item x)) h.0 (q, h.1) h.3,
         terms-shorten ctx xs h.1 rest h.4,
       )
 
@@ -101,7 +101,7 @@ module _ (whole : ℕ) where
       (item : List Span) → AllBetween t h.0 item → AllBetween t h.1 (item ++ span_of_times q (between whole t h.1))
   times-around ctx x q xs t rest h item inner =
       let to_mid = item-shortens ctx x t h.0 h.2 in
-      let to_after = optional_quantifier_at-shortens ctx (allows ctx.setting.flags.unicode (head_of_item x)) h.0 (q, h.1) h.3 in
+      let to_after = optional_quantifier_at-shortens ctx (allows ctx (head_of_item x)) h.0 (q, h.1) h.3 in
       both t h.1 item (span_of_times q (between whole t h.1)) (wider t t h.0 h.1 item (omega arith) to_after inner)
       (times-within q t h.1 (omega (arith, to_mid, to_after)))
 
@@ -134,7 +134,7 @@ module _ (whole : ℕ) where
         let times = span_of_times q (between whole t h.1) in
         let others = spans_of_terms whole ctx d xs h.1 rest h.4 in
         let to_mid = item-shortens ctx x t h.0 h.2 in
-        let to_after = optional_quantifier_at-shortens ctx (allows ctx.setting.flags.unicode (head_of_item x)) h.0 (q, h.1) h.3 in
+        let to_after = optional_quantifier_at-shortens ctx (allows ctx (head_of_item x)) h.0 (q, h.1) h.3 in
         ordered t rest d (item ++ times) others
         (wider t t h.1 rest (item ++ times) (omega arith) (terms-shorten ctx xs h.1 rest h.4)
         (times-around ctx x q xs t rest h item (item-within ctx d x t h.0 h.2)))

@@ -14,8 +14,8 @@ use Rattle.regress_lexer.specs.Quantifiers.{quantifier_at, is_ordered}
 use Rattle.regress_classes.specs.Properties.{Property, of_points, of_strings, property_at}
 use Rattle.regress_classes.specs.ClassProductions.{class_letter, class_at}
 use Rattle.regress_classes.specs.ClassSets.{class_set_at}
-use Rattle.regress_syntax.specs.Productions.{Context, Head, single, angle_at, after_question_mark_at, group_at, has_name, is_lone_backslash, character_at, property_atom, property_atom_at, number_reference_at, name_reference_at, escape_productions, escaped_by, escaped_at, brace_by, brackets_at, atom_productions, atom_by, head_by, head_at, no_quantifier_at, this_quantifier, optional_quantifier_at}
-use Rattle.regress_lexer.proofs.lemmas.After.{after_same, after_drop, after_front, after_shorter, Ends, ends_none, ends_some, one-ends, ends_after, ends_more, ends_then, ends_map, ends_cond, escape_at-ends, quantifier_at-ends}
+use Rattle.regress_syntax.specs.Productions.{class_parameters, Context, Head, single, angle_at, after_question_mark_at, group_at, has_name, is_lone_backslash, character_at, property_atom, property_atom_at, number_reference_at, name_reference_at, escape_productions, escaped_by, escaped_at, brace_by, brackets_at, atom_productions, atom_by, head_by, head_at, no_quantifier_at, this_quantifier, optional_quantifier_at}
+use Rattle.regress_lexer.proofs.lemmas.After.{after_same, after_drop, after_front, after_shorter, Ends, ends_none, ends_some, one-ends, ends_after, ends_more, ends_then, ends_map, ends_cond, character_escape_at-ends, quantifier_at-ends}
 use Rattle.regress_syntax.proofs.lemmas.NameEnds.{group_name_at-ends, modifiers_at-ends}
 use Rattle.regress_classes.proofs.lemmas.Pieces.{property_at-ends, class_at-ends}
 use Rattle.regress_classes.proofs.lemmas.ClassSets.{class_set_at-ends}
@@ -44,7 +44,7 @@ module _ (table : Table) where
 
 module _ (ctx : Context) where
   character_at-ends : (c : ℕ) (t : Source) → Ends (character_at ctx c t) (c ∷ t)
-  character_at-ends c t = ends_map _ _ (c ∷ t) (escape_at-ends ctx.setting.flags.unicode (c ∷ t))
+  character_at-ends c t = ends_map _ _ (c ∷ t) (character_escape_at-ends ctx.dialect ctx.setting.flags.unicode (c ∷ t))
 
   property_atom-ends : (negated : Bool) (x : Property × Source) → Ends (property_atom ctx negated x) x.1
   property_atom-ends negated (of_points members, t) = this-ends _ t
@@ -108,8 +108,8 @@ module _ (ctx : Context) where
       ends_cond ctx.setting.flags.unicode_sets _ _ t
       (ends_map _ (class_set_at ctx.setting.table ctx.setting.flags.unicode t) t
       (class_set_at-ends ctx.setting.table ctx.setting.flags.unicode t))
-      (ends_map _ (class_at ctx.setting.table ctx.setting.flags.unicode t) t
-      (class_at-ends ctx.setting.table ctx.setting.flags.unicode t))
+      (ends_map _ (class_at ctx.setting.table (class_parameters ctx) t) t
+      (class_at-ends ctx.setting.table (class_parameters ctx) t))
 
   atom_productions-end : (c : ℕ) (t : Source) → EachProduction (λ found. Ends found t) (atom_productions ctx c t)
   atom_productions-end c t =

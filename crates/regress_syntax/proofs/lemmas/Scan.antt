@@ -59,7 +59,7 @@ module _ (by : Bool × Table) (lawful : IsValidTable by.1) where
     tokens_of_all ctx (more_terms x q xs) t rest same (mid, after, first, times, others) =
         joined (tokens_of_item x) (tokens_of_terms xs) _ (tokens_of_one ctx x t mid same first)
         (subst (λ u. tokens_from u mid ≡ tokens_from u after) same
-        (((lead_times_at ctx (lawful_at ctx same) (allows ctx.setting.flags.unicode (head_of_item x)) mid).each (q, after) times).same)
+        (((lead_times_at ctx (lawful_at ctx same) (allows ctx (head_of_item x)) mid).each (q, after) times).same)
         ∙ tokens_of_all ctx xs after rest same others)
 
     tokens_of_one : (ctx : Context) (x : Item) (t rest : Source) → reported ctx ≡ by → IsItem ctx x t rest →

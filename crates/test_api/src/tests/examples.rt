@@ -14,6 +14,7 @@ use regress_front::unicode::{
     FoldRange, Tables, add_icase_code_points, expand_code_point, fold, unfold_char, uppercase,
 };
 use regress_front::util::code_points;
+use regress_parse::{Dialect, try_parse_in};
 use regress_properties::general_category;
 use regress_ucd::unicode_tables;
 use regress_warnings::{WarningKind, warnings};
@@ -327,6 +328,16 @@ fn a_pattern_is_parsed(rt: HostRuntime) -> Result<(), Fail> {
         printed.as_str(),
         "Cat\n..Alt\n....'97'\n....'98'\n..Goal\n"
     );
+    Ok(())
+}
+
+#[test]
+fn a_pattern_is_parsed_in_a_dialect(rt: HostRuntime) -> Result<(), Fail> {
+    let alloc = rt.alloc();
+    let tables = Tables::small(alloc)?;
+    let points = code_points(alloc, "\\b+")?;
+    let parsed = try_parse_in(alloc, &points, Flags::default(), &tables, Dialect::Ecma);
+    assert!(rt; parsed.is_err());
     Ok(())
 }
 

@@ -8,6 +8,8 @@ use Rattle.regress_lexer.specs.Views.{source}
 use Rattle.regress_lexer.proofs.lemmas.Sources.{on_rejected, on_kind_then}
 use Rattle.regress_lexer.proofs.lemmas.Faults.{by_nesting_then}
 use Rattle.regress_syntax.proofs.lemmas.Lengths.{class_set_at-nesting}
+use Rattle.regress_classes.specs.declared.parameters.Parameters.{Parameters}
+use Rattle.regress_classes.specs.ClassProductions.{class_at}
 use Rattle.regress_syntax.specs.Syntax.{Atom, class, class_set, nesting_of_atom}
 use Rattle.regress_syntax.specs.Views.{names_in}
 use Rattle.regress_unicode.specs.TableOf.{table_of}
@@ -20,7 +22,9 @@ returns-then-not-scope-clause-value c =
     let found = c.in_ok-class.ensures.value in
     let same = ap (λ inverted. class flags inverted found.0.1) found.2.0 in (
       class flags found.0.0 found.0.1,
-      cond-false _ _ _ c.if-not-scope.true ∙ ap (found_map (λ (inverted, members). class flags inverted members)) found.1,
+      cond-false _ _ _ c.if-not-scope.true
+          ∙ ap (found_map (λ (inverted, members). class flags inverted members))
+          (ap (λ (p : Parameters). class_at (table_of c.args.scope.now.tables.now) p (source c.args.cursor.now)) (sym c.class_parameters.ensures) ∙ found.1),
       record {
         node = c.in_ok-make_class.ensures found.0.1 found.2.1 ∙ ap (tree_of_atom (table_of c.args.scope.now.tables.now)
             (names_in c.args.scope.now.groups.now)) same;

@@ -28,19 +28,19 @@ pub returns-in_err-found-clause-reported : goal.returns-in_err-found-clause-repo
 returns-in_err-found-clause-reported g c =
     let p = err_from_is_err_and c.from_residual.result c.from_residual.ensures.1 in
     rw (p.1, p.2) (on_kind_then c.in_err-found.field-0.0
-    (λ kind shown p h. inl (tokens-say (setting_of c.args.flags c.args.tables.now) c.args.pattern.now c.in_err-found.ensures.whole kind shown p h))
+    (λ kind shown p h. inl (tokens-say c.args.dialect (setting_of c.args.flags c.args.tables.now) c.args.pattern.now c.in_err-found.ensures.whole kind shown p h))
     c.in_err-found.ensures.rejected)
 
 pub returns-in_err-found-clause-settled : goal.returns-in_err-found-clause-settled
 returns-in_err-found-clause-settled g c =
     let p = err_from_is_err_and c.from_residual.result c.from_residual.ensures.1 in
-    rw (p.1, p.2) (settled (setting_of c.args.flags c.args.tables.now) c.args.pattern.now c.in_err-found.field-0.0
+    rw (p.1, p.2) (settled c.args.dialect (setting_of c.args.flags c.args.tables.now) c.args.pattern.now c.in_err-found.field-0.0
     c.args.tables.now.sound.lawful c.in_err-found.ensures.located)
 
 pub returns-in_err-body-clause-settled : goal.returns-in_err-body-clause-settled
 returns-in_err-body-clause-settled g c =
     let p = err_from_is_err_and c.from_residual-in_err-body.result c.from_residual-in_err-body.ensures.1 in
-    rw (p.1, p.2) (settled (setting_of c.args.flags c.args.tables.now) c.args.pattern.now c.in_err-body.field-0.0
+    rw (p.1, p.2) (settled c.args.dialect (setting_of c.args.flags c.args.tables.now) c.args.pattern.now c.in_err-body.field-0.0
     c.args.tables.now.sound.lawful (c.in_err-body.ensures.located c.args.flags.unicode_sets c.in_ok-found.ensures.first_errors))
 
 pub returns-in_err-found-clause-duplicate : goal.returns-in_err-found-clause-duplicate
@@ -55,7 +55,7 @@ returns-in_err-body-clause-duplicate g c =
 
 pub returns-in_err-found-clause-only : goal.returns-in_err-found-clause-only
 returns-in_err-found-clause-only g c =
-    same_derived (setting_of c.args.flags c.args.tables.now) c.args.pattern.now c.in_err-found.ensures.whole
+    same_derived c.args.dialect (setting_of c.args.flags c.args.tables.now) c.args.pattern.now c.in_err-found.ensures.whole
 
 pub returns-in_err-body-clause-reported : goal.returns-in_err-body-clause-reported
 returns-in_err-body-clause-reported g c =
@@ -63,10 +63,10 @@ returns-in_err-body-clause-reported g c =
     let setting = setting_of c.args.flags c.args.tables.now in
     let t = c.args.pattern.now in
     let found = c.in_ok-found.ensures in
-    let same = scanned-is setting t found.whole c.in_ok-found.found.groups.count (names_in c.in_ok-found.found.groups) found.names found.count in
-    let yields : YieldsWhole (scanned setting t found.whole (most setting t found.whole)) t (Err c.in_err-body.field-0.0) =
+    let same = scanned-is c.args.dialect setting t found.whole c.in_ok-found.found.groups.count (names_in c.in_ok-found.found.groups) found.names found.count in
+    let yields : YieldsWhole (scanned c.args.dialect setting t found.whole (most c.args.dialect setting t found.whole)) t (Err c.in_err-body.field-0.0) =
     subst (λ ctx. YieldsWhole ctx t (Err c.in_err-body.field-0.0)) same c.in_err-body.ensures.value in
-    rw (p.1, p.2) (on_kind_then c.in_err-body.field-0.0 (reading-says setting t found.whole found.nesting) yields)
+    rw (p.1, p.2) (on_kind_then c.in_err-body.field-0.0 (reading-says c.args.dialect setting t found.whole found.nesting) yields)
 
 pub returns-in_err-found-clause-limits : goal.returns-in_err-found-clause-limits
 returns-in_err-found-clause-limits g c =
@@ -81,11 +81,11 @@ returns-in_err-body-clause-limits g c =
 
 pub returns-in_err-body-clause-only : goal.returns-in_err-body-clause-only
 returns-in_err-body-clause-only g c =
-    same_derived (setting_of c.args.flags c.args.tables.now) c.args.pattern.now c.in_ok-found.ensures.whole
+    same_derived c.args.dialect (setting_of c.args.flags c.args.tables.now) c.args.pattern.now c.in_ok-found.ensures.whole
 
 pub returns-in_err-parts-clause-only : goal.returns-in_err-parts-clause-only
 returns-in_err-parts-clause-only g c =
-    same_derived (setting_of c.args.flags c.args.tables.now) c.args.pattern.now c.in_ok-found.ensures.whole
+    same_derived c.args.dialect (setting_of c.args.flags c.args.tables.now) c.args.pattern.now c.in_ok-found.ensures.whole
 
 -- The pattern that was parsed, and its tree.
 pub returns-clause-accepted : goal.returns-clause-accepted
@@ -93,18 +93,18 @@ returns-clause-accepted g c =
     let setting = setting_of c.args.flags c.args.tables.now in
     let t = c.args.pattern.now in
     let found = c.in_ok-found.ensures in
-    let same = scanned-is setting t found.whole c.in_ok-found.found.groups.count (names_in c.in_ok-found.found.groups) found.names found.count in
-    let here = scanned setting t found.whole (most setting t found.whole) in
+    let same = scanned-is c.args.dialect setting t found.whole c.in_ok-found.found.groups.count (names_in c.in_ok-found.found.groups) found.names found.count in
+    let here = scanned c.args.dialect setting t found.whole (most c.args.dialect setting t found.whole) in
     let read : YieldsWhole here t (Ok c.in_ok-body.body) = subst (λ ctx. YieldsWhole ctx t (Ok c.in_ok-body.body)) same c.in_ok-body.ensures.value in
     let p = read.0 in
     let few : (counts p).groups < max_capture_groups + 1 = omega (arith, read.2.groups) in
-    let derived = derived_reads setting t found.whole p read.1 few in
-    let names = names_found setting t found.whole here p refl refl (pattern_at-sound here t (p, []) read.1) in (
+    let derived = derived_reads c.args.dialect setting t found.whole p read.1 few in
+    let names = names_found c.args.dialect setting t found.whole here p refl refl (pattern_at-sound here t (p, []) read.1) in (
       p,
       record {
         derived = derived;
-        limits = fit-limits setting (found_names setting t found.whole) p read.2;
-        names = tokens-apart setting t found.whole p found.apart derived;
+        limits = fit-limits setting (found_names c.args.dialect setting t found.whole) p read.2;
+        names = tokens-apart c.args.dialect setting t found.whole p found.apart derived;
       },
       tree-Cat c.in_ok-parts.parts
           ∙ ap (λ nodes. cat (trees nodes)) c.in_ok-parts.ensures.items
@@ -118,17 +118,17 @@ returns-clause-spans g c on p accepted =
     let t = c.args.pattern.now in
     let found = c.in_ok-found.ensures in
     let groups = c.in_ok-found.found.groups in
-    accepted-spans setting t p accepted _ (scanned_context setting t found.whole p accepted groups.count (names_in groups) found.names found.count)
+    accepted-spans c.args.dialect setting t p accepted _ (scanned_context c.args.dialect setting t found.whole p accepted groups.count (names_in groups) found.names found.count)
     c.in_ok-body.body.spans.items (c.in_ok-body.ensures.spans on)
 
 pub returns-clause-only : goal.returns-clause-only
-returns-clause-only g c = same_derived (setting_of c.args.flags c.args.tables.now) c.args.pattern.now c.in_ok-found.ensures.whole
+returns-clause-only g c = same_derived c.args.dialect (setting_of c.args.flags c.args.tables.now) c.args.pattern.now c.in_ok-found.ensures.whole
 
 pub returns-clause-meaning : goal.returns-clause-meaning
 returns-clause-meaning g c q accepted =
     let setting = setting_of c.args.flags c.args.tables.now in
     let found = returns-clause-accepted g c in
-    let one = same_derived setting c.args.pattern.now c.in_ok-found.ensures.whole found.0 q found.1.derived accepted.derived in
+    let one = same_derived c.args.dialect setting c.args.pattern.now c.in_ok-found.ensures.whole found.0 q found.1.derived accepted.derived in
     subst (λ (t : Tree). Means setting t q) (sym (found.2 ∙ ap (tree_of setting.table) one)) (tree_of-means setting q)
 
 pub returns-clause-well_formed : goal.returns-clause-well_formed
@@ -136,7 +136,7 @@ returns-clause-well_formed g c =
     let setting = setting_of c.args.flags c.args.tables.now in
     let found = returns-clause-accepted g c in
     subst (λ (t : Tree). IsWellFormed t) (sym found.2)
-    (tree_of-well_formed setting c.args.pattern.now found.0 c.args.tables.now.sound.lawful c.requires found.1.derived)
+    (tree_of-well_formed c.args.dialect setting c.args.pattern.now found.0 c.args.tables.now.sound.lawful c.requires found.1.derived)
 
 pub returns-clause-flags : goal.returns-clause-flags
 returns-clause-flags g c = refl

@@ -341,7 +341,7 @@ consume_term-returns-then-try_open-clause-value g t c =
     (sym (term_at-is ctx (text old) ∙ ap (with_quantifier ctx) (same ∙ x.1)))
     (c.consume_times.ensures.value x.0 (counted old) refl
     (c.allows_quantifier-allowed.ensures
-    ∙ sym (ap (allows ctx.setting.flags.unicode)
+    ∙ sym (ap (allows ctx)
     (opened_same (table_in around) (names_in_context around) ctx kind there (x.0, text c.consume_group.new.self) x.1)))
     x.2)
 
@@ -358,11 +358,11 @@ consume_term-returns-in_err-item-2-clause-value g t c =
     let all : around.depth + (max_nesting_depth - around.depth) ≡ max_nesting_depth = omega (arith, c.requires) in
     let read = subst (λ (b : Bool). ReadsAtom ctx (max_nesting_depth - around.depth) (not b) (source c.parse_atom.new.cursor) (Err c.in_err-item-2.field-0.0)
     (atom_at ctx here))
-    (sym c.begins_anchor-allowed.ensures) c.in_err-item-2.ensures.value in
+    (sym c.begins_lone-allowed.ensures) c.in_err-item-2.ensures.value in
     rw (p.1, p.2, ← same, term_at-is ctx here)
     (on_kind_then c.in_err-item-2.field-0.0 (λ kind. times-fail (table_in around) (names_in_context around) ctx kind _ (counted old) around.depth)
     (atom_yields (table_in around) (names_in_context around) ctx (direction_of around) around.depth (max_nesting_depth - around.depth)
-    (not c.begins_anchor-allowed.result) old old (Err c.in_err-item-2.field-0.0) here none
+    (not c.begins_lone-allowed.result) old old (Err c.in_err-item-2.field-0.0) here none
     all refl read refl refl))
 
 pub consume_term-returns-clause-value : goal.consume_term-returns-clause-value
@@ -377,7 +377,7 @@ consume_term-returns-clause-value g t c =
     let all : around.depth + (max_nesting_depth - around.depth) ≡ max_nesting_depth = omega (arith, c.requires) in
     let built_atom = c.in_ok-item-2.item in
     let read = subst (λ (b : Bool). ReadsAtom ctx (max_nesting_depth - around.depth) (not b) (source c.parse_atom.new.cursor) (Ok built_atom) (atom_at ctx here))
-    (sym c.begins_anchor-allowed.ensures) c.in_ok-item-2.ensures.value in
+    (sym c.begins_lone-allowed.ensures) c.in_ok-item-2.ensures.value in
     subst (λ (u : Source). Yields (term_part (table_in around) (names_in_context around)) (direction_of around) around.depth (counted old)
     c.consume_times-2.new.self c.consume_times-2.result (term_at ctx u)) same
     (subst (λ (f : Found Term). Yields (term_part (table_in around) (names_in_context around)) (direction_of around) around.depth (counted old)
@@ -390,9 +390,9 @@ consume_term-returns-clause-value g t c =
     built_atom
     (λ x found b. c.consume_times-2.ensures.value x (counted old) refl
     (atom_allowed (table_in around) (names_in_context around) ctx (max_nesting_depth - around.depth)
-    (not c.begins_anchor-allowed.result) _ (Ok built_atom) here none read (x, _) found) b)
+    (not c.begins_lone-allowed.result) _ (Ok built_atom) here none read (x, _) found) b)
     (atom_yields (table_in around) (names_in_context around) ctx (direction_of around) around.depth (max_nesting_depth - around.depth)
-    (not c.begins_anchor-allowed.result) old _ (Ok built_atom) here none
+    (not c.begins_lone-allowed.result) old _ (Ok built_atom) here none
     all refl read refl refl)))
 
 -- ---- limits
@@ -689,13 +689,13 @@ consume_term-returns-clause-spans g t c on =
     let none : is_at opening here ≡ false = ap (is_at opening) same ∙ sym past.found in
     let node = c.in_ok-item-2.item in
     let deep = max_nesting_depth - around.depth in
-    let read = subst (λ (b : Bool). ReadsAtom ctx deep (not b) new (Ok node) (atom_at ctx here)) (sym c.begins_anchor-allowed.ensures)
+    let read = subst (λ (b : Bool). ReadsAtom ctx deep (not b) new (Ok node) (atom_at ctx here)) (sym c.begins_lone-allowed.ensures)
     c.in_ok-item-2.ensures.value in
     let now = c.record_nodes.new.spans.items in
-    let added = c.in_ok-record_nodes.ensures on (node-flat ctx around.whole d here old.spans.items none deep new (not c.begins_anchor-allowed.result) node read) in
+    let added = c.in_ok-record_nodes.ensures on (node-flat ctx around.whole d here old.spans.items none deep new (not c.begins_lone-allowed.result) node read) in
     c.consume_times-2.ensures.spans (text old) old.spans.items on refl
-    (subst (λ (u : Source). RecordsItem around.whole ctx d u old.spans.items new now (not c.begins_anchor-allowed.result)) same
-    (atom-records ctx around.whole d here old.spans.items none deep new (not c.begins_anchor-allowed.result) node read now
+    (subst (λ (u : Source). RecordsItem around.whole ctx d u old.spans.items new now (not c.begins_lone-allowed.result)) same
+    (atom-records ctx around.whole d here old.spans.items none deep new (not c.begins_lone-allowed.result) node read now
     (added ∙ ap (λ n. old.spans.items ++ replicate (nodes (tree node)) (span_to around.whole n new)) (ap length (sym same)))))
 
 pub consume_group-returns-clause-spans : goal.consume_group-returns-clause-spans

@@ -1,0 +1,120 @@
+-- Examples: what the dialects accept. In the dialect `Ecma` the results are those of V8 11.3.
+use Rattle.std.proofs.Common.{◌≡◌, false, true, Some, None, refl, codes}
+use Rattle.regress_base.specs.declared.types.Flags.{Flags}
+use Rattle.regress_tree.specs.Setting.{Setting}
+use Rattle.regress_lexer.specs.declared.dialect.Dialect.TheVariants.{Regress, Ecma}
+use Rattle.regress_lexer.specs.Dialects.{flags_in_force}
+use Rattle.regress_syntax.specs.Syntax.{Pattern, one, no_terms, more_terms, atom, literal, boundary}
+use Rattle.example_definitions.proofs.PatternExamples.{letter, word, quantifier}
+use Rattle.example_definitions.proofs.Meanings.{no_flags, plain, named, unicode, pattern_in}
+
+-- ---- flags
+
+abbrev sets_alone : Flags
+sets_alone = record no_flags { unicode_sets = true }
+
+abbrev sets_and_unicode : Flags
+sets_and_unicode = record no_flags { unicode = true; unicode_sets = true }
+
+v_implies_u : flags_in_force Ecma sets_alone ≡ sets_and_unicode
+v_implies_u = refl
+
+no_flag_implies_u_but_v : flags_in_force Ecma no_flags ≡ no_flags
+no_flag_implies_u_but_v = refl
+
+flags_are_independent : flags_in_force Regress sets_alone ≡ sets_alone
+flags_are_independent = refl
+
+-- with the flag v alone, as it is in force
+abbrev sets_in_ecma : Setting
+sets_in_ecma = record plain { flags = flags_in_force Ecma sets_alone }
+
+abbrev sets_in_regress : Setting
+sets_in_regress = record plain { flags = flags_in_force Regress sets_alone }
+
+no_letter_escapes_itself_with_v : pattern_in Ecma sets_in_ecma (codes "\\y") ≡ None
+unfolding pattern_in
+no_letter_escapes_itself_with_v = refl
+
+a_letter_escapes_itself_without_u : pattern_in Regress sets_in_regress (codes "\\y") ≡ Some (one (word (atom (literal sets_alone 121))))
+unfolding pattern_in
+a_letter_escapes_itself_without_u = refl
+
+-- ---- quantifiers on `\b` and `\B`
+
+-- `\b*`
+abbrev repeated_boundary : Pattern
+repeated_boundary = one (more_terms (atom (boundary no_flags false)) (Some (quantifier 0 None)) no_terms)
+
+a_boundary_repeats : pattern_in Regress plain (codes "\\b*") ≡ Some repeated_boundary
+unfolding pattern_in
+a_boundary_repeats = refl
+
+no_boundary_repeats_in_ecma : pattern_in Ecma plain (codes "\\b*") ≡ None
+unfolding pattern_in
+no_boundary_repeats_in_ecma = refl
+
+no_inverted_boundary_repeats_in_ecma : pattern_in Ecma plain (codes "(?:\\B{2})") ≡ None
+unfolding pattern_in
+no_inverted_boundary_repeats_in_ecma = refl
+
+-- `\ba*`
+a_letter_repeats_after_a_boundary : pattern_in Ecma plain (codes "\\ba*")
+    ≡ Some (one (more_terms (atom (boundary no_flags false)) None (more_terms (letter 97) (Some (quantifier 0 None)) no_terms)))
+unfolding pattern_in
+a_letter_repeats_after_a_boundary = refl
+
+-- A `{` that begins no quantifier is a literal.
+a_brace_after_a_boundary : pattern_in Ecma plain (codes "\\b{")
+    ≡ Some (one (more_terms (atom (boundary no_flags false)) None (word (letter 123))))
+unfolding pattern_in
+a_brace_after_a_boundary = refl
+
+a_class_of_backspace_repeats : pattern_in Ecma plain (codes "[\\b]*") ≡ pattern_in Regress plain (codes "[\\b]*")
+unfolding pattern_in
+a_class_of_backspace_repeats = refl
+
+-- ---- braces after `\u`
+
+-- the letter u, 61 times
+abbrev many_letters : Pattern
+many_letters = one (more_terms (letter 117) (Some (quantifier 61 (Some 61))) no_terms)
+
+braces_make_an_escape : pattern_in Regress plain (codes "\\u{61}") ≡ Some (one (word (letter 97)))
+unfolding pattern_in
+braces_make_an_escape = refl
+
+braces_make_no_escape_in_ecma : pattern_in Ecma plain (codes "\\u{61}") ≡ Some many_letters
+unfolding pattern_in
+braces_make_no_escape_in_ecma = refl
+
+with_u_they_make_an_escape_in_ecma : pattern_in Ecma unicode (codes "\\u{61}") ≡ pattern_in Regress unicode (codes "\\u{61}")
+unfolding pattern_in
+with_u_they_make_an_escape_in_ecma = refl
+
+in_a_class_they_are_members_in_ecma : pattern_in Ecma plain (codes "[\\u{6}]") ≡ pattern_in Regress plain (codes "[u{6}]")
+unfolding pattern_in
+in_a_class_they_are_members_in_ecma = refl
+
+four_digits_make_an_escape_in_ecma : pattern_in Ecma plain (codes "\\u0061") ≡ Some (one (word (letter 97)))
+unfolding pattern_in
+four_digits_make_an_escape_in_ecma = refl
+
+-- In the name of a group braces make an escape in every mode.
+in_a_name_they_make_an_escape_in_ecma : pattern_in Ecma named (codes "(?<\\u{61}>x)\\k<a>") ≡ pattern_in Regress named (codes "(?<a>x)\\k<a>")
+unfolding pattern_in
+in_a_name_they_make_an_escape_in_ecma = refl
+
+-- ---- `\k` in a class
+
+no_k_beside_a_name_in_ecma : pattern_in Ecma named (codes "(?<a>x)[\\k]") ≡ None
+unfolding pattern_in
+no_k_beside_a_name_in_ecma = refl
+
+k_beside_a_name : pattern_in Regress named (codes "(?<a>x)[\\k]") ≡ pattern_in Regress named (codes "(?<a>x)[k]")
+unfolding pattern_in
+k_beside_a_name = refl
+
+k_without_a_name_in_ecma : pattern_in Ecma plain (codes "(x)[\\k]") ≡ pattern_in Regress plain (codes "(x)[k]")
+unfolding pattern_in
+k_without_a_name_in_ecma = refl

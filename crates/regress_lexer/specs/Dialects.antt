@@ -1,0 +1,30 @@
+-- The rules that differ among the dialects. In the dialect `Ecma` each of them is that of ECMA-262.
+use Rattle.std.specs.Prelude.{ℕ, Bool, true, false, not, ◌&&◌, ◌||◌, ◌==◌}
+use Rattle.regress_base.specs.declared.types.Flags.{Flags}
+use Rattle.regress_lexer.specs.declared.dialect.Dialect.{Dialect}
+use Rattle.regress_lexer.specs.declared.dialect.Dialect.TheVariants.{Regress, Ecma}
+use Rattle.regress_lexer.specs.Source.{Source, char, is_at}
+
+-- The flags in force for a pattern with these flags. In `Ecma` the flag v implies u (ECMA-262, ParsePattern).
+abbrev pub flags_in_force : Dialect → Flags → Flags
+flags_in_force Regress flags = flags
+flags_in_force Ecma flags = record flags { unicode = flags.unicode || flags.unicode_sets }
+
+-- whether a quantifier may follow `\b` and `\B` (ECMA-262, Term: none follows an Assertion but a lookahead)
+abbrev pub quantifies_boundaries : Dialect → Bool
+quantifies_boundaries Regress = true
+quantifies_boundaries Ecma = false
+
+-- whether braces after `\u` make an escape (ECMA-262, RegExpUnicodeEscapeSequence); in the name of a group they always do
+abbrev pub has_braces : Dialect → (unicode : Bool) → Bool
+has_braces Regress unicode = true
+has_braces Ecma unicode = unicode
+
+-- What follows a backslash is a `u` that is a letter, since the brace after it makes no escape.
+abbrev pub is_lone_u : Dialect → (unicode : Bool) → ℕ → Source → Bool
+is_lone_u dialect unicode c t = c == char "u" && not (has_braces dialect unicode) && is_at (char "{") t
+
+-- whether in a class `\k` is an error where some group has a name (ECMA-262, B.1.2, SourceCharacterIdentityEscape)
+abbrev pub reserves_k : Dialect → Bool
+reserves_k Regress = false
+reserves_k Ecma = true

@@ -1,0 +1,63 @@
+//! The dialects of the syntax.
+
+use regress_base::types::Flags;
+
+/// A dialect: which rules the grammar has where the two dialects differ.
+#[derive(Clone, Copy, Debug, PartialEq, Eq)]
+pub enum Dialect {
+    /// The dialect of `try_parse`: each flag has its effect independently, a quantifier may follow `\b` and `\B`, and
+    /// `\u{..}` is an escape under all flags.
+    Regress,
+    /// These rules as in ECMA-262 with Annex B: the flag v implies the flag u, no quantifier may follow `\b` and `\B`,
+    /// `\u{..}` is an escape only with the flag u, and beside a group with a name `\k` is an error in a class. The other
+    /// rules are still those of `Regress`.
+    Ecma,
+}
+
+impl Dialect {
+    ghost use Rattle.std.specs.Prelude.{◌≡◌};
+    ghost use Rattle.regress_lexer.specs.Dialects.{flags_in_force, quantifies_boundaries, has_braces, reserves_k};
+
+    /// Returns the flags in force for a pattern with the flags `given`.
+    pub fn flags_in_force(self, given: Flags) -> Flags
+        ensures { result ≡ flags_in_force self given }
+    {
+        match self {
+            Dialect::Regress => given,
+            Dialect::Ecma => Flags {
+                unicode: given.unicode || given.unicode_sets,
+                ..given
+            },
+        }
+    }
+
+    /// Returns whether a quantifier may follow `\b` and `\B`.
+    pub fn quantifies_boundaries(self) -> bool
+        ensures { result ≡ quantifies_boundaries self }
+    {
+        match self {
+            Dialect::Regress => true,
+            Dialect::Ecma => false,
+        }
+    }
+
+    /// Returns whether braces after `\u` make an escape, outside of the name of a group. `unicode` is the flag u.
+    pub fn has_braces(self, unicode: bool) -> bool
+        ensures { result ≡ has_braces self unicode }
+    {
+        match self {
+            Dialect::Regress => true,
+            Dialect::Ecma => unicode,
+        }
+    }
+
+    /// Returns whether in a class `\k` is a syntax error where some group has a name.
+    pub fn reserves_k(self) -> bool
+        ensures { result ≡ reserves_k self }
+    {
+        match self {
+            Dialect::Regress => false,
+            Dialect::Ecma => true,
+        }
+    }
+}
