@@ -1,0 +1,3 @@
+pub mod PieceLemmas
+pub mod ProductLemmas
+pub mod SetLemmas

@@ -1,0 +1,3 @@
+pub mod Alphabet
+pub mod Partition
+pub mod Pieces
