@@ -4,14 +4,14 @@ ghost use Rattle.regress_base.specs.Table.{named};
 ghost use Rattle.regress_properties.specs.Listed.{values_of};
 ghost use Rattle.regress_properties.specs.Properties.{unicode_id_start, unicode_id_continue, unicode_general_category, unicode_script, unicode_script_extensions, unicode_binary, unicode_strings};
 
+use super::data::names::{ID_CONTINUE, ID_START};
+use super::data::strings::STRING_NAMES;
 use super::ends::set_at;
 use super::lists::{
     binary_properties, extended_scripts, general_categories, intervals, other_extended_scripts,
     other_scripts, points, scripts, strings,
 };
-use super::data::names::{ID_CONTINUE, ID_START};
 use super::sets::{find_in, find_set};
-use super::data::strings::STRING_NAMES;
 use super::texts::find_strings;
 use regress_base::codepointset::CodePointSet;
 use std::alloc::{AllocError, Global};
