@@ -24,7 +24,7 @@ pub enum Operation {
     Parse,
     /// Draws a tree.
     Draw,
-    /// Reports where a pattern may match otherwise than in ECMA-262.
+    /// Reports where a pattern may match otherwise than in ECMA-262, and what in it may be a mistake.
     Lint,
     /// Explains a pattern.
     Explain,
@@ -198,11 +198,12 @@ examples:
     CommandEntry {
         command: Command::Pattern(Operation::Lint),
         name: "lint",
-        summary: "  lint     writes where PATTERN may match otherwise than in ECMA-262\n",
+        summary: "  lint     reports what in PATTERN may differ from ECMA-262, or be a mistake\n",
         usage: "\
 usage: regex lint [OPTION..] PATTERN
 
-Writes where PATTERN may match otherwise than in ECMA-262, and why.
+Writes where PATTERN may match otherwise than in ECMA-262, and what in it may
+be a mistake, and why.
 
 ",
         examples: "\
@@ -212,7 +213,7 @@ or 2 after any other error
 
 examples:
   regex lint -i '[k]'
-  regex lint --flags=v '[\\w--\\d]'
+  regex lint 'a|ab'
 ",
     },
 ];

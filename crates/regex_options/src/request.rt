@@ -47,7 +47,7 @@ pub enum Action<'a> {
     Search(Search<'a>),
     /// Show its tree.
     Show(View),
-    /// Report where it may match otherwise than in ECMA-262.
+    /// Report where it may match otherwise than in ECMA-262, and what in it may be a mistake.
     Lint,
     /// Explain it in words.
     Explain(Form<'a>),
