@@ -26,7 +26,7 @@ fn a_linter_lists_groups_and_warns_of_nested_loops(rt: HostRuntime) -> Result<()
         ),
     ] {
         let report = lint(alloc, &parsed(alloc, pattern, false)?)?;
-        assert_eq!(rt;
+        expect_eq!(rt;
             format!(in alloc; "{report:?}")?.as_str(),
             wanted,
             "{pattern}"
@@ -50,7 +50,7 @@ fn nested_unbounded_loops_are_reported(rt: HostRuntime) -> Result<(), Fail> {
         ("(?:a|a)*", false),
     ] {
         let report = lint(alloc, &parsed(alloc, pattern, false)?)?;
-        assert_eq!(rt; report.nested, wanted, "{pattern}");
+        expect_eq!(rt; report.nested, wanted, "{pattern}");
     }
     Ok(())
 }
@@ -76,11 +76,11 @@ fn what_matches_otherwise_than_in_javascript_is_explained(rt: HostRuntime) -> Re
             ..Flags::default()
         };
         let found = remarks(alloc, pattern, flags, &tables)?;
-        assert_eq!(rt; found.len(), usize::from(wanted.is_some()), "{pattern}");
+        expect_eq!(rt; found.len(), usize::from(wanted.is_some()), "{pattern}");
         if let (Some(remark), Some((start, end, name, example))) = (found.first(), wanted) {
-            assert_eq!(rt; remark.span.start, start, "{pattern}");
-            assert_eq!(rt; remark.span.end, end, "{pattern}");
-            assert_eq!(rt; remark.name, name, "{pattern}");
+            expect_eq!(rt; remark.span.start, start, "{pattern}");
+            expect_eq!(rt; remark.span.end, end, "{pattern}");
+            expect_eq!(rt; remark.name, name, "{pattern}");
             assert!(rt; remark.text.contains(example), "{pattern}");
         }
     }
