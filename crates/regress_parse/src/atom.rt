@@ -187,7 +187,7 @@ fn read_brackets(
     ensures kind { FailsByDepthOnlyIf result (left ≤ length (source cursor.old)) }
 {
     if !scope.flags.unicode_sets {
-        let class = parse_class(cursor, scope.tables, scope.class_parameters(), opened)?;
+        let class = parse_class(cursor, scope.tables, &scope.class_parameters(), opened)?;
         return Ok(make_class(class.inverted, class.set, scope)?);
     }
     let class = parse_class_set(
