@@ -179,7 +179,7 @@ pub extern "C" fn regress_steps_per_character_raw(alloc: Global, handle: &mut Ha
     ensures steps { IfSome handle.old.value (λ regex. result ≡ unwrap_or (option_map (λ n. min n u64.MAX) (factor_of regex)) 0) }
 {
     let regex = handle.take(alloc);
-    let steps = regex.steps_per_character();
+    let steps = regex.steps_per_byte();
     *handle = Handle::of(regex);
     steps.unwrap_or(0)
 }
@@ -196,7 +196,7 @@ pub extern "C" fn regress_find_steps_per_character_raw(alloc: Global, handle: &m
     ensures steps { IfSome handle.old.value (λ regex. result ≡ unwrap_or (option_map (λ n. min n u64.MAX) (find_factor_of regex)) 0) }
 {
     let regex = handle.take(alloc);
-    let steps = regex.find_steps_per_character();
+    let steps = regex.find_steps_per_byte();
     *handle = Handle::of(regex);
     steps.unwrap_or(0)
 }

@@ -208,7 +208,7 @@ fn a_linear_search_has_no_step_limit(rt: HostRuntime) -> Result<(), Fail> {
     let regex = limited(alloc, "(a*)*b", 10, 1000)?;
     assert!(rt; regex.is_linear());
     expect_eq!(rt; regex.nonlinear(), None);
-    assert!(rt; regex.steps_per_character().is_some());
+    assert!(rt; regex.steps_per_byte().is_some());
     assert!(rt; !regex.is_match(alloc, MANY)?);
     Ok(())
 }
@@ -219,7 +219,7 @@ fn a_search_with_a_back_reference_is_not_linear(rt: HostRuntime) -> Result<(), F
     let regex = limited(alloc, "(a*)*\\1b", 10, 1000)?;
     assert!(rt; !regex.is_linear());
     assert!(rt; !regex.is_find_linear());
-    assert!(rt; regex.steps_per_character().is_none());
+    assert!(rt; regex.steps_per_byte().is_none());
     assert!(rt; is_out_of_steps(alloc, &regex, MANY));
     Ok(())
 }
@@ -229,7 +229,7 @@ fn a_lookaround_that_captures_is_linear_for_one_match(rt: HostRuntime) -> Result
     let regex = Regex::new(rt.alloc(), "(?=(a))")?;
     expect_eq!(rt; regex.nonlinear(), Some(Nonlinear::CapturingLookaround));
     assert!(rt; regex.is_find_linear());
-    assert!(rt; regex.find_steps_per_character().is_some());
+    assert!(rt; regex.find_steps_per_byte().is_some());
     Ok(())
 }
 
@@ -260,7 +260,7 @@ fn lookarounds_that_capture_take_quadratic_time_by_backtracking(
     let text = "a".repeat(alloc, 3000)?;
     for pattern in ["(?:(?=(a*))a)*b", "(?:a(?<=(a*)))*b"] {
         let regex = limited(alloc, pattern, 1_000_000, 0)?;
-        assert!(rt; regex.find_steps_per_character().is_none(), "{pattern}");
+        assert!(rt; regex.find_steps_per_byte().is_none(), "{pattern}");
         assert!(rt; is_out_of_steps(alloc, &regex, &text), "{pattern}");
     }
     Ok(())
