@@ -9,7 +9,7 @@ use Rattle.regress_lexer.specs.Source.{Source}
 use Rattle.regress_parse.specs.declared.span.Span.{Span}
 use Rattle.regress_warnings.specs.declared.kind.Warning.{Warning}
 use Rattle.regress_warnings.specs.declared.kind.WarningKind.{WarningKind}
-use Rattle.regress_warnings.specs.declared.kind.WarningKind.TheVariants.{EmptyAlternative, HiddenAlternative, SplitAnchors, EmptyIteration, UnsetReference, LetterRange, DotBetweenDigits, RepeatedMember}
+use Rattle.regress_warnings.specs.declared.kind.WarningKind.TheVariants.{EmptyAlternative, HiddenAlternative, SplitAnchors, EmptyIteration, UnsetReference, LetterRange, DotBetweenDigits, RepeatedMember, BackReference}
 use Rattle.regress_warnings.specs.Warned.{warned}
 use Rattle.example_definitions.proofs.PatternExamples.{quantifier}
 
@@ -115,23 +115,43 @@ advancing = refl
 
 -- `\1(a)`, `(a\1)` and `(a)\1`
 forward : warned false (codes "\\1(a)") [] ((leaf (back_ref 1 false), to 0 2) ∷ (a, to 3 4) ∷ (group_1 a, to 2 5) ∷ [])
-    ≡ warning UnsetReference (to 0 2) ∷ []
+    ≡ warning UnsetReference (to 0 2) ∷ warning BackReference (to 0 2) ∷ []
 forward = refl
 
 inside : warned false (codes "(a\\1)") []
     ((a, to 1 2) ∷ (leaf (back_ref 1 false), to 2 4) ∷ (cat (list (a ∷ leaf (back_ref 1 false) ∷ [])), to 1 4)
     ∷ (group_1 (cat (list (a ∷ leaf (back_ref 1 false) ∷ []))), to 0 5) ∷ [])
-    ≡ warning UnsetReference (to 2 4) ∷ []
+    ≡ warning UnsetReference (to 2 4) ∷ warning BackReference (to 2 4) ∷ []
 inside = refl
 
-after : warned false (codes "(a)\\1") [] ((a, to 1 2) ∷ (group_1 a, to 0 3) ∷ (leaf (back_ref 1 false), to 3 5) ∷ []) ≡ []
+after : warned false (codes "(a)\\1") [] ((a, to 1 2) ∷ (group_1 a, to 0 3) ∷ (leaf (back_ref 1 false), to 3 5) ∷ [])
+    ≡ warning BackReference (to 3 5) ∷ []
 after = refl
+
+-- `\k<a>(?<a>b)`: by name
+forward_by_name : warned false (codes "\\k<a>(?<a>b)") [] ((leaf (back_ref 1 false), to 0 5) ∷ (b, to 10 11) ∷ (group_1 b, to 5 12) ∷ [])
+    ≡ warning UnsetReference (to 0 5) ∷ warning BackReference (to 0 5) ∷ []
+forward_by_name = refl
+
+-- `\k<a>`, and later two groups of that name: one warning of each kind for all nodes of the reference
+to_several_groups : warned false (codes "\\k<a>(?:(?<a>a)|(?<a>b))") []
+    ((leaf (back_ref 1 false), to 0 5) ∷ (leaf (back_ref 2 false), to 0 5)
+    ∷ (alt (leaf (back_ref 1 false)) (leaf (back_ref 2 false)), to 0 5) ∷ (a, to 13 14) ∷ (group_1 a, to 8 15) ∷ [])
+    ≡ warning UnsetReference (to 0 5) ∷ warning BackReference (to 0 5) ∷ []
+to_several_groups = refl
 
 -- ---- characters
 
 -- `[A-z]`, and `[A-Za-z]`
 letter_range : warned false (codes "[A-z]") [] ((set (range 65 122 ∷ []), to 0 5) ∷ []) ≡ warning LetterRange (to 0 5) ∷ []
 letter_range = refl
+
+-- `[@A-z]`, whose set has the interval from `@` on
+written_range : warned false (codes "[@A-z]") [] ((set (range 64 122 ∷ []), to 0 6) ∷ []) ≡ warning LetterRange (to 0 6) ∷ []
+written_range = refl
+
+all_of_ascii : warned false (codes "[!-~]") [] ((set (range 33 126 ∷ []), to 0 5) ∷ []) ≡ []
+all_of_ascii = refl
 
 letters : warned false (codes "[A-Za-z]") [] ((set (range 65 90 ∷ range 97 122 ∷ []), to 0 8) ∷ []) ≡ []
 letters = refl

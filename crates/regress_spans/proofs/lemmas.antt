@@ -4,3 +4,5 @@ pub mod Each
 pub mod Nesting
 pub mod Neighbours
 pub mod Visits
+pub mod Postorder
+pub mod Zipped

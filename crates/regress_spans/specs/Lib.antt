@@ -1,4 +1,6 @@
+pub mod Children
 pub mod Paired
+pub mod Remarks
 -- re-exports what the public contracts cite from other crates, so that a caller names one library
 pub use Rattle.regress_syntax.specs.SettingOf
 pub use Rattle.regress_parse.specs.Accepted

@@ -1,7 +1,7 @@
 -- A test of the numbers less than another one.
 use Rattle.std.proofs.Common.{◌≡◌, ℕ, zero, suc, ◌+◌, ◌-◌, ◌<◌, Bool, true, refl, subst, arith}
 use Rattle.std.proofs.lemmas.Bool.{or_left, or_right}
-use Rattle.regress_warnings.specs.Repeated.{some_below}
+use Rattle.regress_warnings.specs.Classes.{some_below}
 
 module _ (test : ℕ → Bool) where
   some_more : (k c n : ℕ) → n ≡ suc c + k → test c ≡ true → some_below n test ≡ true

@@ -1,4 +1,4 @@
-mod WalkedLemmas
+mod StepLemmas
 mod MarkLemmas
 mod BelowLemmas
 mod WithinLemmas

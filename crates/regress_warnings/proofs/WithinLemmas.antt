@@ -1,5 +1,5 @@
 -- The spans of the warnings.
-use Rattle.std.proofs.Common.{ℕ, Bool, true, false, not, ◌&&◌, List, [], ◌∷◌, ◌++◌}
+use Rattle.std.proofs.Common.{ℕ, Bool, true, false, not, ◌&&◌, ◌||◌, List, [], ◌∷◌, ◌++◌}
 use Rattle.std.specs.List.{All, zip, list_any}
 use Rattle.std.proofs.lemmas.List.Elements.{All-nil, All-cons, All-head, All-tail}
 use Rattle.regress_tree.specs.Tree.{empty, goal, char, byte_sequence, byte_set, char_set, match_any, match_any_except_line_terminator, anchor, word_boundary, bracket, back_ref, string_set, Tree, leaf, cat, alt, wrapped}
@@ -7,13 +7,12 @@ use Rattle.regress_lexer.specs.Source.{Source}
 use Rattle.regress_parse.specs.declared.span.Span.{Span}
 use Rattle.regress_warnings.specs.declared.kind.Warning.{Warning}
 use Rattle.regress_warnings.specs.declared.kind.WarningKind.{WarningKind}
-use Rattle.regress_warnings.specs.declared.kind.WarningKind.TheVariants.{EmptyAlternative, HiddenAlternative, SplitAnchors, EmptyIteration, UnsetReference, LetterRange, DotBetweenDigits, RepeatedMember}
+use Rattle.regress_warnings.specs.declared.kind.WarningKind.TheVariants.{EmptyAlternative, HiddenAlternative, SplitAnchors, EmptyIteration, UnsetReference, LetterRange, DotBetweenDigits, RepeatedMember, BackReference}
 use Rattle.regress_warnings.specs.Alternatives.{has_empty_alternative, hides_next, splits_anchors}
-use Rattle.regress_warnings.specs.Classes.{has_letter_range}
+use Rattle.regress_warnings.specs.Classes.{has_letter_range, repeats_member, writes_letter_range}
 use Rattle.regress_warnings.specs.Digits.{has_dot_between_digits}
 use Rattle.regress_warnings.specs.Empty.{can_be_empty, is_loop}
-use Rattle.regress_warnings.specs.Repeated.{repeats_member}
-use Rattle.regress_warnings.specs.Warned.{closes, warn_if, is_unset_reference, warned_at, warned}
+use Rattle.regress_warnings.specs.Warned.{closes, ends_with_span, warn_if, is_unset_reference, warned_at, warned}
 
 module _ (P : Span → Type 0) where
   abbrev OfSpan : Warning → Type 0
@@ -29,36 +28,42 @@ module _ (P : Span → Type 0) where
   one false kind s here = All-nil OfSpan
 
   module _ (sets : Bool) (source : Source) where
-    at_node : (is_closed : ℕ → Bool) (s : Span) (t : Tree) → P s → All OfSpan (warned_at sets source is_closed s t)
-    at_node is_closed s (leaf (back_ref group icase)) here = one (is_unset_reference sets source is_closed s group) UnsetReference s here
-    at_node is_closed s (leaf (bracket invert intervals)) here =
-        both (warn_if (has_letter_range intervals) LetterRange s) (warn_if (not sets && repeats_member source s) RepeatedMember s)
-        (one (has_letter_range intervals) LetterRange s here) (one (not sets && repeats_member source s) RepeatedMember s here)
-    at_node is_closed s (leaf empty) here = All-nil OfSpan
-    at_node is_closed s (leaf goal) here = All-nil OfSpan
-    at_node is_closed s (leaf (char c)) here = All-nil OfSpan
-    at_node is_closed s (leaf (byte_sequence bytes)) here = All-nil OfSpan
-    at_node is_closed s (leaf (byte_set bytes)) here = All-nil OfSpan
-    at_node is_closed s (leaf (char_set characters)) here = All-nil OfSpan
-    at_node is_closed s (leaf match_any) here = All-nil OfSpan
-    at_node is_closed s (leaf match_any_except_line_terminator) here = All-nil OfSpan
-    at_node is_closed s (leaf (anchor kind multiline)) here = All-nil OfSpan
-    at_node is_closed s (leaf (word_boundary invert unicode_icase)) here = All-nil OfSpan
-    at_node is_closed s (leaf (string_set strings icase)) here = All-nil OfSpan
-    at_node is_closed s (cat parts) here = one (has_dot_between_digits parts) DotBetweenDigits s here
-    at_node is_closed s (alt left right) here =
-        let empty = has_empty_alternative source s right in
-        let hides = hides_next left right in
-        let splits = splits_anchors left right in
-        both (warn_if empty EmptyAlternative s ++ warn_if hides HiddenAlternative s) (warn_if splits SplitAnchors s)
-        (both (warn_if empty EmptyAlternative s) (warn_if hides HiddenAlternative s) (one empty EmptyAlternative s here) (one hides HiddenAlternative s here))
-        (one splits SplitAnchors s here)
-    at_node is_closed s (wrapped w body) here = one (is_loop w && can_be_empty body) EmptyIteration s here
+    module _ (is_closed : ℕ → Bool) (s : Span) (is_first : Bool) (here : P s) where
+      at_node : (t : Tree) → All OfSpan (warned_at sets source is_closed s is_first t)
+      at_node (leaf (back_ref group icase)) =
+          let unset = is_unset_reference sets source is_closed s is_first group in
+          both (warn_if unset UnsetReference s) (warn_if is_first BackReference s) (one unset UnsetReference s here) (one is_first BackReference s here)
+      at_node (leaf (bracket invert intervals)) =
+          let range = has_letter_range intervals || not sets && writes_letter_range source s in
+          let repeats = not sets && repeats_member source s in
+          both (warn_if range LetterRange s) (warn_if repeats RepeatedMember s) (one range LetterRange s here) (one repeats RepeatedMember s here)
+      at_node (leaf empty) = All-nil OfSpan
+      at_node (leaf goal) = All-nil OfSpan
+      at_node (leaf (char c)) = All-nil OfSpan
+      at_node (leaf (byte_sequence bytes)) = All-nil OfSpan
+      at_node (leaf (byte_set bytes)) = All-nil OfSpan
+      at_node (leaf (char_set characters)) = All-nil OfSpan
+      at_node (leaf match_any) = All-nil OfSpan
+      at_node (leaf match_any_except_line_terminator) = All-nil OfSpan
+      at_node (leaf (anchor kind multiline)) = All-nil OfSpan
+      at_node (leaf (word_boundary invert unicode_icase)) = All-nil OfSpan
+      at_node (leaf (string_set strings icase)) = All-nil OfSpan
+      at_node (cat parts) = one (has_dot_between_digits parts) DotBetweenDigits s here
+      at_node (alt left right) =
+          let empty = has_empty_alternative source s right in
+          let hides = hides_next left right in
+          let splits = splits_anchors left right in
+          both (warn_if empty EmptyAlternative s ++ warn_if hides HiddenAlternative s) (warn_if splits SplitAnchors s)
+          (both (warn_if empty EmptyAlternative s) (warn_if hides HiddenAlternative s) (one empty EmptyAlternative s here) (one hides HiddenAlternative s here))
+          (one splits SplitAnchors s here)
+      at_node (wrapped w body) = one (is_loop w && can_be_empty body) EmptyIteration s here
 
     -- What holds of all spans holds of those of the warnings.
-    pub warned-spans : (before ts : List Tree) (ss : List Span) → All P ss → All OfSpan (warned sets source before (zip ts ss))
+    pub warned-spans : (before : List (Tree × Span)) (ts : List Tree) (ss : List Span) → All P ss → All OfSpan (warned sets source before (zip ts ss))
     warned-spans before [] ss all = All-nil OfSpan
     warned-spans before (t ∷ ts) [] all = All-nil OfSpan
     warned-spans before (t ∷ ts) (s ∷ ss) all =
-        both (warned_at sets source (λ n. list_any (closes n) before) s t) (warned sets source (before ++ t ∷ []) (zip ts ss))
-        (at_node _ s t (All-head P s ss all)) (warned-spans (before ++ t ∷ []) ts ss (All-tail P s ss all))
+        let closed = λ (n : ℕ). list_any (λ x. closes n x.0) before in
+        let first = not (ends_with_span s before) in
+        both (warned_at sets source closed s first t) (warned sets source (before ++ (t, s) ∷ []) (zip ts ss))
+        (at_node closed s first (All-head P s ss all) t) (warned-spans (before ++ (t, s) ∷ []) ts ss (All-tail P s ss all))

@@ -1,7 +1,7 @@
 -- The names, numbers and texts of the kinds of warnings. Names and numbers never change.
 use Rattle.std.specs.Prelude.{ℕ, List, codes}
 use Rattle.regress_warnings.specs.declared.kind.WarningKind.{WarningKind}
-use Rattle.regress_warnings.specs.declared.kind.WarningKind.TheVariants.{EmptyAlternative, HiddenAlternative, SplitAnchors, EmptyIteration, UnsetReference, LetterRange, DotBetweenDigits, RepeatedMember}
+use Rattle.regress_warnings.specs.declared.kind.WarningKind.TheVariants.{EmptyAlternative, HiddenAlternative, SplitAnchors, EmptyIteration, UnsetReference, LetterRange, DotBetweenDigits, RepeatedMember, BackReference}
 
 -- the name of a kind
 abbrev pub name_of : WarningKind → List ℕ
@@ -13,8 +13,9 @@ name_of UnsetReference = codes "unset-reference"
 name_of LetterRange = codes "letter-range"
 name_of DotBetweenDigits = codes "dot-between-digits"
 name_of RepeatedMember = codes "repeated-member"
+name_of BackReference = codes "back-reference"
 
--- the number of a kind, from 1 to 8
+-- the number of a kind, from 1 to 9
 abbrev pub number_of : WarningKind → ℕ
 number_of EmptyAlternative = 1
 number_of HiddenAlternative = 2
@@ -24,6 +25,7 @@ number_of UnsetReference = 5
 number_of LetterRange = 6
 number_of DotBetweenDigits = 7
 number_of RepeatedMember = 8
+number_of BackReference = 9
 
 -- the text of a kind
 abbrev pub text_of : WarningKind → List ℕ
@@ -35,3 +37,4 @@ text_of UnsetReference = codes "the group ends after this back reference, so it 
 text_of LetterRange = codes "the class has all characters from an upper-case to a lower-case letter, which may be more than letters: [A-z] matches _ and ^"
 text_of DotBetweenDigits = codes ". between digits matches any character, and may be meant as the character itself: 1.5 matches 1x5, 1\\.5 does not"
 text_of RepeatedMember = codes "a character is in a class twice, where another one may be meant: [aab] matches what [ab] matches"
+text_of BackReference = codes "with a back reference a search may take more than linear time, and stop at a step limit: (a*)*\\1b in a long text of a"

@@ -3,7 +3,6 @@ pub mod Alternatives
 pub mod Empty
 pub mod Digits
 pub mod Classes
-pub mod Repeated
 pub mod Warned
 pub mod Walked
 -- re-exports what the public contract cites from other crates, so that a caller names one library
@@ -13,3 +12,4 @@ pub use Rattle.regress_parse.specs.Fault
 pub use Rattle.regress_parse.specs.Settled
 pub use Rattle.regress_parse.specs.Spans
 pub use Rattle.regress_spans.specs.Paired
+pub use Rattle.regress_spans.specs.Remarks

@@ -1,17 +1,18 @@
 -- What is warned of in a pattern: in which nodes, and why.
-use Rattle.std.specs.Prelude.{ℕ, ◌+◌, Bool, false, not, ◌&&◌, ◌==◌, List, [], ◌∷◌, ◌++◌, drop, if◌then◌else◌}
+use Rattle.std.specs.Prelude.{ℕ, ◌+◌, Bool, false, not, ◌&&◌, ◌||◌, ◌==◌, List, [], ◌∷◌, ◌++◌, map, if◌then◌else◌}
 use Rattle.std.specs.List.{list_any}
 use Rattle.regress_tree.specs.Tree.{Leaf, bracket, back_ref, Wrapper, capture_group, Tree, leaf, cat, alt, wrapped}
-use Rattle.regress_lexer.specs.Source.{Source, char, is_at}
+use Rattle.regress_lexer.specs.Source.{Source}
 use Rattle.regress_parse.specs.declared.span.Span.{Span}
+use Rattle.regress_spans.specs.Remarks.{Said}
 use Rattle.regress_warnings.specs.declared.kind.Warning.{Warning}
 use Rattle.regress_warnings.specs.declared.kind.WarningKind.{WarningKind}
-use Rattle.regress_warnings.specs.declared.kind.WarningKind.TheVariants.{EmptyAlternative, HiddenAlternative, SplitAnchors, EmptyIteration, UnsetReference, LetterRange, DotBetweenDigits, RepeatedMember}
+use Rattle.regress_warnings.specs.declared.kind.WarningKind.TheVariants.{EmptyAlternative, HiddenAlternative, SplitAnchors, EmptyIteration, UnsetReference, LetterRange, DotBetweenDigits, RepeatedMember, BackReference}
 use Rattle.regress_warnings.specs.Alternatives.{has_empty_alternative, hides_next, splits_anchors}
-use Rattle.regress_warnings.specs.Classes.{has_letter_range}
+use Rattle.regress_warnings.specs.Classes.{has_letter_range, repeats_member, writes_letter_range}
 use Rattle.regress_warnings.specs.Digits.{has_dot_between_digits}
 use Rattle.regress_warnings.specs.Empty.{can_be_empty, is_loop}
-use Rattle.regress_warnings.specs.Repeated.{repeats_member}
+use Rattle.regress_warnings.specs.Kinds.{name_of, text_of}
 
 -- the warning, if it holds
 abbrev pub warn_if : Bool → WarningKind → Span → List Warning
@@ -28,21 +29,41 @@ closes n (cat parts) = false
 closes n (alt left right) = false
 closes n (wrapped w body) = wrapper_closes n w
 
+-- ---- nodes beside a node
+
+abbrev pub is_same_span : Span → Span → Bool
+is_same_span span other = span.start == other.start && span.end == other.end
+
+-- The node has this span.
+abbrev pub has_span : Span → Tree × Span → Bool
+has_span span (t, other) = is_same_span span other
+
+-- The last of the nodes has this span.
+abbrev pub ends_with_span : Span → List (Tree × Span) → Bool
+ends_with_span span [] = false
+ends_with_span span (x ∷ []) = has_span span x
+ends_with_span span (x ∷ y ∷ nodes) = ends_with_span span (y ∷ nodes)
+
+-- ---- warnings
+
 -- whether the pattern has the flag v, and its source
 module _ (sets : Bool) (source : Source) where
-  -- Given which groups end before the node, by number.
-  module _ (is_closed : ℕ → Bool) (span : Span) where
-    -- a reference by number, such as `\1`, to a group that does not end before it
+  -- Given which groups end before the node, by number, its span, and whether it is the first node with that span: all
+  -- nodes of a reference by name to several groups have the same one.
+  module _ (is_closed : ℕ → Bool) (span : Span) (is_first : Bool) where
+    -- A reference to a group that does not end before it. Of several groups of one name the first one ends first.
     abbrev pub is_unset_reference : ℕ → Bool
-    is_unset_reference group = not (is_at (char "k") (drop 1 (drop span.start source))) && not (is_closed group)
+    is_unset_reference group = is_first && not (is_closed group)
 
     abbrev pub warned_at_leaf : Leaf → List Warning
-    warned_at_leaf (back_ref group icase) = warn_if (is_unset_reference group) UnsetReference span
+    warned_at_leaf (back_ref group icase) =
+        warn_if (is_unset_reference group) UnsetReference span ++ warn_if is_first BackReference span
     warned_at_leaf (bracket invert intervals) =
-        warn_if (has_letter_range intervals) LetterRange span ++ warn_if (not sets && repeats_member source span) RepeatedMember span
+        warn_if (has_letter_range intervals || not sets && writes_letter_range source span) LetterRange span
+        ++ warn_if (not sets && repeats_member source span) RepeatedMember span
     warned_at_leaf l = []
 
-    -- what is warned of in a node with this span
+    -- what is warned of in a node
     abbrev pub warned_at : Tree → List Warning
     warned_at (leaf l) = warned_at_leaf l
     warned_at (cat parts) = warn_if (has_dot_between_digits parts) DotBetweenDigits span
@@ -54,6 +75,17 @@ module _ (sets : Bool) (source : Source) where
 
   -- What is warned of in these nodes, each beside its span, after the nodes before them. In postorder a group is after
   -- what is inside it, and so it is before a node if and only if it ends before it.
-  abbrev pub warned : (before : List Tree) → List (Tree × Span) → List Warning
+  abbrev pub warned : (before : List (Tree × Span)) → List (Tree × Span) → List Warning
   warned before [] = []
-  warned before ((t, span) ∷ nodes) = warned_at (λ n. list_any (closes n) before) span t ++ warned (before ++ t ∷ []) nodes
+  warned before ((t, span) ∷ nodes) =
+      warned_at (λ n. list_any (λ x. closes n x.0) before) span (not (ends_with_span span before)) t
+      ++ warned (before ++ (t, span) ∷ []) nodes
+
+-- ---- what is said of it
+
+abbrev pub said_of : Warning → Said
+said_of w = (w.span, name_of w.kind, text_of w.kind)
+
+-- what is said of these nodes, each beside its span
+abbrev pub all_said : (sets : Bool) → Source → List (Tree × Span) → List Said
+all_said sets source nodes = map said_of (warned sets source [] nodes)

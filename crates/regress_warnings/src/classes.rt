@@ -10,7 +10,7 @@ pub(crate) fn has_letter_range(intervals: &[Interval]) -> bool
 {
     let mut rest = intervals;
     while let [interval, others @ ..] = rest {
-        if is_letter_range(*interval) {
+        if is_letter_range(interval.first(), interval.last()) {
             return true;
         }
         rest = others;
@@ -18,11 +18,12 @@ pub(crate) fn has_letter_range(intervals: &[Interval]) -> bool
     false
 }
 
-fn is_letter_range(interval: Interval) -> bool
-    ensures { result ≡ is_letter_range interval }
+/// Returns whether the first is an upper-case and the last a lower-case ASCII letter.
+pub(crate) fn is_letter_range(first: u32, last: u32) -> bool
+    ensures { result ≡ is_letter_range (record { first = first; last = last }) }
 {
-    u32::from('A') <= interval.first()
-        && interval.first() <= u32::from('Z')
-        && u32::from('a') <= interval.last()
-        && interval.last() <= u32::from('z')
+    u32::from('A') <= first
+        && first <= u32::from('Z')
+        && u32::from('a') <= last
+        && last <= u32::from('z')
 }

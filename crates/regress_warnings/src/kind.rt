@@ -15,7 +15,7 @@ pub enum WarningKind {
     SplitAnchors,
     /// A quantifier after a part that can match the empty text.
     EmptyIteration,
-    /// A back reference by number to a group that ends after it.
+    /// A back reference to a group that ends after it.
     UnsetReference,
     /// A class with all code points from an upper-case to a lower-case ASCII letter.
     LetterRange,
@@ -23,6 +23,8 @@ pub enum WarningKind {
     DotBetweenDigits,
     /// A class with an ASCII character in two of its parts.
     RepeatedMember,
+    /// A back reference.
+    BackReference,
 }
 
 impl WarningKind {
@@ -39,10 +41,11 @@ impl WarningKind {
             WarningKind::LetterRange => "letter-range",
             WarningKind::DotBetweenDigits => "dot-between-digits",
             WarningKind::RepeatedMember => "repeated-member",
+            WarningKind::BackReference => "back-reference",
         }
     }
 
-    /// Returns the number of the kind, which never changes: from 1 to 8, in the order of the variants.
+    /// Returns the number of the kind, which never changes: from 1 to 9, in the order of the variants.
     pub fn number(&self) -> u32
         ensures { result ≡ number_of self.now }
     {
@@ -55,6 +58,7 @@ impl WarningKind {
             WarningKind::LetterRange => 6,
             WarningKind::DotBetweenDigits => 7,
             WarningKind::RepeatedMember => 8,
+            WarningKind::BackReference => 9,
         }
     }
 
@@ -85,6 +89,9 @@ impl WarningKind {
                  1\\.5 does not",
             WarningKind::RepeatedMember =>
                 "a character is in a class twice, where another one may be meant: [aab] matches what [ab] matches",
+            WarningKind::BackReference =>
+                "with a back reference a search may take more than linear time, and stop at a step limit: (a*)*\\1b in a \
+                 long text of a",
         }
     }
 }

@@ -11,5 +11,6 @@ mod pattern;
 mod repeated;
 
 pub use kind::{Warning, WarningKind};
-pub use pattern::warnings;
+pub use pattern::{remarks_of, warnings, warnings_of};
 pub use regress_parse::{PlacedFault, Span};
+pub use regress_spans::{Remark, SpannedRegex};

@@ -1,9 +1,10 @@
-//! A class in which an ASCII character is written twice.
+//! What is written in a class: an ASCII character twice, or a range from an upper-case to a lower-case letter.
 ghost use Rattle.std.specs.Prelude.{◌≡◌, ◌≤◌, ◌==◌, take, drop, length};
 ghost use Rattle.std.specs.List.{list_any};
 ghost use Rattle.regress_lexer.specs.Source.{char, is_at};
-ghost use Rattle.regress_warnings.specs.Repeated.{IsPartEnd, after_caret, inside, parts, have_twice, some_below, repeats_member};
+ghost use Rattle.regress_warnings.specs.Classes.{is_letter_range, IsPartEnd, after_caret, inside, parts, have_twice, some_below, is_plain_class, repeats_member, writes_letter_range};
 
+use crate::classes::is_letter_range;
 use regress_parse::Span;
 
 /// Returns whether the source of a node with this span is a class in brackets, without an escape, of which two parts
@@ -14,11 +15,36 @@ use regress_parse::Span;
 pub(crate) fn repeats_member(pattern: &[u32], span: Span) -> bool
     ensures { result ≡ repeats_member pattern.now span }
 {
-    if !is_bracket_at(pattern, span.start) {
-        return false;
+    is_plain_class(pattern, span) && some_twice(128, inside(pattern, span))
+}
+
+/// Returns whether it is such a class, of which a part is a range from an upper-case to a lower-case letter.
+pub(crate) fn writes_letter_range(pattern: &[u32], span: Span) -> bool
+    ensures { result ≡ writes_letter_range pattern.now span }
+{
+    is_plain_class(pattern, span) && some_letter_range(inside(pattern, span))
+}
+
+/// Returns whether the source of a node with this span is a class in brackets, without an escape.
+fn is_plain_class(pattern: &[u32], span: Span) -> bool
+    ensures { result ≡ is_plain_class pattern.now span }
+{
+    is_bracket_at(pattern, span.start) && !has_escape(inside(pattern, span))
+}
+
+/// Returns whether a part is a range from an upper-case to a lower-case letter.
+fn some_letter_range(inside: &[u32]) -> bool
+    ensures { result ≡ list_any is_letter_range (parts inside.now) }
+{
+    let mut rest = inside;
+    while let [first, after @ ..] = rest {
+        let (last, others) = part_end(*first, after);
+        if is_letter_range(*first, last) {
+            return true;
+        }
+        rest = others;
     }
-    let inside = inside(pattern, span);
-    !has_escape(inside) && some_twice(128, inside)
+    false
 }
 
 fn is_bracket_at(pattern: &[u32], index: usize) -> bool

@@ -1,5 +1,5 @@
 use Rattle.std.proofs.Common.{◌≡◌, ℕ, sym, ap, arith, ◌∙◌}
-use Rattle.regress_warnings.specs.Repeated.{parts, have_twice, some_below}
+use Rattle.regress_warnings.specs.Classes.{parts, have_twice, some_below}
 use Rattle.regress_warnings.proofs.BelowLemmas.{some_holds}
 use Rattle.regress_warnings.proofs.repeated.some_twice.Goals as goal
 
