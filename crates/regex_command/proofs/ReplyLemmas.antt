@@ -1,5 +1,5 @@
 -- What loops over matches have written, and what is written for the texts of a line.
-use Rattle.std.proofs.Common.{◌≡◌, ◌∙◌, ℕ, suc, ◌+◌, ◌-◌, ◌≤◌, ◌<◌, Bool, true, List, [], ◌∷◌, ◌++◌, add-one, append_assoc, arith, drop, drop-cons, flat_map, get_or, length, length-drop, map, slice_range, take, ap, refl, sym, subst}
+use Rattle.std.proofs.Common.{◌≡◌, ◌∙◌, ℕ, ◌+◌, ◌-◌, ◌≤◌, ◌<◌, Bool, List, [], ◌∷◌, ◌++◌, add-one, append_assoc, arith, drop, drop-cons, flat_map, get_or, length, length-drop, map, slice_range, take, ap, refl, sym, subst}
 use Rattle.std.proofs.lemmas.List.{drop_all, take_all}
 use Rattle.std.specs.Prelude.{Result, Ok, Err, IfOk}
 use Rattle.regress.specs.Compiled.{groups_of, outcomes_of}
