@@ -115,8 +115,8 @@ uint32_t regress_compile_raw(const uint8_t *pattern, size_t length, uint32_t fla
                              regress_regex *handle, uint32_t *kind, size_t *position);
 uint32_t regress_is_linear_raw(regress_regex *handle);
 uint32_t regress_nonlinear_raw(regress_regex *handle);
-uint64_t regress_steps_per_character_raw(regress_regex *handle);
-uint64_t regress_find_steps_per_character_raw(regress_regex *handle);
+uint64_t regress_steps_per_byte_raw(regress_regex *handle);
+uint64_t regress_find_steps_per_byte_raw(regress_regex *handle);
 uint32_t regress_find_raw(regress_regex *handle, const uint8_t *text, size_t length, size_t from, size_t *spans,
                           size_t room, size_t *needed);
 uint32_t regress_find_all_raw(regress_regex *handle, const uint8_t *text, size_t length, size_t from, size_t *spans,
@@ -228,25 +228,25 @@ REGRESS_INLINE uint32_t regress_nonlinear(const regress_regex *handle) {
 
 /* Returns a number, at most UINT64_MAX: a search takes at most that times (length + 1) steps, where the length of the
    text is in bytes. The result is 0 if searches are not linear. */
-REGRESS_INLINE uint64_t regress_steps_per_character(const regress_regex *handle) {
+REGRESS_INLINE uint64_t regress_steps_per_byte(const regress_regex *handle) {
     regress_regex own;
     if (regress_is_zero(handle)) {
         return 0;
     }
     own = *handle;
-    return regress_steps_per_character_raw(&own);
+    return regress_steps_per_byte_raw(&own);
 }
 
 /* Returns a number, at most UINT64_MAX: regress_find and regress_is_match take at most that times (length + 1) steps,
    where the length of the text is in bytes. Then they take linear time, and limits.steps does not apply to them. The
    result is 0 if the pattern has a back reference, or more than limits.linear_instructions instructions. */
-REGRESS_INLINE uint64_t regress_find_steps_per_character(const regress_regex *handle) {
+REGRESS_INLINE uint64_t regress_find_steps_per_byte(const regress_regex *handle) {
     regress_regex own;
     if (regress_is_zero(handle)) {
         return 0;
     }
     own = *handle;
-    return regress_find_steps_per_character_raw(&own);
+    return regress_find_steps_per_byte_raw(&own);
 }
 
 /* Searches for the leftmost match that starts at the byte offset `from` or later.

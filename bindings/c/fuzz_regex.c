@@ -162,7 +162,7 @@ int LLVMFuzzerTestOneInput(const uint8_t *data, size_t size) {
     if (regress_is_linear(&regex) != (regress_nonlinear(&regex) == 0)) {
         abort();
     }
-    if (regress_find_steps_per_character(&regex) && (status == REGRESS_OUT_OF_STEPS || tested == REGRESS_OUT_OF_STEPS)) {
+    if (regress_find_steps_per_byte(&regex) && (status == REGRESS_OUT_OF_STEPS || tested == REGRESS_OUT_OF_STEPS)) {
         abort();
     }
     if ((status == REGRESS_OK && tested != REGRESS_OK) || (status == REGRESS_NO_MATCH && tested != REGRESS_NO_MATCH)) {

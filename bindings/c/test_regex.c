@@ -413,22 +413,22 @@ static void limits(void) {
     regress_free(&regex);
     /* a program that is too long for tables is searched within the step limit */
     CHECK(compiled_within(&tables, "(a*)*b", &regex) == REGRESS_OK);
-    CHECK(regress_is_linear(&regex) == 0 && regress_steps_per_character(&regex) == 0);
-    CHECK(regress_find_steps_per_character(&regex) == 0);
+    CHECK(regress_is_linear(&regex) == 0 && regress_steps_per_byte(&regex) == 0);
+    CHECK(regress_find_steps_per_byte(&regex) == 0);
     CHECK(regress_nonlinear(&regex) == REGRESS_NONLINEAR_TOO_MANY_INSTRUCTIONS);
     CHECK(found(&regex, "aaaaaaaaaaaaaaaaaaaaaaaaaaaaaaaa", 0, ROOM) == REGRESS_OUT_OF_STEPS);
     regress_free(&regex);
     CHECK(compiled("(a*)*b", SMALL, &regex) == REGRESS_OK);
-    CHECK(regress_is_linear(&regex) == 1 && regress_steps_per_character(&regex) > 0);
+    CHECK(regress_is_linear(&regex) == 1 && regress_steps_per_byte(&regex) > 0);
     CHECK(regress_nonlinear(&regex) == 0);
     CHECK(found(&regex, "ab", 0, ROOM) == REGRESS_OK && ARE(0, 2, 0, 1));
     regress_free(&regex);
     CHECK(compiled("(?=(a))b", SMALL, &regex) == REGRESS_OK);
-    CHECK(regress_is_linear(&regex) == 0 && regress_steps_per_character(&regex) == 0);
+    CHECK(regress_is_linear(&regex) == 0 && regress_steps_per_byte(&regex) == 0);
     CHECK(regress_nonlinear(&regex) == REGRESS_NONLINEAR_CAPTURING_LOOKAROUND);
-    CHECK(regress_find_steps_per_character(&regex) > 0);
+    CHECK(regress_find_steps_per_byte(&regex) > 0);
     regress_free(&regex);
-    CHECK(compiled("(?=(a))\\1", SMALL, &regex) == REGRESS_OK && regress_find_steps_per_character(&regex) == 0);
+    CHECK(compiled("(?=(a))\\1", SMALL, &regex) == REGRESS_OK && regress_find_steps_per_byte(&regex) == 0);
     regress_free(&regex);
     /* of several reasons the first */
     CHECK(compiled_within(&tables, "(?=(a))\\1", &regex) == REGRESS_OK);
@@ -489,7 +489,7 @@ static void zero_handles(void) {
     CHECK(all_replaced(&zero, "a", "b", ROOM) == REGRESS_BAD_INPUT && are_none());
     CHECK(name(&zero, 1, ROOM) == REGRESS_BAD_INPUT && are_bytes(""));
     CHECK(regress_group_count(&zero) == 0 && regress_is_linear(&zero) == 0 && regress_nonlinear(&zero) == 0);
-    CHECK(regress_steps_per_character(&zero) == 0 && regress_find_steps_per_character(&zero) == 0);
+    CHECK(regress_steps_per_byte(&zero) == 0 && regress_find_steps_per_byte(&zero) == 0);
     CHECK(found(NULL, "a", 0, ROOM) == REGRESS_BAD_INPUT && regress_group_count(NULL) == 0);
     regress_free(&zero);
 }
@@ -530,9 +530,9 @@ static void refuse(const char *pattern, const char *text) {
             requests = refused = 0;
             CHECK(name(&regex, 1, ROOM) == (regress_group_count(&regex) ? REGRESS_OK : REGRESS_BAD_INPUT));
             CHECK(message(kind ? kind : 1, ROOM) == REGRESS_OK);
-            CHECK((regress_is_linear(&regex) == 1) == (regress_steps_per_character(&regex) > 0));
+            CHECK((regress_is_linear(&regex) == 1) == (regress_steps_per_byte(&regex) > 0));
             CHECK((regress_is_linear(&regex) == 1) == (regress_nonlinear(&regex) == 0));
-            CHECK(regress_is_linear(&regex) == 0 || regress_find_steps_per_character(&regex) > 0);
+            CHECK(regress_is_linear(&regex) == 0 || regress_find_steps_per_byte(&regex) > 0);
             CHECK(requests == 0);
             refused = -1;
             CHECK(found_all(&regex, text, ROOM) == REGRESS_OK && memcmp(spans, expected, sizeof expected) == 0);

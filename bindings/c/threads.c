@@ -36,7 +36,7 @@ static int calls(void) {
     wrong += regress_group_count(&shared) != 3;
     wrong += regress_group_name(&shared, 1, out, 64, &needed) != REGRESS_OK || memcmp(out, "year", 5) != 0;
     wrong += regress_is_linear(&shared) != 1 || regress_nonlinear(&shared) != 0;
-    wrong += regress_steps_per_character(&shared) == 0 || regress_find_steps_per_character(&shared) == 0;
+    wrong += regress_steps_per_byte(&shared) == 0 || regress_find_steps_per_byte(&shared) == 0;
     return wrong;
 }
 

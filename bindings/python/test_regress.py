@@ -398,7 +398,7 @@ class Calls(unittest.TestCase):
     def test_linear_patterns(self):
         pattern = regress.compile('(a*)*b')
         self.assertTrue(pattern.is_linear)
-        self.assertGreater(pattern.steps_per_character, 0)
+        self.assertGreater(pattern.steps_per_byte, 0)
         self.assertIsNone(pattern.nonlinear)
         for pattern, nonlinear in (
             (regress.compile(r'(a)\1'), 'back-reference'),
@@ -407,7 +407,7 @@ class Calls(unittest.TestCase):
             (regress.compile(r'(?=(a))\1', linear_instructions=1), 'back-reference'),
         ):
             self.assertFalse(pattern.is_linear)
-            self.assertIsNone(pattern.steps_per_character)
+            self.assertIsNone(pattern.steps_per_byte)
             self.assertEqual(pattern.nonlinear, nonlinear)
             self.assertEqual(pattern.is_find_linear, nonlinear == 'capturing-lookaround')
 

@@ -284,7 +284,7 @@ class Pattern:
         is_linear: whether searches take linear time, so that the limit of steps does not apply to them
         nonlinear: why they do not, 'back-reference', 'capturing-lookaround' or 'too-many-instructions', the first of
             these that holds; None if they do
-        steps_per_character: a search takes at most that times (length + 1) steps, where the length of the text is in
+        steps_per_byte: a search takes at most that times (length + 1) steps, where the length of the text is in
             bytes of UTF-8; None if searches are not linear
         is_find_linear: whether a search for one match takes linear time: also where a lookaround has a group
         groups: the number of its groups
@@ -300,10 +300,10 @@ class Pattern:
         self._full = None
         self._type = type(self.pattern)
         self._names = program.names()
-        self.steps_per_character = program.steps_per_character or None
+        self.steps_per_byte = program.steps_per_byte or None
         self.nonlinear = program.nonlinear
         self.is_linear = self.nonlinear is None
-        self.is_find_linear = program.find_steps_per_character > 0
+        self.is_find_linear = program.find_steps_per_byte > 0
         self.groups = program.groups
         self.groupindex = {}
         for number, name in enumerate(self._names, 1):
@@ -637,8 +637,8 @@ class _Program:
         self.address = self._regex.inside
         self.groups = _library.regress_group_count_raw(self._copy())
         self.width = 2 * (self.groups + 1)
-        self.steps_per_character = _library.regress_steps_per_character_raw(self._copy())
-        self.find_steps_per_character = _library.regress_find_steps_per_character_raw(self._copy())
+        self.steps_per_byte = _library.regress_steps_per_byte_raw(self._copy())
+        self.find_steps_per_byte = _library.regress_find_steps_per_byte_raw(self._copy())
         number = _library.regress_nonlinear_raw(self._copy())
         self.nonlinear = _NONLINEAR[number] if number < len(_NONLINEAR) else 'other'
 
@@ -917,8 +917,8 @@ def _load():
         'regress_replace_all_raw': replacing,
         'regress_group_count_raw': (size, handle),
         'regress_group_name_raw': (number, handle, size, octets, size, sizes),
-        'regress_steps_per_character_raw': (wide, handle),
-        'regress_find_steps_per_character_raw': (wide, handle),
+        'regress_steps_per_byte_raw': (wide, handle),
+        'regress_find_steps_per_byte_raw': (wide, handle),
         'regress_nonlinear_raw': (number, handle),
         'regress_escape_raw': (number, data, size, octets, size, sizes),
         'regress_free_raw': (None, handle),

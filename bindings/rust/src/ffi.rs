@@ -135,8 +135,8 @@ extern "C" {
 
     fn regress_nonlinear_raw(handle: *mut RegressRegex) -> u32;
 
-    fn regress_steps_per_character_raw(handle: *mut RegressRegex) -> u64;
-    fn regress_find_steps_per_character_raw(handle: *mut RegressRegex) -> u64;
+    fn regress_steps_per_byte_raw(handle: *mut RegressRegex) -> u64;
+    fn regress_find_steps_per_byte_raw(handle: *mut RegressRegex) -> u64;
 
     fn regress_escape_raw(
         text: *const u8,
@@ -420,15 +420,15 @@ impl Handle {
     }
 
     /// Returns the bound for the steps of a search for each byte of a text, 0 if searches are not linear.
-    pub(crate) fn steps_per_character(&self) -> u64 {
+    pub(crate) fn steps_per_byte(&self) -> u64 {
         // SAFETY: the handle is alive.
-        unsafe { regress_steps_per_character_raw(&mut self.copy()) }
+        unsafe { regress_steps_per_byte_raw(&mut self.copy()) }
     }
 
     /// Returns the bound for the steps of a search for one match for each byte of a text, 0 if there is none.
-    pub(crate) fn find_steps_per_character(&self) -> u64 {
+    pub(crate) fn find_steps_per_byte(&self) -> u64 {
         // SAFETY: the handle is alive.
-        unsafe { regress_find_steps_per_character_raw(&mut self.copy()) }
+        unsafe { regress_find_steps_per_byte_raw(&mut self.copy()) }
     }
 }
 

@@ -65,9 +65,9 @@ struct Compiled {
     /// Why searches are not linear, `None` if they are.
     nonlinear: Option<Nonlinear>,
     /// The bound for the steps of a search for each byte of a text, if they are linear.
-    steps_per_character: u64,
+    steps_per_byte: u64,
     /// The bound for the steps of a search for one match, 0 if there is none.
-    find_steps_per_character: u64,
+    find_steps_per_byte: u64,
     /// The names of the groups, if some group has one.
     named: Option<Arc<Names>>,
 }
@@ -147,8 +147,8 @@ impl Regex {
         let names = Names::of(&handle).ok_or(Error::Library)?;
         Ok(Regex {
             compiled: Arc::new(Compiled {
-                steps_per_character: handle.steps_per_character(),
-                find_steps_per_character: handle.find_steps_per_character(),
+                steps_per_byte: handle.steps_per_byte(),
+                find_steps_per_byte: handle.find_steps_per_byte(),
                 handle,
                 pattern: pattern.to_owned(),
                 flags,
@@ -367,8 +367,8 @@ impl Regex {
 
     /// Returns a number, at most `u64::MAX`: a search takes at most that times (length + 1) steps, where the length of
     /// the text is in bytes. The result is `None` if searches are not linear.
-    pub fn steps_per_character(&self) -> Option<u64> {
-        Some(self.compiled.steps_per_character).filter(|_| self.is_linear())
+    pub fn steps_per_byte(&self) -> Option<u64> {
+        Some(self.compiled.steps_per_byte).filter(|_| self.is_linear())
     }
 
     /// Returns whether a search for one match ([`Regex::find`], [`Regex::is_match`] and the like) takes time linear in
@@ -384,13 +384,13 @@ impl Regex {
     /// # Ok::<(), regress_front::Error>(())
     /// ```
     pub fn is_find_linear(&self) -> bool {
-        self.find_steps_per_character().is_some()
+        self.find_steps_per_byte().is_some()
     }
 
     /// Returns a number, at most `u64::MAX`: a search for one match takes at most that times (length + 1) steps, where the
     /// length of the text is in bytes. The result is `None` if such a search does not take linear time.
-    pub fn find_steps_per_character(&self) -> Option<u64> {
-        Some(self.compiled.find_steps_per_character).filter(|&steps| steps > 0)
+    pub fn find_steps_per_byte(&self) -> Option<u64> {
+        Some(self.compiled.find_steps_per_byte).filter(|&steps| steps > 0)
     }
 
     /// Returns the number of capture groups, without the whole match.
