@@ -1,5 +1,5 @@
 -- What is known of the accepted pattern, from what is reported of its nodes.
-use Rattle.std.proofs.Common.{◌≡◌, false, List, [], sym, ap, ap₂, subst, ◌∙◌}
+use Rattle.std.proofs.Common.{◌≡◌, false, List, [], sym, ap₂, subst, ◌∙◌}
 use Rattle.std.specs.List.{zip}
 use Rattle.regress_base.specs.declared.types.Flags.{Flags}
 use Rattle.regress_tree.specs.Setting.{Setting}
@@ -23,13 +23,13 @@ module _ (setting : Setting) (source : Source) where
       × (ds ≡ reported (widest_flags setting.flags source) source (spanned_of setting source p accepted.derived))
 
   -- The nodes with their spans are those of the pattern.
-  pub listed : (ds : List Difference) (ts : List Tree) (ss spans : List Span) (widest : Flags) → ds ≡ reported widest source (zip ts ss) →
-      widest ≡ widest_flags setting.flags source → ss ≡ spans →
+  pub listed : (ds : List Difference) (ts : List Tree) (spans : List Span) (flags : Flags) →
+      ds ≡ reported (widest_flags flags source) source (zip ts spans) → flags ≡ setting.flags →
       (p : Pattern) × (accepted : IsAccepted setting source p) × (zip ts spans ≡ spanned_of setting source p accepted.derived) → IsListed ds
-  listed ds ts ss spans widest found mode same (p, accepted, paired) = (
+  listed ds ts spans flags found same (p, accepted, paired) = (
     p,
     accepted,
-    found ∙ ap₂ (λ (f : Flags) (us : List Span). reported f source (zip ts us)) mode same ∙ ap (reported (widest_flags setting.flags source) source) paired,
+    found ∙ ap₂ (λ (f : Flags) (nodes : List (Tree × Span)). reported (widest_flags f source) source nodes) same paired,
   )
 
   pub none_differs_of_accepted : OneIsDerived setting source → (ds : List Difference) → IsListed ds → ds ≡ [] →

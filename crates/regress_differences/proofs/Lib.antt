@@ -5,4 +5,5 @@ mod QuietLemmas
 mod WithinLemmas
 mod DiffersLemmas
 mod AcceptedLemmas
-mod ListedLemmas
+mod StepLemmas
+mod TextLemmas

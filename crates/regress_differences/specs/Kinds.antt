@@ -1,5 +1,17 @@
--- The names, numbers and texts of the kinds of differences. Names and numbers never change.
-use Rattle.std.specs.Prelude.{ℕ, List, codes}
+-- The names, numbers and texts of the kinds of differences, and what is said of a difference. Names and numbers never
+-- change.
+use Rattle.std.specs.Prelude.{ℕ, Bool, true, false, not, ◌&&◌, List, [], ◌∷◌, ◌++◌, codes, length, Option, Some, None, drop, filter_map, option_map, if◌then◌else◌}
+use Rattle.std.specs.Fmt.{decimal}
+use Rattle.std.specs.List.{filter}
+use Rattle.regress_base.specs.Intervals.{Bounds, is_member}
+use Rattle.regress_base.specs.declared.types.Flags.{Flags}
+use Rattle.regress_tree.specs.Display.{code_point}
+use Rattle.regress_tree.specs.Tree.{Leaf, bracket, Tree, leaf}
+use Rattle.regress_lexer.specs.Source.{Source}
+use Rattle.regress_parse.specs.declared.span.Span.{Span}
+use Rattle.regress_spans.specs.Remarks.{Said}
+use Rattle.regress_differences.specs.Reported.{class_escape_at, reported_at}
+use Rattle.regress_differences.specs.declared.kind.Difference.{Difference}
 use Rattle.regress_differences.specs.declared.kind.DifferenceKind.{DifferenceKind}
 use Rattle.regress_differences.specs.declared.kind.DifferenceKind.TheVariants.{CaseClosure, StringSet, SameName}
 
@@ -20,3 +32,72 @@ abbrev pub text_of : DifferenceKind → List ℕ
 text_of CaseClosure = codes "with the flag i other characters may match than in JavaScript: [k] without u also matches U+212A, and [\\W] with u also matches k"
 text_of StringSet = codes "the strings of a property such as \\p{RGI_Emoji} are tried in the order of the Unicode table, in JavaScript the longest first"
 text_of SameName = codes "a reference to several groups of one name tries each of them, and an unset group gives the empty string: (?:(?<a>x)|(?<a>y))\\k<a> matches y of yy, in JavaScript yy"
+
+-- ---- what is said of a difference
+
+-- The characters that are case variants of others only with u: the upper case of each is not that of its simple case
+-- folding.
+unfoldable pub apart : List ℕ
+apart =
+    0x17F ∷ 0x3F4 ∷ 0x1E9E ∷ 0x1F88 ∷ 0x1F89 ∷ 0x1F8A ∷ 0x1F8B ∷ 0x1F8C ∷ 0x1F8D ∷ 0x1F8E ∷ 0x1F8F ∷ 0x1F98 ∷ 0x1F99 ∷ 0x1F9A ∷ 0x1F9B ∷ 0x1F9C ∷ 0x1F9D ∷ 0x1F9E ∷ 0x1F9F ∷ 0x1FA8 ∷ 0x1FA9 ∷ 0x1FAA ∷ 0x1FAB ∷ 0x1FAC ∷ 0x1FAD ∷ 0x1FAE ∷ 0x1FAF ∷ 0x1FBC ∷ 0x1FCC ∷ 0x1FD3 ∷ 0x1FE3 ∷ 0x1FFC ∷ 0x2126 ∷ 0x212A ∷ 0x212B ∷ 0xFB05 ∷ []
+
+-- Some of these, the first two by their numbers: `U+1E9E, U+1F88 and 3 more`.
+abbrev pub listed : List ℕ → List ℕ
+listed [] = []
+listed (c ∷ []) = code_point c
+listed (c ∷ d ∷ []) = code_point c ++ (codes " and " ++ code_point d)
+listed (c ∷ d ∷ e ∷ others) =
+    code_point c ++ (codes ", " ++ (code_point d ++ (codes " and " ++ (decimal (length (e ∷ others)) ++ codes " more"))))
+
+-- the text about a class with these members, without u. The set is closed, so it has case variants of these.
+abbrev pub members_text : List Bounds → List ℕ
+members_text closed =
+    codes "with the flag i it also contains " ++ (listed (filter (is_member closed) apart) ++ codes ", in JavaScript only with u or where written")
+
+-- a text about each class in a pattern with these flags
+abbrev pub case_text : Flags → List ℕ
+case_text flags =
+    if flags.unicode_sets
+    then codes "with the flags i and v complements and operators work on what is written, in JavaScript on folded characters: [[^A]] also matches A"
+    else if flags.unicode
+    then codes "with the flags i and u a complement in a class is taken before case is ignored: [\\W] also matches K, S, k, s, U+017F and U+212A, in JavaScript none of these"
+    else codes "with the flag i U+017F and U+212A are word characters, in JavaScript only with u: \\w also matches these two"
+
+abbrev pub general_text : Flags → DifferenceKind → List ℕ
+general_text flags CaseClosure = case_text flags
+general_text flags StringSet = text_of StringSet
+general_text flags SameName = text_of SameName
+
+abbrev pub is_escape : Source → Bool
+is_escape t = elim (class_escape_at t) [
+  | Some named ↦ true
+  | None ↦ false
+]
+
+-- The text is about the members of the class: in brackets, without u and v.
+abbrev pub is_of_members : Flags → Source → DifferenceKind → Bool
+is_of_members flags t CaseClosure = not flags.unicode_sets && not flags.unicode && not (is_escape t)
+is_of_members flags t StringSet = false
+is_of_members flags t SameName = false
+
+module _ (flags : Flags) (t : Source) (kind : DifferenceKind) where
+  abbrev pub leaf_text : Leaf → List ℕ
+  leaf_text (bracket invert closed) = if is_of_members flags t kind then members_text closed else general_text flags kind
+  leaf_text l = general_text flags kind
+
+  -- the text about a difference of this kind, where `t` is the source from the start of its span on
+  abbrev pub text_at : Tree → List ℕ
+  text_at (leaf l) = leaf_text l
+  text_at u = general_text flags kind
+
+-- the flags of the pattern, with i if it may be matched with i somewhere, and its source
+module _ (flags : Flags) (source : Source) where
+  abbrev pub said_of : Tree → Difference → Said
+  said_of t d = (d.span, name_of d.kind, text_at flags (drop d.span.start source) d.kind t)
+
+  -- what is said of a node with this span
+  abbrev pub said_at : Tree × Span → Option Said
+  said_at (t, span) = option_map (said_of t) (reported_at flags source (t, span))
+
+  abbrev pub all_said : List (Tree × Span) → List Said
+  all_said = filter_map said_at

@@ -1,7 +1,6 @@
 pub mod CaseMode
 pub mod Kinds
 pub mod Reported
-pub mod Listed
 -- re-exports what the public contract cites from other crates, so that a caller names one library
 pub use Rattle.regress_syntax.specs.SettingOf
 pub use Rattle.regress_parse.specs.Accepted
@@ -9,5 +8,6 @@ pub use Rattle.regress_parse.specs.Fault
 pub use Rattle.regress_parse.specs.Settled
 pub use Rattle.regress_parse.specs.Spans
 pub use Rattle.regress_spans.specs.Paired
+pub use Rattle.regress_spans.specs.Remarks
 pub use Rattle.regress_ecma.specs.Differences
 pub use Rattle.regress_ecma.specs.Compared

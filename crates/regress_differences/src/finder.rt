@@ -1,23 +1,27 @@
-//! A walk over a tree that lists what is reported.
-ghost use Rattle.std.specs.Prelude.{◌≡◌, drop, zip, IfOk};
+//! Which nodes of a tree are reported.
+ghost use Rattle.std.specs.Prelude.{◌≡◌, ◌++◌, drop, zip, IfOk, OnOk, List};
+ghost use Rattle.std.specs.List.{cons_option};
 ghost use Rattle.regress_lexer.specs.Source.{is_at};
 ghost use Rattle.regress_tree.specs.Tree.{tree};
-ghost use Rattle.regress_spans.specs.Paired.{postorder};
+ghost use Rattle.regress_spans.specs.Children.{trees_at};
+ghost use Rattle.regress_spans.specs.Remarks.{Said, said_by};
+ghost use Rattle.regress_differences.specs.Kinds.{all_said, said_at};
 ghost use Rattle.regress_differences.specs.Reported.{is_reference, class_escape_at, class_may_differ, kind_of, reported_at, reported};
-ghost use Rattle.regress_differences.specs.Listed.{Notes};
 
 use crate::kind::{Difference, DifferenceKind};
+use crate::text::text_at;
 use crate::unlike::differs_in_case;
 use regress_base::charclasses::CharacterClassType;
 use regress_base::codepointset::CodePointSet;
 use regress_base::types::Flags;
 use regress_classes::class_escape::class_letter;
 use regress_parse::Span;
-use regress_tree::ir::{Node, Walk, walk};
+use regress_spans::Remark;
+use regress_tree::ir::Node;
 use std::alloc::{AllocError, Global};
 
-/// Returns what is reported of the tree of a pattern, given the spans of its nodes in postorder. The flags have i if it
-/// may be in force somewhere in the pattern.
+/// Returns what is reported of nodes, given their spans. The flags have i if it may be in force somewhere in the
+/// pattern.
 ///
 /// # Errors
 /// Returns [`AllocError`] if an allocation fails.
@@ -25,56 +29,96 @@ pub(crate) fn find_differences(
     alloc: Global,
     pattern: &[u32],
     flags: Flags,
-    node: &Node,
+    nodes: &[&Node],
     spans: &[Span],
 ) -> Result<Vec<Difference>, AllocError>
-    ensures { IfOk result (λ found.
-        found.items ≡ reported flags pattern.now (zip (postorder (tree node.now)) spans.now)) }
+    ensures { IfOk result (λ found. found.items ≡ reported flags pattern.now (zip (trees_at nodes.now) spans.now)) }
 {
-    let mut finder = Finder {
-        alloc,
-        pattern,
-        flags,
-        spans,
-        found: Vec::new(alloc),
-        out_of_memory: false,
-    };
-    let mut visit = |node: &Node, _walk: &mut Walk| finder.visit(node);
-    walk(true, false, node, &mut visit);
-    if finder.out_of_memory {
-        return Err(AllocError);
+    let mut found = Vec::new(alloc);
+    let mut spans = spans;
+    for node in nodes {
+        let [span, others @ ..] = spans else {
+            return Ok(found);
+        };
+        add(&mut found, reported_at(flags, pattern, node, *span))?;
+        spans = others;
     }
-    Ok(finder.found)
+    Ok(found)
 }
 
-/// The state of a walk in postorder.
-#[derive(Drop)]
-struct Finder<'a> {
+/// Appends a difference, if there is one.
+fn add(found: &mut Vec<Difference>, difference: Option<Difference>) -> Result<(), AllocError>
+    ensures { OnOk result ((others : List Difference) → found.new.items ++ others ≡ found.old.items ++ cons_option difference others) }
+{
+    if let Some(difference) = difference {
+        found.push(difference)?;
+    }
+    Ok(())
+}
+
+/// Returns what is said of nodes, given their spans and the flags, as [`find_differences`] does.
+///
+/// # Errors
+/// Returns [`AllocError`] if an allocation fails.
+pub(crate) fn find_remarks(
     alloc: Global,
-    pattern: &'a [u32],
-    /// The flags of the pattern, with i if it may be in force somewhere.
+    pattern: &[u32],
     flags: Flags,
-    /// The spans of the nodes that are not visited yet.
-    spans: &'a [Span],
-    found: Vec<Difference>,
-    /// Whether an allocation failed.
-    out_of_memory: bool,
+    nodes: &[&Node],
+    spans: &[Span],
+) -> Result<Vec<Remark>, AllocError>
+    ensures { IfOk result (λ found. said_by found.items ≡ all_said flags pattern.now (zip (trees_at nodes.now) spans.now)) }
+{
+    let mut found = Vec::new(alloc);
+    let mut spans = spans;
+    for node in nodes {
+        let [span, others @ ..] = spans else {
+            return Ok(found);
+        };
+        add_remark(
+            alloc,
+            pattern,
+            flags,
+            Spanned {
+                node: *node,
+                span: *span,
+            },
+            &mut found,
+        )?;
+        spans = others;
+    }
+    Ok(found)
 }
 
-impl Finder<'_> {
-    /// Visits a node, after those inside it.
-    fn visit(&mut self, node: &Node)
-        ensures notes { Notes self.old self.new (tree node.now) }
-    {
-        if let [span, rest @ ..] = self.spans {
-            if let Some(difference) = reported_at(self.flags, self.pattern, node, *span) {
-                if self.found.push(difference).is_err() {
-                    self.out_of_memory = true;
-                }
-            }
-            self.spans = rest;
-        }
+/// A node with its span.
+#[derive(Clone, Copy)]
+struct Spanned<'a> {
+    node: &'a Node,
+    span: Span,
+}
+
+/// Appends what is said of a node, if it is reported.
+fn add_remark(
+    alloc: Global,
+    pattern: &[u32],
+    flags: Flags,
+    spanned: Spanned<'_>,
+    found: &mut Vec<Remark>,
+) -> Result<(), AllocError>
+    ensures { OnOk result ((others : List Said) → said_by found.new.items ++ others
+        ≡ said_by found.old.items ++ cons_option (said_at flags pattern.now (tree spanned.entry.node.now, spanned.entry.span)) others) }
+{
+    if let Some(difference) = reported_at(flags, pattern, spanned.node, spanned.span) {
+        let Difference { kind, span } = difference;
+        let source = pattern.get(span.start..).unwrap_or(&[]);
+        let text = text_at(alloc, flags, source, spanned.node, kind)?;
+        found.push(Remark {
+            span,
+            name: kind.name(),
+            text,
+        })?;
     }
+    Ok(())
 }
 
 /// Returns what is reported of a node with this span.
@@ -121,7 +165,7 @@ fn class_may_differ(flags: Flags, source: &[u32], closed: &CodePointSet) -> bool
 }
 
 /// Returns the class escape at the start of a source.
-fn class_escape_at(source: &[u32]) -> Option<(CharacterClassType, bool)>
+pub(crate) fn class_escape_at(source: &[u32]) -> Option<(CharacterClassType, bool)>
     ensures { result ≡ class_escape_at source.now }
 {
     match source {

@@ -1,5 +1,5 @@
 //! Reports the differences of a whole pattern.
-ghost use Rattle.std.specs.Prelude.{◌≡◌, true, false, [], length, All, IfOk, IfErr};
+ghost use Rattle.std.specs.Prelude.{◌≡◌, true, false, [], length, zip, All, IfOk, IfErr};
 ghost use Rattle.regress_unicode.specs.TableOf.{table_of};
 ghost use Rattle.regress_lexer.specs.Source.{IsCodePoint};
 ghost use Rattle.regress_syntax.specs.Syntax.{Pattern, names};
@@ -7,21 +7,66 @@ ghost use Rattle.regress_syntax.specs.SettingOf.{setting_of};
 ghost use Rattle.regress_parse.specs.Accepted.{IsAccepted, OfAccepted};
 ghost use Rattle.regress_parse.specs.Spans.{IsWithin};
 ghost use Rattle.regress_parse.specs.Settled.{IsFaultOf};
-ghost use Rattle.regress_spans.specs.Paired.{spanned_of};
+ghost use Rattle.regress_tree.specs.Tree.{tree};
+ghost use Rattle.regress_spans.specs.Paired.{postorder, spanned_of};
 ghost use Rattle.regress_ecma.specs.Compared.{IsComparable};
 ghost use Rattle.regress_ecma.specs.Differences.{HasCaseDataOfUnicode, differs};
 ghost use Rattle.regress_differences.specs.CaseMode.{widest_flags};
+ghost use Rattle.regress_spans.specs.Remarks.{said_by};
 ghost use Rattle.regress_differences.specs.Reported.{reported};
+ghost use Rattle.regress_differences.specs.Kinds.{all_said};
 
 use crate::case_mode::widest_flags;
-use crate::finder::find_differences;
+use crate::finder::{find_differences, find_remarks};
 use crate::kind::Difference;
 use regress_base::types::Flags;
 use regress_ecma::first_outcome_is_the_match;
 use regress_parse::PlacedFault;
-use regress_spans::try_parse_with_spans;
+use regress_spans::{Remark, SpannedRegex, nodes_in_postorder, try_parse_with_spans};
 use regress_unicode::Tables;
-use std::alloc::Global;
+use std::alloc::{AllocError, Global};
+
+/// Returns the constructs of a parsed pattern that may match otherwise than in ECMA-262, as [`differences`] does.
+///
+/// # Errors
+/// Returns [`AllocError`] if an allocation fails.
+///
+/// # Complexity
+/// Linear in the number of nodes and in the length of the pattern.
+pub fn differences_of(
+    alloc: Global,
+    pattern: &[u32],
+    parsed: &SpannedRegex,
+) -> Result<Vec<Difference>, AllocError>
+    // The nodes that are reported, each with its span.
+    ensures { IfOk result (λ found. found.items
+        ≡ reported (widest_flags parsed.now.regex.flags pattern.now) pattern.now (zip (postorder (tree parsed.now.regex.node)) parsed.now.spans.items)) }
+{
+    let widest = widest_flags(pattern, parsed.regex.flags);
+    let nodes = nodes_in_postorder(alloc, &parsed.regex.node)?;
+    find_differences(alloc, pattern, widest, &nodes, &parsed.spans)
+}
+
+/// Returns a sentence about each construct of a parsed pattern that [`differences_of`] returns, in the same order. That
+/// about a class with the flag i, without u, has the characters that are case variants of its other members only with u.
+///
+/// # Errors
+/// Returns [`AllocError`] if an allocation fails.
+///
+/// # Complexity
+/// As for [`differences_of`].
+pub fn remarks_of(
+    alloc: Global,
+    pattern: &[u32],
+    parsed: &SpannedRegex,
+) -> Result<Vec<Remark>, AllocError>
+    ensures { IfOk result (λ remarks. said_by remarks.items
+        ≡ all_said (widest_flags parsed.now.regex.flags pattern.now) pattern.now (zip (postorder (tree parsed.now.regex.node)) parsed.now.spans.items)) }
+{
+    let widest = widest_flags(pattern, parsed.regex.flags);
+    let nodes = nodes_in_postorder(alloc, &parsed.regex.node)?;
+    find_remarks(alloc, pattern, widest, &nodes, &parsed.spans)
+}
 
 /// Returns the constructs of a pattern that may match otherwise than in ECMA-262, or that are not compared with it, in
 /// the order of the spans of [`try_parse_with_spans`].
@@ -41,7 +86,7 @@ use std::alloc::Global;
 /// - [`PlacedFault::Memory`] if an allocation fails.
 ///
 /// # Complexity
-/// As for [`try_parse_with_spans`], and as for a walk in postorder.
+/// As for [`try_parse_with_spans`].
 ///
 /// # Examples
 /// ```
@@ -84,6 +129,5 @@ pub fn differences(
 {
     first_outcome_is_the_match();
     let parsed = try_parse_with_spans(alloc, pattern, flags, tables)?;
-    let widest = widest_flags(pattern, flags);
-    Ok(find_differences(alloc, pattern, widest, &parsed.regex.node, &parsed.spans)?)
+    Ok(differences_of(alloc, pattern, &parsed)?)
 }

@@ -3,6 +3,5 @@ pub mod Paired
 pub mod Each
 pub mod Nesting
 pub mod Neighbours
-pub mod Visits
 pub mod Postorder
 pub mod Zipped
