@@ -40,19 +40,17 @@ static int month_of(const char *text) {
 
 static void print_links(const char *text) {
     regress_regex link;
-    size_t *spans = NULL, length = strlen(text), needed = 0;
+    regress_matches matches;
+    size_t span[2], needed;
     if (compile("https?:\\/\\/[^\\s<>\"()]*[^\\s<>\"().,;:!?]", 0, defaults, &link) != REGRESS_OK) {
         return;
     }
-    /* Each match is two numbers. No match is shorter than this, so the buffer is large enough. */
-    size_t room = 2 * (length / strlen("http://a") + 1);
-    spans = malloc(room * sizeof *spans);
-    if (spans && regress_find_all(&link, (const uint8_t *)text, length, 0, spans, room, &needed) == REGRESS_OK) {
-        for (size_t at = 0; at < needed; at += 2) {
-            printf("%.*s\n", (int)(spans[at + 1] - spans[at]), text + spans[at]);
+    if (regress_matches_new(&link, (const uint8_t *)text, strlen(text), 0, &matches) == REGRESS_OK) {
+        while (regress_matches_next(&matches, span, 2, &needed) == REGRESS_OK) {
+            printf("%.*s\n", (int)(span[1] - span[0]), text + span[0]);
         }
+        regress_matches_free(&matches);
     }
-    free(spans);
     regress_free(&link);
 }
 

@@ -42,17 +42,20 @@ static void first_match(const regress_regex *date) {
     }
 }
 
-/* All matches, with their groups. Returns the number of matches. */
+/* All matches, one after the other, with their groups. Returns the number of matches. */
 static size_t groups(const regress_regex *date) {
-    size_t width = 2 * (regress_group_count(date) + 1), spans[64], needed;
-    if (regress_find_all(date, bytes(text), strlen(text), 0, spans, 64, &needed) != REGRESS_OK) {
+    size_t span[8], needed, count = 0;
+    regress_matches matches;
+    if (regress_matches_new(date, bytes(text), strlen(text), 0, &matches) != REGRESS_OK) {
         return 0;
     }
-    for (size_t *match = spans; match < spans + needed; match += width) {
-        printf("year %.*s, month %.*s\n", (int)(match[3] - match[2]), text + match[2], (int)(match[5] - match[4]),
-               text + match[4]);
+    while (regress_matches_next(&matches, span, 8, &needed) == REGRESS_OK) {
+        printf("year %.*s, month %.*s\n", (int)(span[3] - span[2]), text + span[2], (int)(span[5] - span[4]),
+               text + span[4]);
+        count++;
     }
-    return needed / width;
+    regress_matches_free(&matches);
+    return count;
 }
 
 /* Replacing by a template: the first call returns the size, the second one the text. */
@@ -70,12 +73,14 @@ static void replacing(const regress_regex *date) {
 
 /* Replacing by a function: what is between the matches is copied. */
 static void next_years(const regress_regex *date) {
-    size_t spans[64], needed, from = 0;
-    if (regress_find_all(date, bytes(text), strlen(text), 0, spans, 64, &needed) == REGRESS_OK) {
-        for (size_t *match = spans; match < spans + needed; match += 8) {
-            printf("%.*s%d", (int)(match[0] - from), text + from, atoi(text + match[2]) + 1);
-            from = match[1];
+    size_t span[8], needed, from = 0;
+    regress_matches matches;
+    if (regress_matches_new(date, bytes(text), strlen(text), 0, &matches) == REGRESS_OK) {
+        while (regress_matches_next(&matches, span, 8, &needed) == REGRESS_OK) {
+            printf("%.*s%d", (int)(span[0] - from), text + from, atoi(text + span[2]) + 1);
+            from = span[1];
         }
+        regress_matches_free(&matches);
         printf("%s\n", text + from);
     }
 }

@@ -14,12 +14,13 @@
    without a status returns 0. Buffers must not overlap each other or the input.
 
    A handle is a variable that regress_compile writes, and may be moved. It owns the compiled pattern, until
-   regress_free frees it and makes it zero. Everything else that a call allocates, with malloc, is freed before it
-   returns. No call keeps a pointer that it is given. A call must not be made in a signal handler.
+   regress_free frees it and makes it zero. A regress_matches is the same for matches, from regress_matches_new to
+   regress_matches_free. Everything else that a call allocates, with malloc, is freed before it returns. No call keeps a
+   pointer that it is given. A call must not be made in a signal handler.
 
    Any number of threads may make calls at the same time, also with the same handle if its type in the call is const.
-   regress_compile and regress_free must be the only calls with a handle while they run: order them by a lock, by a
-   start or join of a thread, or by a sequentially consistent atomic. */
+   Every other call with a handle must be the only one with it while it runs: order them by a lock, by a start or join
+   of a thread, or by a sequentially consistent atomic. */
 
 #ifndef REGRESS_H
 #define REGRESS_H
@@ -50,10 +51,15 @@ typedef struct regress_regex {
     void *inside;
 } regress_regex;
 
+/* The matches that a search has found, in order. `inside` is as that of a handle. */
+typedef struct regress_matches {
+    void *inside;
+} regress_matches;
+
 /* Statuses. docs/c-api.md lists when each is returned, and what to do. Those of regress_front.h have the same
    numbers. */
 #define REGRESS_OK 0u           /* success: the result is written */
-#define REGRESS_NO_MATCH 1u     /* the text has no match */
+#define REGRESS_NO_MATCH 1u     /* the text has no match, or no further one */
 #define REGRESS_MEMORY 2u       /* an allocation failed; the same call may succeed later */
 #define REGRESS_ROOM 3u         /* the buffer is too small and unchanged: `needed` is the size that it has to have */
 #define REGRESS_BAD_INPUT 4u    /* invalid arguments: invalid UTF-8, an unknown bit, a NULL pointer, a zero handle */
@@ -109,12 +115,17 @@ uint32_t regress_compile_raw(const uint8_t *pattern, size_t length, uint32_t fla
                              regress_regex *handle, uint32_t *kind, size_t *position);
 uint32_t regress_is_linear_raw(regress_regex *handle);
 uint32_t regress_nonlinear_raw(regress_regex *handle);
-uint64_t regress_steps_per_character_raw(regress_regex *handle);
-uint64_t regress_find_steps_per_character_raw(regress_regex *handle);
+uint64_t regress_steps_per_byte_raw(regress_regex *handle);
+uint64_t regress_find_steps_per_byte_raw(regress_regex *handle);
 uint32_t regress_find_raw(regress_regex *handle, const uint8_t *text, size_t length, size_t from, size_t *spans,
                           size_t room, size_t *needed);
 uint32_t regress_find_all_raw(regress_regex *handle, const uint8_t *text, size_t length, size_t from, size_t *spans,
                               size_t room, size_t *needed);
+uint32_t regress_matches_new_raw(regress_regex *handle, const uint8_t *text, size_t length, size_t from,
+                                 regress_matches *matches);
+uint32_t regress_matches_next_raw(regress_matches *matches, size_t *spans, size_t room, size_t *needed);
+size_t regress_matches_left_raw(regress_matches *matches);
+void regress_matches_free_raw(regress_matches *matches);
 uint32_t regress_is_match_raw(regress_regex *handle, const uint8_t *text, size_t length);
 uint32_t regress_replace_raw(regress_regex *handle, const uint8_t *text, size_t length, const uint8_t *replacement,
                              size_t replacement_length, uint8_t *out, size_t room, size_t *needed);
@@ -217,25 +228,25 @@ REGRESS_INLINE uint32_t regress_nonlinear(const regress_regex *handle) {
 
 /* Returns a number, at most UINT64_MAX: a search takes at most that times (length + 1) steps, where the length of the
    text is in bytes. The result is 0 if searches are not linear. */
-REGRESS_INLINE uint64_t regress_steps_per_character(const regress_regex *handle) {
+REGRESS_INLINE uint64_t regress_steps_per_byte(const regress_regex *handle) {
     regress_regex own;
     if (regress_is_zero(handle)) {
         return 0;
     }
     own = *handle;
-    return regress_steps_per_character_raw(&own);
+    return regress_steps_per_byte_raw(&own);
 }
 
 /* Returns a number, at most UINT64_MAX: regress_find and regress_is_match take at most that times (length + 1) steps,
    where the length of the text is in bytes. Then they take linear time, and limits.steps does not apply to them. The
    result is 0 if the pattern has a back reference, or more than limits.linear_instructions instructions. */
-REGRESS_INLINE uint64_t regress_find_steps_per_character(const regress_regex *handle) {
+REGRESS_INLINE uint64_t regress_find_steps_per_byte(const regress_regex *handle) {
     regress_regex own;
     if (regress_is_zero(handle)) {
         return 0;
     }
     own = *handle;
-    return regress_find_steps_per_character_raw(&own);
+    return regress_find_steps_per_byte_raw(&own);
 }
 
 /* Searches for the leftmost match that starts at the byte offset `from` or later.
@@ -279,6 +290,52 @@ REGRESS_INLINE uint32_t regress_find_all(const regress_regex *handle, const uint
     own = *handle;
     return regress_find_all_raw(&own, REGRESS_OR(text, no_byte), length, from, REGRESS_OR(spans, no_span), room,
                                 REGRESS_OR(needed, no_needed));
+}
+
+/* Searches as regress_find_all does, and writes `matches`, which regress_matches_next takes one match after the other
+   from: no buffer is sized in advance, and nothing is searched twice. What `matches` had before is not freed. It needs
+   neither the handle nor the text any more.
+
+   Returns OK, OUT_OF_STEPS, MEMORY or BAD_INPUT. With OK `matches` is written, also if there is no match, and has to be
+   freed by regress_matches_free; else it is unchanged. */
+REGRESS_INLINE uint32_t regress_matches_new(const regress_regex *handle, const uint8_t *text, size_t length,
+                                            size_t from, regress_matches *matches) {
+    regress_regex own;
+    uint8_t no_byte = 0;
+    if (regress_is_zero(handle) || REGRESS_IS_MISSING(text, length) || !matches) {
+        return REGRESS_BAD_INPUT;
+    }
+    own = *handle;
+    return regress_matches_new_raw(&own, REGRESS_OR(text, no_byte), length, from, matches);
+}
+
+/* Writes the next match to `spans`, a buffer of `room` numbers, as regress_find writes one.
+
+   Returns OK, NO_MATCH, ROOM or BAD_INPUT: NO_MATCH if none is left. With ROOM the match remains the next one. `needed`
+   is the number of its numbers with OK and ROOM, else 0. */
+REGRESS_INLINE uint32_t regress_matches_next(regress_matches *matches, size_t *spans, size_t room, size_t *needed) {
+    size_t no_span = 0, no_needed = 0;
+    if (!matches || !matches->inside || REGRESS_IS_MISSING(spans, room)) {
+        return regress_bad_input(needed);
+    }
+    return regress_matches_next_raw(matches, REGRESS_OR(spans, no_span), room, REGRESS_OR(needed, no_needed));
+}
+
+/* Returns how many numbers the matches that are left have together: 2 * (regress_group_count + 1) each. */
+REGRESS_INLINE size_t regress_matches_left(const regress_matches *matches) {
+    regress_matches own;
+    if (!matches || !matches->inside) {
+        return 0;
+    }
+    own = *matches;
+    return regress_matches_left_raw(&own);
+}
+
+/* Frees matches, and makes them zero. It does nothing if they are zero, or if the pointer is NULL. */
+REGRESS_INLINE void regress_matches_free(regress_matches *matches) {
+    if (matches && matches->inside) {
+        regress_matches_free_raw(matches);
+    }
 }
 
 /* Returns whether the pattern matches somewhere in the text: OK or NO_MATCH; or OUT_OF_STEPS, MEMORY or BAD_INPUT. */

@@ -16,30 +16,23 @@ static void print_span(const char *text, size_t start, size_t end) {
 }
 
 /* Prints a line for each match. */
-static uint32_t print_matches(regress_regex *regex, const char *text) {
-    size_t length = strlen(text), needed = 0, room = 64;
-    size_t width = 2 * (regress_group_count(regex) + 1);
-    size_t *spans = malloc(room * sizeof *spans);
-    uint32_t status = REGRESS_MEMORY;
-    while (spans) {
-        status = regress_find_all(regex, (const uint8_t *)text, length, 0, spans, room, &needed);
-        if (status != REGRESS_ROOM) {
-            break;
-        }
-        free(spans);
-        room = needed;
-        spans = malloc(room * sizeof *spans);
-        status = REGRESS_MEMORY;
+static uint32_t print_matches(const regress_regex *regex, const char *text) {
+    size_t needed, width = 2 * (regress_group_count(regex) + 1);
+    regress_matches matches;
+    uint32_t status = regress_matches_new(regex, (const uint8_t *)text, strlen(text), 0, &matches);
+    if (status != REGRESS_OK) {
+        return status;
     }
-    if (status == REGRESS_OK) {
-        for (size_t match = 0; match < needed; match += width) {
-            for (size_t span = 0; span < width; span += 2) {
-                print_span(text, spans[match + span], spans[match + span + 1]);
-            }
-            printf("\n");
+    size_t *spans = malloc(width * sizeof *spans);
+    while (spans && regress_matches_next(&matches, spans, width, &needed) == REGRESS_OK) {
+        for (size_t span = 0; span < width; span += 2) {
+            print_span(text, spans[span], spans[span + 1]);
         }
+        printf("\n");
     }
+    status = spans ? REGRESS_OK : REGRESS_MEMORY;
     free(spans);
+    regress_matches_free(&matches);
     return status;
 }
 

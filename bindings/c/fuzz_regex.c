@@ -45,6 +45,28 @@ static void escape(const uint8_t *text, size_t most, uint32_t flags) {
     regress_free(&regex);
 }
 
+/* Takes the matches from an offset on one after the other. They are these numbers. */
+static void list(regress_regex *regex, const uint8_t *text, size_t most, size_t from, const size_t *spans, size_t count,
+                 size_t width) {
+    static size_t next[512];
+    regress_matches matches = {NULL};
+    size_t at = 0, needed;
+    uint32_t status = regress_matches_new(regex, text, most, from, &matches);
+    if (status != REGRESS_OK || regress_matches_left(&matches) != count) {
+        abort();
+    }
+    while (regress_matches_next(&matches, next, 512, &needed) == REGRESS_OK) {
+        if (needed != width || at + width > count || memcmp(spans + at, next, width * sizeof *next) != 0) {
+            abort();
+        }
+        at += width;
+    }
+    if (at != count) {
+        abort();
+    }
+    regress_matches_free(&matches);
+}
+
 /* Searches for all matches from an offset on. The first is that of a search for one, and none begins before the offset. */
 static void find_all(regress_regex *regex, const uint8_t *text, size_t most, uint32_t flags, size_t count) {
     static size_t spans[512], first[512];
@@ -59,6 +81,7 @@ static void find_all(regress_regex *regex, const uint8_t *text, size_t most, uin
         || (needed && memcmp(spans, first, width * sizeof *spans) != 0)) {
         abort();
     }
+    list(regex, text, most, from, spans, needed, width);
     for (size_t at = 0; at < needed; at += width) {
         if (spans[at] < (at ? spans[at - width + 1] : from)) {
             abort();
@@ -139,7 +162,7 @@ int LLVMFuzzerTestOneInput(const uint8_t *data, size_t size) {
     if (regress_is_linear(&regex) != (regress_nonlinear(&regex) == 0)) {
         abort();
     }
-    if (regress_find_steps_per_character(&regex) && (status == REGRESS_OUT_OF_STEPS || tested == REGRESS_OUT_OF_STEPS)) {
+    if (regress_find_steps_per_byte(&regex) && (status == REGRESS_OUT_OF_STEPS || tested == REGRESS_OUT_OF_STEPS)) {
         abort();
     }
     if ((status == REGRESS_OK && tested != REGRESS_OK) || (status == REGRESS_NO_MATCH && tested != REGRESS_NO_MATCH)) {

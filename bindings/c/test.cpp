@@ -22,9 +22,14 @@ static bool finds() {
     bool second = regress_find(&regex, text, 3, 2, spans, 4, &needed) == REGRESS_OK && spans[0] == 2
                   && spans[2] == REGRESS_UNSET;
     bool all = regress_find_all(&regex, text, 3, 2, spans, 4, &needed) == REGRESS_OK && needed == 4 && spans[0] == 2;
+    regress_matches matches;
+    bool list = regress_matches_new(&regex, text, 3, 2, &matches) == REGRESS_OK && regress_matches_left(&matches) == 4
+                && regress_matches_next(&matches, spans, 4, &needed) == REGRESS_OK && spans[0] == 2
+                && regress_matches_next(&matches, spans, 4, &needed) == REGRESS_NO_MATCH;
+    regress_matches_free(&matches);
     bool linear = regress_is_linear(&regex) == 1 && regress_nonlinear(&regex) == 0;
     regress_free(&regex);
-    return first && second && all && linear && regress_abi_version() == REGRESS_ABI_VERSION;
+    return first && second && all && list && linear && regress_abi_version() == REGRESS_ABI_VERSION;
 }
 
 static bool parses() {

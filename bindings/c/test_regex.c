@@ -166,6 +166,62 @@ static uint32_t message(uint32_t of, size_t room) {
     return regress_error_message(of, bytes, room, &needed);
 }
 
+static uint32_t next(regress_matches *matches, size_t room) {
+    mark();
+    return regress_matches_next(matches, spans, room, &needed);
+}
+
+/* Matches that are taken one after the other. */
+static void lists(void) {
+    regress_regex regex;
+    regress_matches matches = {NULL}, none = {NULL};
+    uint8_t text[] = "abca";
+    CHECK(compiled("(a)|(b)(?=c)", SMALL, &regex) == REGRESS_OK);
+    CHECK(regress_matches_new(&regex, text, 4, 0, &matches) == REGRESS_OK);
+    /* They need neither the handle nor the text. */
+    regress_free(&regex);
+    memset(text, 'x', sizeof text);
+    CHECK(regress_matches_left(&matches) == 18);
+    CHECK(next(&matches, ROOM) == REGRESS_OK && ARE(0, 1, 0, 1, REGRESS_UNSET, REGRESS_UNSET));
+    CHECK(next(&matches, 5) == REGRESS_ROOM && needed == 6 && spans[0] == MARK);
+    CHECK(regress_matches_next(&matches, NULL, 0, &needed) == REGRESS_ROOM && needed == 6);
+    CHECK(regress_matches_left(&matches) == 12);
+    CHECK(next(&matches, 6) == REGRESS_OK && ARE(1, 2, REGRESS_UNSET, REGRESS_UNSET, 1, 2));
+    CHECK(regress_matches_next(&matches, spans, ROOM, NULL) == REGRESS_OK && spans[0] == 3);
+    CHECK(next(&matches, ROOM) == REGRESS_NO_MATCH && needed == 0 && spans[0] == MARK);
+    CHECK(next(&matches, 0) == REGRESS_NO_MATCH && regress_matches_left(&matches) == 0);
+    regress_matches_free(&matches);
+    CHECK(!matches.inside);
+    regress_matches_free(&matches);
+    regress_matches_free(NULL);
+    CHECK(regress_matches_left(&none) == 0 && regress_matches_left(NULL) == 0);
+    needed = 1;
+    CHECK(next(&none, ROOM) == REGRESS_BAD_INPUT && needed == 0);
+    CHECK(next(NULL, ROOM) == REGRESS_BAD_INPUT);
+    /* From an offset on, and without a match. */
+    CHECK(compiled("a|$", SMALL, &regex) == REGRESS_OK);
+    CHECK(regress_matches_new(&regex, (const uint8_t *)"aba", 3, 1, &matches) == REGRESS_OK);
+    CHECK(next(&matches, 2) == REGRESS_OK && ARE(2, 3));
+    CHECK(regress_matches_next(&matches, NULL, 2, &needed) == REGRESS_BAD_INPUT);
+    CHECK(next(&matches, 2) == REGRESS_OK && ARE(3, 3));
+    CHECK(next(&matches, 2) == REGRESS_NO_MATCH);
+    regress_matches_free(&matches);
+    CHECK(regress_matches_new(&regex, (const uint8_t *)"aba", 3, 4, &matches) == REGRESS_OK);
+    CHECK(next(&matches, 2) == REGRESS_NO_MATCH);
+    regress_matches_free(&matches);
+    CHECK(regress_matches_new(&regex, NULL, 0, 0, &matches) == REGRESS_OK && next(&matches, 2) == REGRESS_OK && ARE(0, 0));
+    regress_matches_free(&matches);
+    /* They are written only with OK. */
+    CHECK(regress_matches_new(&regex, (const uint8_t *)"\xFF", 1, 0, &matches) == REGRESS_BAD_INPUT && !matches.inside);
+    CHECK(regress_matches_new(&regex, NULL, 1, 0, &matches) == REGRESS_BAD_INPUT);
+    CHECK(regress_matches_new(&regex, text, 4, 0, NULL) == REGRESS_BAD_INPUT);
+    regress_free(&regex);
+    CHECK(regress_matches_new(&regex, text, 4, 0, &matches) == REGRESS_BAD_INPUT);
+    CHECK(compiled_within(&one_step, "(a)\\1", &regex) == REGRESS_OK);
+    CHECK(regress_matches_new(&regex, (const uint8_t *)"baa", 3, 0, &matches) == REGRESS_OUT_OF_STEPS && !matches.inside);
+    regress_free(&regex);
+}
+
 static void names(void) {
     regress_regex regex;
     CHECK(compiled("(?<year>a)(b)(?<\xC3\xA9>c)", SMALL, &regex) == REGRESS_OK);
@@ -357,22 +413,22 @@ static void limits(void) {
     regress_free(&regex);
     /* a program that is too long for tables is searched within the step limit */
     CHECK(compiled_within(&tables, "(a*)*b", &regex) == REGRESS_OK);
-    CHECK(regress_is_linear(&regex) == 0 && regress_steps_per_character(&regex) == 0);
-    CHECK(regress_find_steps_per_character(&regex) == 0);
+    CHECK(regress_is_linear(&regex) == 0 && regress_steps_per_byte(&regex) == 0);
+    CHECK(regress_find_steps_per_byte(&regex) == 0);
     CHECK(regress_nonlinear(&regex) == REGRESS_NONLINEAR_TOO_MANY_INSTRUCTIONS);
     CHECK(found(&regex, "aaaaaaaaaaaaaaaaaaaaaaaaaaaaaaaa", 0, ROOM) == REGRESS_OUT_OF_STEPS);
     regress_free(&regex);
     CHECK(compiled("(a*)*b", SMALL, &regex) == REGRESS_OK);
-    CHECK(regress_is_linear(&regex) == 1 && regress_steps_per_character(&regex) > 0);
+    CHECK(regress_is_linear(&regex) == 1 && regress_steps_per_byte(&regex) > 0);
     CHECK(regress_nonlinear(&regex) == 0);
     CHECK(found(&regex, "ab", 0, ROOM) == REGRESS_OK && ARE(0, 2, 0, 1));
     regress_free(&regex);
     CHECK(compiled("(?=(a))b", SMALL, &regex) == REGRESS_OK);
-    CHECK(regress_is_linear(&regex) == 0 && regress_steps_per_character(&regex) == 0);
+    CHECK(regress_is_linear(&regex) == 0 && regress_steps_per_byte(&regex) == 0);
     CHECK(regress_nonlinear(&regex) == REGRESS_NONLINEAR_CAPTURING_LOOKAROUND);
-    CHECK(regress_find_steps_per_character(&regex) > 0);
+    CHECK(regress_find_steps_per_byte(&regex) > 0);
     regress_free(&regex);
-    CHECK(compiled("(?=(a))\\1", SMALL, &regex) == REGRESS_OK && regress_find_steps_per_character(&regex) == 0);
+    CHECK(compiled("(?=(a))\\1", SMALL, &regex) == REGRESS_OK && regress_find_steps_per_byte(&regex) == 0);
     regress_free(&regex);
     /* of several reasons the first */
     CHECK(compiled_within(&tables, "(?=(a))\\1", &regex) == REGRESS_OK);
@@ -433,7 +489,7 @@ static void zero_handles(void) {
     CHECK(all_replaced(&zero, "a", "b", ROOM) == REGRESS_BAD_INPUT && are_none());
     CHECK(name(&zero, 1, ROOM) == REGRESS_BAD_INPUT && are_bytes(""));
     CHECK(regress_group_count(&zero) == 0 && regress_is_linear(&zero) == 0 && regress_nonlinear(&zero) == 0);
-    CHECK(regress_steps_per_character(&zero) == 0 && regress_find_steps_per_character(&zero) == 0);
+    CHECK(regress_steps_per_byte(&zero) == 0 && regress_find_steps_per_byte(&zero) == 0);
     CHECK(found(NULL, "a", 0, ROOM) == REGRESS_BAD_INPUT && regress_group_count(NULL) == 0);
     regress_free(&zero);
 }
@@ -474,9 +530,9 @@ static void refuse(const char *pattern, const char *text) {
             requests = refused = 0;
             CHECK(name(&regex, 1, ROOM) == (regress_group_count(&regex) ? REGRESS_OK : REGRESS_BAD_INPUT));
             CHECK(message(kind ? kind : 1, ROOM) == REGRESS_OK);
-            CHECK((regress_is_linear(&regex) == 1) == (regress_steps_per_character(&regex) > 0));
+            CHECK((regress_is_linear(&regex) == 1) == (regress_steps_per_byte(&regex) > 0));
             CHECK((regress_is_linear(&regex) == 1) == (regress_nonlinear(&regex) == 0));
-            CHECK(regress_is_linear(&regex) == 0 || regress_find_steps_per_character(&regex) > 0);
+            CHECK(regress_is_linear(&regex) == 0 || regress_find_steps_per_byte(&regex) > 0);
             CHECK(requests == 0);
             refused = -1;
             CHECK(found_all(&regex, text, ROOM) == REGRESS_OK && memcmp(spans, expected, sizeof expected) == 0);
@@ -492,8 +548,22 @@ static void refuse(const char *pattern, const char *text) {
     printf("%s: out of memory in %zu of %ld runs\n", pattern, wanting, most);
 }
 
-/* A call that searches. That for all matches begins at an offset, and there has no status for no match. */
-enum searching { FINDING, FINDING_ALL, TESTING };
+/* A call that searches. Those for all matches begin at an offset, and have no status for no match there. */
+enum searching { FINDING, FINDING_ALL, LISTING, TESTING };
+
+/* Lists the matches, and writes all of them. */
+static uint32_t listed(const regress_regex *regex, const char *text) {
+    regress_matches matches = {NULL};
+    size_t written = 0;
+    mark();
+    uint32_t status = regress_matches_new(regex, (const uint8_t *)text, strlen(text), 1, &matches);
+    while (regress_matches_next(&matches, spans + written, ROOM - written, &needed) == REGRESS_OK) {
+        written += needed;
+    }
+    regress_matches_free(&matches);
+    needed = 0;
+    return status == REGRESS_OK && written == 0 ? REGRESS_NO_MATCH : status;
+}
 
 static uint32_t searched(enum searching how, const regress_regex *regex, const char *text) {
     if (how == FINDING) {
@@ -502,6 +572,9 @@ static uint32_t searched(enum searching how, const regress_regex *regex, const c
     if (how == FINDING_ALL) {
         uint32_t status = found_all_from(regex, text, 1, ROOM);
         return status == REGRESS_OK && needed == 0 ? REGRESS_NO_MATCH : status;
+    }
+    if (how == LISTING) {
+        return listed(regex, text);
     }
     mark();
     needed = 0;
@@ -598,6 +671,7 @@ int main(void) {
     rooms();
     errors();
     limits();
+    lists();
     names();
     messages();
     replaces();

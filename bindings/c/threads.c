@@ -24,6 +24,11 @@ static int calls(void) {
     int wrong = 0;
     wrong += regress_find(&shared, bytes, length, 0, spans, 16, &needed) != REGRESS_OK || spans[0] != 3;
     wrong += regress_find_all(&shared, bytes, length, 4, spans, 16, &needed) != REGRESS_OK || spans[0] != 18;
+    regress_matches matches;
+    wrong += regress_matches_new(&shared, bytes, length, 4, &matches) != REGRESS_OK
+             || regress_matches_next(&matches, spans, 16, &needed) != REGRESS_OK || spans[0] != 18
+             || regress_matches_next(&matches, spans, 16, &needed) != REGRESS_NO_MATCH;
+    regress_matches_free(&matches);
     wrong += regress_is_match(&shared, bytes, length) != REGRESS_OK;
     wrong += regress_replace_all(&shared, bytes, length, (const uint8_t *)"$3.$2.$1", 8, out, 64, &needed) != REGRESS_OK
              || needed != strlen(replaced) || memcmp(out, replaced, needed) != 0;
@@ -31,7 +36,7 @@ static int calls(void) {
     wrong += regress_group_count(&shared) != 3;
     wrong += regress_group_name(&shared, 1, out, 64, &needed) != REGRESS_OK || memcmp(out, "year", 5) != 0;
     wrong += regress_is_linear(&shared) != 1 || regress_nonlinear(&shared) != 0;
-    wrong += regress_steps_per_character(&shared) == 0 || regress_find_steps_per_character(&shared) == 0;
+    wrong += regress_steps_per_byte(&shared) == 0 || regress_find_steps_per_byte(&shared) == 0;
     return wrong;
 }
 

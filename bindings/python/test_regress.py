@@ -8,6 +8,7 @@ needs a library that is linked with refuse.c, as tools/check_python links it, an
 import copy
 import ctypes
 import doctest
+import gc
 import pathlib
 import pickle
 import re
@@ -15,6 +16,7 @@ import sys
 import threading
 import time
 import unittest
+import weakref
 
 if len(sys.argv) > 1:
     sys.path.insert(0, sys.argv.pop(1))
@@ -99,8 +101,8 @@ class Re(unittest.TestCase):
     """Compares with Python's re, over patterns and texts for which both have the same results."""
 
     PATTERNS = ['a', 'a+', '(a)(b)?', '(?:a|(b))(c)?', '[^a]', '^a', 'b$', 'é+', '(.)(.)', 'x*', '', 'a|ab',
-                '(a|ab)(c|bcd)?']
-    TEXTS = ['', 'a', 'abc', 'aab', 'abcd', 'éaé', 'ab' * 40 + 'é' + 'ba' * 40, 'a😀b', 'ééé', '日本ab']
+                '(a|ab)(c|bcd)?', '(?<=(.))(.)', '(.)(.)((.)|(x))(y|(.))(.)?(z)?(.)']
+    TEXTS = ['', 'a', 'abc', 'aab', 'abcd', 'éaé', 'ab' * 40 + 'é' + 'ba' * 40, 'a😀b', 'ééé', '日本ab', 'é日a😀éxy本']
 
     def pairs(self):
         for pattern in self.PATTERNS:
@@ -273,6 +275,32 @@ class Calls(unittest.TestCase):
             self.assertEqual(caught.exception.kind, 'Flags')
         self.assertRaises(TypeError, regress.compile, 'a', 1.5)
 
+    def test_patterns_are_freed(self):
+        freed = []
+        pattern = regress.compile('a')
+        weakref.finalize(pattern, freed.append, 'pattern')
+        found, matches = pattern.search('bab'), pattern.finditer('aba')
+        next(matches)
+        del pattern
+        gc.collect()
+        self.assertEqual((freed, found.re.pattern, next(matches).span()), ([], 'a', (2, 3)))
+        del found, matches
+        gc.collect()
+        self.assertEqual(freed, ['pattern'])
+
+    def test_keywords_and_types_of_arguments(self):
+        pattern = regress.compile('(a)|b')
+        self.assertEqual(pattern.search(string='ba', pos=1).span(group=1), (1, 2))
+        self.assertEqual(pattern.search('ba', endpos=1).groups(default='-'), ('-',))
+        self.assertEqual(pattern.findall('aba', pos=1), ['', 'a'])
+        self.assertEqual([found.start() for found in pattern.finditer('aba', endpos=2)], [0, 1])
+        self.assertEqual(pattern.search('a').group(0, 1), ('a', 'a'))
+        self.assertRaises(TypeError, pattern.search)
+        self.assertRaises(TypeError, pattern.search, b'a')
+        self.assertRaises(TypeError, pattern.search, 'a', 'b')
+        self.assertRaises(TypeError, pattern.search('a').group, 1.5)
+        self.assertRaises(TypeError, regress.Match)
+
     def test_functions(self):
         self.assertEqual(regress.search('b+', 'abb').span(), (1, 3))
         self.assertEqual(regress.match('a', 'ab').span(), (0, 1))
@@ -370,7 +398,7 @@ class Calls(unittest.TestCase):
     def test_linear_patterns(self):
         pattern = regress.compile('(a*)*b')
         self.assertTrue(pattern.is_linear)
-        self.assertGreater(pattern.steps_per_character, 0)
+        self.assertGreater(pattern.steps_per_byte, 0)
         self.assertIsNone(pattern.nonlinear)
         for pattern, nonlinear in (
             (regress.compile(r'(a)\1'), 'back-reference'),
@@ -379,7 +407,7 @@ class Calls(unittest.TestCase):
             (regress.compile(r'(?=(a))\1', linear_instructions=1), 'back-reference'),
         ):
             self.assertFalse(pattern.is_linear)
-            self.assertIsNone(pattern.steps_per_character)
+            self.assertIsNone(pattern.steps_per_byte)
             self.assertEqual(pattern.nonlinear, nonlinear)
             self.assertEqual(pattern.is_find_linear, nonlinear == 'capturing-lookaround')
 

@@ -45,9 +45,10 @@ this module is tested.
 
 import collections
 import ctypes
-import operator
 import enum
 import functools
+import itertools
+import operator
 import os
 import re as _re
 import sys
@@ -283,7 +284,7 @@ class Pattern:
         is_linear: whether searches take linear time, so that the limit of steps does not apply to them
         nonlinear: why they do not, 'back-reference', 'capturing-lookaround' or 'too-many-instructions', the first of
             these that holds; None if they do
-        steps_per_character: a search takes at most that times (length + 1) steps, where the length of the text is in
+        steps_per_byte: a search takes at most that times (length + 1) steps, where the length of the text is in
             bytes of UTF-8; None if searches are not linear
         is_find_linear: whether a search for one match takes linear time: also where a lookaround has a group
         groups: the number of its groups
@@ -295,35 +296,38 @@ class Pattern:
         self.flags = _letters(flags, self.pattern)
         self._limits = (steps, nodes, instructions, linear_instructions)
         self._program = program = _Program(_utf8(self.pattern), _bits(self.flags), self._limits, self.pattern)
-        # For fullmatch, at its first call.
+        # The call of fullmatch, after the first.
         self._full = None
         self._type = type(self.pattern)
         self._names = program.names()
-        self.steps_per_character = program.steps_per_character or None
+        self.steps_per_byte = program.steps_per_byte or None
         self.nonlinear = program.nonlinear
         self.is_linear = self.nonlinear is None
-        self.is_find_linear = program.find_steps_per_character > 0
+        self.is_find_linear = program.find_steps_per_byte > 0
         self.groups = program.groups
         self.groupindex = {}
         for number, name in enumerate(self._names, 1):
             if name:
                 self.groupindex.setdefault(name, number)
+        if _native:
+            # The calls of the extension module do what the methods with these names do.
+            native = self._searcher(program)
+            self.search, self.match, self.findall = native.search, native.match, native.findall
+            self.finditer, self._replaced = native.finditer, native.replaced
 
     def search(self, string, pos=0, endpos=_END):
         """Returns the leftmost Match that starts at pos or later, or None.
 
         The text before pos is seen by ^ and lookbehinds. Text from endpos on is not seen.
         """
-        return self._first(self._program, _Text(self, string, pos, endpos))
+        return self._first(self._program, string, pos, endpos, False)
 
     def match(self, string, pos=0, endpos=_END):
         """Returns the Match that starts at pos, or None.
 
         It takes the time of search(), which it calls.
         """
-        text = _Text(self, string, pos, endpos)
-        found = self._first(self._program, text)
-        return found if found and found._spans[0] == text.from_offset else None
+        return self._first(self._program, string, pos, endpos, True)
 
     def fullmatch(self, string, pos=0, endpos=_END):
         """Returns the Match that starts at pos and ends at endpos or at the end of the text, or None.
@@ -333,10 +337,12 @@ class Pattern:
         """
         if self._full is None:
             wrapped = b'(?:' + _utf8(self.pattern) + b')(?![^])'
-            self._full = _Program(wrapped, _bits(self.flags), self._limits, self.pattern, offset=3)
-        text = _Text(self, string, pos, endpos)
-        found = self._first(self._full, text)
-        return found if found and found._spans[0] == text.from_offset else None
+            program = _Program(wrapped, _bits(self.flags), self._limits, self.pattern, offset=3)
+            if _native:
+                self._full = self._searcher(program).match
+            else:
+                self._full = lambda *arguments: self._first(program, *arguments, True)
+        return self._full(string, pos, endpos)
 
     def finditer(self, string, pos=0, endpos=_END):
         """Returns an iterator over all non-overlapping matches, from left to right.
@@ -345,18 +351,18 @@ class Pattern:
         call returns.
         """
         text = _Text(self, string, pos, endpos)
-        return (Match(self, text, spans) for spans in self._all(text))
+        return (text.match(self, spans) for spans in self._all(text))
 
     def findall(self, string, pos=0, endpos=_END):
         """Returns the list of all matches of finditer(): their texts, or those of the group if there is one, or tuples
         of those of the groups. An unset group is empty."""
-        text = _Text(self, string, pos, endpos)
-        part, empty = text.part, self.pattern[:0]
+        found = self.finditer(string, pos, endpos)
         if self.groups == 0:
-            return [part(start, end) for start, end in self._all(text)]
+            return [match[0] for match in found]
+        empty = self.pattern[:0]
         if self.groups == 1:
-            return [part(start, end) if start >= 0 else empty for _, _, start, end in self._all(text)]
-        return [Match(self, text, spans).groups(empty) for spans in self._all(text)]
+            return [match.groups(empty)[0] for match in found]
+        return [match.groups(empty) for match in found]
 
     def sub(self, repl, string, count=0):
         r"""Returns the string with all matches replaced, or the first count of them.
@@ -367,32 +373,27 @@ class Pattern:
         """
         if callable(repl) or count not in (0, 1):
             return self.subn(repl, string, count)[0]
-        text = _Text(self, string)
-        out = _replace(self._program.address, text.data, _utf8(_same_type(self, repl)), count == 0)
-        if type(out) is int:
-            raise self._program.failure(out)
-        return text.decoded(out)
+        return self._replaced(repl, string, count == 0)
 
     def subn(self, repl, string, count=0):
         """Returns a tuple of the string as by sub(), and the number of matches that were replaced."""
-        text = _Text(self, string)
-        matches = self._all(text)
-        if count > 0:
-            del matches[count:]
-        elif count < 0:
-            matches = []
+        text = _same_type(self, string)
+        matches = self.finditer(text)
+        if count:
+            matches = itertools.islice(matches, max(count, 0))
         if callable(repl):
             def replaced(found):
-                return _utf8(_same_type(self, repl(found)))
+                return _valid(_same_type(self, repl(found)))
         else:
-            replaced = _expander(self, _utf8(_same_type(self, repl)))
-        data, parts, from_offset = text.data, [], 0
-        for spans in matches:
-            parts.append(data[from_offset:spans[0]])
-            parts.append(replaced(Match(self, text, spans)))
-            from_offset = spans[1]
-        parts.append(data[from_offset:])
-        return text.decoded(b''.join(parts)), len(matches)
+            replaced = _expander(self, _valid(_same_type(self, repl)))
+        parts, at = [], 0
+        for found in matches:
+            start, end = found.span()
+            parts.append(text[at:start])
+            parts.append(replaced(found))
+            at = end
+        parts.append(text[at:])
+        return text[:0].join(parts), len(parts) // 2
 
     def split(self, string, maxsplit=0):
         """Returns the list of the parts of the string between the matches, with the groups of each match, or of the
@@ -401,46 +402,56 @@ class Pattern:
         As in JavaScript, an empty match does not split at the ends of the string or at the end of the match before it,
         and an empty string that matches has no parts.
         """
-        text = _Text(self, string)
-        matches = self._all(text)
-        length = len(text.data)
-        if not length and matches:
-            return []
-        parts = []
-        from_offset = 0
-        splits = 0
-        for spans in matches:
-            start, end = spans[:2]
-            if start == length or end == from_offset:
+        text = _same_type(self, string)
+        matches = self.finditer(text)
+        if not text:
+            return [text] if next(matches, None) is None else []
+        parts, at, splits = [], 0, 0
+        for found in matches:
+            start, end = found.span()
+            if start == len(text) or end == at:
                 continue
             if maxsplit < 0 or splits == maxsplit > 0:
                 break
-            parts.append(text.part(from_offset, start))
-            if self.groups:
-                parts.extend(Match(self, text, spans).groups())
-            from_offset = end
+            parts.append(text[at:start])
+            parts.extend(found.groups())
+            at = end
             splits += 1
-        parts.append(text.part(from_offset, length))
+        parts.append(text[at:])
         return parts
 
-    def _first(self, program, text):
-        """Returns the leftmost match in a text."""
-        if text.from_offset > len(text.data):
+    def _searcher(self, program):
+        """Returns what searches for a program of this pattern, in the extension module."""
+        return _native.Searcher(self, program, program.address, program.groups, self._type is bytes)
+
+    def _first(self, program, string, pos, endpos, is_at_pos):
+        """Returns the leftmost match, if it starts at pos where it has to."""
+        text = _Text(self, string, pos, endpos)
+        if text.start > len(text.data):
             return None
-        spans = _find(program.address, program.width, text.data, text.from_offset)
-        if spans is None:
-            return None
+        spans = _find(program.address, program.width, text.data, text.start)
         if type(spans) is int:
             raise program.failure(spans)
-        return Match(self, text, spans)
+        if spans is None or is_at_pos and spans[0] != text.start:
+            return None
+        return text.match(self, spans)
 
     def _all(self, text):
         """Returns the list of the spans of all matches in a text."""
-        program = self._program
-        matches = _find_all(program.address, program.width, text.data, text.from_offset)
+        if text.start > len(text.data):
+            return []
+        matches = _find_all(self._program.address, self._program.width, text.data, text.start)
         if type(matches) is int:
-            raise program.failure(matches)
+            raise self._program.failure(matches)
         return matches
+
+    def _replaced(self, template, string, replace_all):
+        """Returns a text with its first match replaced by a template, or all."""
+        data = _utf8(_same_type(self, string))
+        out = _replace(self._program.address, data, _utf8(_same_type(self, template)), replace_all)
+        if type(out) is int:
+            raise self._program.failure(out)
+        return out if self._type is bytes else out.decode()
 
     def __repr__(self):
         return 'regress.compile(%r%s)' % (self.pattern, self.flags and ', %r' % self.flags)
@@ -477,35 +488,33 @@ class Match:
         pos, endpos: where the search began and ended
     """
 
-    __slots__ = 're', '_text', '_spans'
+    __slots__ = 're', 'string', 'pos', 'endpos', '_own', '_spans'
 
-    def __init__(self, pattern, text, spans):
+    def __init__(self, pattern, string, pos, endpos, own, spans):
         self.re = pattern
-        self._text = text
-        # The byte offsets of the match and of each group, -1 for one that is unset.
+        self.string = string
+        self.pos = pos
+        self.endpos = endpos
+        # The text in the type of the pattern, up to endpos.
+        self._own = own
+        # The positions of the match and of each group, -1 for one that is unset.
         self._spans = spans
-
-    string = property(lambda self: self._text.string)
-    pos = property(lambda self: self._text.pos)
-    endpos = property(lambda self: self._text.endpos)
 
     def group(self, *groups):
         """Returns the text of a group, None if it is unset; a tuple for several groups; the match without argument."""
-        if not groups:
-            return self._text.part(*self._spans[:2])
         if len(groups) > 1:
             return tuple(self[group] for group in groups)
-        return self[groups[0]]
+        return self[groups[0] if groups else 0]
 
     def __getitem__(self, group):
         """Returns the text of a group, None if it is unset."""
-        start, end = self._offsets(group)
-        return None if start < 0 else self._text.part(start, end)
+        start, end = self.span(group)
+        return None if start < 0 else self._own[start:end]
 
     def groups(self, default=None):
         """Returns the tuple of the texts of all groups, with a default for those that are unset."""
-        spans, part = self._spans, self._text.part
-        return tuple([default if spans[at] < 0 else part(spans[at], spans[at + 1]) for at in range(2, len(spans), 2)])
+        spans, own = self._spans, self._own
+        return tuple([default if spans[at] < 0 else own[spans[at]:spans[at + 1]] for at in range(2, len(spans), 2)])
 
     def groupdict(self, default=None):
         """Returns the dict from the names of groups to their texts, with a default for those that are unset."""
@@ -514,8 +523,12 @@ class Match:
 
     def span(self, group=0):
         """Returns the tuple of the start and the end of a group, (-1, -1) if it is unset."""
-        start, end = self._offsets(group)
-        return (-1, -1) if start < 0 else (self._text.index(start), self._text.index(end))
+        if isinstance(group, str):
+            return self._named(group)
+        number = operator.index(group)
+        if not 0 <= number <= self.re.groups:
+            raise IndexError('no such group')
+        return self._spans[2 * number:2 * number + 2]
 
     def start(self, group=0):
         """Returns the position at which a group starts, -1 if it is unset."""
@@ -527,15 +540,7 @@ class Match:
 
     def expand(self, template):
         """Returns what a template expands to, as by sub()."""
-        return self._text.decoded(_expander(self.re, _utf8(_same_type(self.re, template)))(self))
-
-    def _offsets(self, group):
-        if isinstance(group, str):
-            return self._named(group)
-        number = operator.index(group)
-        if not 0 <= number <= self.re.groups:
-            raise IndexError('no such group')
-        return self._spans[2 * number:2 * number + 2]
+        return _expander(self.re, _valid(_same_type(self.re, template)))(self)
 
     def _named(self, name):
         if name not in self.re.groupindex:
@@ -549,52 +554,39 @@ class Match:
 
 
 class _Text:
-    """A text that is searched: its bytes, and its positions."""
+    """A text that is searched: its bytes, and its positions. The extension module has its own."""
 
     # If there are other characters than ASCII, the number of characters before each block of bytes is kept.
     BLOCK = 64
 
-    __slots__ = 'string', 'pos', 'endpos', 'data', 'from_offset', 'same', '_counts'
+    __slots__ = 'string', 'own', 'pos', 'endpos', 'data', 'start', 'is_same', '_counts'
 
     def __init__(self, pattern, string, pos=0, endpos=_END):
         self.string = string
-        text = string if type(string) is pattern._type else _same_type(pattern, string)
+        text = _same_type(pattern, string)
         length = len(text)
-        if pos:
-            pos = min(max(operator.index(pos), 0), length)
-        self.pos = pos
-        if endpos >= length:
-            self.endpos = length
-        else:
-            self.endpos = endpos = max(operator.index(endpos), 0)
-            text = text[:endpos]
-        # The text itself, if its positions are byte offsets.
-        self.same = text
-        if type(text) is bytes:
-            self.data = text
-            self.from_offset = pos
-        elif text.isascii():
-            self.data = text.encode()
-            self.from_offset = pos
-        else:
-            self.same = None
-            self.data = _utf8(text)
+        self.pos = pos = min(max(operator.index(pos), 0), length)
+        self.endpos = min(max(operator.index(endpos), 0), length)
+        self.own = text = text[:self.endpos]
+        self.data = text if type(text) is bytes else _utf8(text)
+        # Whether positions are byte offsets.
+        self.is_same = type(text) is bytes or text.isascii()
+        self.start = pos
+        if not self.is_same:
             # Past the end if the search ends before it begins.
-            self.from_offset = len(text[:pos].encode()) if pos <= self.endpos else len(self.data) + 1
+            self.start = len(text[:pos].encode()) if pos <= self.endpos else len(self.data) + 1
         self._counts = None
 
-    def part(self, start, end):
-        """Returns a part of the text."""
-        return self.data[start:end].decode() if self.same is None else self.same[start:end]
+    def match(self, pattern, spans):
+        """Returns the match with these spans."""
+        if not self.is_same:
+            spans = tuple([self._index(offset) for offset in spans])
+        return Match(pattern, self.string, self.pos, self.endpos, self.own, spans)
 
-    def decoded(self, data):
-        """Returns bytes in the type of the text."""
-        return data if type(self.same) is bytes else data.decode()
-
-    def index(self, offset):
-        """Returns the position of a byte offset."""
-        if self.same is not None:
-            return offset
+    def _index(self, offset):
+        """Returns the position of a byte offset, -1 for -1."""
+        if offset < 0:
+            return -1
         if self._counts is None:
             self._counts = [0]
             for start in range(0, len(self.data), self.BLOCK):
@@ -604,7 +596,7 @@ class _Text:
 
 
 class _Regex(ctypes.Structure):
-    """The regress_regex of regress.h."""
+    """The regress_regex and the regress_matches of regress.h."""
 
     _fields_ = [('inside', ctypes.c_void_p)]
 
@@ -645,8 +637,8 @@ class _Program:
         self.address = self._regex.inside
         self.groups = _library.regress_group_count_raw(self._copy())
         self.width = 2 * (self.groups + 1)
-        self.steps_per_character = _library.regress_steps_per_character_raw(self._copy())
-        self.find_steps_per_character = _library.regress_find_steps_per_character_raw(self._copy())
+        self.steps_per_byte = _library.regress_steps_per_byte_raw(self._copy())
+        self.find_steps_per_byte = _library.regress_find_steps_per_byte_raw(self._copy())
         number = _library.regress_nonlinear_raw(self._copy())
         self.nonlinear = _NONLINEAR[number] if number < len(_NONLINEAR) else 'other'
 
@@ -690,14 +682,16 @@ def _find(address, width, data, start):
 
 
 def _find_all(address, width, data, start):
-    """Returns the list of the tuples of the spans of all matches, or the status of a failure. If the first buffer is
-    too small for them, the search is made again."""
-    room = 8 * width + len(data) // 4
-    status, spans = _call(ctypes.c_ssize_t, room, _OK, lambda *buffer: _library.regress_find_all_raw(
-        _Regex(address), data, len(data), start, *buffer))
+    """Returns the list of the tuples of the spans of all matches, or the status of a failure."""
+    matches, spans, needed = _Regex(), (ctypes.c_ssize_t * width)(), ctypes.c_size_t()
+    status = _library.regress_matches_new_raw(_Regex(address), data, len(data), start, ctypes.byref(matches))
     if status != _OK:
         return status
-    return list(zip(*[iter(spans)] * width))
+    found = []
+    while _library.regress_matches_next_raw(ctypes.byref(matches), spans, width, ctypes.byref(needed)) == _OK:
+        found.append(tuple(spans))
+    _library.regress_matches_free_raw(ctypes.byref(matches))
+    return found
 
 
 def _replace(address, data, template, replace_all):
@@ -818,6 +812,12 @@ def _utf8(string):
     return string
 
 
+def _valid(string):
+    """Returns a text that is Unicode. Raises error if it is not."""
+    _utf8(string)
+    return string
+
+
 def _decoded(data):
     """Returns the text of bytes in UTF-8. Raises error if they are not."""
     try:
@@ -836,49 +836,50 @@ def _characters(data):
 
 
 # The references of templates: a letter, a number, and a name, if the pattern has names.
-_REFERENCES = rb"\$(?:([$&`'])|([0-9][0-9]?))"
-_PLAIN = _re.compile(_REFERENCES)
-_NAMED = _re.compile(_REFERENCES + rb'|\$<([^>]*)>')
+_REFERENCES = r"\$(?:([$&`'])|([0-9][0-9]?))"
+_NAMED_REFERENCES = _REFERENCES + r'|\$<([^>]*)>'
+
+
+@functools.lru_cache(maxsize=None)
+def _references(kind, has_names):
+    """Returns the pattern of the references of a template that is a str or bytes."""
+    source = _NAMED_REFERENCES if has_names else _REFERENCES
+    return _re.compile(source if kind is str else source.encode(), _re.ASCII)
 
 
 def _expander(pattern, template):
-    """Returns the function that returns the bytes of what a template expands to at a match (ECMA-262,
-    GetSubstitution)."""
+    """Returns the function that returns what a template expands to at a match (ECMA-262, GetSubstitution)."""
     pieces = []
     at = 0
-    for reference in (_NAMED if pattern.groupindex else _PLAIN).finditer(template):
+    for reference in _references(pattern._type, bool(pattern.groupindex)).finditer(template):
         pieces.append(template[at:reference.start()])
         pieces.extend(_pieces(pattern, reference))
         at = reference.end()
     pieces.append(template[at:])
-    return lambda found: b''.join(piece if isinstance(piece, bytes) else piece(found) for piece in pieces)
+    return lambda found: template[:0].join([piece(found) if callable(piece) else piece for piece in pieces])
 
 
 def _pieces(pattern, reference):
-    """Returns the list of bytes, and of functions from a match to bytes, that a reference expands to."""
+    """Returns the list of texts, and of functions from a match to texts, that a reference expands to."""
     letter, digits = reference[1], reference[2]
-    if letter == b'$':
-        return [b'$']
-    if letter == b'&':
-        return [lambda found: _capture(found, found._spans[:2])]
-    if letter == b'`':
-        return [lambda found: found._text.data[:found._spans[0]]]
-    if letter == b"'":
-        return [lambda found: found._text.data[found._spans[1]:]]
+    if letter:
+        return [{'$': letter, '&': lambda found: found[0], '`': lambda found: found._own[:found.start()],
+                 "'": lambda found: found._own[found.end():]}[_name(letter)]]
+    empty = reference[0][:0]
     if digits is None:
-        name = reference[3].decode()
-        return [lambda found: _capture(found, found._named(name))] if name in pattern.groupindex else []
+        name = _name(reference[3])
+        return [lambda found: found[name] or empty] if name in pattern.groupindex else []
     # A second digit is taken only if the pattern has as many groups.
     for length in (len(digits), 1):
         number = int(digits[:length])
         if 1 <= number <= pattern.groups:
-            return [lambda found: _capture(found, found._offsets(number)), digits[length:]]
+            return [lambda found: found[number] or empty, digits[length:]]
     return [reference[0]]
 
 
-def _capture(found, span):
-    """Returns the bytes of a capture, which are empty if it is unset."""
-    return b'' if span[0] < 0 else found._text.data[span[0]:span[1]]
+def _name(text):
+    """Returns a part of a template as a str."""
+    return text if isinstance(text, str) else text.decode()
 
 
 def _load():
@@ -909,13 +910,15 @@ def _load():
         'regress_abi_version': (number,),
         'regress_compile_raw': (number, data, size, number, limits, handle, numbers, sizes),
         'regress_find_raw': finding,
-        'regress_find_all_raw': finding,
+        'regress_matches_new_raw': (number, handle, data, size, size, handle),
+        'regress_matches_next_raw': (number, handle, signed, size, sizes),
+        'regress_matches_free_raw': (None, handle),
         'regress_replace_raw': replacing,
         'regress_replace_all_raw': replacing,
         'regress_group_count_raw': (size, handle),
         'regress_group_name_raw': (number, handle, size, octets, size, sizes),
-        'regress_steps_per_character_raw': (wide, handle),
-        'regress_find_steps_per_character_raw': (wide, handle),
+        'regress_steps_per_byte_raw': (wide, handle),
+        'regress_find_steps_per_byte_raw': (wide, handle),
         'regress_nonlinear_raw': (number, handle),
         'regress_escape_raw': (number, data, size, octets, size, sizes),
         'regress_free_raw': (None, handle),
@@ -939,4 +942,8 @@ def _load():
 
 _library, _native = _load()
 if _native:
-    _find, _find_all, _replace = _native.find, _native.find_all, _native.replace
+    _native.setup(_same_type, _utf8)
+    # The type of the extension module has these too, but neither their documentation nor what is not there.
+    for _method in ('__doc__', '__repr__', 'groupdict', 'expand'):
+        setattr(_native.Match, _method, vars(Match)[_method])
+    Match = _native.Match

@@ -70,7 +70,7 @@ class Pattern(Generic[AnyStr]):
     flags: str
     is_linear: bool
     nonlinear: Optional[str]
-    steps_per_character: Optional[int]
+    steps_per_byte: Optional[int]
     is_find_linear: bool
     groups: int
     groupindex: Dict[str, int]

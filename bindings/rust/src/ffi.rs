@@ -25,6 +25,12 @@ struct RegressRegex {
     inside: *mut c_void,
 }
 
+/// A `regress_matches` of the library.
+#[repr(C)]
+struct RegressMatches {
+    inside: *mut c_void,
+}
+
 /// The `regress_limits` of the library. 0 is the default of each.
 #[repr(C)]
 pub(crate) struct Limits {
@@ -74,15 +80,24 @@ extern "C" {
         needed: *mut usize,
     ) -> u32;
 
-    fn regress_find_all_raw(
+    fn regress_matches_new_raw(
         handle: *mut RegressRegex,
         text: *const u8,
         length: usize,
         from: usize,
+        matches: *mut RegressMatches,
+    ) -> u32;
+
+    fn regress_matches_next_raw(
+        matches: *mut RegressMatches,
         spans: *mut usize,
         room: usize,
         needed: *mut usize,
     ) -> u32;
+
+    fn regress_matches_left_raw(matches: *mut RegressMatches) -> usize;
+
+    fn regress_matches_free_raw(matches: *mut RegressMatches);
 
     fn regress_is_match_raw(handle: *mut RegressRegex, text: *const u8, length: usize) -> u32;
 
@@ -120,8 +135,8 @@ extern "C" {
 
     fn regress_nonlinear_raw(handle: *mut RegressRegex) -> u32;
 
-    fn regress_steps_per_character_raw(handle: *mut RegressRegex) -> u64;
-    fn regress_find_steps_per_character_raw(handle: *mut RegressRegex) -> u64;
+    fn regress_steps_per_byte_raw(handle: *mut RegressRegex) -> u64;
+    fn regress_find_steps_per_byte_raw(handle: *mut RegressRegex) -> u64;
 
     fn regress_escape_raw(
         text: *const u8,
@@ -228,6 +243,46 @@ impl Drop for Handle {
     }
 }
 
+/// The matches that a search has found.
+pub(crate) struct MatchList {
+    matches: RegressMatches,
+}
+
+// SAFETY: the library is proved to keep nothing in it that depends on a thread.
+unsafe impl Send for MatchList {}
+
+// SAFETY: each call takes it by `&mut`.
+unsafe impl Sync for MatchList {}
+
+impl Drop for MatchList {
+    fn drop(&mut self) {
+        // SAFETY: regress_matches_new_raw has written it, and it is not used afterwards.
+        unsafe { regress_matches_free_raw(&mut self.matches) }
+    }
+}
+
+impl MatchList {
+    /// Writes the spans of the next match, as `Handle::find`. Returns the status.
+    pub(crate) fn next(&mut self, spans: &mut [usize]) -> u32 {
+        let mut needed = 0;
+        // SAFETY: it is alive, and the pointer and the length are those of a slice.
+        unsafe {
+            regress_matches_next_raw(
+                &mut self.matches,
+                spans.as_mut_ptr(),
+                spans.len(),
+                &mut needed,
+            )
+        }
+    }
+
+    /// Returns how many numbers the matches that are left have.
+    pub(crate) fn left(&mut self) -> usize {
+        // SAFETY: it is alive.
+        unsafe { regress_matches_left_raw(&mut self.matches) }
+    }
+}
+
 /// Returns whether the library has the calls that this crate makes.
 pub(crate) fn has_abi() -> bool {
     // SAFETY: the call has no arguments.
@@ -286,24 +341,25 @@ impl Handle {
         }
     }
 
-    /// Writes the spans of all matches from an offset on.
-    pub(crate) fn find_all(&self, text: &str, from: usize) -> Output<usize> {
-        // If there are more matches, the search is made a second time.
-        let room = (16 * (self.groups + 1)).max(text.len() / 4);
-        with_room(room, |spans: &mut [usize], needed| {
-            // SAFETY: as for `find`.
-            unsafe {
-                regress_find_all_raw(
-                    &mut self.copy(),
-                    start_of(text),
-                    text.len(),
-                    from,
-                    spans.as_mut_ptr(),
-                    spans.len(),
-                    needed,
-                )
-            }
-        })
+    /// Searches for all matches from an offset on. Returns the status if that fails.
+    pub(crate) fn matches(&self, text: &str, from: usize) -> Result<MatchList, u32> {
+        let mut matches = RegressMatches {
+            inside: ptr::null_mut(),
+        };
+        // SAFETY: as for `find`.
+        let status = unsafe {
+            regress_matches_new_raw(
+                &mut self.copy(),
+                start_of(text),
+                text.len(),
+                from,
+                &mut matches,
+            )
+        };
+        match status {
+            OK => Ok(MatchList { matches }),
+            status => Err(status),
+        }
     }
 
     /// Returns the status of a search: OK if there is a match.
@@ -364,15 +420,15 @@ impl Handle {
     }
 
     /// Returns the bound for the steps of a search for each byte of a text, 0 if searches are not linear.
-    pub(crate) fn steps_per_character(&self) -> u64 {
+    pub(crate) fn steps_per_byte(&self) -> u64 {
         // SAFETY: the handle is alive.
-        unsafe { regress_steps_per_character_raw(&mut self.copy()) }
+        unsafe { regress_steps_per_byte_raw(&mut self.copy()) }
     }
 
     /// Returns the bound for the steps of a search for one match for each byte of a text, 0 if there is none.
-    pub(crate) fn find_steps_per_character(&self) -> u64 {
+    pub(crate) fn find_steps_per_byte(&self) -> u64 {
         // SAFETY: the handle is alive.
-        unsafe { regress_find_steps_per_character_raw(&mut self.copy()) }
+        unsafe { regress_find_steps_per_byte_raw(&mut self.copy()) }
     }
 }
 

@@ -41,6 +41,7 @@ pub(crate) use error::syntax_error;
 use crate::ffi::{self, Handle};
 use crate::flags::{bits, Flags, PatternFlags, Table};
 use error::{compile_error, search_error};
+use found::Found;
 use names::Names;
 use spans::Spans;
 use std::borrow::Cow;
@@ -64,9 +65,9 @@ struct Compiled {
     /// Why searches are not linear, `None` if they are.
     nonlinear: Option<Nonlinear>,
     /// The bound for the steps of a search for each byte of a text, if they are linear.
-    steps_per_character: u64,
+    steps_per_byte: u64,
     /// The bound for the steps of a search for one match, 0 if there is none.
-    find_steps_per_character: u64,
+    find_steps_per_byte: u64,
     /// The names of the groups, if some group has one.
     named: Option<Arc<Names>>,
 }
@@ -146,8 +147,8 @@ impl Regex {
         let names = Names::of(&handle).ok_or(Error::Library)?;
         Ok(Regex {
             compiled: Arc::new(Compiled {
-                steps_per_character: handle.steps_per_character(),
-                find_steps_per_character: handle.find_steps_per_character(),
+                steps_per_byte: handle.steps_per_byte(),
+                find_steps_per_byte: handle.find_steps_per_byte(),
                 handle,
                 pattern: pattern.to_owned(),
                 flags,
@@ -194,7 +195,7 @@ impl Regex {
     ) -> Result<Option<Match<'t>>, SearchError> {
         let mut spans = Spans::unset(self.group_count());
         match self.handle().find(text, start, spans.numbers_mut()) {
-            ffi::OK => Match::new(self, text, spans).map(Some),
+            ffi::OK => Match::new(text, spans, &self.compiled.named).map(Some),
             ffi::NO_MATCH => Ok(None),
             status => Err(search_error(status)),
         }
@@ -217,7 +218,8 @@ impl Regex {
     /// Returns an iterator over the non-overlapping matches in `text`, from left to right. After an empty match the
     /// search goes on one character further.
     ///
-    /// All matches are found by this call. If the search fails, the iterator returns the error, and no match.
+    /// All matches are found by this call, and given one by one. If the search fails, the iterator returns the error, and
+    /// no match.
     pub fn find_iter<'r, 't>(&'r self, text: &'t str) -> Matches<'r, 't> {
         self.find_from(text, 0)
     }
@@ -225,7 +227,7 @@ impl Regex {
     /// Returns an iterator over the non-overlapping matches in `text` that start at the byte offset `start` or later, as
     /// [`Regex::find_iter`], and with a `start` as for [`Regex::find_at`].
     pub fn find_from<'r, 't>(&'r self, text: &'t str, start: usize) -> Matches<'r, 't> {
-        Matches::new(self, text, self.all_spans(text, start))
+        Matches::new(self, self.found_from(text, start))
     }
 
     /// Returns all non-overlapping matches in `text`, from left to right.
@@ -365,8 +367,8 @@ impl Regex {
 
     /// Returns a number, at most `u64::MAX`: a search takes at most that times (length + 1) steps, where the length of
     /// the text is in bytes. The result is `None` if searches are not linear.
-    pub fn steps_per_character(&self) -> Option<u64> {
-        Some(self.compiled.steps_per_character).filter(|_| self.is_linear())
+    pub fn steps_per_byte(&self) -> Option<u64> {
+        Some(self.compiled.steps_per_byte).filter(|_| self.is_linear())
     }
 
     /// Returns whether a search for one match ([`Regex::find`], [`Regex::is_match`] and the like) takes time linear in
@@ -382,13 +384,13 @@ impl Regex {
     /// # Ok::<(), regress_front::Error>(())
     /// ```
     pub fn is_find_linear(&self) -> bool {
-        self.find_steps_per_character().is_some()
+        self.find_steps_per_byte().is_some()
     }
 
     /// Returns a number, at most `u64::MAX`: a search for one match takes at most that times (length + 1) steps, where the
     /// length of the text is in bytes. The result is `None` if such a search does not take linear time.
-    pub fn find_steps_per_character(&self) -> Option<u64> {
-        Some(self.compiled.find_steps_per_character).filter(|&steps| steps > 0)
+    pub fn find_steps_per_byte(&self) -> Option<u64> {
+        Some(self.compiled.find_steps_per_byte).filter(|&steps| steps > 0)
     }
 
     /// Returns the number of capture groups, without the whole match.
@@ -403,12 +405,11 @@ impl Regex {
         names.chain(iter::repeat(None)).take(self.group_count())
     }
 
-    /// Returns the spans of all matches from an offset on, and of their groups.
-    fn all_spans(&self, text: &str, start: usize) -> Result<Vec<usize>, SearchError> {
-        let output = self.handle().find_all(text, start);
-        match output.status {
-            ffi::OK => Ok(output.items),
-            status => Err(search_error(status)),
+    /// Searches for all matches from an offset on.
+    fn found_from<'t>(&self, text: &'t str, start: usize) -> Result<Found<'t>, SearchError> {
+        match self.handle().matches(text, start) {
+            Ok(list) => Ok(Found::new(self, text, list)),
+            Err(status) => Err(search_error(status)),
         }
     }
 

@@ -4,8 +4,10 @@
 use regress_front::{differences, Difference, DifferenceKind, Error, FaultKind, Flags};
 
 extern "C" {
-    fn regress_difference_name_raw(kind: u32, out: *mut u8, room: usize, needed: *mut usize) -> u32;
-    fn regress_difference_text_raw(kind: u32, out: *mut u8, room: usize, needed: *mut usize) -> u32;
+    fn regress_difference_name_raw(kind: u32, out: *mut u8, room: usize, needed: *mut usize)
+        -> u32;
+    fn regress_difference_text_raw(kind: u32, out: *mut u8, room: usize, needed: *mut usize)
+        -> u32;
 }
 
 const KINDS: [DifferenceKind; 3] = [

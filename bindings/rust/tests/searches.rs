@@ -108,7 +108,7 @@ fn the_reason_why_searches_are_not_linear_is_known() {
             ..Options::default()
         };
         let regex = Regex::with_options(pattern, Flags::default(), options).unwrap();
-        assert_eq!(regex.is_linear(), regex.steps_per_character().is_some());
+        assert_eq!(regex.is_linear(), regex.steps_per_byte().is_some());
         assert_eq!(regex.is_linear(), regex.nonlinear().is_none());
         regex.nonlinear()
     };
@@ -396,7 +396,7 @@ fn linear_searches_have_no_step_limit() {
     let text = "a".repeat(1000);
     let regex = within("(a*)*b", steps).unwrap();
     assert!(regex.is_linear());
-    assert!(regex.steps_per_character().is_some_and(|steps| steps > 0));
+    assert!(regex.steps_per_byte().is_some_and(|steps| steps > 0));
     assert_eq!(regex.is_match(&text), Ok(false));
     let regex = within(
         "(a*)*b",
@@ -407,11 +407,11 @@ fn linear_searches_have_no_step_limit() {
     )
     .unwrap();
     assert!(!regex.is_linear());
-    assert_eq!(regex.steps_per_character(), None);
+    assert_eq!(regex.steps_per_byte(), None);
     assert_eq!(regex.is_match(&text), Err(SearchError::OutOfSteps));
     let regex = Regex::new(r"(a)\1").unwrap();
     assert!(!regex.is_linear() && !regex.is_find_linear());
-    assert_eq!(regex.find_steps_per_character(), None);
+    assert_eq!(regex.find_steps_per_byte(), None);
 }
 
 #[test]
@@ -422,9 +422,7 @@ fn a_match_is_found_in_linear_time_also_where_lookarounds_capture() {
     };
     let regex = Regex::with_options("(?:(?=(a*))a)*b", Flags::default(), steps).unwrap();
     assert!(regex.is_find_linear() && !regex.is_linear());
-    assert!(regex
-        .find_steps_per_character()
-        .is_some_and(|steps| steps > 0));
+    assert!(regex.find_steps_per_byte().is_some_and(|steps| steps > 0));
     // At the last `a` that is consumed, `a*` consumes that one.
     let text = format!("{}b", "a".repeat(1000));
     let found = regex.find(&text).unwrap().unwrap();

@@ -8,14 +8,16 @@ use Rattle.regress_base.proofs.lemmas.Sets.{canonical_is, intervals_of-member}
 use Rattle.regress_unicode.specs.SmallTable.{small_table}
 use Rattle.regress_base.specs.Table.{named}
 use Rattle.regress_classes.specs.ClassProductions.{complement}
-use Rattle.regress_classes.specs.ClassSets.{Value, nothing, class_set_at, class_set_by, parts_by, operands_by, operand_at, set_character_at, strings_by}
+use Rattle.regress_classes.specs.ClassSets.{Value, nothing, only, class_set_at, class_set_by, parts_by, operands_by, operand_at, set_character_at, strings_by}
+use Rattle.regress_lexer.specs.declared.dialect.Dialect.{Dialect}
+use Rattle.regress_lexer.specs.declared.dialect.Dialect.TheVariants.{Regress, Ecma}
 use Rattle.regress_lexer.specs.Digits.{front, after}
 use Rattle.regress_lexer.specs.Escapes.{escape_at, unicode_at}
 use Rattle.regress_syntax.specs.Meaning.{longest_first}
 use Rattle.regress_classes.specs.Properties.{Property, of_points, of_strings, property_at}
 use Rattle.regress_syntax.specs.GroupTokens.{captures, closes, nests}
 use Rattle.regress_syntax.specs.Scan.{plain, tokens}
-use Rattle.regress_lexer.specs.Source.{Source, Found}
+use Rattle.regress_lexer.specs.Source.{Source, Found, found_map}
 
 abbrev run : ℕ → ℕ → Bounds
 run first last = record { first = first; last = last }
@@ -24,10 +26,18 @@ run first last = record { first = first; last = last }
 abbrev one : ℕ → Bounds
 one c = run c c
 
--- what is parsed with the letters and names of the small table, without the flag u
-unfoldable read : Source → Found (Bool × Value)
+-- The letters and names of the small table, a dialect, and the flag u or not. Whether what is written may contain strings
+-- is left out.
+unfoldable read_in : Dialect → Bool → Source → Found (Bool × Value)
 unfolding class_set_by parts_by operands_by operand_at set_character_at strings_by escape_at unicode_at front after property_at named small_table
-read t = class_set_at small_table false t
+read_in dialect unicode t =
+    found_map (λ (negated, v). (negated, record v { may_have_strings = false }))
+    (class_set_at small_table (record { dialect = dialect; unicode = unicode; named = false }) t)
+
+-- what is parsed in the dialect of `try_parse`, without the flag u
+unfoldable read : Source → Found (Bool × Value)
+unfolding read_in
+read t = read_in Regress false t
 
 -- The whole source is a class, negated or not, with these code points and strings, and with classes nested this deep
 -- inside.
@@ -67,6 +77,36 @@ a_single_ampersand_may_occur_before_a_mark : Holds (codes "a&!b]") (one 97 ∷ o
 unfolding read
 a_single_ampersand_may_occur_before_a_mark = refl
 
+-- ---- the dialect `Ecma`
+
+-- The same in the dialect `Ecma`, with the flag u, which the flag v implies there.
+unfoldable read_ecma : Source → Found (Bool × Value)
+unfolding read_in
+read_ecma t = read_in Ecma true t
+
+abbrev HoldsInEcma : Source → List Bounds → Type 0
+HoldsInEcma t members = read_ecma t ≡ Some ((false, only members), [])
+
+two_punctuators_are_members : HoldsInEcma (codes "!#]") (one 0x21 ∷ one 0x23 ∷ [])
+unfolding read_ecma
+two_punctuators_are_members = refl
+
+one_punctuator_twice_is_an_error : read_ecma (codes "!!]") ≡ None
+unfolding read_ecma
+one_punctuator_twice_is_an_error = refl
+
+an_ampersand_begins_a_range : HoldsInEcma (codes "a&-c]") (one 97 ∷ run 38 99 ∷ [])
+unfolding read_ecma
+an_ampersand_begins_a_range = refl
+
+no_ampersand_follows_an_operator : read_ecma (codes "a&&&]") ≡ None
+unfolding read_ecma
+no_ampersand_follows_an_operator = refl
+
+a_negated_class_has_no_strings_in_writing : read_ecma (codes "^\\q{ab}--\\q{ab}]") ≡ None
+unfolding read_ecma
+a_negated_class_has_no_strings_in_writing = refl
+
 -- ---- strings
 
 a_range_beside_a_string : Holds (codes "a-c\\q{xy}]") (run 0x61 0x63 ∷ []) (codes "xy" ∷ [])
@@ -94,7 +134,7 @@ unfolding read
 an_empty_string_between_others = refl
 
 an_empty_string_in_a_class_inside : read (codes "a[\\q{|bc}]]")
-    ≡ Some ((false, record { members = one 97 ∷ []; strings = codes "bc" ∷ []; has_empty = true; nesting = 1 }), [])
+    ≡ Some ((false, record { members = one 97 ∷ []; strings = codes "bc" ∷ []; has_empty = true; may_have_strings = false; nesting = 1 }), [])
 unfolding read
 an_empty_string_in_a_class_inside = refl
 

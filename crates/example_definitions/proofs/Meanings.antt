@@ -37,9 +37,6 @@ use Rattle.regress_syntax.specs.Syntax.{Name, Pattern, counts}
 use Rattle.regress_parse.specs.Reader.{parse_terms, pattern_at}
 use Rattle.regress_parse.specs.TreeOf.{tree_of}
 
-abbrev pub no_flags : Flags
-no_flags = record { icase = false; multiline = false; dot_all = false; unicode = false; unicode_sets = false }
-
 -- Each character is its own canonical form, and no property has a name.
 abbrev pub empty_table : Table
 empty_table = record {

@@ -1,4 +1,5 @@
 pub mod BufferedLemmas
+pub mod CostLemmas
 pub mod ExplainLemmas
 pub mod FoldLemmas
 pub mod FoundLemmas

@@ -3,11 +3,10 @@ use Rattle.std.proofs.Common.{◌≤◌, ◌⊎◌, inl, inr, ◌≡◌, ◌≢�
 use Rattle.std.specs.Prelude.{IfSome, OnSome}
 use Rattle.std.specs.Io.BufRead.{take_through, drop_through, DropsThrough}
 use Rattle.std.specs.Io.KnownBytes.{Consumes, IsAtEnd}
-use Rattle.std.specs.List.{onto_first}
 use Rattle.std.proofs.lemmas.Bool.{cases_lt, eqb-true}
 use Rattle.std.proofs.lemmas.List.{get_or-take, length-take}
 use Rattle.std.proofs.lemmas.List.Elements.{All-head, All-tail}
-use Rattle.regex_command.specs.Searched.{AreLinesOf, lines_of, one_line, split_text, without_line_feed}
+use Rattle.regex_command.specs.Searched.{AreLinesOf, Line as TextLine, has_line_feed, lines_of, one_line, onto_line, split_text, without_line_feed}
 use Rattle.regex_command.specs.Reading.{IsRead}
 use Rattle.regex_command.specs.declared.reading.Next.TheVariants.{Line, LastLine}
 
@@ -39,18 +38,20 @@ no_line_feed xs last prefix is none = λ k d within feed. by k d within feed (ca
         none (is d ∙ ap (λ j. get_or xs j d) (sym last_one) ∙ feed)
 
 -- a line and its line feed in front
-lines_of-line : (line rest : List ℕ) → All (λ b. b ≢ 10) line → lines_of (line ++ 10 ∷ rest) ≡ line ∷ lines_of rest
-lines_of-line [] rest none = ap (λ b. cond b ([] ∷ lines_of rest) (onto_first 10 (lines_of rest))) (eq-eqb 10 10 refl)
+lines_of-line : (line rest : List ℕ) → All (λ b. b ≢ 10) line → lines_of (line ++ 10 ∷ rest) ≡ record { bytes = line; ended = true } ∷ lines_of rest
+lines_of-line [] rest none = ap (λ b. cond b (record { bytes = []; ended = true } ∷ lines_of rest) (onto_line 10 (lines_of rest))) (eq-eqb 10 10 refl)
 lines_of-line (x ∷ line) rest none =
-    ap (λ b. cond b ([] ∷ lines_of (line ++ 10 ∷ rest)) (onto_first x (lines_of (line ++ 10 ∷ rest)))) (ne_eqb x 10 (All-head (λ y. y ≢ 10) x line none))
-    ∙ ap (onto_first x) (lines_of-line line rest (All-tail (λ y. y ≢ 10) x line none))
+    ap (λ b. cond b (record { bytes = []; ended = true } ∷ lines_of (line ++ 10 ∷ rest)) (onto_line x (lines_of (line ++ 10 ∷ rest))))
+    (ne_eqb x 10 (All-head (λ y. y ≢ 10) x line none))
+    ∙ ap (onto_line x) (lines_of-line line rest (All-tail (λ y. y ≢ 10) x line none))
 
 -- a last line without a line feed
-lines_of-last : (x : ℕ) (line : List ℕ) → All (λ b. b ≢ 10) (x ∷ line) → lines_of (x ∷ line) ≡ (x ∷ line) ∷ []
-lines_of-last x [] none = ap (λ b. cond b ([] ∷ []) (onto_first x [])) (ne_eqb x 10 (All-head (λ y. y ≢ 10) x [] none))
+lines_of-last : (x : ℕ) (line : List ℕ) → All (λ b. b ≢ 10) (x ∷ line) → lines_of (x ∷ line) ≡ record { bytes = x ∷ line; ended = false } ∷ []
+lines_of-last x [] none = ap (λ b. cond b (record { bytes = []; ended = true } ∷ []) (onto_line x [])) (ne_eqb x 10 (All-head (λ y. y ≢ 10) x [] none))
 lines_of-last x (y ∷ line) none =
-    ap (λ b. cond b ([] ∷ lines_of (y ∷ line)) (onto_first x (lines_of (y ∷ line)))) (ne_eqb x 10 (All-head (λ y. y ≢ 10) x (y ∷ line) none))
-    ∙ ap (onto_first x) (lines_of-last y line (All-tail (λ y. y ≢ 10) x (y ∷ line) none))
+    ap (λ b. cond b (record { bytes = []; ended = true } ∷ lines_of (y ∷ line)) (onto_line x (lines_of (y ∷ line))))
+    (ne_eqb x 10 (All-head (λ y. y ≢ 10) x (y ∷ line) none))
+    ∙ ap (onto_line x) (lines_of-last y line (All-tail (λ y. y ≢ 10) x (y ∷ line) none))
 
 consumes_more : (a b c : Option (List ℕ)) (xs ys : List ℕ) → Consumes a b xs → Consumes b c ys → Consumes a c (xs ++ ys)
 consumes_more None b c xs ys one two = tt
@@ -59,7 +60,7 @@ consumes_more (Some a) (Some b) None xs ys one two = two
 consumes_more (Some a) (Some b) (Some c) xs ys one two = one ∙ ap (λ t. xs ++ t) two ∙ sym (append_assoc xs ys c)
 
 -- the lines that a reader has lost since it had `old`
-pub record HasRead (multiline : Bool) (old now : Option (List ℕ)) (read : List (List ℕ)) : Type 0 where
+pub record HasRead (multiline : Bool) (old now : Option (List ℕ)) (read : List TextLine) : Type 0 where
   pub bytes : List ℕ
   pub consumed : Consumes old now bytes
   pub lines : (rest : List ℕ) → split_text multiline (bytes ++ rest) ≡ read ++ split_text multiline rest
@@ -72,8 +73,8 @@ begins multiline old = record { bytes = []; consumed = by old; lines = λ rest. 
     by (Some xs) = refl
 
 -- another line
-pub goes_on : (multiline : Bool) (old now : Option (List ℕ)) (lines : List (List ℕ)) → HasRead multiline old now lines →
-    (new : Option (List ℕ)) (line : List ℕ) → IsRead multiline now new line Line → HasRead multiline old new (lines ++ line ∷ [])
+pub goes_on : (multiline : Bool) (old now : Option (List ℕ)) (lines : List TextLine) → HasRead multiline old now lines →
+    (new : Option (List ℕ)) (line : List ℕ) → IsRead multiline now new line Line → HasRead multiline old new (lines ++ record { bytes = line; ended = true } ∷ [])
 goes_on true old now lines sofar new line read = absurd read
 goes_on false old now lines sofar new line read =
     let bytes = sofar.bytes in
@@ -83,7 +84,7 @@ goes_on false old now lines sofar new line read =
       lines = λ rest.
           ap lines_of (append_assoc bytes (line ++ 10 ∷ []) rest ∙ ap (λ t. bytes ++ t) (append_assoc line (10 ∷ []) rest))
           ∙ sofar.lines (line ++ 10 ∷ rest) ∙ ap (λ t. lines ++ t) (lines_of-line line rest read.0)
-          ∙ sym (append_assoc lines (line ∷ []) (lines_of rest));
+          ∙ sym (append_assoc lines (record { bytes = line; ended = true } ∷ []) (lines_of rest));
     }
 
 nothing_left : (multiline : Bool) → split_text multiline [] ≡ []
@@ -91,30 +92,36 @@ nothing_left true = refl
 nothing_left false = refl
 
 -- What is left is read as the last line.
-pub record IsLast (multiline : Bool) (now new : Option (List ℕ)) (line : List ℕ) : Type 0 where
+pub record IsLast (multiline : Bool) (now new : Option (List ℕ)) (line : TextLine) : Type 0 where
   pub text : List ℕ
   pub consumed : Consumes now new text
   pub all : OnSome now (IsAtEnd new)
   pub lines : split_text multiline text ≡ line ∷ []
 
-last_line : (line : List ℕ) → 0 < length line → All (λ b. b ≢ 10) line → lines_of line ≡ line ∷ []
+last_line : (line : List ℕ) → 0 < length line → All (λ b. b ≢ 10) line → lines_of line ≡ record { bytes = line; ended = false } ∷ []
 last_line [] some none = absurd (omega (arith, some))
 last_line (x ∷ line) some none = lines_of-last x line none
 
-one_of_text : (text : List ℕ) → 0 < length text → one_line text ≡ without_line_feed text ∷ []
+one_of_text : (text : List ℕ) → 0 < length text → one_line text ≡ record { bytes = without_line_feed text; ended = has_line_feed text } ∷ []
 one_of_text [] some = absurd (omega (arith, some))
 one_of_text (b ∷ bs) some = refl
 
-is_last : (multiline : Bool) (now new : Option (List ℕ)) (line : List ℕ) → IsRead multiline now new line LastLine → IsLast multiline now new line
+is_last : (multiline : Bool) (now new : Option (List ℕ)) (line : TextLine) → IsRead multiline now new line.bytes (LastLine line.ended) →
+    IsLast multiline now new line
 is_last true now new line read = record {
   text = read.text;
   consumed = read.consumed;
   all = read.all;
-  lines = one_of_text read.text read.some ∙ ap (λ x. x ∷ []) (sym read.is);
+  lines = one_of_text read.text read.some ∙ (λ i. record { bytes = sym read.is i; ended = sym read.feed i } ∷ []);
 }
-is_last false now new line read = record { text = line; consumed = read.2; all = read.3; lines = last_line line read.1 read.0 }
+is_last false now new line read = record {
+  text = line.bytes;
+  consumed = read.2;
+  all = read.3;
+  lines = last_line line.bytes read.1 read.0 ∙ (λ i. record { bytes = line.bytes; ended = sym read.4 i } ∷ []);
+}
 
-module _ (multiline : Bool) (old now : Option (List ℕ)) (lines : List (List ℕ)) (sofar : HasRead multiline old now lines) where
+module _ (multiline : Bool) (old now : Option (List ℕ)) (lines : List TextLine) (sofar : HasRead multiline old now lines) where
   whole_text : (known : Option (List ℕ)) (bytes rest : List ℕ) → IfSome known (λ xs. xs ≡ bytes ++ rest) → IfSome known (λ xs. bytes ++ rest ≡ xs)
   whole_text None bytes rest h = tt
   whole_text (Some xs) bytes rest h = sym h
@@ -139,7 +146,7 @@ module _ (multiline : Bool) (old now : Option (List ℕ)) (lines : List (List �
     all = λ _. refl;
   }
 
-  pub ended_by_last : (new : Option (List ℕ)) (line : List ℕ) → IsRead multiline now new line LastLine → AreLinesOf multiline old true (lines ++ line ∷ [])
+  pub ended_by_last : (new : Option (List ℕ)) (line : TextLine) → IsRead multiline now new line.bytes (LastLine line.ended) → AreLinesOf multiline old true (lines ++ line ∷ [])
   ended_by_last new line read =
       let last = is_last multiline now new line read in
       let bytes = sofar.bytes ++ last.text in

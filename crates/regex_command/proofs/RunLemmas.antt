@@ -1,5 +1,5 @@
 -- The runs of UTF-8 in a line are found one after another.
-use Rattle.std.proofs.Common.{◌≡◌, ◌∙◌, ℕ, zero, suc, ◌+◌, ◌≤◌, ◌<◌, All, Bool, true, false, cond, eqb, not, List, [], ◌∷◌, ◌++◌, length, map, take, drop, get_or, ap, refl, sym, subst, append-nil, append_assoc, arith}
+use Rattle.std.proofs.Common.{◌≡◌, ◌∙◌, ℕ, zero, suc, ◌+◌, ◌≤◌, ◌<◌, All, Bool, true, false, cond, eqb, List, [], ◌∷◌, ◌++◌, length, map, take, drop, get_or, ap, refl, sym, subst, append-nil, append_assoc, arith}
 use Rattle.std.specs.Str.{IsUtf8, is_utf8}
 use Rattle.std.specs.Str.Lossy.{utf8_invalid_len, utf8_valid_len}
 use Rattle.std.specs.List.{Any}
@@ -93,14 +93,13 @@ none_matches f P found i none all some =
     every some.0 some.1 some.2 (subst P (sym some.3) some.4)
 
 -- a line that is UTF-8
-pub one_text : (binary : Bool) (line : List ℕ) → IsUtf8 line → texts_of binary line ≡ whole line
-one_text true line utf8 = ap (λ b. cond (not b) (utf8_runs line) (whole line)) (is_utf8-from_IsUtf8 line utf8)
-one_text false line utf8 = refl
+pub one_text : (line : List ℕ) → IsUtf8 line → texts_of line ≡ whole line
+one_text line utf8 = ap (λ b. cond b (whole line) (utf8_runs line)) (is_utf8-from_IsUtf8 line utf8)
 
 -- a line that is not
-pub many_texts : (line : List ℕ) → ¬ (IsUtf8 line) → texts_of true line ≡ utf8_runs line
+pub many_texts : (line : List ℕ) → ¬ (IsUtf8 line) → texts_of line ≡ utf8_runs line
 many_texts line other = by (is_utf8 line) refl
   where
-    by : (b : Bool) → is_utf8 line ≡ b → cond (not b) (utf8_runs line) (whole line) ≡ utf8_runs line
+    by : (b : Bool) → is_utf8 line ≡ b → cond b (whole line) (utf8_runs line) ≡ utf8_runs line
     by true is = absurd (other (IsUtf8-from_is_utf8 line is))
     by false is = refl

@@ -9,12 +9,13 @@ use Rattle.std.proofs.lemmas.Fn.{FoldsTo-push}
 use Rattle.regress_arguments.proofs.lemmas.Output.{appends_both}
 use Rattle.regress_arguments.specs.Output.{Took}
 use Rattle.regress.specs.declared.pattern.Regex.{Regex}
-use Rattle.regex_command.specs.Ending.{OrOutput}
-use Rattle.regex_command.specs.Searched.{WritesInput, Named, AreLinesOf, IsSearchedLine, IsStep, Progress, SearchesAll, SearchesFirst, at_start, prefix_of, is_enough, one_if, written_at_end}
+use Rattle.regex_command.specs.Ending.{IsLate, IsSearchFailure, OrOutput}
+use Rattle.regex_command.specs.Searched.{WritesInput, Line as TextLine, Named, AreLinesOf, IsSearchedLine, IsStep, Progress, SearchesAll, SearchesFirst, at_start, prefix_of, is_enough, one_if, written_at_end}
 use Rattle.regex_options.specs.Plain.{Job}
-use Rattle.regex_command.specs.Reading.{IsRead}
+use Rattle.regex_command.specs.Reading.{IsRead, is_ended, is_last}
 use Rattle.regex_command.specs.Reply.{IsReply}
 use Rattle.regex_command.specs.declared.failure.Failure.{Failure}
+use Rattle.regex_command.specs.declared.failure.Failure.TheVariants.{Argument, Memory, Output, Closed, Syntax, TooLarge, OutOfSteps, Unreadable, PatternNotUtf8, TooLong}
 use Rattle.regex_command.specs.declared.reading.Next.{Next}
 use Rattle.regex_command.specs.declared.reading.Next.TheVariants.{Line, LastLine, End}
 use Rattle.regex_command.proofs.FoldLemmas.{stays}
@@ -25,7 +26,7 @@ appends_nothing None = tt
 appends_nothing (Some bytes) = sym (append-nil bytes)
 
 -- the lines and those after them
-whole_of : (multiline : Bool) (old : Option (List ℕ)) (lines : List (List ℕ)) (are : AreLinesOf multiline old false lines) →
+whole_of : (multiline : Bool) (old : Option (List ℕ)) (lines : List TextLine) (are : AreLinesOf multiline old false lines) →
     AreLinesOf multiline old true (lines ++ are.others)
 whole_of multiline old lines are = record {
   text = are.text;
@@ -36,14 +37,14 @@ whole_of multiline old lines are = record {
 }
 
 -- Once enough lines are selected, a line changes nothing.
-passed_over : (r : Regex) (job : Job) (place : Named) (p : Progress) → is_enough job p.selected ≡ true → (line : List ℕ) → IsStep r job place p line p
+passed_over : (r : Regex) (job : Job) (place : Named) (p : Progress) → is_enough job p.selected ≡ true → (line : TextLine) → IsStep r job place p line p
 passed_over r job place p enough line =
     record { passed = λ _. refl; searched = λ few. let bad : ⊥ = cc (few, enough) in absurd bad }
 
 module _ (r : Regex) (job : Job) (place : Named) (old before : Option (List ℕ)) where
   -- how far the search is: what the reader has lost, and what was written
   pub record SoFar (now after : Option (List ℕ)) (number selected : ℕ) : Type 0 where
-    pub lines : List (List ℕ)
+    pub lines : List TextLine
     pub read : HasRead place.multiline old now lines
     pub progress : Progress
     pub steps : FoldsTo (IsStep r job place) at_start lines progress
@@ -70,8 +71,8 @@ module _ (r : Regex) (job : Job) (place : Named) (old before : Option (List ℕ)
         appends_both before between after p.written (written_at_end job place n) all.3 end,
       )
 
-  module _ (now between after : Option (List ℕ)) (number selected : ℕ) (sofar : SoFar now between number selected) (line : List ℕ) (is_selected : Bool)
-      (few : is_enough job selected ≡ false) (reply : Took between after (IsReply r line job (prefix_of job place (number + 1)) is_selected)) where
+  module _ (now between after : Option (List ℕ)) (number selected : ℕ) (sofar : SoFar now between number selected) (line : TextLine) (is_selected : Bool)
+      (few : is_enough job selected ≡ false) (reply : Took between after (IsReply r line.bytes line.ended job (prefix_of job place (number + 1)) is_selected)) where
     abbrev next : Progress
     next = record {
       lines = number + 1;
@@ -83,7 +84,7 @@ module _ (r : Regex) (job : Job) (place : Named) (old before : Option (List ℕ)
     searched = record {
       selected = is_selected;
       bytes = reply.0;
-      reply = subst (λ n. IsReply r line job (prefix_of job place (n + 1)) is_selected reply.0) (sym sofar.number_is) reply.1;
+      reply = subst (λ n. IsReply r line.bytes line.ended job (prefix_of job place (n + 1)) is_selected reply.0) (sym sofar.number_is) reply.1;
       next = λ i. record {
         lines = sym sofar.number_is i + 1;
         selected = sym sofar.selected_is i + one_if is_selected;
@@ -101,10 +102,11 @@ module _ (r : Regex) (job : Job) (place : Named) (old before : Option (List ℕ)
     within true = omega (arith, sofar.few)
     within false = omega (arith, sofar.few)
 
-    pub another : (new : Option (List ℕ)) → IsRead place.multiline now new line Line → SoFar new after (number + 1) (selected + one_if is_selected)
-    another new read = record {
+    pub another : (new : Option (List ℕ)) → line.ended ≡ true → IsRead place.multiline now new line.bytes Line → SoFar new after (number + 1) (selected + one_if is_selected)
+    another new ended read = record {
       lines = sofar.lines ++ line ∷ [];
-      read = goes_on place.multiline old now sofar.lines sofar.read new line read;
+      read = subst (λ end. HasRead place.multiline old new (sofar.lines ++ record { bytes = line.bytes; ended = end } ∷ [])) (sym ended)
+          (goes_on place.multiline old now sofar.lines sofar.read new line.bytes read);
       progress = next;
       steps = FoldsTo-push (IsStep r job place) at_start sofar.lines sofar.progress line next sofar.steps step;
       number_is = refl;
@@ -113,7 +115,7 @@ module _ (r : Regex) (job : Job) (place : Named) (old before : Option (List ℕ)
       written = appends_both before between after sofar.progress.written reply.0 sofar.written reply.2;
     }
 
-    pub last : (new : Option (List ℕ)) → IsRead place.multiline now new line LastLine → SearchesAll r job place old before after (selected + one_if is_selected)
+    pub last : (new : Option (List ℕ)) → IsRead place.multiline now new line.bytes (LastLine line.ended) → SearchesAll r job place old before after (selected + one_if is_selected)
     last new read = (
       next,
       record {
@@ -159,19 +161,22 @@ module _ (r : Regex) (job : Job) (place : Named) (old before : Option (List ℕ)
     first_or_output (Ok x) = tt
     first_or_output (Err failure) = inr first
 
--- another variant than these two
-pub is_line : (multiline : Bool) (old new : Option (List ℕ)) (line : List ℕ) (next : Next) → (next ≡ End → ⊥) → (next ≡ LastLine → ⊥) →
-    IsRead multiline old new line next → IsRead multiline old new line Line
-is_line multiline old new line Line not_end not_last read = read
-is_line multiline old new line LastLine not_end not_last read = absurd (not_last refl)
-is_line multiline old new line End not_end not_last read = absurd (not_end refl)
+pub line_of : (next : Next) → (next ≡ End → ⊥) → is_last next ≡ false → next ≡ Line
+line_of Line not_end not_last = refl
+line_of (LastLine ended) not_end not_last = let bad : ⊥ = cc not_last in absurd bad
+line_of End not_end not_last = absurd (not_end refl)
+
+pub last_of : (next : Next) → is_last next ≡ true → next ≡ LastLine (is_ended next)
+last_of Line is = let bad : ⊥ = cc is in absurd bad
+last_of (LastLine ended) is = refl
+last_of End is = let bad : ⊥ = cc is in absurd bad
 
 pub is_end : (multiline : Bool) (old new : Option (List ℕ)) (line : List ℕ) → IsRead multiline old new line End → IsAtEnd old
 is_end true old new line read = read
 is_end false old new line read = read
 
 -- a failure that `?` passes on
-pub passed_on : {X : Type 0} (P : Failure → Type 0) (result : Result X Failure) (failure : Failure) → IsErrAnd result (λ f. f ≡ failure) → P failure → IfErr result P
+pub passed_on : {X F : Type 0} (P : F → Type 0) (result : Result X F) (failure : F) → IsErrAnd result (λ f. f ≡ failure) → P failure → IfErr result P
 passed_on P (Ok x) failure is p = absurd is
 passed_on P (Err f) failure is p = subst P (sym is) p
 
@@ -186,3 +191,32 @@ byte_of false = refl
 pub if_err_map : {X : Type 0} (P Q : Type 0) (result : Result X Failure) → IfErr result (OrOutput P) → (P → Q) → IfErr result (OrOutput Q)
 if_err_map P Q (Ok x) h more = tt
 if_err_map P Q (Err failure) h more = or_output P Q failure h more
+
+-- a failure that may occur whatever the pattern is, and one that may occur if it is costly
+pub costly_failure : (P Q : Type 0) → (P → Q) → (failure : Failure) → IsSearchFailure P failure → IsSearchFailure Q failure
+costly_failure P Q more Argument h = absurd h
+costly_failure P Q more Memory h = tt
+costly_failure P Q more Output h = tt
+costly_failure P Q more Closed h = tt
+costly_failure P Q more (Syntax pattern text position) h = absurd h
+costly_failure P Q more TooLarge h = absurd h
+costly_failure P Q more OutOfSteps h = more h
+costly_failure P Q more (Unreadable name) h = tt
+costly_failure P Q more (PatternNotUtf8 name offset) h = absurd h
+costly_failure P Q more (TooLong name) h = tt
+
+pub late_failure : (costly : Type 0) (failure : Failure) → IsLate failure → IsSearchFailure costly failure
+late_failure costly Argument h = absurd h
+late_failure costly Memory h = tt
+late_failure costly Output h = tt
+late_failure costly Closed h = tt
+late_failure costly (Syntax pattern text position) h = absurd h
+late_failure costly TooLarge h = absurd h
+late_failure costly OutOfSteps h = absurd h
+late_failure costly (Unreadable name) h = absurd h
+late_failure costly (PatternNotUtf8 name offset) h = absurd h
+late_failure costly (TooLong name) h = absurd h
+
+pub if_err_by : {X : Type 0} (P Q : Failure → Type 0) (result : Result X Failure) → ((failure : Failure) → P failure → Q failure) → IfErr result P → IfErr result Q
+if_err_by P Q (Ok x) more h = tt
+if_err_by P Q (Err failure) more h = more failure h

@@ -6,7 +6,7 @@ use Rattle.regress_display.specs.Request.{NoneIsAccepted, Request}
 use Rattle.regress_display.specs.Fault.{IsFaultOutput}
 use Rattle.regress_display.specs.declared.request.Format.{Format}
 use Rattle.regress_display.specs.declared.request.Format.TheVariants.{Text, Json, Svg}
-use Rattle.regex_command.specs.Ending.{OrOutput}
+use Rattle.regex_command.specs.Ending.{IsOutputFailure, OrOutput}
 use Rattle.regex_command.specs.Patterns.{HasFaultOutput, IsTreeOutput, IsFaultWritten, IsQuietFor, IsShowFailure}
 use Rattle.regex_command.specs.declared.failure.Failure.{Failure}
 use Rattle.regex_command.specs.declared.failure.Failure.TheVariants.{Output}
@@ -64,7 +64,7 @@ module _ (request : Request) (r : Result Bool Failure) where
     where
       by : (r : Result Bool Failure) → IfErr r (λ failure. (failure ≡ Output) × HasFaultOutput request.format request) → IfErr r (OrOutput P)
       by (Ok accepted) failed = tt
-      by (Err failure) failed = inl failed.0
+      by (Err failure) failed = inl (subst IsOutputFailure (sym failed.0) tt)
 
   pub is_due : IfErr r (λ failure. (failure ≡ Output) × HasFaultOutput request.format request) → IfErr r (IsShowFailure request)
   is_due = by r

@@ -5,6 +5,8 @@ use Rattle.std.specs.List.{FoldsTo}
 use Rattle.std.specs.declared.ops.Range.{Range}
 use Rattle.regex_options.specs.Request.{Form, lines, page}
 use Rattle.regress.specs.Compiled.{IsCompiled, outcomes_of}
+use Rattle.regress.specs.Failures.{IsTooLarge}
+use Rattle.regress.specs.Limits.{default_options}
 use Rattle.regress.specs.declared.pattern.Regex.{Regex}
 use Rattle.regress_differences.specs.CaseMode.{widest_flags}
 use Rattle.regress_differences.specs.Kinds as differences
@@ -25,8 +27,8 @@ use Rattle.regress_spans.specs.Remarks.{Said}
 use Rattle.regress_syntax.specs.Syntax.{Pattern}
 use Rattle.regress_tree.specs.Setting.{Setting}
 use Rattle.regress_warnings.specs.Warned as warnings
-use Rattle.regex_command.specs.Ending.{IsLate}
-use Rattle.regex_command.specs.declared.failure.Failure.TheVariants.{Argument, Memory, Output, Syntax, TooLarge, OutOfSteps, Unreadable, NotUtf8, PatternNotUtf8, TooLong}
+use Rattle.regex_command.specs.Ending.{IsCostlyPattern, IsLate}
+use Rattle.regex_command.specs.declared.failure.Failure.TheVariants.{Argument, Memory, Output, Closed, Syntax, TooLarge, OutOfSteps, Unreadable, PatternNotUtf8, TooLong}
 use Rattle.regex_command.specs.declared.failure.Failure.{Failure}
 
 -- What is written to standard output for a rejected pattern: its syntax error as JSON, and nothing in the other formats.
@@ -57,11 +59,11 @@ abbrev pub IsShowFailure : Request → Failure → Type 0
 IsShowFailure request Argument = ⊥
 IsShowFailure request Memory = ⊤
 IsShowFailure request Output = display.IsAcceptedPattern request ⊎ HasFaultOutput request.format request
+IsShowFailure request Closed = ⊥
 IsShowFailure request (Syntax pattern text position) = ⊥
 IsShowFailure request TooLarge = ⊥
 IsShowFailure request OutOfSteps = ⊥
 IsShowFailure request (Unreadable name) = ⊥
-IsShowFailure request (NotUtf8 name line offset) = ⊥
 IsShowFailure request (PatternNotUtf8 name offset) = ⊥
 IsShowFailure request (TooLong name) = ⊥
 
@@ -151,9 +153,18 @@ abbrev pub IsExplanationIn : Form → (accepted : Bool) → Setting → (source 
 IsExplanationIn form accepted setting source bytes =
     IsExplanation accepted setting (chars source) bytes × (accepted ≡ true → HasForm form setting source bytes)
 
--- A failure that may occur when an accepted pattern is searched for: it may be too large.
-abbrev pub MayFailToFind : Failure → Type 0
-MayFailToFind failure = IsLate failure ⊎ (failure ≡ TooLarge)
+-- A failure that may occur when an accepted pattern is searched for: it may be too large or costly.
+abbrev pub MayFailToFind : Setting → (source : List ℕ) → Failure → Type 0
+MayFailToFind setting source Argument = ⊥
+MayFailToFind setting source Memory = ⊤
+MayFailToFind setting source Output = ⊥
+MayFailToFind setting source Closed = ⊥
+MayFailToFind setting source (Syntax pattern text position) = ⊥
+MayFailToFind setting source TooLarge = IsTooLarge setting (chars source) default_options
+MayFailToFind setting source OutOfSteps = IsCostlyPattern setting source
+MayFailToFind setting source (Unreadable name) = ⊥
+MayFailToFind setting source (PatternNotUtf8 name offset) = ⊥
+MayFailToFind setting source (TooLong name) = ⊥
 
 -- A text is given.
 abbrev pub HasText : Form → Type 0
@@ -161,6 +172,6 @@ HasText lines = ⊥
 HasText (page None) = ⊥
 HasText (page (Some text)) = ⊤
 
--- A failure that may occur for an explanation: only with a text the pattern may be too large.
-abbrev pub MayFailToExplain : Form → Failure → Type 0
-MayFailToExplain form failure = IsLate failure ⊎ (HasText form × (failure ≡ TooLarge))
+-- A failure that may occur for an explanation: only with a text it is searched for.
+abbrev pub MayFailToExplain : Form → Setting → (source : List ℕ) → Failure → Type 0
+MayFailToExplain form setting source failure = IsLate failure ⊎ (HasText form × MayFailToFind setting source failure)

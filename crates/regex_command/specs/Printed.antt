@@ -1,10 +1,12 @@
 -- What the program writes for a request, and where its pattern is.
 use Rattle.std.specs.Prelude.{◌≡◌, ⊤, ℕ, List, Bool, true, false, ◌⊎◌, ◌||◌, ◌++◌, Option, chars, codes}
 use Rattle.std.specs.Io.KnownBytes.{Appends}
-use Rattle.regex_options.specs.Plain.{Job, matching, replacing, splitting, Source, in_argument, in_file}
+use Rattle.regex_options.specs.Plain.{Job, matching, replacing, Source, in_argument, in_file}
 use Rattle.regex_options.specs.Request.{Action, Ask, apply, escape, explain, help, lint, search, show}
 use Rattle.regex_options.specs.declared.request.View.{View}
 use Rattle.regress.specs.Compiled.{IsCompiled}
+use Rattle.regress.specs.Failures.{IsTooLarge}
+use Rattle.regress.specs.Limits.{default_options}
 use Rattle.regress.specs.Unicode.{unicode_setting}
 use Rattle.regress.specs.declared.pattern.Regex.{Regex}
 use Rattle.regress_arguments.specs.Output.{Took}
@@ -15,10 +17,10 @@ use Rattle.regress_display.specs.Shown.{IsFirstOutput}
 use Rattle.regress_escape.specs.Escape.{escaped}
 use Rattle.regress_front.specs.Accepted.{NoneIsAccepted}
 use Rattle.regress_tree.specs.Setting.{Setting}
-use Rattle.regex_command.specs.Ending.{IsLate}
+use Rattle.regex_command.specs.Ending.{IsCostlyPattern, IsLate, IsSearchFailure}
 use Rattle.regex_command.specs.Patterns.{IsExplanationIn, MayFailToExplain, IsReport, IsTreeOutput, IsQuietFor, IsShowFailure}
 use Rattle.regex_command.specs.Searched.{WritesInputs, WritesSomeOf, inputs_of}
-use Rattle.regex_command.specs.declared.failure.Failure.TheVariants.{Argument, Memory, Output, Syntax, TooLarge, OutOfSteps, Unreadable, NotUtf8, PatternNotUtf8, TooLong}
+use Rattle.regex_command.specs.declared.failure.Failure.TheVariants.{Argument, Memory, Output, Closed, Syntax, TooLarge, OutOfSteps, Unreadable, PatternNotUtf8, TooLong}
 use Rattle.regex_command.specs.declared.failure.Failure.{Failure}
 
 -- The bytes are the text of the pattern. Nothing is known of the bytes of a file.
@@ -35,11 +37,11 @@ abbrev pub MayFailToRead : Failure → Type 0
 MayFailToRead Argument = ⊥
 MayFailToRead Memory = ⊤
 MayFailToRead Output = ⊥
+MayFailToRead Closed = ⊥
 MayFailToRead (Syntax pattern message position) = ⊥
 MayFailToRead TooLarge = ⊥
 MayFailToRead OutOfSteps = ⊥
 MayFailToRead (Unreadable name) = ⊤
-MayFailToRead (NotUtf8 name line offset) = ⊥
 MayFailToRead (PatternNotUtf8 name offset) = ⊤
 MayFailToRead (TooLong name) = ⊥
 
@@ -53,23 +55,22 @@ abbrev pub IsRejected : Setting → (text : List ℕ) → Failure → Type 0
 IsRejected setting text Argument = ⊥
 IsRejected setting text Memory = ⊤
 IsRejected setting text Output = ⊥
+IsRejected setting text Closed = ⊥
 IsRejected setting text (Syntax pattern message position) = NoneIsAccepted setting (chars text)
-IsRejected setting text TooLarge = ⊤
+IsRejected setting text TooLarge = IsTooLarge setting (chars text) default_options
 IsRejected setting text OutOfSteps = ⊥
 IsRejected setting text (Unreadable name) = ⊥
-IsRejected setting text (NotUtf8 name line offset) = ⊥
 IsRejected setting text (PatternNotUtf8 name offset) = ⊥
 IsRejected setting text (TooLong name) = ⊥
 
--- A failure of a search: a syntax error is due only if no pattern is accepted.
+-- A failure of a search: a syntax error is due only if no pattern is accepted, and too many steps only if it is costly.
 abbrev pub IsDue : Setting → (text : List ℕ) → Failure → Type 0
-IsDue setting text failure = IsRejected setting text failure ⊎ IsLate failure
+IsDue setting text failure = IsRejected setting text failure ⊎ IsSearchFailure (IsCostlyPattern setting text) failure
 
 -- a job that changes lines
 abbrev pub changes : Job → Bool
 changes (matching s) = false
 changes (replacing template) = true
-changes splitting = true
 
 module _ (setting : Setting) (text : List ℕ) (job : Job) (multiline : Bool) (files : List (List ℕ)) where
   -- All inputs were searched, and `found` states whether a line was selected, or the job changes lines.
@@ -116,7 +117,7 @@ module _ (flags : Flags) (text : List ℕ) where
   MayFailAt (search job multiline files) failure = IsDue (unicode_setting flags) text failure
   MayFailAt (show view) failure = IsShowFailure (view_of view flags text) failure
   MayFailAt lint failure = IsLate failure
-  MayFailAt (explain form) failure = MayFailToExplain form failure
+  MayFailAt (explain form) failure = MayFailToExplain form (unicode_setting flags) text failure
 
 -- What is written: a text about the program, an escaped text, or the output for a pattern.
 abbrev pub Prints : (input old new : Option (List ℕ)) → (found : Bool) → Ask → Type 0
@@ -150,3 +151,15 @@ MayFail (help text) failure = IsLate failure
 MayFail (escape string) failure = IsLate failure
 MayFail (apply request) failure =
     LacksText request.pattern failure ⊎ OfText request.pattern (λ pattern. MayFailAt request.flags pattern request.action failure)
+
+-- the exit status if nothing is found: 2 if that means that the pattern is rejected
+abbrev pub status_of_none : Action → ℕ
+status_of_none (search job multiline files) = 1
+status_of_none (show view) = 2
+status_of_none lint = 1
+status_of_none (explain form) = 2
+
+abbrev pub status_if_none : Ask → ℕ
+status_if_none (help text) = 2
+status_if_none (escape string) = 2
+status_if_none (apply request) = status_of_none request.action

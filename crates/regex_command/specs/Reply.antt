@@ -1,17 +1,17 @@
 -- What is written for a line: the texts in which a pattern is searched, matches in color, and matches as JSON (RFC 8259).
-use Rattle.std.specs.Prelude.{◌≡◌, ℕ, zero, suc, ◌+◌, Bool, not, ◌&&◌, List, [], ◌∷◌, ◌++◌, All, drop, if◌then◌else◌, length, map, take, ◌==◌, codes, slice_range, flat_map, Option, Some, None, ◌↔◌, true, false, IsTrue}
+use Rattle.std.specs.Prelude.{◌≡◌, ℕ, zero, suc, ◌+◌, Bool, not, List, [], ◌∷◌, ◌++◌, All, drop, if◌then◌else◌, length, map, take, ◌==◌, codes, slice_range, flat_map, Option, Some, None, ◌↔◌, true, false, IsTrue}
 use Rattle.std.specs.Str.{is_utf8}
 use Rattle.std.specs.Str.Lossy.{utf8_invalid_len, utf8_valid_len}
 use Rattle.std.specs.Fmt.{decimal}
 use Rattle.std.specs.List.{Any}
-use Rattle.regex_options.specs.Plain.{Job, matching, replacing, splitting}
+use Rattle.regex_options.specs.Plain.{Job, matching, replacing}
 use Rattle.regex_options.specs.declared.task.Selection.{Selection}
 use Rattle.regex_options.specs.declared.task.Shown.TheVariants.{Lines, Matches, Json, Count, Names, Nothing}
 use Rattle.regex_options.specs.declared.task.Shown.{Shown}
 use Rattle.regress.specs.Compiled.{outcomes_of, groups_of}
 use Rattle.regress.specs.Found.{match_of}
 use Rattle.regress.specs.Groups.{group_span}
-use Rattle.regress.specs.Replaced.{IsSplit, ReplacesAll}
+use Rattle.regress.specs.Replaced.{ReplacesAll}
 use Rattle.regress.specs.Searched.{MatchesSomewhere}
 use Rattle.regress.specs.declared.pattern.Regex.{Regex}
 use Rattle.regress_display.specs.Fault.{json_text}
@@ -59,9 +59,9 @@ utf8_runs line = runs_within (length line) 0 line
 abbrev pub whole : (line : List ℕ) → List Run
 whole line = record { start = 0; text = line } ∷ []
 
--- the line itself, or with `binary` the runs of a line that is not UTF-8
-abbrev pub texts_of : (binary : Bool) → (line : List ℕ) → List Run
-texts_of binary line = if binary && not (is_utf8 line) then utf8_runs line else whole line
+-- the line itself, or the runs of a line that is not UTF-8
+abbrev pub texts_of : (line : List ℕ) → List Run
+texts_of line = if is_utf8 line then whole line else utf8_runs line
 
 -- a text in a line, and all matches in it
 pub record TextMatches : Type 0 where
@@ -180,19 +180,28 @@ module _ (r : Regex) (line : List ℕ) (texts : List Run) where
   ShowsIf true s prefix bytes = Shows s.shown s.paints prefix bytes
   ShowsIf false s prefix bytes = bytes ≡ []
 
+-- a line feed, if there is to be one
+abbrev pub feed_if : Bool → List ℕ
+feed_if ended = if ended then codes "\n" else []
+
 module _ (r : Regex) (line : List ℕ) where
-  -- the pieces between the matches, each on a line
-  abbrev pub ShowsPieces : (bytes : List ℕ) → Type 0
-  ShowsPieces bytes = (pieces : List (List ℕ)) × IsSplit line (outcomes_of r line) pieces × (bytes ≡ flat_map ended pieces)
+  -- the line from an offset on, with the matches in these texts replaced
+  abbrev pub IsReplacedFrom : (template : List ℕ) → (from : ℕ) → List Run → (out : List ℕ) → Type 0
+  IsReplacedFrom template from [] out = out ≡ drop from line
+  IsReplacedFrom template from (run ∷ runs) out = (text : List ℕ) × (rest : List ℕ)
+      × ReplacesAll run.text (outcomes_of r run.text) (λ m. expansion run.text m (groups_of r) template) text
+      × IsReplacedFrom template (run.start + length run.text) runs rest × (out ≡ slice_range line from run.start ++ (text ++ rest))
 
-  -- the line with its matches replaced
-  abbrev pub ShowsReplaced : (template bytes : List ℕ) → Type 0
-  ShowsReplaced template bytes =
-      (out : List ℕ) × ReplacesAll line (outcomes_of r line) (λ m. expansion line m (groups_of r) template) out × (bytes ≡ ended out)
+  -- the line with the matches in its texts replaced, and a line feed if it has one
+  abbrev pub ShowsReplaced : (texts : List Run) → (ended : Bool) → (template bytes : List ℕ) → Type 0
+  ShowsReplaced texts ended template bytes = (out : List ℕ) × IsReplacedFrom template 0 texts out × (bytes ≡ out ++ feed_if ended)
 
-  -- Whether the line is selected, and what is written for it.
-  abbrev pub IsReply : Job → (prefix : List ℕ) → (selected : Bool) → (bytes : List ℕ) → Type 0
-  IsReply (matching s) prefix selected bytes =
-      IsSelected r (texts_of s.binary line) s.invert selected × ShowsIf r line (texts_of s.binary line) selected s prefix bytes
-  IsReply (replacing template) prefix selected bytes = (selected ≡ true) × ShowsReplaced template bytes
-  IsReply splitting prefix selected bytes = (selected ≡ true) × ShowsPieces bytes
+  -- Whether the line is selected by these texts, and what is written for it.
+  abbrev pub IsReplyIn : (texts : List Run) → (ended : Bool) → Job → (prefix : List ℕ) → (selected : Bool) → (bytes : List ℕ) → Type 0
+  IsReplyIn texts ended (matching s) prefix selected bytes =
+      IsSelected r texts s.invert selected × ShowsIf r line texts selected s prefix bytes
+  IsReplyIn texts ended (replacing template) prefix selected bytes = (selected ≡ true) × ShowsReplaced texts ended template bytes
+
+  -- the same for the texts of the line
+  abbrev pub IsReply : (ended : Bool) → Job → (prefix : List ℕ) → (selected : Bool) → (bytes : List ℕ) → Type 0
+  IsReply ended job prefix selected bytes = IsReplyIn (texts_of line) ended job prefix selected bytes

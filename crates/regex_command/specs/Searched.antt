@@ -1,9 +1,9 @@
 -- What is written for an input, and for all inputs.
 use Rattle.std.specs.Prelude.{ℕ, Bool, List, ◌≡◌, ◌-◌, true, false, [], ◌∷◌, ◌++◌, length, take, slice_index, if◌then◌else◌, ◌==◌, Option, IfSome, ◌+◌, ◌&&◌, ◌||◌, Some, None, codes, nat_le, nat_lt, map}
-use Rattle.std.specs.List.{onto_first, FoldsTo}
+use Rattle.std.specs.List.{FoldsTo}
 use Rattle.std.specs.Fmt.{decimal}
 use Rattle.std.specs.Io.KnownBytes.{Appends}
-use Rattle.regex_options.specs.Plain.{Job, matching, replacing, splitting}
+use Rattle.regex_options.specs.Plain.{Job, matching, replacing}
 use Rattle.regex_options.specs.declared.task.Shown.TheVariants.{Lines, Matches, Json, Count, Names, Nothing}
 use Rattle.regex_options.specs.declared.task.Shown.{Shown}
 use Rattle.regress.specs.declared.pattern.Regex.{Regex}
@@ -21,30 +21,44 @@ pub record Named : Type 0 where
 abbrev pub named : Place → Named
 named place = record { name = place.name.now; in_front = place.in_front; multiline = place.multiline }
 
+-- the bytes end with a line feed
+abbrev pub has_line_feed : List ℕ → Bool
+has_line_feed bytes = slice_index bytes (length bytes - 1) == 10
+
 -- the bytes without a line feed at their end
 abbrev pub without_line_feed : List ℕ → List ℕ
-without_line_feed bytes = if slice_index bytes (length bytes - 1) == 10 then take (length bytes - 1) bytes else bytes
+without_line_feed bytes = if has_line_feed bytes then take (length bytes - 1) bytes else bytes
 
--- The lines without the line feeds that end them. The last one may lack a line feed.
-abbrev pub lines_of : List ℕ → List (List ℕ)
+-- a line without its line feed, and whether a line feed ends it
+pub record Line : Type 0 where
+  pub bytes : List ℕ
+  pub ended : Bool
+
+-- the lines, with one byte more in front of the first one
+abbrev pub onto_line : ℕ → List Line → List Line
+onto_line b [] = record { bytes = b ∷ []; ended = false } ∷ []
+onto_line b (line ∷ lines) = record { bytes = b ∷ line.bytes; ended = line.ended } ∷ lines
+
+-- The lines. The last one may lack a line feed.
+abbrev pub lines_of : List ℕ → List Line
 lines_of [] = []
-lines_of (b ∷ bs) = if b == 10 then [] ∷ lines_of bs else onto_first b (lines_of bs)
+lines_of (b ∷ bs) = if b == 10 then record { bytes = []; ended = true } ∷ lines_of bs else onto_line b (lines_of bs)
 
--- A text as one line, without a line feed at its end. An empty text has no line.
-abbrev pub one_line : List ℕ → List (List ℕ)
+-- A text as one line. An empty text has no line.
+abbrev pub one_line : List ℕ → List Line
 one_line [] = []
-one_line (b ∷ bs) = without_line_feed (b ∷ bs) ∷ []
+one_line (b ∷ bs) = record { bytes = without_line_feed (b ∷ bs); ended = has_line_feed (b ∷ bs) } ∷ []
 
 -- the lines, or with `multiline` one
-abbrev pub split_text : (multiline : Bool) → List ℕ → List (List ℕ)
+abbrev pub split_text : (multiline : Bool) → List ℕ → List Line
 split_text true text = one_line text
 split_text false text = lines_of text
 
 -- The first lines of an input, whose bytes may be known: all of them if it was read to its end.
-pub record AreLinesOf (multiline : Bool) (input : Option (List ℕ)) (ended : Bool) (lines : List (List ℕ)) : Type 0 where
+pub record AreLinesOf (multiline : Bool) (input : Option (List ℕ)) (ended : Bool) (lines : List Line) : Type 0 where
   pub text : List ℕ
   pub known : IfSome input (λ known. text ≡ known)
-  pub others : List (List ℕ)
+  pub others : List Line
   pub whole : split_text multiline text ≡ lines ++ others
   pub all : ended ≡ true → others ≡ []
 
@@ -70,7 +84,6 @@ reaches (Some limit) n = nat_le limit n
 abbrev pub has_numbers : Job → Bool
 has_numbers (matching s) = s.numbers
 has_numbers (replacing template) = false
-has_numbers splitting = false
 
 -- the name of the input and a colon, if it is shown in front
 abbrev pub name_of : Named → List ℕ
@@ -89,7 +102,6 @@ needs_one Nothing = true
 abbrev pub is_enough : Job → (selected : ℕ) → Bool
 is_enough (matching s) selected = reaches s.max_count selected || (needs_one s.shown && nat_lt 0 selected)
 is_enough (replacing template) selected = false
-is_enough splitting selected = false
 
 -- whether matches are shown as JSON
 abbrev pub is_json : Shown → Bool
@@ -103,7 +115,6 @@ is_json Nothing = false
 abbrev pub shows_json : Job → Bool
 shows_json (matching s) = is_json s.shown
 shows_json (replacing template) = false
-shows_json splitting = false
 
 -- what is in front of a line as text: the name of the input and the number of the line, if they are shown
 abbrev pub text_prefix : Job → Named → (number : ℕ) → List ℕ
@@ -126,24 +137,23 @@ shown_at_end Nothing place selected = []
 abbrev pub written_at_end : Job → Named → (selected : ℕ) → List ℕ
 written_at_end (matching s) place selected = shown_at_end s.shown place selected
 written_at_end (replacing template) place selected = []
-written_at_end splitting place selected = []
 
 module _ (r : Regex) (job : Job) where
   -- One line further, and it is searched.
-  pub record IsSearchedLine (place : Named) (p : Progress) (line : List ℕ) (q : Progress) : Type 0 where
+  pub record IsSearchedLine (place : Named) (p : Progress) (line : Line) (q : Progress) : Type 0 where
     pub selected : Bool
     pub bytes : List ℕ
-    pub reply : IsReply r line job (prefix_of job place (p.lines + 1)) selected bytes
+    pub reply : IsReply r line.bytes line.ended job (prefix_of job place (p.lines + 1)) selected bytes
     pub next : q ≡ record { lines = p.lines + 1; selected = p.selected + one_if selected; written = p.written ++ bytes }
 
   -- One line further: the line is passed over if enough lines are selected before it.
-  pub record IsStep (place : Named) (p : Progress) (line : List ℕ) (q : Progress) : Type 0 where
+  pub record IsStep (place : Named) (p : Progress) (line : Line) (q : Progress) : Type 0 where
     pub passed : is_enough job p.selected ≡ true → q ≡ p
     pub searched : is_enough job p.selected ≡ false → IsSearchedLine place p line q
 
   -- The lines of an input were searched in order: all of them, or the first ones.
   pub record IsSearched (place : Named) (input : Option (List ℕ)) (all : Bool) (p : Progress) : Type 0 where
-    pub lines : List (List ℕ)
+    pub lines : List Line
     pub are : AreLinesOf place.multiline input all lines
     pub steps : FoldsTo (IsStep place) at_start lines p
 
@@ -182,11 +192,10 @@ is_nothing Count = false
 is_nothing Names = false
 is_nothing Nothing = true
 
--- A line is selected, and nothing is shown.
+-- No line is to be selected; or one is, and nothing is shown.
 abbrev pub has_ended : Job → (any : Bool) → Bool
-has_ended (matching s) any = is_nothing s.shown && any
+has_ended (matching s) any = reaches s.max_count 0 || (any && is_nothing s.shown)
 has_ended (replacing template) any = false
-has_ended splitting any = false
 
 module _ (r : Regex) (job : Job) where
   -- what is written for an input: what its lines yield, and what is shown at its end

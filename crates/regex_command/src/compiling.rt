@@ -1,7 +1,7 @@
 //! Compiles a pattern.
 ghost use Rattle.std.specs.Prelude.{IfOk, IfErr};
-ghost use Rattle.regress.specs.Compiled.{IsCompiled};
 ghost use Rattle.regress.specs.Unicode.{unicode_setting};
+ghost use Rattle.regex_command.specs.Ending.{IsOwn};
 ghost use Rattle.regex_command.specs.Printed.{IsRejected};
 
 use crate::failure::Failure;
@@ -13,7 +13,7 @@ use std::sync::Arc;
 
 /// Compiles a pattern over all of Unicode.
 pub(crate) fn compiled<'f>(alloc: Global, pattern: Pattern<'_>) -> Result<Regex, Failure<'f>>
-    ensures compiled { IfOk result (IsCompiled (unicode_setting pattern.entry.flags) pattern.entry.text.now) }
+    ensures own { IfOk result (IsOwn (unicode_setting pattern.entry.flags) pattern.entry.text.now) }
     ensures failed { IfErr result (IsRejected (unicode_setting pattern.entry.flags) pattern.entry.text.now) }
 {
     let tables = Arc::new(alloc, unicode_tables(alloc)?)?;

@@ -35,7 +35,7 @@ pub(crate) fn print_explanation<'f, W: Write, E: Write>(
         (IsExplanationIn (asked_form form.entry) accepted (unicode_setting pattern.entry.flags) pattern.entry.text.now)) }
     ensures quiet { result ≡ Ok true → err.new ≡ err.old }
     ensures first { IfErr result (OrOutput (out.new ≡ out.old)) }
-    ensures due { IfErr result (MayFailToExplain (asked_form form.entry)) }
+    ensures due { IfErr result (MayFailToExplain (asked_form form.entry) (unicode_setting pattern.entry.flags) pattern.entry.text.now) }
 {
     let points = code_points(alloc, pattern.text)?;
     let tables = unicode_tables(alloc)?;
@@ -60,7 +60,7 @@ fn explanation<'f>(
     requires accepted { IsAcceptedPattern (unicode_setting pattern.flags) (chars pattern.text.now) }
     requires characters { points.now ≡ chars pattern.text.now }
     ensures form { IfOk result (λ text. HasForm (asked_form form.entry) (unicode_setting pattern.entry.flags) pattern.entry.text.now (string_bytes text)) }
-    ensures due { IfErr result (MayFailToExplain (asked_form form.entry)) }
+    ensures due { IfErr result (MayFailToExplain (asked_form form.entry) (unicode_setting pattern.entry.flags) pattern.entry.text.now) }
 {
     match form {
         Form::Lines => Ok(explain(alloc, points, parsed)?),
@@ -104,7 +104,7 @@ struct Found {
 fn found_in<'f>(alloc: Global, pattern: Pattern<'_>, text: &str) -> Result<Found, Failure<'f>>
     requires { IsAcceptedPattern (unicode_setting pattern.flags) (chars pattern.text.now) }
     ensures ranges { IfOk result (λ found. AreMatchRanges (unicode_setting pattern.entry.flags) pattern.entry.text.now text.now found.ranges.items) }
-    ensures due { IfErr result MayFailToFind }
+    ensures due { IfErr result (MayFailToFind (unicode_setting pattern.entry.flags) pattern.entry.text.now) }
 {
     let regex = compiled(alloc, pattern)?;
     let matches = regex.find_all(alloc, text)?;

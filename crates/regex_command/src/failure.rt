@@ -1,6 +1,6 @@
 //! Failures of a run.
 ghost use Rattle.std.specs.Prelude.{◌≡◌};
-ghost use Rattle.regex_command.specs.Ending.{IsLate, unaccepted};
+ghost use Rattle.regex_command.specs.Ending.{IsLate, IsOutputFailure, IsSearchFailure, unaccepted};
 ghost use Rattle.regex_command.specs.Printed.{MayFailToRead};
 ghost use Rattle.regex_command.specs.declared.failure.Failure.TheVariants.{Output};
 
@@ -14,13 +14,15 @@ use std::io::{self, ErrorKind, Write};
 ///
 /// `io::Error` has no `From` conversion: the caller knows whether it is an error of an input or of the output.
 #[derive(Drop)]
-pub(crate) enum Failure<'a> {
+pub enum Failure<'a> {
     /// An argument is not UTF-8.
     Argument,
     /// An allocation failed.
     Memory,
     /// Standard output cannot be written.
     Output,
+    /// Standard output is a pipe that nobody reads, of which there is no message.
+    Closed,
     /// The pattern is rejected, with a syntax error at a code-point index of the pattern or at its end.
     Syntax {
         pattern: String,
@@ -33,12 +35,6 @@ pub(crate) enum Failure<'a> {
     OutOfSteps,
     /// The file with this name cannot be opened or read.
     Unreadable(&'a str),
-    /// This line of the input with this name is not UTF-8 from this byte offset in the line on.
-    NotUtf8 {
-        name: &'a str,
-        line: u64,
-        offset: usize,
-    },
     /// The pattern in the file with this name is not UTF-8 from this byte offset on.
     PatternNotUtf8 {
         name: &'a str,
@@ -71,9 +67,10 @@ impl<'a, T: Drop> From<AllocFailed<T>> for Failure<'a> {
 }
 
 impl<'a> From<SearchError> for Failure<'a> {
-    ghost use Rattle.regex_command.specs.Ending.{IsLate};
+    ghost use Rattle.std.specs.Prelude.{◌≡◌};
+    ghost use Rattle.regex_command.specs.Ending.{search_failure};
 
-    ghost from_gives = { λ _ failure. IsLate failure };
+    ghost from_gives = { λ error failure. failure ≡ search_failure error };
 
     fn from(error: SearchError) -> Failure<'a> {
         match error {
@@ -97,6 +94,7 @@ fn write_message<E: Write>(failure: Failure<'_>, err: &mut E) -> io::Result<()> 
         Failure::Argument => writeln!(err, "regex: an argument is not UTF-8"),
         Failure::Memory => writeln!(err, "regex: out of memory"),
         Failure::Output => writeln!(err, "regex: can't write standard output"),
+        Failure::Closed => Ok(()),
         Failure::Syntax {
             pattern,
             text,
@@ -107,10 +105,6 @@ fn write_message<E: Write>(failure: Failure<'_>, err: &mut E) -> io::Result<()> 
         Failure::Unreadable(name) => {
             write_name(name, err)?;
             writeln!(err, "can't be read")
-        }
-        Failure::NotUtf8 { name, line, offset } => {
-            write_name(name, err)?;
-            writeln!(err, "line {line} is not UTF-8, at byte offset {offset}")
         }
         Failure::PatternNotUtf8 { name, offset } => {
             write_name(name, err)?;
@@ -151,9 +145,20 @@ pub(crate) fn reject<'f, E: Write>(
     }
 }
 
+/// Returns why the output cannot be written.
+pub(crate) fn output_failure<'a>(error: io::Error) -> Failure<'a>
+    ensures output { IsOutputFailure result }
+    ensures late { IsLate result }
+{
+    match error.kind() {
+        ErrorKind::BrokenPipe => Failure::Closed,
+        _ => Failure::Output,
+    }
+}
+
 /// Returns why a file cannot be read.
 pub(crate) fn read_failure(error: io::Error, name: &str) -> Failure<'_>
-    ensures late { IsLate result }
+    ensures search { IsSearchFailure ⊥ result }
     ensures reading { MayFailToRead result }
 {
     match error.kind() {

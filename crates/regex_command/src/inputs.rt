@@ -1,14 +1,14 @@
 //! The files that are searched, or standard input.
 ghost use Rattle.std.specs.Prelude.{◌≡◌, IfOk, IfErr, None, map, string_bytes};
-ghost use Rattle.regex_command.specs.Ending.{IsLate, OrOutput};
+ghost use Rattle.regex_command.specs.Ending.{IsCostly, IsSearchFailure, OrOutput};
 ghost use Rattle.regex_command.specs.Searched.{WritesInput, WritesInputs, WritesSomeOf, has_ended, inputs_of, named_files, named, SearchesFirst};
 ghost use Rattle.regex_options.specs.Plain.{job};
 
 use crate::failure::Failure;
 use crate::place::Place;
 use crate::searcher::Searcher;
-use crate::searching::{InputSearch, search_lines, write_end};
-use regex_options::{Search, Selection, Shown, Task};
+use crate::searching::{InputSearch, reaches, search_lines, write_end};
+use regex_options::{Search, Shown, Task};
 use std::fs::{File, Files};
 use std::io::{BufRead, BufReader, Read, Write};
 
@@ -24,8 +24,11 @@ pub(crate) fn search_all<'a, R: Files, I: Read + Drop, W: Write>(
         (inputs_of search.entry.multiline (map string_bytes search.entry.files.now) (I.remaining input)) (W.contents out.old) (W.contents out.new)) }
     ensures first { IfErr result (OrOutput (WritesSomeOf searcher.now.regex.now (job search.entry.task)
         (inputs_of search.entry.multiline (map string_bytes search.entry.files.now) (I.remaining input)) (W.contents out.old) (W.contents out.new))) }
-    ensures late { IfErr result IsLate }
+    ensures failed { IfErr result (IsSearchFailure (IsCostly searcher.now.regex.now)) }
 {
+    if has_ended(search.task, false) {
+        return Ok(false);
+    }
     if search.files.is_empty() {
         let place = Place {
             name: "(standard input)",
@@ -36,6 +39,7 @@ pub(crate) fn search_all<'a, R: Files, I: Read + Drop, W: Write>(
             searcher,
             task: search.task,
             place,
+            at_once: search.at_once,
         };
         search_input(search, input, out)
     } else {
@@ -54,7 +58,7 @@ fn search_files<'a, R: Files, W: Write>(
         (named_files search.entry.multiline (map string_bytes search.entry.files.now)) (W.contents out.old) (W.contents out.new)) }
     ensures first { IfErr result (OrOutput (WritesSomeOf searcher.now.regex.now (job search.entry.task)
         (named_files search.entry.multiline (map string_bytes search.entry.files.now)) (W.contents out.old) (W.contents out.new))) }
-    ensures late { IfErr result IsLate }
+    ensures failed { IfErr result (IsSearchFailure (IsCostly searcher.now.regex.now)) }
 {
     let in_front = search.files.len() > 1;
     let mut any = false;
@@ -71,6 +75,7 @@ fn search_files<'a, R: Files, W: Write>(
             searcher,
             task: search.task,
             place,
+            at_once: search.at_once,
         };
         any |= search_file(rt, search, out)?;
     }
@@ -82,13 +87,10 @@ fn has_ended(task: Task<'_>, any: bool) -> bool
     ensures { result ≡ has_ended (job task.entry) any }
 {
     match task {
-        Task::Match(
-            Selection {
-                shown: Shown::Nothing,
-                ..
-            },
-        ) => any,
-        _ => false,
+        Task::Match(selection) => {
+            reaches(selection.max_count, 0) || (any && matches!(selection.shown, Shown::Nothing))
+        }
+        Task::Replace(_) => false,
     }
 }
 
@@ -100,7 +102,7 @@ fn search_file<'a, R: Files, W: Write>(
 ) -> Result<bool, Failure<'a>>
     ensures all { IfOk result (WritesInput search.entry.searcher.now.regex.now (job search.entry.task) (named search.entry.place) None (W.contents out.old) (W.contents out.new)) }
     ensures first { IfErr result (OrOutput (SearchesFirst search.entry.searcher.now.regex.now (job search.entry.task) (named search.entry.place) None (W.contents out.old) (W.contents out.new))) }
-    ensures late { IfErr result IsLate }
+    ensures failed { IfErr result (IsSearchFailure (IsCostly search.entry.searcher.now.regex.now)) }
 {
     match File::open(rt, search.place.name) {
         Ok(file) => search_input(search, file, out),
@@ -116,7 +118,7 @@ fn search_input<'a, I: Read + Drop, W: Write>(
 ) -> Result<bool, Failure<'a>>
     ensures all { IfOk result (WritesInput search.entry.searcher.now.regex.now (job search.entry.task) (named search.entry.place) (I.remaining input) (W.contents out.old) (W.contents out.new)) }
     ensures first { IfErr result (OrOutput (SearchesFirst search.entry.searcher.now.regex.now (job search.entry.task) (named search.entry.place) (I.remaining input) (W.contents out.old) (W.contents out.new))) }
-    ensures late { IfErr result IsLate }
+    ensures failed { IfErr result (IsSearchFailure (IsCostly search.entry.searcher.now.regex.now)) }
 {
     match BufReader::new(search.searcher.alloc, input) {
         Ok(mut reader) => search_reader(search, &mut reader, out),
@@ -132,7 +134,7 @@ fn search_reader<'a, B: BufRead, W: Write>(
 ) -> Result<bool, Failure<'a>>
     ensures all { IfOk result (WritesInput search.entry.searcher.now.regex.now (job search.entry.task) (named search.entry.place) (B.Read.remaining reader.old) (W.contents out.old) (W.contents out.new)) }
     ensures first { IfErr result (OrOutput (SearchesFirst search.entry.searcher.now.regex.now (job search.entry.task) (named search.entry.place) (B.Read.remaining reader.old) (W.contents out.old) (W.contents out.new))) }
-    ensures late { IfErr result IsLate }
+    ensures failed { IfErr result (IsSearchFailure (IsCostly search.entry.searcher.now.regex.now)) }
 {
     let selected = search_lines(search, reader, out)?;
     write_end(search, selected, out)?;

@@ -1,19 +1,18 @@
 //! `regex` searches in lines of text, by `regex match`, `regex replace` and `regex split`, escapes texts, by
 //! `regex escape`, and shows, checks and explains patterns, by `regex parse`, `regex draw`, `regex lint` and
-//! `regex explain`. It exits with the status that `run_regex` returns, and with 2 if an argument is not UTF-8 or an
-//! allocation for the arguments or the output buffer fails.
+//! `regex explain`. It exits with 0 or 1 by what `run_regex` returns, and with 2 if that fails, the arguments are
+//! invalid, or an allocation for the arguments or the output buffer fails.
 #![tactic(auto)]
 
-ghost use Rattle.std.specs.Prelude.{◌≡◌, ◌≤◌, ◌⊎◌, true, false, IfSome, IfOk, IfErr, is_err, Ok, map, string_bytes};
+ghost use Rattle.std.specs.Prelude.{◌≡◌, ◌≢◌, ◌≤◌, ◌⊎◌, true, false, IfSome, IfOk, IfErr, is_err, Ok, map, string_bytes};
 ghost use Rattle.std.specs.Io.KnownBytes.{Appends};
 ghost use Rattle.regress_display.specs.Request.{requested};
 ghost use Rattle.regex_options.specs.Table.{topic_text};
 ghost use Rattle.regex_options.specs.Request.{action, ask, asked_by};
 ghost use Rattle.regex_command.specs.Ending.{IsLate, OrOutput};
 ghost use Rattle.regex_options.specs.Plain.{job, source};
-ghost use Rattle.regex_command.specs.Printed.{Begins, Does, IsDue, IsQuiet, IsQuietAt, MayFail, MayFailAt, Prints, PrintsAll, PrintsEscaped, PrintsFirst, PrintsSome, changes, view_of, LacksText, OfText};
+ghost use Rattle.regex_command.specs.Printed.{Begins, Does, IsDue, IsQuiet, IsQuietAt, MayFail, MayFailAt, Prints, PrintsAll, PrintsEscaped, PrintsFirst, PrintsSome, changes, status_if_none, view_of, LacksText, OfText};
 ghost use Rattle.regress.specs.Unicode.{unicode_setting};
-ghost use Rattle.regex_command.specs.declared.failure.Failure.TheVariants.{Output};
 
 mod compiling;
 mod explaining;
@@ -39,9 +38,9 @@ use failure::{Failure, report};
 use inputs::search_all;
 use linting::print_lint;
 use pattern::{Pattern, pattern_text};
-use printing::print;
+use printing::{flush, print};
 use regex_options::{
-    Action, Arguments, Asked, COMMANDS, OPTIONS, ParseError, Request, Search, Task, Topic,
+    Action, Arguments, Asked, COMMANDS, OPTIONS, Output, ParseError, Request, Search, Task, Topic,
     UsageError, View, allows_color, interpret, parse_arguments, topic_text, write_usage_error,
 };
 use regress_arguments::{ArgumentsError, arguments};
@@ -77,7 +76,10 @@ fn run<R: Env + Files + AllocGlobal, I: Read + Drop, W: Write + Drop, E: Write>(
                 commands: &COMMANDS,
                 options: &OPTIONS,
                 words: &args,
-                terminal: terminal && allows_color(rt),
+                output: Output {
+                    colors: terminal && allows_color(rt),
+                    at_once: terminal,
+                },
             };
             let (status, _) = run_buffered(rt, arguments, input, out, err);
             status
@@ -87,7 +89,7 @@ fn run<R: Env + Files + AllocGlobal, I: Read + Drop, W: Write + Drop, E: Write>(
     }
 }
 
-/// Runs `run_regex` with a buffered output, and returns the exit status, and the output if it has all that was written.
+/// Runs `run_arguments` with a buffered output, and returns the exit status, and the output if it has all that was written.
 /// The status is 2 if the buffer cannot be allocated.
 fn run_buffered<R: Files + AllocGlobal, I: Read + Drop, W: Write + Drop, E: Write>(
     rt: &R,
@@ -104,10 +106,11 @@ fn run_buffered<R: Files + AllocGlobal, I: Read + Drop, W: Write + Drop, E: Writ
     ensures usage { is_err (asked_by arguments.entry) ≡ true → result.0 ≡ 2 }
     ensures quiet { result.0 ≡ 0 → err.new ≡ err.old }
     ensures quiet_none { result.0 ≡ 1 → IfOk (asked_by arguments.entry) (IsQuiet (err.new ≡ err.old)) }
+    ensures rejected { result.0 ≡ 1 → IfOk (asked_by arguments.entry) (λ ask. status_if_none ask ≡ 1) }
 {
     match BufWriter::new(rt.alloc(), out) {
         Ok(mut buffered) => {
-            let status = run_regex(rt, arguments, input, &mut buffered, err);
+            let status = run_arguments(rt, arguments, input, &mut buffered, err);
             (status, buffered.into_inner().ok())
         }
         Err(_) => (report(Failure::Memory, err), None),
@@ -118,13 +121,10 @@ fn run_buffered<R: Files + AllocGlobal, I: Read + Drop, W: Write + Drop, E: Writ
 ///
 /// - 0: a line is selected; the output of `replace`, `split`, `escape`, `parse`, `draw` or `explain`, the help or the
 ///   version is written to `out`; or `lint` reports nothing;
-/// - 1: no line is selected; `lint` reports a difference; or `parse`, `draw`, `lint` or `explain` rejects the pattern,
-///   and writes why to `err`, or with `--json` to `out`;
-/// - 2: a failure, whose message is written to `err`.
-///
-/// With 2, the output for the first lines, or the first of two trees, may have been written to `out`. An error of a
-/// write to `err` is ignored.
-pub fn run_regex<R: Files + AllocGlobal, I: Read + Drop, W: Write, E: Write>(
+/// - 1: no line is selected, or `lint` reports something or rejects the pattern, and writes why to `err`;
+/// - 2: the arguments are invalid, `run_regex` fails, or `parse`, `draw` or `explain` rejects the pattern; a message is
+///   written to `err`, whose failure is ignored.
+fn run_arguments<R: Files + AllocGlobal, I: Read + Drop, W: Write, E: Write>(
     rt: &R,
     arguments: Arguments<'_>,
     input: I,
@@ -140,6 +140,7 @@ pub fn run_regex<R: Files + AllocGlobal, I: Read + Drop, W: Write, E: Write>(
     ensures untouched { is_err (asked_by arguments.entry) ≡ true → out.new ≡ out.old }
     ensures quiet { result ≡ 0 → err.new ≡ err.old }
     ensures quiet_none { result ≡ 1 → IfOk (asked_by arguments.entry) (IsQuiet (err.new ≡ err.old)) }
+    ensures rejected { result ≡ 1 → IfOk (asked_by arguments.entry) (λ ask. status_if_none ask ≡ 1) }
 {
     let parsed = match parse_arguments(rt.alloc(), arguments) {
         Ok(parsed) => parsed,
@@ -173,16 +174,36 @@ fn run_asked<R: Files + AllocGlobal, I: Read + Drop, W: Write, E: Write>(
     ensures none { result ≡ 1 → Prints (I.remaining input) (W.contents out.old) (W.contents out.new) false (ask asked.entry) }
     ensures quiet { result ≡ 0 → err.new ≡ err.old }
     ensures quiet_none { result ≡ 1 → IsQuiet (err.new ≡ err.old) (ask asked.entry) }
+    ensures rejected { result ≡ 1 → status_if_none (ask asked.entry) ≡ 1 }
 {
-    match response(rt, asked, input, out, err) {
-        Ok(found) => { if found { 0 } else { 1 } }
+    match run_regex(rt, asked, input, out, err) {
+        Ok(found) => { if found { 0 } else { status_if_none(asked) } }
         Err(failure) => report(failure, err),
+    }
+}
+
+/// Returns the exit status if nothing is found: 2 if that means that the pattern is rejected.
+fn status_if_none(asked: Asked<'_>) -> u8
+    ensures status { result ≡ status_if_none (ask asked.entry) }
+    ensures known { result ≤ 2 }
+    ensures positive { result ≢ 0 }
+{
+    match asked {
+        Asked::Help(_) | Asked::Escape(_) => 2,
+        Asked::Apply(request) => match request.action {
+            Action::Search(_) | Action::Lint => 1,
+            Action::Show(_) | Action::Explain(_) => 2,
+        },
     }
 }
 
 /// Writes what is asked for, and returns whether it is found. Why a pattern is rejected that is not searched for is
 /// written to `err`.
-fn response<'a, R: Files + AllocGlobal, I: Read + Drop, W: Write, E: Write>(
+///
+/// # Errors
+/// Returns a failure that is due, as `MayFail` states. The output for the first lines, or the first of two trees, may
+/// have been written to `out` before it.
+pub fn run_regex<'a, R: Files + AllocGlobal, I: Read + Drop, W: Write, E: Write>(
     rt: &R,
     asked: Asked<'a>,
     input: I,
@@ -296,7 +317,7 @@ fn print_search<'a, R: Files + AllocGlobal, I: Read + Drop, W: Write>(
     let regex = compiled(rt.alloc(), pattern)?;
     let searcher = Searcher::new(rt.alloc(), &regex);
     let searched = search_all(rt, &searcher, search, input, out);
-    out.flush().map_err(|_| Failure::Output)?;
+    flush(out)?;
     let any = searched?;
     Ok(any || changes(search.task))
 }
@@ -306,7 +327,7 @@ fn changes(task: Task<'_>) -> bool
 {
     match task {
         Task::Match(_) => false,
-        Task::Replace(_) | Task::Split => true,
+        Task::Replace(_) => true,
     }
 }
 

@@ -34,7 +34,7 @@ fn shows_json(task: Task<'_>) -> bool
 {
     match task {
         Task::Match(selection) => matches!(selection.shown, Shown::Json),
-        Task::Replace(_) | Task::Split => false,
+        Task::Replace(_) => false,
     }
 }
 
@@ -74,6 +74,6 @@ fn has_numbers(task: Task<'_>) -> bool
 {
     match task {
         Task::Match(selection) => selection.numbers,
-        Task::Replace(_) | Task::Split => false,
+        Task::Replace(_) => false,
     }
 }

@@ -1,17 +1,58 @@
 //! Writes bytes to the output.
 ghost use Rattle.std.specs.Prelude.{◌≡◌, IfErr, OnOk};
-ghost use Rattle.std.specs.Io.KnownBytes.{Appends};
-ghost use Rattle.regex_command.specs.declared.failure.Failure.TheVariants.{Output};
+ghost use Rattle.std.specs.Io.KnownBytes.{Appends, Keeps};
+ghost use Rattle.regex_command.specs.Ending.{IsLate, IsOutputFailure};
 
-use crate::failure::Failure;
+use crate::failure::{Failure, output_failure};
 use std::io::Write;
 
 /// Writes bytes, and flushes the output.
 pub(crate) fn print<'a, W: Write>(bytes: &[u8], out: &mut W) -> Result<(), Failure<'a>>
     ensures bytes { OnOk result (Appends (W.contents out.old) (W.contents out.new) bytes.now) }
-    ensures output { IfErr result (λ failure. failure ≡ Output) }
+    ensures output { IfErr result IsOutputFailure }
+    ensures late { IfErr result IsLate }
 {
-    out.write_all(bytes).map_err(|_| Failure::Output)?;
-    out.flush().map_err(|_| Failure::Output)?;
-    Ok(())
+    write_bytes(bytes, out)?;
+    flush(out)
+}
+
+/// Writes bytes.
+pub(crate) fn write_bytes<'a, W: Write>(bytes: &[u8], out: &mut W) -> Result<(), Failure<'a>>
+    ensures bytes { OnOk result (Appends (W.contents out.old) (W.contents out.new) bytes.now) }
+    ensures output { IfErr result IsOutputFailure }
+    ensures late { IfErr result IsLate }
+{
+    match out.write_all(bytes) {
+        Ok(()) => Ok(()),
+        Err(error) => Err(output_failure(error)),
+    }
+}
+
+/// Writes bytes, and with `at_once` flushes the output.
+pub(crate) fn write_at<'a, W: Write>(
+    at_once: bool,
+    bytes: &[u8],
+    out: &mut W,
+) -> Result<(), Failure<'a>>
+    ensures bytes { OnOk result (Appends (W.contents out.old) (W.contents out.new) bytes.now) }
+    ensures output { IfErr result IsOutputFailure }
+    ensures late { IfErr result IsLate }
+{
+    if at_once {
+        print(bytes, out)
+    } else {
+        write_bytes(bytes, out)
+    }
+}
+
+/// Flushes the output.
+pub(crate) fn flush<'a, W: Write>(out: &mut W) -> Result<(), Failure<'a>>
+    ensures kept { Keeps (W.contents out.old) (W.contents out.new) }
+    ensures output { IfErr result IsOutputFailure }
+    ensures late { IfErr result IsLate }
+{
+    match out.flush() {
+        Ok(()) => Ok(()),
+        Err(error) => Err(output_failure(error)),
+    }
 }

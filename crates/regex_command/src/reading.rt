@@ -1,8 +1,8 @@
 //! Lines of an input.
 ghost use Rattle.std.specs.Prelude.{◌≡◌, [], IfOk, MatchBool, true};
 ghost use Rattle.std.specs.Io.KnownBytes.{Keeps};
-ghost use Rattle.regex_command.specs.Reading.{IsRead, IsReadLine};
-ghost use Rattle.regex_command.specs.Searched.{without_line_feed};
+ghost use Rattle.regex_command.specs.Reading.{IsRead, IsReadLine, is_ended, is_last};
+ghost use Rattle.regex_command.specs.Searched.{has_line_feed, without_line_feed};
 ghost use Rattle.regex_command.specs.declared.reading.Next.TheVariants.{Line};
 
 use memchr::memchr;
@@ -13,8 +13,8 @@ use std::io::{self, BufRead, Read};
 pub(crate) enum Next {
     /// A line that a line feed ends.
     Line,
-    /// The rest of the input, which no line feed ends.
-    LastLine,
+    /// The rest of the input, and whether a line feed ends it.
+    LastLine { ended: bool },
     /// Nothing.
     End,
 }
@@ -43,16 +43,39 @@ fn read_text<B: BufRead>(reader: &mut B, text: &mut Vec<u8>) -> io::Result<Next>
     if text.is_empty() {
         return Ok(Next::End);
     }
-    remove_line_feed(text);
-    Ok(Next::LastLine)
+    let ended = remove_line_feed(text);
+    Ok(Next::LastLine { ended })
 }
 
-/// Removes the line feed at the end, if there is one.
-pub(crate) fn remove_line_feed(bytes: &mut Vec<u8>)
-    ensures { bytes.new.items ≡ without_line_feed bytes.old.items }
+/// Removes the line feed at the end, and returns whether there is one.
+pub(crate) fn remove_line_feed(bytes: &mut Vec<u8>) -> bool
+    ensures removed { bytes.new.items ≡ without_line_feed bytes.old.items }
+    ensures had { result ≡ has_line_feed bytes.old.items }
 {
-    if let Some(b'\n') = bytes.last() {
-        bytes.pop();
+    match bytes.last() {
+        Some(b'\n') => {
+            bytes.pop();
+            true
+        }
+        _ => false,
+    }
+}
+
+/// Returns whether the rest of the input was read.
+pub(crate) fn is_last(next: Next) -> bool
+    ensures { result ≡ is_last next }
+{
+    matches!(next, Next::LastLine { .. })
+}
+
+/// Returns whether a line feed ends the line that was read.
+pub(crate) fn is_ended(next: Next) -> bool
+    ensures { result ≡ is_ended next }
+{
+    match next {
+        Next::Line => true,
+        Next::LastLine { ended } => ended,
+        Next::End => false,
     }
 }
 
@@ -100,7 +123,7 @@ fn read_further<B: BufRead>(reader: &mut B, line: &mut Vec<u8>) -> io::Result<Ne
             line.pop();
             Next::Line
         }
-        Some(_) => Next::LastLine,
+        Some(_) => Next::LastLine { ended: false },
         None => Next::End,
     })
 }

@@ -1,8 +1,9 @@
 //! What is written for a line.
-ghost use Rattle.std.specs.Prelude.{◌≡◌, ◌↔◌, ◌++◌, All, IfOk, IsTrue, OnOk, false, flat_map, if◌then◌else◌, length, map, not, string_bytes, true};
+ghost use Rattle.std.specs.Prelude.{◌≡◌, ◌↔◌, ◌++◌, ℕ, List, All, IfErr, IfOk, IsTrue, OnOk, false, flat_map, if◌then◌else◌, length, map, not, true};
 ghost use Rattle.regex_options.specs.Plain.{job};
+ghost use Rattle.regex_command.specs.Ending.{IsCostly, IsSearchError};
 ghost use Rattle.regex_command.specs.InLine.{AreInLine, AreInText, HasMatch, needs_matches, plain, shown_by};
-ghost use Rattle.regex_command.specs.Reply.{painted_if, IsReply, IsSelected, MatchesIn, ShowsIf, ShowsPieces, ShowsReplaced, ended, matches_shown, AreSearched, matches_of, run_of, utf8_runs};
+ghost use Rattle.regex_command.specs.Reply.{painted_if, IsReplacedFrom, IsReply, IsReplyIn, IsSelected, MatchesIn, ShowsIf, ShowsReplaced, ended, feed_if, matches_shown, AreSearched, matches_of, run_of, utf8_runs, whole};
 ghost use Rattle.regex_command.specs.Prefix.{text_of};
 
 use crate::json::all_json;
@@ -11,8 +12,9 @@ use crate::prefix::{Prefix, prefix_text};
 use crate::runs::{Run, TextMatches, utf8_runs};
 use crate::searcher::Searcher;
 use regex_options::{Selection, Shown, Task};
-use regress::{Regex, SearchError};
+use regress::SearchError;
 use std::alloc::{AllocError, Global};
+use std::str;
 
 /// Whether a line is selected, and what is written for it.
 #[derive(Drop)]
@@ -21,60 +23,87 @@ pub(crate) struct Reply {
     pub(crate) bytes: Vec<u8>,
 }
 
-/// A line, and the texts in it.
+/// A line, whether a line feed ends it, and the texts in it.
 #[derive(Clone, Copy)]
 struct Line<'a> {
     bytes: &'a [u8],
+    ended: bool,
     texts: &'a [Run<'a>],
 }
 
-/// Returns what a task writes for a line, each line of it with `prefix` in front where the task selects lines.
+/// Returns what a task writes for a line, which a line feed may end. Each line of it has `prefix` in front where the
+/// task selects lines. A line that is not UTF-8 is searched run by run, and its other bytes match nowhere.
 pub(crate) fn reply_to(
     searcher: &Searcher<'_>,
     prefix: Prefix<'_>,
-    line: &str,
+    line: &[u8],
+    ended: bool,
 ) -> Result<Reply, SearchError>
-    ensures { IfOk result (λ reply. IsReply searcher.now.regex.now line.now (job prefix.entry.task) (text_of prefix.entry) reply.selected reply.bytes.items) }
+    ensures reply { IfOk result (λ reply. IsReply searcher.now.regex.now line.now ended (job prefix.entry.task) (text_of prefix.entry) reply.selected reply.bytes.items) }
+    ensures failed { IfErr result (IsSearchError (IsCostly searcher.now.regex.now)) }
 {
-    match prefix.task {
-        Task::Match(selection) => {
-            let texts = [Run {
-                start: 0,
-                text: line,
-            }];
-            let line = Line {
-                bytes: line.as_bytes(),
-                texts: &texts,
-            };
-            selected(searcher, selection, prefix, line)
-        }
-        Task::Replace(template) => Ok(Reply {
-            selected: true,
-            bytes: replaced(searcher.alloc, searcher.regex, template, line)?.into_bytes(),
-        }),
-        Task::Split => Ok(Reply {
-            selected: true,
-            bytes: pieces(searcher.alloc, searcher.regex, line)?.into_bytes(),
-        }),
+    match str::from_utf8(line) {
+        Ok(text) => reply_to_text(searcher, prefix, text, ended),
+        Err(_) => reply_to_runs(searcher, prefix, line, ended),
     }
 }
 
-/// Returns what `match -a` writes for a line that is not UTF-8.
-pub(crate) fn reply_to_binary(
+/// Returns what a task writes for a line that is UTF-8.
+fn reply_to_text(
     searcher: &Searcher<'_>,
-    selection: Selection,
+    prefix: Prefix<'_>,
+    text: &str,
+    ended: bool,
+) -> Result<Reply, SearchError>
+    ensures reply { IfOk result (λ reply. IsReplyIn searcher.now.regex.now text.now (whole text.now) ended (job prefix.entry.task) (text_of prefix.entry) reply.selected reply.bytes.items) }
+    ensures failed { IfErr result (IsSearchError (IsCostly searcher.now.regex.now)) }
+{
+    let texts = [Run { start: 0, text }];
+    let line = Line {
+        bytes: text.as_bytes(),
+        ended,
+        texts: &texts,
+    };
+    reply_in(searcher, prefix, line)
+}
+
+/// Returns what a task writes for a line that is not UTF-8.
+fn reply_to_runs(
+    searcher: &Searcher<'_>,
     prefix: Prefix<'_>,
     line: &[u8],
+    ended: bool,
 ) -> Result<Reply, SearchError>
-    ensures { IfOk result (λ reply. IsSelected searcher.now.regex.now (utf8_runs line.now) selection.invert reply.selected
-        × ShowsIf searcher.now.regex.now line.now (utf8_runs line.now) reply.selected selection (text_of prefix.entry) reply.bytes.items) }
+    ensures reply { IfOk result (λ reply. IsReplyIn searcher.now.regex.now line.now (utf8_runs line.now) ended (job prefix.entry.task) (text_of prefix.entry) reply.selected reply.bytes.items) }
+    ensures failed { IfErr result (IsSearchError (IsCostly searcher.now.regex.now)) }
 {
     let texts = utf8_runs(searcher.alloc, line)?;
     let line = Line {
         bytes: line,
+        ended,
         texts: &texts,
     };
-    selected(searcher, selection, prefix, line)
+    reply_in(searcher, prefix, line)
+}
+
+/// Returns what a task writes for a line with these texts.
+fn reply_in(
+    searcher: &Searcher<'_>,
+    prefix: Prefix<'_>,
+    line: Line<'_>,
+) -> Result<Reply, SearchError>
+    requires { AreInLine (length line.bytes.now) 0 (map run_of line.texts.now) }
+    ensures reply { IfOk result (λ reply. IsReplyIn searcher.now.regex.now line.entry.bytes.now (map run_of line.entry.texts.now) line.entry.ended (job prefix.entry.task)
+        (text_of prefix.entry) reply.selected reply.bytes.items) }
+    ensures failed { IfErr result (IsSearchError (IsCostly searcher.now.regex.now)) }
+{
+    match prefix.task {
+        Task::Match(selection) => selected(searcher, selection, prefix, line),
+        Task::Replace(template) => Ok(Reply {
+            selected: true,
+            bytes: replaced(searcher, template, line)?,
+        }),
+    }
 }
 
 /// Searches a line once: for all matches only if they are shown.
@@ -87,6 +116,7 @@ fn selected(
     requires { AreInLine (length line.bytes.now) 0 (map run_of line.texts.now) }
     ensures selected { IfOk result (λ reply. IsSelected searcher.now.regex.now (map run_of line.entry.texts.now) selection.invert reply.selected) }
     ensures shows { IfOk result (λ reply. ShowsIf searcher.now.regex.now line.entry.bytes.now (map run_of line.entry.texts.now) reply.selected selection (text_of prefix.entry) reply.bytes.items) }
+    ensures failed { IfErr result (IsSearchError (IsCostly searcher.now.regex.now)) }
 {
     if needs_matches(selection) {
         selected_by_matches(searcher, selection, prefix, line)
@@ -116,6 +146,7 @@ fn selected_by_test(
     requires { needs_matches selection.shown selection.paints ≡ false }
     ensures selected { IfOk result (λ reply. IsSelected searcher.now.regex.now (map run_of line.entry.texts.now) selection.invert reply.selected) }
     ensures shows { IfOk result (λ reply. ShowsIf searcher.now.regex.now line.entry.bytes.now (map run_of line.entry.texts.now) reply.selected selection (text_of prefix.entry) reply.bytes.items) }
+    ensures failed { IfErr result (IsSearchError (IsCostly searcher.now.regex.now)) }
 {
     let selected = is_selected(selection.invert, match_in(searcher, line.texts)?);
     if selected {
@@ -138,6 +169,7 @@ fn selected_by_matches(
     requires shows { needs_matches selection.shown selection.paints ≡ true }
     ensures selected { IfOk result (λ reply. IsSelected searcher.now.regex.now (map run_of line.entry.texts.now) selection.invert reply.selected) }
     ensures shows { IfOk result (λ reply. ShowsIf searcher.now.regex.now line.entry.bytes.now (map run_of line.entry.texts.now) reply.selected selection (text_of prefix.entry) reply.bytes.items) }
+    ensures failed { IfErr result (IsSearchError (IsCostly searcher.now.regex.now)) }
 {
     let found = search_texts(searcher, line.texts)?;
     let selected = is_selected(selection.invert, has_match(&found));
@@ -159,7 +191,8 @@ fn is_selected(invert: bool, matches: bool) -> bool
 
 /// Returns whether the pattern matches in one of the texts.
 fn match_in(searcher: &Searcher<'_>, texts: &[Run<'_>]) -> Result<bool, SearchError>
-    ensures { IfOk result (λ matches. IsTrue matches ↔ MatchesIn searcher.now.regex.now (map run_of texts.now)) }
+    ensures matches { IfOk result (λ matches. IsTrue matches ↔ MatchesIn searcher.now.regex.now (map run_of texts.now)) }
+    ensures failed { IfErr result (IsSearchError (IsCostly searcher.now.regex.now)) }
 {
     for run in texts {
         if searcher.is_match(run.text)? {
@@ -176,6 +209,7 @@ fn search_texts<'a>(
 ) -> Result<Vec<TextMatches<'a>>, SearchError>
     ensures searched { IfOk result (λ found. AreSearched searcher.now.regex.now (map run_of texts.now) (map matches_of found.items)) }
     ensures inside { IfOk result (λ found. All AreInText found.items) }
+    ensures failed { IfErr result (IsSearchError (IsCostly searcher.now.regex.now)) }
 {
     let mut found = Vec::new(searcher.alloc);
     for run in texts {
@@ -302,24 +336,49 @@ fn add_match(paints: bool, prefix: &str, text: &str, to: &mut Vec<u8>) -> Result
     Ok(())
 }
 
-/// Returns the line with its matches replaced.
-fn replaced(alloc: Global, regex: &Regex, template: &str, line: &str) -> Result<String, SearchError>
-    ensures { IfOk result (λ text. ShowsReplaced regex.now line.now template.now (string_bytes text)) }
+/// Returns the line with the matches in its texts replaced, and its line feed.
+fn replaced(searcher: &Searcher<'_>, template: &str, line: Line<'_>) -> Result<Vec<u8>, SearchError>
+    requires { AreInLine (length line.bytes.now) 0 (map run_of line.texts.now) }
+    ensures replaced { IfOk result (λ bytes. ShowsReplaced searcher.now.regex.now line.entry.bytes.now (map run_of line.entry.texts.now) line.entry.ended template.now bytes.items) }
+    ensures failed { IfErr result (IsSearchError (IsCostly searcher.now.regex.now)) }
 {
-    let mut text = regex.replace_all(alloc, line, template)?;
-    text.push_str("\n")?;
-    Ok(text)
+    let mut bytes = Vec::new(searcher.alloc);
+    add_replaced(searcher, template, line, &mut bytes)?;
+    add_feed_if(line.ended, &mut bytes)?;
+    Ok(bytes)
 }
 
-/// Returns a line for each piece between matches.
-fn pieces(alloc: Global, regex: &Regex, line: &str) -> Result<String, SearchError>
-    ensures { IfOk result (λ text. ShowsPieces regex.now line.now (string_bytes text)) }
+/// Adds a line feed, if there is to be one.
+fn add_feed_if(ended: bool, to: &mut Vec<u8>) -> Result<(), AllocError>
+    ensures { OnOk result (to.new.items ≡ to.old.items ++ feed_if ended) }
 {
-    let pieces = regex.split(alloc, line)?;
-    let mut text = String::new(alloc);
-    for piece in &pieces {
-        text.push_str(piece)?;
-        text.push_str("\n")?;
+    if ended {
+        to.push(b'\n')?;
     }
-    Ok(text)
+    Ok(())
+}
+
+/// Adds the line with the matches in its texts replaced.
+fn add_replaced(
+    searcher: &Searcher<'_>,
+    template: &str,
+    line: Line<'_>,
+    to: &mut Vec<u8>,
+) -> Result<(), SearchError>
+    requires { AreInLine (length line.bytes.now) 0 (map run_of line.texts.now) }
+    ensures replaced { OnOk result ((out : List ℕ) × IsReplacedFrom searcher.now.regex.now line.entry.bytes.now template.now 0 (map run_of line.entry.texts.now) out
+        × (to.new.items ≡ to.old.items ++ out)) }
+    ensures failed { IfErr result (IsSearchError (IsCostly searcher.now.regex.now)) }
+{
+    let mut from = 0;
+    for run in line.texts {
+        to.extend_from_slice(&line.bytes[from..run.start])?;
+        let text = searcher
+            .regex
+            .replace_all(searcher.alloc, run.text, template)?;
+        to.extend_from_slice(text.as_bytes())?;
+        from = run.start + run.text.len();
+    }
+    to.extend_from_slice(&line.bytes[from..])?;
+    Ok(())
 }

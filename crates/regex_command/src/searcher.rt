@@ -17,12 +17,13 @@ pub(crate) struct Searcher<'r> {
 }
 
 impl<'r> Searcher<'r> {
-    ghost use Rattle.std.specs.Prelude.{◌≡◌, ◌↔◌, All, IfOk, IsTrue, map, true};
+    ghost use Rattle.std.specs.Prelude.{◌≡◌, ◌↔◌, All, IfErr, IfOk, IsTrue, map, true};
     ghost use Rattle.regress_found.specs.Found.{IsInside};
     ghost use Rattle.regress.specs.Searched.{MatchesSomewhere};
     ghost use Rattle.regress_found.specs.Repeated.{AreAllMatches};
     ghost use Rattle.regress.specs.Found.{match_of};
     ghost use Rattle.regress.specs.Compiled.{outcomes_of};
+    ghost use Rattle.regex_command.specs.Ending.{IsCostly, IsSearchError};
 
     /// Returns a searcher for a regular expression.
     pub(crate) fn new(alloc: Global, regex: &'r Regex) -> Searcher<'r>
@@ -40,7 +41,8 @@ impl<'r> Searcher<'r> {
 
     /// Returns whether the regular expression matches somewhere in `text`.
     pub(crate) fn is_match(&self, text: &str) -> Result<bool, SearchError>
-        ensures { IfOk result (λ is. IsTrue is ↔ MatchesSomewhere text.now (outcomes_of self.now.regex.now text.now)) }
+        ensures is { IfOk result (λ is. IsTrue is ↔ MatchesSomewhere text.now (outcomes_of self.now.regex.now text.now)) }
+        ensures failed { IfErr result (IsSearchError (IsCostly self.now.regex.now)) }
     {
         if self.lacks_literal(text) {
             return Ok(false);
@@ -52,6 +54,7 @@ impl<'r> Searcher<'r> {
     pub(crate) fn find_all<'t>(&'t self, text: &'t str) -> Result<Vec<Match<'t>>, SearchError>
         ensures all { IfOk result (λ all. AreAllMatches text.now (outcomes_of self.now.regex.now text.now) (map match_of all.items)) }
         ensures inside { IfOk result (λ all. All (λ m. IsInside text.now (match_of m)) all.items) }
+        ensures failed { IfErr result (IsSearchError (IsCostly self.now.regex.now)) }
     {
         if self.lacks_literal(text) {
             return Ok(Vec::new(self.alloc));

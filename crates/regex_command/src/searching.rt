@@ -4,21 +4,20 @@ ghost use Rattle.std.specs.Io.KnownBytes.{Appends};
 ghost use Rattle.regex_command.specs.Reply.{IsReply};
 ghost use Rattle.regex_command.specs.Reading.{IsRead};
 ghost use Rattle.regress_arguments.specs.Output.{Took};
-ghost use Rattle.regex_command.specs.Ending.{IsLate, OrOutput};
+ghost use Rattle.regex_command.specs.Ending.{IsCostly, IsSearchFailure, OrOutput};
 ghost use Rattle.regex_options.specs.Plain.{job};
 ghost use Rattle.regex_command.specs.Searched.{named, SearchesAll, SearchesFirst, prefix_of, is_enough, needs_one, reaches, written_at_end};
-ghost use Rattle.regex_command.specs.declared.failure.Failure.TheVariants.{Output};
 
 use crate::failure::{Failure, read_failure};
 use crate::place::Place;
 use crate::prefix::{Prefix, name_in_front};
-use crate::reading::{Next, read_next};
-use crate::reply::{Reply, reply_to, reply_to_binary};
+use crate::printing::{write_at, write_bytes};
+use crate::reading::{Next, is_ended, is_last, read_next};
+use crate::reply::{Reply, reply_to};
 use crate::searcher::Searcher;
 use regex_options::{Shown, Task};
 use std::alloc::{AllocError, Global};
 use std::io::{BufRead, Write};
-use std::str;
 
 /// What is done with the lines of an input.
 #[derive(Clone, Copy)]
@@ -26,6 +25,8 @@ pub(crate) struct InputSearch<'s, 'a> {
     pub(crate) searcher: &'s Searcher<'s>,
     pub(crate) task: Task<'a>,
     pub(crate) place: Place<'a>,
+    /// Whether what is shown of a line is written at once.
+    pub(crate) at_once: bool,
 }
 
 /// Writes what a task shows of each line of an input until enough are selected, and returns how many are.
@@ -36,7 +37,7 @@ pub(crate) fn search_lines<'a, B: BufRead, W: Write>(
 ) -> Result<u64, Failure<'a>>
     ensures all { IfOk result (SearchesAll search.entry.searcher.now.regex.now (job search.entry.task) (named search.entry.place) (B.Read.remaining reader.old) (W.contents out.old) (W.contents out.new)) }
     ensures first { IfErr result (OrOutput (SearchesFirst search.entry.searcher.now.regex.now (job search.entry.task) (named search.entry.place) (B.Read.remaining reader.old) (W.contents out.old) (W.contents out.new))) }
-    ensures late { IfErr result IsLate }
+    ensures failed { IfErr result (IsSearchFailure (IsCostly search.entry.searcher.now.regex.now)) }
 {
     let mut bytes = Vec::new(search.searcher.alloc);
     let mut number: u64 = 0;
@@ -50,9 +51,9 @@ pub(crate) fn search_lines<'a, B: BufRead, W: Write>(
             return Ok(selected);
         }
         number += 1;
-        let is_selected = write_reply(search, number, &bytes, out)?;
+        let is_selected = write_reply(search, number, &bytes, is_ended(next), out)?;
         selected += u64::from(is_selected);
-        if let Next::LastLine = next {
+        if is_last(next) {
             return Ok(selected);
         }
     }
@@ -67,11 +68,11 @@ fn is_enough(task: Task<'_>, selected: u64) -> bool
         Task::Match(selection) => {
             reaches(selection.max_count, selected) || (needs_one(selection.shown) && selected > 0)
         }
-        Task::Replace(_) | Task::Split => false,
+        Task::Replace(_) => false,
     }
 }
 
-fn reaches(limit: Option<u64>, number: u64) -> bool
+pub(crate) fn reaches(limit: Option<u64>, number: u64) -> bool
     ensures { result ≡ reaches limit number }
 {
     match limit {
@@ -97,7 +98,7 @@ fn next_line<'a, B: BufRead>(
     line: &mut Vec<u8>,
 ) -> Result<Next, Failure<'a>>
     ensures read { IfOk result (IsRead place.entry.multiline (B.Read.remaining reader.old) (B.Read.remaining reader.new) line.new.items) }
-    ensures late { IfErr result IsLate }
+    ensures failed { IfErr result (IsSearchFailure ⊥) }
 {
     match read_next(reader, place.multiline, line) {
         Ok(next) => Ok(next),
@@ -110,40 +111,36 @@ fn write_reply<'a, W: Write>(
     search: InputSearch<'_, 'a>,
     number: u64,
     line: &[u8],
+    ended: bool,
     out: &mut W,
 ) -> Result<bool, Failure<'a>>
     ensures reply { IfOk result (λ selected. Took (W.contents out.old) (W.contents out.new)
-        (IsReply search.entry.searcher.now.regex.now line.now (job search.entry.task) (prefix_of (job search.entry.task) (named search.entry.place) number) selected)) }
-    ensures late { IfErr result IsLate }
+        (IsReply search.entry.searcher.now.regex.now line.now ended (job search.entry.task) (prefix_of (job search.entry.task) (named search.entry.place) number) selected)) }
+    ensures failed { IfErr result (IsSearchFailure (IsCostly search.entry.searcher.now.regex.now)) }
     ensures untouched { IfErr result (OrOutput (out.new ≡ out.old)) }
 {
-    let Reply { selected, bytes } = reply(search, number, line)?;
-    out.write_all(&bytes).map_err(|_| Failure::Output)?;
+    let Reply { selected, bytes } = reply(search, number, line, ended)?;
+    write_at(search.at_once, &bytes, out)?;
     Ok(selected)
 }
 
 /// Returns what a task writes for the line with this number.
-fn reply<'a>(search: InputSearch<'_, 'a>, number: u64, line: &[u8]) -> Result<Reply, Failure<'a>>
-    ensures reply { IfOk result (λ reply. IsReply search.entry.searcher.now.regex.now line.now (job search.entry.task)
+fn reply<'a>(
+    search: InputSearch<'_, 'a>,
+    number: u64,
+    line: &[u8],
+    ended: bool,
+) -> Result<Reply, Failure<'a>>
+    ensures reply { IfOk result (λ reply. IsReply search.entry.searcher.now.regex.now line.now ended (job search.entry.task)
         (prefix_of (job search.entry.task) (named search.entry.place) number) reply.selected reply.bytes.items) }
-    ensures late { IfErr result IsLate }
+    ensures failed { IfErr result (IsSearchFailure (IsCostly search.entry.searcher.now.regex.now)) }
 {
     let prefix = Prefix {
         task: search.task,
         place: search.place,
         number,
     };
-    match (str::from_utf8(line), search.task) {
-        (Ok(line), _) => Ok(reply_to(search.searcher, prefix, line)?),
-        (Err(_), Task::Match(selection)) if selection.binary => {
-            Ok(reply_to_binary(search.searcher, selection, prefix, line)?)
-        }
-        (Err(error), _) => Err(Failure::NotUtf8 {
-            name: search.place.name,
-            line: number,
-            offset: error.valid_up_to(),
-        }),
-    }
+    Ok(reply_to(search.searcher, prefix, line, ended)?)
 }
 
 /// Writes what a task shows at the end of an input with this many selected lines.
@@ -153,12 +150,11 @@ pub(crate) fn write_end<'a, W: Write>(
     out: &mut W,
 ) -> Result<(), Failure<'a>>
     ensures end { OnOk result (Appends (W.contents out.old) (W.contents out.new) (written_at_end (job search.entry.task) (named search.entry.place) selected)) }
-    ensures late { IfErr result IsLate }
+    ensures failed { IfErr result (IsSearchFailure (IsCostly search.entry.searcher.now.regex.now)) }
     ensures untouched { IfErr result (OrOutput (out.new ≡ out.old)) }
 {
     let end = end(search.searcher.alloc, search.task, search.place, selected)?;
-    out.write_all(end.as_bytes()).map_err(|_| Failure::Output)?;
-    Ok(())
+    write_bytes(end.as_bytes(), out)
 }
 
 fn end(alloc: Global, task: Task<'_>, place: Place<'_>, selected: u64) -> Result<String, AllocError>

@@ -10,7 +10,7 @@ use Rattle.regex_options.specs.declared.given.Color.TheVariants.{Always, Never, 
 use Rattle.regex_options.specs.declared.given.Given as code
 use Rattle.regex_options.specs.declared.given.Options.{Options}
 use Rattle.regex_options.specs.declared.table.Switch.{Switch}
-use Rattle.regex_options.specs.declared.table.Switch.TheVariants.{Help, Version, IgnoreCase, Multiline, Binary, Invert, Numbers, Shown, Json, Stage, Small, Html}
+use Rattle.regex_options.specs.declared.table.Switch.TheVariants.{Help, Version, IgnoreCase, Multiline, LineBuffered, Binary, Invert, Numbers, Shown, Json, Stage, Small, Html}
 use Rattle.regex_options.specs.declared.table.Value.{Value}
 use Rattle.regex_options.specs.declared.table.Value.TheVariants.{Pattern, File, Flags as FlagLetters, Count, Color as When, Text}
 use Rattle.regex_options.specs.declared.task.Shown.TheVariants.{Lines}
@@ -26,8 +26,9 @@ no_options = record {
   help = false;
   version = false;
   flags = no_flags;
-  selection = record { invert = false; numbers = false; shown = Lines; max_count = None; binary = false; paints = false };
+  selection = record { invert = false; numbers = false; shown = Lines; max_count = None; paints = false };
   multiline = false;
+  line_buffered = false;
   json = false;
   color = None;
   stage = None;
@@ -52,7 +53,8 @@ switched Help o = record o { help = true }
 switched Version o = record o { version = true }
 switched IgnoreCase o = record o { flags = record o.flags { icase = true } }
 switched Multiline o = record o { multiline = true }
-switched Binary o = record o { selection = record o.selection { binary = true } }
+switched LineBuffered o = record o { line_buffered = true }
+switched Binary o = o
 switched Invert o = record o { selection = record o.selection { invert = true } }
 switched Numbers o = record o { selection = record o.selection { numbers = true } }
 switched (Shown shown) o = record o { selection = record o.selection { shown = shown } }

@@ -7,20 +7,18 @@ use Rattle.regex_options.specs.declared.error.UsageError.TheVariants.{Missing, U
 use Rattle.regex_options.specs.declared.source.PatternSource.TheVariants.{Text, File}
 use Rattle.regex_options.specs.declared.source.PatternSource.{PatternSource}
 use Rattle.regex_options.specs.declared.task.Selection.{Selection}
-use Rattle.regex_options.specs.declared.task.Task.TheVariants.{Match, Replace, Split}
+use Rattle.regex_options.specs.declared.task.Task.TheVariants.{Match, Replace}
 use Rattle.regex_options.specs.declared.task.Task.{Task}
 
--- selected lines are shown, matches are replaced by the expansion of a template, or lines are split at matches
+-- selected lines are shown, or matches are replaced by the expansion of a template
 pub data Job : Type 0 where
   matching : Selection → Job
   replacing : (template : List ℕ) → Job
-  splitting : Job
 
 -- the job as the code represents it
 abbrev pub job : Task → Job
 job (Match s) = matching s
 job (Replace template) = replacing template.now
-job Split = splitting
 
 -- a pattern, or the name of the file that has it
 pub data Source : Type 0 where

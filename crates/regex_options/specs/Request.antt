@@ -9,7 +9,7 @@ use Rattle.regress_display.specs.declared.request.Stage.{Stage}
 use Rattle.regress_display.specs.declared.request.Stage.TheVariants as stages
 use Rattle.regex_options.specs.Table.{command_help, is_named, program_help, topic_text}
 use Rattle.regex_options.specs.Given.{Given}
-use Rattle.regex_options.specs.Plain.{Job, job, matching, replacing, splitting, Source, in_argument, source, UsageError, excluded_by_json, missing, on_ok, or_error, text_without_page, unexpected, unknown_command, unknown_option, unless_error}
+use Rattle.regex_options.specs.Plain.{Job, job, matching, replacing, Source, in_argument, source, UsageError, excluded_by_json, missing, on_ok, or_error, text_without_page, unexpected, unknown_command, unknown_option, unless_error}
 use Rattle.regex_options.specs.Reading.{Reading, options_of, reading_of, start}
 use Rattle.regex_options.specs.declared.command.Command.{Command}
 use Rattle.regex_options.specs.declared.command.Command.TheVariants as commands
@@ -95,9 +95,6 @@ ask (Help topic) = help (topic_text topic)
 ask (Escape text) = escape text.now
 ask (Apply r) = apply (requested r)
 
-abbrev pub search_with : Options → Job → (files : List (List ℕ)) → Action
-search_with options job files = search job options.multiline files
-
 -- the format of a printed tree
 abbrev pub printed_format : (json : Bool) → Format
 printed_format json = if json then Json else Text
@@ -131,9 +128,9 @@ abbrev pub form_of : Given → Form
 form_of given = if given.options.html then page given.text else lines
 
 -- The files are searched. For `replace` the template is in front of them.
-abbrev pub replace_of : Options → List (List ℕ) → Result Action UsageError
-replace_of options [] = Err (missing (codes "TEMPLATE"))
-replace_of options (template ∷ files) = Ok (search_with options (replacing template) files)
+abbrev pub replace_of : (multiline : Bool) → List (List ℕ) → Result Action UsageError
+replace_of multiline [] = Err (missing (codes "TEMPLATE"))
+replace_of multiline (template ∷ files) = Ok (search (replacing template) multiline files)
 
 -- no argument is left
 abbrev pub no_more : List (List ℕ) → Result ⊤ UsageError
@@ -144,11 +141,11 @@ no_more (more ∷ others) = Err (unexpected more)
 abbrev pub alone : Action → List (List ℕ) → Result Action UsageError
 alone action args = on_ok (λ _. Ok action) (no_more args)
 
--- what is done with a pattern, with the operands after the pattern
+-- What is done with a pattern, with the operands after the pattern: `split` replaces each match by a line feed.
 abbrev pub action_of : (terminal : Bool) → Operation → Given → List (List ℕ) → Result Action UsageError
-action_of terminal operations.Match given args = Ok (search_with given.options (matching (selection_of terminal given.options)) args)
-action_of terminal operations.Replace given args = replace_of given.options args
-action_of terminal operations.Split given args = Ok (search_with given.options splitting args)
+action_of terminal operations.Match given args = Ok (search (matching (selection_of terminal given.options)) given.options.multiline args)
+action_of terminal operations.Replace given args = replace_of given.options.multiline args
+action_of terminal operations.Split given args = Ok (search (replacing (codes "\n")) given.options.multiline args)
 action_of terminal operations.Parse given args = alone (show (view_in given.options (printed_format given.options.json))) args
 action_of terminal operations.Draw given args = alone (show (view_in given.options Svg)) args
 action_of terminal operations.Lint given args = alone lint args
@@ -253,4 +250,4 @@ parsed_by arguments = parsed_of arguments.commands.now arguments.options.now arg
 -- What the arguments of the program ask for. The first of their errors by themselves comes before any that they have
 -- together.
 abbrev pub asked_by : Arguments → Result Ask UsageError
-asked_by arguments = on_ok (interpreted arguments.options.now arguments.terminal) (parsed_by arguments)
+asked_by arguments = on_ok (interpreted arguments.options.now arguments.output.colors) (parsed_by arguments)

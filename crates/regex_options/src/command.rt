@@ -150,7 +150,7 @@ Writes the parsed tree of PATTERN, a line --, and the optimized tree.
 ",
         examples: "\
 \n\
-exit status: 0, 1 if PATTERN is rejected, or 2 after any other error
+exit status: 0, or 2 if PATTERN is rejected or after another error
 
 examples:
   regex parse '(?:ab)+'
@@ -169,7 +169,7 @@ Writes a railroad diagram of PATTERN as an SVG picture.
 ",
         examples: "\
 \n\
-exit status: 0, 1 if PATTERN is rejected, or 2 after any other error
+exit status: 0, or 2 if PATTERN is rejected or after another error
 
 examples:
   regex draw '\\d{4}-\\d\\d' >date.svg
@@ -188,7 +188,7 @@ Writes for each part of PATTERN its span and, in words, what it matches.
 ",
         examples: "\
 \n\
-exit status: 0, 1 if PATTERN is rejected, or 2 after any other error
+exit status: 0, or 2 if PATTERN is rejected or after another error
 
 examples:
   regex explain '\\d{4}-\\d\\d'

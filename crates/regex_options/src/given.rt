@@ -25,6 +25,8 @@ pub(crate) struct Options {
     pub(crate) selection: Selection,
     /// Whether a text is searched as one, and not line by line.
     pub(crate) multiline: bool,
+    /// Whether each line is written at once.
+    pub(crate) line_buffered: bool,
     pub(crate) json: bool,
     pub(crate) color: Option<Color>,
     /// The tree to show.
@@ -59,10 +61,10 @@ pub(crate) fn nothing_given() -> Given<'static>
                 numbers: false,
                 shown: Shown::Lines,
                 max_count: None,
-                binary: false,
                 paints: false,
             },
             multiline: false,
+            line_buffered: false,
             json: false,
             color: None,
             stage: None,

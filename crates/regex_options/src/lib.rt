@@ -20,7 +20,7 @@ pub use environment::allows_color;
 pub use error::{ParseError, UsageError, write_usage_error};
 pub use help::{HELP_AFTER, HELP_BEFORE, OPTIONS_END, Topic, VERSION, topic_text};
 pub use request::{
-    Action, Arguments, Asked, CommandLine, Form, Parsed, Request, Search, View, interpret,
+    Action, Arguments, Asked, CommandLine, Form, Output, Parsed, Request, Search, View, interpret,
     parse_arguments,
 };
 pub use source::PatternSource;

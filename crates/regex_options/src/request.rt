@@ -3,7 +3,7 @@ ghost use Rattle.std.specs.Prelude.{◌≡◌, map, option_map, string_bytes};
 ghost use Rattle.regex_options.specs.Given.{given_by};
 ghost use Rattle.regex_options.specs.Plain.{IsParsed, job, source, plain_result, usage_error};
 ghost use Rattle.regex_options.specs.Reading.{reading_of};
-ghost use Rattle.regex_options.specs.Request.{action, action_of, after_pattern, alone, ask, asked_form, conflict, escape_of, form_of, help_of, interpreted, is_lines, line_interpreted, line_of, no_more, paints, parsed_as, parsed_by, printed_format, replace_of, request_of, search_with, selection_of, stage_of, taken_pattern, topic_of, unknown, view_in};
+ghost use Rattle.regex_options.specs.Request.{action, action_of, after_pattern, alone, ask, asked_form, conflict, escape_of, form_of, help_of, interpreted, is_lines, line_interpreted, line_of, no_more, paints, parsed_as, parsed_by, printed_format, replace_of, request_of, search, selection_of, stage_of, taken_pattern, topic_of, unknown, view_in};
 ghost use Rattle.regex_options.specs.Table.{topic_text};
 
 use crate::command::{Command, CommandEntry, Operation, find_command};
@@ -69,6 +69,8 @@ pub struct Search<'a> {
     pub task: Task<'a>,
     /// Whether a text is searched as one, and not line by line.
     pub multiline: bool,
+    /// Whether each line is written at once, and not with those after it.
+    pub at_once: bool,
     /// The names of the files.
     pub files: &'a [String],
 }
@@ -93,8 +95,17 @@ pub struct Arguments<'a> {
     pub options: &'a [OptionEntry],
     /// The arguments, without the program's own name.
     pub words: &'a [String],
-    /// Whether the output is a terminal with colors, where matches are in color by default.
-    pub terminal: bool,
+    /// The output.
+    pub output: Output,
+}
+
+/// What is known of the output.
+#[derive(Clone, Copy)]
+pub struct Output {
+    /// Whether it is a terminal with colors, where matches are in color by default.
+    pub colors: bool,
+    /// Whether it is a terminal, where each line is written at once.
+    pub at_once: bool,
 }
 
 /// The arguments, parsed one by one.
@@ -218,7 +229,7 @@ pub fn interpret<'p>(
     arguments: Arguments<'p>,
     parsed: &'p Parsed<'p>,
 ) -> Result<Asked<'p>, UsageError<'p>>
-    ensures { plain_result ask result ≡ interpreted arguments.entry.options.now arguments.entry.terminal (parsed_as parsed.now) }
+    ensures { plain_result ask result ≡ interpreted arguments.entry.options.now arguments.entry.output.colors (parsed_as parsed.now) }
 {
     match parsed {
         Parsed::Topic(topic) => Ok(Asked::Help(*topic)),
@@ -231,7 +242,7 @@ fn interpret_line<'p>(
     arguments: Arguments<'p>,
     line: &'p CommandLine<'p>,
 ) -> Result<Asked<'p>, UsageError<'p>>
-    ensures { plain_result ask result ≡ line_interpreted arguments.entry.options.now arguments.entry.terminal
+    ensures { plain_result ask result ≡ line_interpreted arguments.entry.options.now arguments.entry.output.colors
         line.now.entry (reading_of line.now.reading) (map string_bytes line.now.operands.items) }
 {
     let Reading { given, denied, .. } = line.reading;
@@ -250,7 +261,7 @@ fn interpret_line<'p>(
     match line.entry.command {
         Command::Escape => read_escape(&line.operands),
         Command::Pattern(operation) => {
-            read_request(operation, given, &line.operands, arguments.terminal)
+            read_request(operation, given, &line.operands, arguments.output)
         }
     }
 }
@@ -289,9 +300,9 @@ fn read_request<'a>(
     operation: Operation,
     given: Given<'a>,
     args: &'a [String],
-    terminal: bool,
+    output: Output,
 ) -> Result<Asked<'a>, UsageError<'a>>
-    ensures { plain_result ask result ≡ request_of terminal operation (given_by given.entry) (map string_bytes args.now) }
+    ensures { plain_result ask result ≡ request_of output.colors operation (given_by given.entry) (map string_bytes args.now) }
 {
     let Some((pattern, rest)) = take_pattern(given.pattern, args) else {
         return Err(UsageError::Missing("PATTERN"));
@@ -299,7 +310,7 @@ fn read_request<'a>(
     Ok(Asked::Apply(Request {
         pattern,
         flags: given.options.flags,
-        action: read_action(operation, given, rest, terminal)?,
+        action: read_action(operation, given, rest, output)?,
     }))
 }
 
@@ -322,19 +333,23 @@ fn read_action<'a>(
     operation: Operation,
     given: Given<'a>,
     args: &'a [String],
-    terminal: bool,
+    output: Output,
 ) -> Result<Action<'a>, UsageError<'a>>
-    ensures { plain_result action result ≡ action_of terminal operation (given_by given.entry) (map string_bytes args.now) }
+    ensures { plain_result action result ≡ action_of output.colors operation (given_by given.entry) (map string_bytes args.now) }
 {
     let options = given.options;
+    let form = LineForm {
+        multiline: options.multiline,
+        at_once: options.line_buffered || output.at_once,
+    };
     match operation {
         Operation::Match => Ok(search_for(
-            options,
-            Task::Match(selection_of(options, terminal)),
+            form,
+            Task::Match(selection_of(options, output.colors)),
             args,
         )),
-        Operation::Replace => replace_of(options, args),
-        Operation::Split => Ok(search_for(options, Task::Split, args)),
+        Operation::Replace => replace_of(form, args),
+        Operation::Split => Ok(search_for(form, Task::Replace("\n"), args)),
         Operation::Parse => alone(
             Action::Show(view_in(options, printed_format(options.json))),
             args,
@@ -346,13 +361,11 @@ fn read_action<'a>(
 }
 
 /// Parses a template, and the files after it.
-fn replace_of(options: Options, args: &[String]) -> Result<Action<'_>, UsageError<'_>>
-    ensures { plain_result action result ≡ replace_of options (map string_bytes args.now) }
+fn replace_of(form: LineForm, args: &[String]) -> Result<Action<'_>, UsageError<'_>>
+    ensures { plain_result action result ≡ replace_of form.multiline (map string_bytes args.now) }
 {
     match args {
-        [template, files @ ..] => {
-            Ok(search_for(options, Task::Replace(template.as_str()), files))
-        }
+        [template, files @ ..] => { Ok(search_for(form, Task::Replace(template.as_str()), files)) }
         [] => Err(UsageError::Missing("TEMPLATE")),
     }
 }
@@ -405,12 +418,20 @@ fn paints(color: Option<Color>, terminal: bool) -> bool
     }
 }
 
-fn search_for<'a>(options: Options, task: Task<'a>, files: &'a [String]) -> Action<'a>
-    ensures { action result ≡ search_with options (job task.entry) (map string_bytes files.now) }
+/// How lines are read and written.
+#[derive(Clone, Copy)]
+struct LineForm {
+    multiline: bool,
+    at_once: bool,
+}
+
+fn search_for<'a>(form: LineForm, task: Task<'a>, files: &'a [String]) -> Action<'a>
+    ensures { action result ≡ search (job task.entry) form.multiline (map string_bytes files.now) }
 {
     Action::Search(Search {
         task,
-        multiline: options.multiline,
+        multiline: form.multiline,
+        at_once: form.at_once,
         files,
     })
 }

@@ -48,13 +48,11 @@ pub(crate) fn switched(switch: Switch, options: Options) -> Options
             html: true,
             ..options
         },
-        Switch::Binary => Options {
-            selection: Selection {
-                binary: true,
-                ..selection
-            },
+        Switch::LineBuffered => Options {
+            line_buffered: true,
             ..options
         },
+        Switch::Binary => options,
         Switch::Invert => Options {
             selection: Selection {
                 invert: true,

@@ -39,7 +39,9 @@ pub enum Switch {
     IgnoreCase,
     /// A text is one line.
     Multiline,
-    /// Lines that are not UTF-8 are searched too.
+    /// Each line is written at once.
+    LineBuffered,
+    /// Lines that are not UTF-8 are searched, as they are without it.
     Binary,
     /// The lines without a match are selected.
     Invert,
@@ -238,7 +240,7 @@ const OF_EXPLAIN: Scope = Scope {
 };
 
 /// The options, in the order of the help.
-pub const OPTIONS: [OptionEntry; 23] = [
+pub const OPTIONS: [OptionEntry; 24] = [
     OptionEntry {
         short: Some("-e"),
         long: Some("regexp"),
@@ -300,8 +302,15 @@ pub const OPTIONS: [OptionEntry; 23] = [
         short: Some("-a"),
         long: Some("text"),
         sets: Sets::Switch(Switch::Binary),
-        scope: OF_MATCH,
-        line: "  -a, --text                search lines that are not UTF-8 too; their bytes\n                            that are not match nowhere\n",
+        scope: OF_LINES,
+        line: "  -a, --text                no effect: lines that are not UTF-8 are searched, and\n                            their bytes that are not match nowhere\n",
+    },
+    OptionEntry {
+        short: None,
+        long: Some("line-buffered"),
+        sets: Sets::Switch(Switch::LineBuffered),
+        scope: OF_LINES,
+        line: "      --line-buffered       write each line at once, as on a terminal\n",
     },
     OptionEntry {
         short: Some("-v"),

@@ -7,8 +7,6 @@ pub enum Task<'a> {
     Match(Selection),
     /// Replace each match by the expansion of this template.
     Replace(&'a str),
-    /// Write each piece between matches on a line.
-    Split,
 }
 
 /// Which lines are selected, and what is shown of them.
@@ -22,8 +20,6 @@ pub struct Selection {
     pub shown: Shown,
     /// How many lines of an input are selected at most.
     pub max_count: Option<u64>,
-    /// Whether lines that are not UTF-8 are searched too: bytes that are not match nowhere.
-    pub binary: bool,
     /// Whether matches are in color.
     pub paints: bool,
 }

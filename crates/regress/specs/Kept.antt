@@ -1,5 +1,5 @@
 -- The options of a compiled regular expression.
-use Rattle.std.specs.Prelude.{◌≡◌, ℕ, ◌-◌, ◌^◌, ◌<◌, ◌≤◌, is_some}
+use Rattle.std.specs.Prelude.{◌≡◌, ◌-◌, ◌^◌, ◌<◌, ◌≤◌, is_some}
 use Rattle.regress_front.specs.Bound.{HasAtMost}
 use Rattle.regress_front.specs.Source.{Source}
 use Rattle.regress_front.specs.declared.types.Flags.{Flags}

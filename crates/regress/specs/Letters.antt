@@ -1,12 +1,9 @@
 -- Flags by their letters, as JavaScript writes them.
-use Rattle.std.specs.Prelude.{◌≡◌, ℕ, ◌≤◌, Bool, true, false, ◌||◌, ◌==◌, List, All, codes, count_by, nat_lt}
+use Rattle.std.specs.Prelude.{◌≡◌, ℕ, ◌≤◌, Bool, true, ◌||◌, ◌==◌, List, All, codes, count_by, nat_lt}
 use Rattle.std.specs.List.{list_any}
 use Rattle.regress_front.specs.Source.{char}
 use Rattle.regress_front.specs.declared.types.Flags.{Flags}
-
--- all flags off
-abbrev pub no_flags : Flags
-no_flags = record { icase = false; multiline = false; dot_all = false; unicode = false; unicode_sets = false }
+pub use Rattle.regress_front.specs.NoFlags.{no_flags}
 
 -- the number of times that a character occurs
 abbrev pub count : List ℕ → ℕ → ℕ

@@ -304,7 +304,7 @@ impl Regex {
     /// - [`SearchError::Memory`] if an allocation fails.
     ///
     /// # Complexity
-    /// If [`Regex::is_find_linear`], the steps are at most [`Regex::find_steps_per_character`] for each byte of the text,
+    /// If [`Regex::is_find_linear`], the steps are at most [`Regex::find_steps_per_byte`] for each byte of the text,
     /// and once more; a step takes constant time, but for literals, sets, the groups that an iteration unsets or a
     /// lookaround sets, and the alternatives that it passes over because the next byte excludes them. Else the time is at
     /// most the step limit and the length of `text` together, times a factor that depends only on the pattern and the
@@ -478,17 +478,17 @@ impl Regex {
     /// Returns an upper bound for the steps of a search for all matches for each byte of a text, counting its end as one
     /// more; at most `u64::MAX`. All matches that an iterator returns are one search. The result is `None` if such searches
     /// are not known to take linear time.
-    pub fn steps_per_character(&self) -> Option<u64>
+    pub fn steps_per_byte(&self) -> Option<u64>
         ensures { result ≡ option_map (λ n. min n u64.MAX) (factor_of self.now) }
     {
-        self.matcher.steps_per_character()
+        self.matcher.steps_per_byte()
     }
 
     /// Returns the same for a search for one match.
-    pub fn find_steps_per_character(&self) -> Option<u64>
+    pub fn find_steps_per_byte(&self) -> Option<u64>
         ensures { result ≡ option_map (λ n. min n u64.MAX) (find_factor_of self.now) }
     {
-        self.matcher.find_steps_per_character()
+        self.matcher.find_steps_per_byte()
     }
 
     /// Returns the number of capture groups, without the whole match.

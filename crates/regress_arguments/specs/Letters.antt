@@ -1,10 +1,7 @@
 -- Flags by their letters.
-use Rattle.std.specs.Prelude.{ℕ, true, false, List, [], ◌∷◌, Option, Some, None, option_and_then, if◌then◌else◌, ◌==◌}
+use Rattle.std.specs.Prelude.{ℕ, true, List, [], ◌∷◌, Option, Some, None, option_and_then, if◌then◌else◌, ◌==◌}
 use Rattle.regress_base.specs.declared.types.Flags.{Flags}
-
--- all flags off
-abbrev pub no_flags : Flags
-no_flags = record { icase = false; multiline = false; dot_all = false; unicode = false; unicode_sets = false }
+pub use Rattle.regress_base.specs.NoFlags.{no_flags}
 
 -- the flags with the flag of one more letter (`i`, `m`, `s`, `u` or `v`), which was not set before
 abbrev pub with_letter : Flags → ℕ → Option Flags

@@ -14,4 +14,5 @@ pub mod Classes
 pub mod Ranges
 pub mod Brackets
 pub mod Limits
+pub mod NoFlags
 pub mod Table

@@ -173,13 +173,13 @@ pub extern "C" fn regress_nonlinear_raw(alloc: Global, handle: &mut Handle) -> u
 /// # Preconditions
 /// The handle is one of a compiled pattern.
 #[unsafe(no_mangle)]
-pub extern "C" fn regress_steps_per_character_raw(alloc: Global, handle: &mut Handle) -> u64
+pub extern "C" fn regress_steps_per_byte_raw(alloc: Global, handle: &mut Handle) -> u64
     requires { handle.old.value ≡ None → ⊥ }
     ensures same { handle.new.value ≡ handle.old.value }
     ensures steps { IfSome handle.old.value (λ regex. result ≡ unwrap_or (option_map (λ n. min n u64.MAX) (factor_of regex)) 0) }
 {
     let regex = handle.take(alloc);
-    let steps = regex.steps_per_character();
+    let steps = regex.steps_per_byte();
     *handle = Handle::of(regex);
     steps.unwrap_or(0)
 }
@@ -190,13 +190,13 @@ pub extern "C" fn regress_steps_per_character_raw(alloc: Global, handle: &mut Ha
 /// # Preconditions
 /// The handle is one of a compiled pattern.
 #[unsafe(no_mangle)]
-pub extern "C" fn regress_find_steps_per_character_raw(alloc: Global, handle: &mut Handle) -> u64
+pub extern "C" fn regress_find_steps_per_byte_raw(alloc: Global, handle: &mut Handle) -> u64
     requires { handle.old.value ≡ None → ⊥ }
     ensures same { handle.new.value ≡ handle.old.value }
     ensures steps { IfSome handle.old.value (λ regex. result ≡ unwrap_or (option_map (λ n. min n u64.MAX) (find_factor_of regex)) 0) }
 {
     let regex = handle.take(alloc);
-    let steps = regex.find_steps_per_character();
+    let steps = regex.find_steps_per_byte();
     *handle = Handle::of(regex);
     steps.unwrap_or(0)
 }

@@ -4,6 +4,7 @@
 mod bound;
 mod entry;
 mod entry_differences;
+mod entry_matches;
 mod entry_regex;
 mod entry_replace;
 mod entry_spans;

@@ -1,6 +1,8 @@
 mod CompileLemmas
 mod DifferencesLemmas
 mod HandleValues
+mod ListHandleValues
+mod ListLemmas
 mod LooseValues
 mod ReplaceLemmas
 mod ResultLemmas

@@ -14,5 +14,6 @@ pub mod EscapeResults
 pub mod BoundResults
 pub mod DifferencesResults
 pub mod SpannedResults
+pub mod ListResults
 -- The numbers and the texts of syntax errors.
 pub use Rattle.regress_parse.specs.Fault

@@ -81,7 +81,7 @@ fn regex_is_send() {
 }
 
 /// States by its bound that any thread may use a value of the type. The function does nothing.
-fn is_send<T: Send>() {}
+pub(crate) fn is_send<T: Send>() {}
 
 /// States that any number of threads may read a regular expression at the same time. The function does nothing.
 fn regex_is_sync() {

@@ -1,11 +1,12 @@
 //! The results of searches.
 ghost use Rattle.std.specs.Prelude.{◌≡◌, ◌++◌, ◌∷◌, [], IfErr, IfOk, IsUtf8, MatchOption, MatchResult, None};
-ghost use Rattle.regress.specs.Compiled.{outcomes_of};
+ghost use Rattle.regress.specs.Compiled.{groups_of, outcomes_of};
 ghost use Rattle.regress.specs.Costs.{AllAreTooCostly, IsTooCostly};
 ghost use Rattle.regress.specs.Found.{match_of};
 ghost use Rattle.regress.specs.Searched.{MatchesSomewhere};
 ghost use Rattle.regress.specs.Groups.{span_of};
 ghost use Rattle.regress.specs.declared.failure.SearchError.TheVariants.{OutOfSteps};
+ghost use Rattle.regress_capi.specs.ListResults.{width_of};
 ghost use Rattle.regress_capi.specs.SearchResults.{IsBare, SearchResult, TestResult, status_of};
 ghost use Rattle.regress_capi.specs.Spans.{AreEndsOfAll, AreEndsOfFirst, ends_of, match_ends};
 ghost use Rattle.regress_found.specs.Found.{Finds};
@@ -16,7 +17,7 @@ use regress::{Match, Regex, SearchError};
 use std::alloc::{AllocError, Global};
 use std::ops::Range;
 
-const NO_MATCH: u32 = 1;
+pub(crate) const NO_MATCH: u32 = 1;
 
 const OUT_OF_STEPS: u32 = 7;
 
@@ -140,7 +141,7 @@ fn first_ends(
 {
     match regex.find_at(alloc, text, from)? {
         Some(found) => {
-            let mut ends = Vec::new(alloc);
+            let mut ends = Vec::with_capacity(alloc, width_of(regex))?;
             push_spans(&found, &mut ends)?;
             Ok(Some(ends))
         }
@@ -148,7 +149,7 @@ fn first_ends(
     }
 }
 
-fn all_ends(
+pub(crate) fn all_ends(
     alloc: Global,
     regex: &Regex,
     text: &str,
@@ -184,4 +185,11 @@ fn ends_of(span: Option<Range<usize>>) -> (usize, usize)
         Some(span) => (span.start, span.end),
         None => (usize::MAX, usize::MAX),
     }
+}
+
+/// Returns how many numbers a match has.
+pub(crate) fn width_of(regex: &Regex) -> usize
+    ensures { result ≡ width_of (groups_of regex.now) }
+{
+    regex.group_count().saturating_add(1).saturating_mul(2)
 }

@@ -16,7 +16,7 @@ use Rattle.regress_classes.specs.declared.class_sets.others.Others.{Others}
 use Rattle.regress_classes.specs.declared.class_sets.Operator.{Operator}
 use Rattle.regress_classes.specs.declared.class_sets.Operator.TheVariants as operators
 use Rattle.regress_classes.specs.ClassSets.{Value, is_among}
-use Rattle.regress_classes.specs.ClassViews.{HasMembers, HasOthers, IsValue, AreKeptStrings, IsLeft, strings_of, applied, kept}
+use Rattle.regress_classes.specs.ClassViews.{HasMembers, HasOthers, IsValue, AreKeptStrings, IsLeft, strings_of, applied, kept, may_be_left}
 use Rattle.regress_classes.proofs.ClassSetLemmas.{kept_strings}
 
 -- ---- both operators
@@ -26,6 +26,7 @@ left_of operator a b = record {
   members = intervals_of (λ c. is_member a.members c && kept operator (is_member b.members c));
   strings = filter (λ s. kept operator (is_among b.strings s)) a.strings;
   has_empty = a.has_empty && kept operator b.has_empty;
+  may_have_strings = may_be_left operator a.may_have_strings b.may_have_strings;
   nesting = max a.nesting b.nesting;
 }
 
@@ -103,21 +104,31 @@ pub others_first : (operator : Operator) (a b : Value) (first taken : Others) �
 others_first operator a b first taken h k = record {
   strings = ap₂ (λ (l m : List (List ℕ)). filter (λ s. kept operator (is_among l s)) m) (sym k.strings) (sym h.strings);
   has_empty = ap₂ (λ x y. x && kept operator y) (sym h.has_empty) (sym k.has_empty);
+  may_have_strings = ap₂ (may_be_left operator) (sym h.may_have_strings) (sym k.may_have_strings);
   nesting = ap₂ max (sym h.nesting) (sym k.nesting);
 }
+
+may_more : (operator : Operator) (f o n : Bool) → may_be_left operator (may_be_left operator f o) n ≡ may_be_left operator f (o && n)
+may_more operators.Intersection true o n = refl
+may_more operators.Intersection false o n = refl
+may_more operators.Subtraction f o n = refl
 
 pub others_more : (operator : Operator) (first : Others) (v b : Value) (old operand new : Others) → AreKeptStrings operator first old v → HasOthers b operand →
     ((s : List ℕ) → kept operator (is_among (strings_of new.strings.items) s)
     ≡ (kept operator (is_among (strings_of old.strings.items) s) && kept operator (is_among (strings_of operand.strings.items) s))) →
     kept operator new.has_empty ≡ (kept operator old.has_empty && kept operator operand.has_empty) →
+    new.may_have_strings ≡ (old.may_have_strings && operand.may_have_strings) →
     new.nesting ≡ max old.nesting operand.nesting → AreKeptStrings operator first new (applied operator v b)
-others_more operator first v b old operand new h k strings has_empty nesting = subst (AreKeptStrings operator first new) (sym (applied_is operator v b)) (record {
+others_more operator first v b old operand new h k strings has_empty may nesting = subst (AreKeptStrings operator first new) (sym (applied_is operator v b)) (record {
   strings = ap₂ (λ (l m : List (List ℕ)). filter (λ s. kept operator (is_among l s)) m) (sym k.strings) h.strings
       ∙ sym (filter_both (λ s. kept operator (is_among (strings_of old.strings.items) s)) (λ s. kept operator (is_among (strings_of operand.strings.items) s))
       (λ s. kept operator (is_among (strings_of new.strings.items) s)) strings (strings_of first.strings.items));
   has_empty = ap₂ (λ x y. x && kept operator y) h.has_empty (sym k.has_empty)
       ∙ and_both first.has_empty (kept operator old.has_empty) (kept operator operand.has_empty)
       ∙ ap (λ x. first.has_empty && x) (sym has_empty);
+  may_have_strings = ap₂ (may_be_left operator) h.may_have_strings (sym k.may_have_strings)
+      ∙ may_more operator first.may_have_strings old.may_have_strings operand.may_have_strings
+      ∙ ap (may_be_left operator first.may_have_strings) (sym may);
   nesting = omega (arith, h.nesting, k.nesting, nesting);
 })
   where
@@ -127,13 +138,15 @@ others_more operator first v b old operand new h k strings has_empty nesting = s
 
 pub others_over : (operator : Operator) (first new taken : Others) (v : Value) → AreKeptStrings operator first taken v →
     new.strings.items ≡ filter (λ string. kept operator (is_among (strings_of taken.strings.items) string.items)) first.strings.items →
-    new.has_empty ≡ (first.has_empty && kept operator taken.has_empty) → new.nesting ≡ max first.nesting taken.nesting → HasOthers v new
-others_over operator first new taken v h strings has_empty nesting = record {
+    new.has_empty ≡ (first.has_empty && kept operator taken.has_empty) →
+    new.may_have_strings ≡ may_be_left operator first.may_have_strings taken.may_have_strings → new.nesting ≡ max first.nesting taken.nesting → HasOthers v new
+others_over operator first new taken v h strings has_empty may nesting = record {
   strings = ap strings_of strings
       ∙ kept_strings (λ s. kept operator (is_among (strings_of taken.strings.items) s))
       (λ string. kept operator (is_among (strings_of taken.strings.items) string.items)) (λ string. refl) first.strings.items
       ∙ sym h.strings;
   has_empty = has_empty ∙ sym h.has_empty;
+  may_have_strings = may ∙ sym h.may_have_strings;
   nesting = nesting ∙ sym h.nesting;
 }
 

@@ -58,6 +58,7 @@ joined-assoc a b c =
       append_assoc a.members b.members c.members,
       append_assoc a.strings b.strings c.strings,
       or_assoc a.has_empty b.has_empty c.has_empty,
+      or_assoc a.may_have_strings b.may_have_strings c.may_have_strings,
       max-assoc a.nesting b.nesting c.nesting,
     ) refl
   where
@@ -73,7 +74,7 @@ or_false true = refl
 or_false false = refl
 
 pub joined-nothing : (a : Value) → joined a nothing ≡ a
-joined-nothing a = rw (append-nil a.members, append-nil a.strings, or_false a.has_empty, max-zero a.nesting) refl
+joined-nothing a = rw (append-nil a.members, append-nil a.strings, or_false a.has_empty, or_false a.may_have_strings, max-zero a.nesting) refl
   where
     max-zero : (i : ℕ) → max i 0 ≡ i
     max-zero i = omega arith
@@ -88,6 +89,7 @@ others_only : (a : Value) (members : List Bounds) (held : Others) → HasOthers 
 others_only a members held h = record {
   strings = h.strings ∙ sym (append-nil a.strings);
   has_empty = h.has_empty ∙ sym (or_false a.has_empty);
+  may_have_strings = h.may_have_strings ∙ sym (or_false a.may_have_strings);
   nesting = omega (arith, h.nesting);
 }
 
@@ -168,7 +170,7 @@ nested_value (negated, value) b old set (same, h) members = rw (sym same) (recor
     canonical = members.canonical;
     each = λ c. members.each c ∙ complements b c;
   };
-  others = record { strings = h.others.strings; has_empty = h.others.has_empty; nesting = ap (λ n. n + 1) h.others.nesting };
+  others = record { strings = h.others.strings; has_empty = h.others.has_empty; may_have_strings = h.others.may_have_strings; nesting = ap (λ n. n + 1) h.others.nesting };
 })
   where
     complements : (b : Bool) (c : ℕ) → is_member (complement_if b old.set) c ≡ is_member (complement_if b value.members) c

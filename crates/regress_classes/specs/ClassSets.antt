@@ -7,25 +7,29 @@ use Rattle.regress_base.specs.Limits.{max_nesting_depth}
 use Rattle.regress_base.specs.Table.{Table}
 use Rattle.regress_lexer.specs.Source.{Source, Found, ◌>>=◌, found_map, Production, when, otherwise, first_production, char, is_one_of, is_at}
 use Rattle.regress_lexer.specs.Escapes.{escape_at}
+use Rattle.regress_lexer.specs.declared.dialect.Dialect.{Dialect}
+use Rattle.regress_lexer.specs.Dialects.{reserves_pairs, isolates_ampersand, judges_contents}
+use Rattle.regress_classes.specs.declared.parameters.Parameters.{Parameters}
 use Rattle.regress_classes.specs.Properties.{Property, of_points, of_strings, property_at}
 use Rattle.regress_classes.specs.ClassProductions.{complement_if, class_letter, class_members, one_point, points_between}
 
 -- ---- contents of a class
 
 -- The contents of a class: code points, in intervals that may overlap; the strings of two or more characters, in the
--- order in which they were parsed and with repeats; whether it has the empty string; and how deep the classes in it
--- nest.
+-- order in which they were parsed and with repeats; whether it has the empty string; whether what is written may contain
+-- strings (ECMA-262, MayContainStrings); and how deep the classes in it nest.
 pub record Value : Type 0 where
   pub members : List Bounds
   pub strings : List (List ℕ)
   pub has_empty : Bool
+  pub may_have_strings : Bool
   pub nesting : ℕ
 
 -- the contents of the empty class `[]`
 abbrev pub nothing : Value
-nothing = record { members = []; strings = []; has_empty = false; nesting = 0 }
+nothing = record { members = []; strings = []; has_empty = false; may_have_strings = false; nesting = 0 }
 
--- whether it has a string, which may be the empty one (ECMA-262, MayContainStrings, but by its contents)
+-- whether it has a string, which may be the empty one
 abbrev pub has_strings : Value → Bool
 has_strings v = not (length v.strings == 0) || v.has_empty
 
@@ -39,6 +43,7 @@ joined a b = record {
   members = a.members ++ b.members;
   strings = a.strings ++ b.strings;
   has_empty = a.has_empty || b.has_empty;
+  may_have_strings = a.may_have_strings || b.may_have_strings;
   nesting = max a.nesting b.nesting;
 }
 
@@ -57,6 +62,7 @@ common a b = record {
   members = intervals_of (λ c. is_member a.members c && is_member b.members c);
   strings = filter (is_among b.strings) a.strings;
   has_empty = a.has_empty && b.has_empty;
+  may_have_strings = a.may_have_strings && b.may_have_strings;
   nesting = max a.nesting b.nesting;
 }
 
@@ -66,14 +72,15 @@ without a b = record {
   members = intervals_of (λ c. is_member a.members c && not (is_member b.members c));
   strings = filter (λ s. not (is_among b.strings s)) a.strings;
   has_empty = a.has_empty && not b.has_empty;
+  may_have_strings = a.may_have_strings;
   nesting = max a.nesting b.nesting;
 }
 
 -- A string of one character is a code point.
 abbrev pub value_of_string : List ℕ → Value
-value_of_string [] = record nothing { has_empty = true }
+value_of_string [] = record nothing { has_empty = true; may_have_strings = true }
 value_of_string (c ∷ []) = only (one_point c)
-value_of_string (c ∷ d ∷ cs) = record nothing { strings = (c ∷ d ∷ cs) ∷ [] }
+value_of_string (c ∷ d ∷ cs) = record nothing { strings = (c ∷ d ∷ cs) ∷ []; may_have_strings = true }
 
 -- the contents of a class with these strings
 abbrev pub value_of_strings : List (List ℕ) → Value
@@ -84,9 +91,13 @@ value_of_strings (s ∷ ss) = joined (value_of_string s) (value_of_strings ss)
 abbrev pub nested : Bool × Value → Value
 nested (negated, v) = record v { members = complement_if negated v.members; nesting = v.nesting + 1 }
 
+-- The class may not be negated: it has strings, or in some dialects what is written may contain them.
+abbrev pub is_not_negatable : Dialect → Value → Bool
+is_not_negatable dialect v = has_strings v || (not (judges_contents dialect) && v.may_have_strings)
+
 -- a class, unless it is negated and has strings
-abbrev pub unless_negated_strings : Bool → Value × Source → Found (Bool × Value)
-unless_negated_strings negated (v, t) = if negated && has_strings v then None else Some ((negated, v), t)
+abbrev pub unless_negated_strings : Dialect → Bool → Value × Source → Found (Bool × Value)
+unless_negated_strings dialect negated (v, t) = if negated && is_not_negatable dialect v then None else Some ((negated, v), t)
 
 -- ---- operands
 
@@ -111,7 +122,7 @@ range_of (class value) last = None
 abbrev pub is_set_syntax : ℕ → Bool
 is_set_syntax c = is_one_of "()[]{}/-|\\" c
 
--- a literal that may not be followed by another of these
+-- a literal that may not be followed by itself, and in some dialects by no other of these
 abbrev pub is_double : ℕ → Bool
 is_double c = is_one_of "&!#$%*+,.:;<=>?@^`~" c
 
@@ -119,6 +130,10 @@ is_double c = is_one_of "&!#$%*+,.:;<=>?@^`~" c
 abbrev pub begins_double : Source → Bool
 begins_double [] = false
 begins_double (c ∷ t) = is_double c
+
+-- whether c before t begins two such literals that may not follow each other
+abbrev pub begins_pair : Dialect → ℕ → Source → Bool
+begins_pair dialect c t = is_double c && (if reserves_pairs dialect then begins_double t else is_at c t)
 
 -- a literal after a backslash (ECMA-262, ClassSetReservedPunctuator)
 abbrev pub is_reserved : ℕ → Bool
@@ -133,27 +148,27 @@ escaped_character_at unicode (c ∷ t) =
     else escape_at unicode (c ∷ t)
 
 -- one character (ECMA-262, ClassSetCharacter)
-unfoldable pub set_character_at : (unicode : Bool) → Source → Found ℕ
-set_character_at unicode [] = None
-set_character_at unicode (c ∷ t) =
-    if c == char "\\" then escaped_character_at unicode t
-    else if is_set_syntax c || (is_double c && begins_double t) then None
+unfoldable pub set_character_at : Parameters → Source → Found ℕ
+set_character_at parameters [] = None
+set_character_at parameters (c ∷ t) =
+    if c == char "\\" then escaped_character_at parameters.unicode t
+    else if is_set_syntax c || begins_pair parameters.dialect c t then None
     else Some (c, t)
 
 -- After `\q{`, and after the characters s of a string: strings with `|` between them, up to `}`. The number bounds the
 -- number of code points.
-unfoldable pub strings_by : ℕ → (unicode : Bool) → (s : List ℕ) → Source → Found (List (List ℕ))
-strings_by zero unicode s t = None
-strings_by (suc n) unicode s t =
+unfoldable pub strings_by : ℕ → Parameters → (s : List ℕ) → Source → Found (List (List ℕ))
+strings_by zero parameters s t = None
+strings_by (suc n) parameters s t =
     if is_at (char "}") t then Some (s ∷ [], drop 1 t)
-    else if is_at (char "|") t then found_map (λ ss. s ∷ ss) (strings_by n unicode [] (drop 1 t))
-    else set_character_at unicode t >>= λ (c, rest). strings_by n unicode (s ++ c ∷ []) rest
+    else if is_at (char "|") t then found_map (λ ss. s ∷ ss) (strings_by n parameters [] (drop 1 t))
+    else set_character_at parameters t >>= λ (c, rest). strings_by n parameters (s ++ c ∷ []) rest
 
 -- the strings after `\q` (ECMA-262, ClassStringDisjunction)
-abbrev pub quoted_at : (unicode : Bool) → Source → Found Operand
-quoted_at unicode t =
+abbrev pub quoted_at : Parameters → Source → Found Operand
+quoted_at parameters t =
     if is_at (char "{") t
-    then found_map (λ ss. class (value_of_strings ss)) (strings_by (length t) unicode [] (drop 1 t))
+    then found_map (λ ss. class (value_of_strings ss)) (strings_by (length t) parameters [] (drop 1 t))
     else None
 
 -- the contents of a property in a class; one of strings has no complement, and is not allowed directly in a negated
@@ -171,13 +186,13 @@ property_operand_at table in_negated negated t = property_at true table t >>= pr
 abbrev pub are_at : ℕ → Source → Bool
 are_at c t = is_at c t && is_at c (drop 1 t)
 
-module _ (table : Table) (unicode : Bool) where
+module _ (table : Table) (parameters : Parameters) where
   -- the productions of an escape that starts with c and is no class escape, after its backslash
   abbrev pub operand_productions : (in_negated : Bool) → ℕ → Source → List (Production Operand)
   operand_productions in_negated c t =
-      when (c == char "q") (quoted_at unicode t)
+      when (c == char "q") (quoted_at parameters t)
       ∷ when (is_one_of "pP" c) (property_operand_at table in_negated (c == char "P") t)
-      ∷ otherwise (found_map character (escaped_character_at unicode (c ∷ t))) ∷ []
+      ∷ otherwise (found_map character (escaped_character_at parameters.unicode (c ∷ t))) ∷ []
 
   -- an escape, after its backslash
   abbrev pub escaped_operand_at : (in_negated : Bool) → Source → Found Operand
@@ -188,14 +203,15 @@ module _ (table : Table) (unicode : Bool) where
         | None ↦ first_production (operand_productions in_negated c t)
       ]
 
-  -- In what follows, `inner` parses a class after its `[`, and `in_negated` means that the class around is negated.
+  -- In what follows, `inner` parses a class after its `[`, and `in_negated` means that the class around is negated and
+  -- judged by its contents.
   module _ (inner : Source → Found (Bool × Value)) (in_negated : Bool) where
     -- an operand: a nested class, an escape, or a character (ECMA-262, ClassSetOperand)
     unfoldable pub operand_at : Source → Found Operand
     operand_at t =
         if is_at (char "[") t then found_map (λ inside. class (nested inside)) (inner (drop 1 t))
         else if is_at (char "\\") t then escaped_operand_at in_negated (drop 1 t)
-        else found_map character (set_character_at unicode t)
+        else found_map character (set_character_at parameters t)
 
     -- ---- unions (ECMA-262, ClassUnion)
 
@@ -221,12 +237,16 @@ module _ (table : Table) (unicode : Bool) where
 
     -- ---- operators
 
+    -- The operand after an operator that is c twice. In some dialects it does not begin with c.
+    abbrev pub next_operand_at : (c : ℕ) → Source → Found Operand
+    next_operand_at c t = if not (isolates_ampersand parameters.dialect) && is_at c t then None else operand_at t
+
     -- The operands after an operator that is c twice, up to `]`, with that operator between them. The number bounds the
     -- number of operands.
     unfoldable pub operands_by : ℕ → (c : ℕ) → Source → Found (List Value)
     operands_by zero c t = None
     operands_by (suc n) c t =
-        operand_at t >>= λ (operand, rest).
+        next_operand_at c t >>= λ (operand, rest).
         (if is_at (char "]") rest then Some (value_of operand ∷ [], drop 1 rest)
         else if are_at c rest then found_map (λ others. value_of operand ∷ others) (operands_by n c (drop 2 rest))
         else None)
@@ -243,8 +263,8 @@ module _ (table : Table) (unicode : Bool) where
         if are_at (char "&") t then found_map (folded_left common (value_of first)) (operands_at (char "&") (drop 2 t))
         -- operands joined by `--`
         else if are_at (char "-") t then found_map (folded_left without (value_of first)) (operands_at (char "-") (drop 2 t))
-        -- parts, with a single `&` after the first operand: that is a member and starts no range
-        else if is_at (char "&") t
+        -- parts, with a single `&` after the first operand, where that is a member and starts no range
+        else if is_at (char "&") t && isolates_ampersand parameters.dialect
         then found_map (λ parts. folded_left joined (value_of first) (only (one_point (char "&")) ∷ parts)) (parts_at (drop 1 t))
         -- a first part, and the parts after it; a single operand is a part too
         else part_after (first, t) >>= λ (part, rest). found_map (folded_left joined part) (parts_at rest)
@@ -259,7 +279,8 @@ module _ (table : Table) (unicode : Bool) where
   class_set_by zero t = None
   class_set_by (suc n) t =
       let negated = is_at (char "^") t in
-      contents_at (class_set_by n) negated (if negated then drop 1 t else t) >>= unless_negated_strings negated
+      contents_at (class_set_by n) (negated && judges_contents parameters.dialect) (if negated then drop 1 t else t)
+      >>= unless_negated_strings parameters.dialect negated
 
   -- a class that nests no deeper than the limit
   abbrev pub class_set_at : Source → Found (Bool × Value)

@@ -3,6 +3,7 @@ use Rattle.std.specs.Prelude.{◌≡◌, ℕ, Vec, Bool, not, ◌&&◌, ◌||◌
 use Rattle.std.specs.declared.alloc.Global.{Global}
 use Rattle.regress_base.specs.Intervals.{Bounds, is_member, IsCanonical}
 use Rattle.regress_base.specs.Table.{Table}
+use Rattle.regress_classes.specs.declared.parameters.Parameters.{Parameters}
 use Rattle.regress_unicode.specs.TableOf.{table_of}
 use Rattle.regress_classes.specs.declared.class.Class.{Class as CodeClass}
 use Rattle.regress_classes.specs.declared.class_atom.ClassAtom.{ClassAtom as CodeClassAtom}
@@ -63,6 +64,7 @@ property_of (properties.Strings written) = of_strings (strings_of written.items)
 pub record HasOthers (value : Value) (held : Others) : Type 0 where
   pub strings : strings_of held.strings.items ≡ value.strings
   pub has_empty : held.has_empty ≡ value.has_empty
+  pub may_have_strings : held.may_have_strings ≡ value.may_have_strings
   pub nesting : held.nesting ≡ value.nesting
 
 -- the contents of a class with the flag v
@@ -86,16 +88,16 @@ IsOperand (operands.Class held) operand = (value : Value) × (operand ≡ class 
 
 -- the function that parses classes inside this class
 abbrev pub inner_of : OperandContext → Source → Found (Bool × Value)
-inner_of around = class_set_by (table_of around.tables.now) around.unicode around.nesting
+inner_of around = class_set_by (table_of around.tables.now) around.parameters.now around.nesting
 
-module _ (table : Table) (unicode : Bool) (inner : Source → Found (Bool × Value)) (in_negated : Bool) where
+module _ (table : Table) (parameters : Parameters) (inner : Source → Found (Bool × Value)) (in_negated : Bool) where
   -- the contents before, joined with the parts that are parsed
   abbrev pub parts_onto : Value → Source → Found Value
-  parts_onto held t = found_map (folded_left joined held) (parts_at table unicode inner in_negated t)
+  parts_onto held t = found_map (folded_left joined held) (parts_at table parameters inner in_negated t)
 
   -- the contents before, combined with the operands that are parsed after an operator
   abbrev pub operands_onto : (c : ℕ) → (Value → Value → Value) → Value → Source → Found Value
-  operands_onto c f held t = found_map (folded_left f held) (operands_at table unicode inner in_negated c t)
+  operands_onto c f held t = found_map (folded_left f held) (operands_at table parameters inner in_negated c t)
 
 -- the code point that an operator has twice
 abbrev pub symbol_of : Operator → ℕ
@@ -112,10 +114,16 @@ abbrev pub kept : Operator → Bool → Bool
 kept operators.Intersection has = has
 kept operators.Subtraction has = not has
 
+-- whether what an operator leaves may have strings, given whether the first operand and the others may
+abbrev pub may_be_left : Operator → (first taken : Bool) → Bool
+may_be_left operators.Intersection first taken = first && taken
+may_be_left operators.Subtraction first taken = first
+
 -- The value has the strings of the first operand that the operator keeps, given those of the others.
 pub record AreKeptStrings (operator : Operator) (first taken : Others) (value : Value) : Type 0 where
   pub strings : value.strings ≡ filter (λ s. kept operator (is_among (strings_of taken.strings.items) s)) (strings_of first.strings.items)
   pub has_empty : value.has_empty ≡ (first.has_empty && kept operator taken.has_empty)
+  pub may_have_strings : value.may_have_strings ≡ may_be_left operator first.may_have_strings taken.may_have_strings
   pub nesting : value.nesting ≡ max first.nesting taken.nesting
 
 -- The value has what the operator keeps of the first operand, given the others.

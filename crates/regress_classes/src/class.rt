@@ -46,10 +46,10 @@ pub struct Class {
 pub fn parse_class(
     cursor: &mut Cursor,
     tables: &Tables,
-    parameters: Parameters,
+    parameters: &Parameters,
     opened: usize,
 ) -> Result<Class, Fault>
-    ensures value { ParsesAs IsClassRead (source cursor.new) result (class_at (table_of tables.now) parameters (source cursor.old)) }
+    ensures value { ParsesAs IsClassRead (source cursor.new) result (class_at (table_of tables.now) parameters.now (source cursor.old)) }
     ensures kind { FailsByNoLimit result }
 {
     let inverted = cursor.try_consume('^');
@@ -61,11 +61,11 @@ pub fn parse_class(
 fn parse_parts(
     cursor: &mut Cursor,
     tables: &Tables,
-    parameters: Parameters,
+    parameters: &Parameters,
     opened: usize,
 ) -> Result<CodePointSet, Fault>
     ensures value { let t = source cursor.old in
-        ParsesAs (λ set members. HasMembers members set) (source cursor.new) result (class_parts_by (table_of tables.now) parameters (length t + 1) t) }
+        ParsesAs (λ set members. HasMembers members set) (source cursor.new) result (class_parts_by (table_of tables.now) parameters.now (length t + 1) t) }
     ensures kind { FailsByNoLimit result }
 {
     let mut gathered = IntervalCollector::new(cursor.alloc);
@@ -80,11 +80,11 @@ fn parse_parts(
 fn parse_part(
     cursor: &mut Cursor,
     tables: &Tables,
-    parameters: Parameters,
+    parameters: &Parameters,
     opened: usize,
     set: &mut IntervalCollector,
 ) -> Result<(), Fault>
-    ensures value { ParsesAs (λ _ members. Adds members set.old set.new) (source cursor.new) result (class_part_at (table_of tables.now) parameters (source cursor.old)) }
+    ensures value { ParsesAs (λ _ members. Adds members set.old set.new) (source cursor.new) result (class_part_at (table_of tables.now) parameters.now (source cursor.old)) }
     ensures kind { FailsByNoLimit result }
 {
     if let Some(interval) = take_plain_part(cursor) {
@@ -136,11 +136,11 @@ fn is_literal(c: u32) -> bool
 fn read_any_part(
     cursor: &mut Cursor,
     tables: &Tables,
-    parameters: Parameters,
+    parameters: &Parameters,
     opened: usize,
     set: &mut IntervalCollector,
 ) -> Result<(), Fault>
-    ensures value { ParsesAs (λ _ members. Adds members set.old set.new) (source cursor.new) result (class_part_at (table_of tables.now) parameters (source cursor.old)) }
+    ensures value { ParsesAs (λ _ members. Adds members set.old set.new) (source cursor.new) result (class_part_at (table_of tables.now) parameters.now (source cursor.old)) }
     ensures kind { FailsByNoLimit result }
 {
     let left = cursor.rest.len();
@@ -178,14 +178,14 @@ fn begins_range(source: &[u32]) -> bool
 fn read_range(
     cursor: &mut Cursor,
     tables: &Tables,
-    parameters: Parameters,
+    parameters: &Parameters,
     opened: usize,
     first: ClassAtom,
     left: usize,
     set: &mut IntervalCollector,
 ) -> Result<(), Fault>
     requires { IsClassAtomInRange first }
-    ensures value { ParsesAs (λ _ members. Adds members set.old set.new) (source cursor.new) result (range_at (table_of tables.now) parameters (class_atom_of first) (source cursor.old)) }
+    ensures value { ParsesAs (λ _ members. Adds members set.old set.new) (source cursor.new) result (range_at (table_of tables.now) parameters.now (class_atom_of first) (source cursor.old)) }
     ensures kind { FailsByNoLimit result }
 {
     let last = read_class_atom(cursor, tables, parameters, opened)?;

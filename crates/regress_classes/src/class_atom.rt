@@ -53,10 +53,10 @@ pub enum ClassAtom {
 pub fn read_class_atom(
     cursor: &mut Cursor,
     tables: &Tables,
-    parameters: Parameters,
+    parameters: &Parameters,
     opened: usize,
 ) -> Result<ClassAtom, Fault>
-    ensures value { Reads class_atom_of (source cursor.new) result (class_atom_at (table_of tables.now) parameters (source cursor.old)) }
+    ensures value { Reads class_atom_of (source cursor.new) result (class_atom_at (table_of tables.now) parameters.now (source cursor.old)) }
     ensures in_range { IfOk result IsClassAtomInRange }
     ensures kind { FailsByNoLimit result }
 {
@@ -73,10 +73,10 @@ pub fn read_class_atom(
 fn read_escaped_atom(
     cursor: &mut Cursor,
     tables: &Tables,
-    parameters: Parameters,
+    parameters: &Parameters,
     begin: usize,
 ) -> Result<ClassAtom, Fault>
-    ensures value { Reads class_atom_of (source cursor.new) result (class_escape_at (table_of tables.now) parameters (source cursor.old)) }
+    ensures value { Reads class_atom_of (source cursor.new) result (class_escape_at (table_of tables.now) parameters.now (source cursor.old)) }
     ensures in_range { IfOk result IsClassAtomInRange }
     ensures kind { FailsByNoLimit result }
 {
@@ -114,8 +114,8 @@ fn read_escaped_atom(
 }
 
 /// Returns whether `c` is the `k` of `\k`, and that is an error in a class.
-fn is_reserved(c: u32, parameters: Parameters) -> bool
-    ensures { result ≡ (c == char "k" && parameters.named && reserves_k parameters.dialect) }
+fn is_reserved(c: u32, parameters: &Parameters) -> bool
+    ensures { result ≡ (c == char "k" && parameters.now.named && reserves_k parameters.now.dialect) }
 {
     c == u32::from('k') && parameters.named && parameters.dialect.reserves_k()
 }

@@ -1,8 +1,10 @@
 //! Parses classes with the flag v.
-ghost use Rattle.std.specs.Prelude.{◌≡◌, ◌<◌, ◌≤◌, length, ◌+◌, ◌-◌, ◌^◌, Bool, true, false, drop, [], ◌∷◌, if◌then◌else◌, IfOk, OnOk, OnErr};
-ghost use Rattle.regress_classes.specs.ClassSets.{Value as Written, Operand as WrittenOperand, nested, are_at, operand_at, part_after, contents_after, contents_at, class_set_by};
+ghost use Rattle.std.specs.Prelude.{◌≡◌, ◌<◌, ◌≤◌, ◌&&◌, length, ◌+◌, ◌-◌, ◌^◌, Bool, true, false, drop, [], ◌∷◌, if◌then◌else◌, IfOk, OnOk, OnErr};
+ghost use Rattle.regress_classes.specs.ClassSets.{Value as Written, Operand as WrittenOperand, nested, are_at, operand_at, next_operand_at, part_after, contents_after, contents_at, class_set_by};
 ghost use Rattle.regress_lexer.specs.Fault.{is_limit, FailsByNoLimit, FailsByDepthOnlyIf};
+ghost use Rattle.regress_lexer.specs.Dialects.{isolates_ampersand, judges_contents};
 ghost use Rattle.regress_lexer.specs.Reads.{ParsesAs};
+ghost use Rattle.regress_lexer.specs.Source.{char, is_at};
 ghost use Rattle.regress_classes.specs.ClassViews.{IsValue, IsUnion, Joins, IsOperand, IsClassSetRead, inner_of, parts_onto, operands_onto, symbol_of, applied, kept};
 ghost use Rattle.regress_lexer.specs.Views.{source};
 ghost use Rattle.regress_unicode.specs.TableOf.{table_of};
@@ -15,11 +17,13 @@ mod strings;
 mod union;
 mod value;
 
+use crate::parameters::Parameters;
 use chain::Chain;
 use character::parse_set_character;
 use operand::{Operand, read_escaped_operand};
 pub use others::Others;
 use regress_base::codepointset::Interval;
+use regress_lexer::Dialect;
 use regress_lexer::cursor::Cursor;
 use regress_lexer::fault::{Fault, FaultKind, rejected};
 use regress_unicode::Tables;
@@ -55,9 +59,8 @@ impl ClassSet {
 #[derive(Clone, Copy)]
 struct OperandContext<'a> {
     tables: &'a Tables,
-    /// The flag u.
-    unicode: bool,
-    /// Whether the class around is negated.
+    parameters: &'a Parameters,
+    /// Whether the class around is negated and judged by its contents.
     negated: bool,
     /// The remaining nesting depth for classes.
     nesting: u32,
@@ -106,12 +109,12 @@ impl Operator {
 
 /// Parses a class after its `[` (dialect of ECMA-262, ClassSetExpression).
 ///
-/// `unicode` is the flag u, `nesting` the remaining nesting depth, the class itself included, and `opened` the number of
-/// code points that remained before the `[`. Afterwards `cursor` is after the `]`.
+/// `nesting` is the remaining nesting depth, the class itself included, and `opened` the number of code points that
+/// remained before the `[`. Afterwards `cursor` is after the `]`.
 ///
 /// # Errors
-/// - [`Fault::Rejected`] if the class is not closed, if it nests deeper than `nesting`, if it is negated and has strings,
-///   or if it has an invalid operand, operator or range.
+/// - [`Fault::Rejected`] if the class is not closed, if it nests deeper than `nesting`, if it is negated and has strings
+///   or, in some dialects, may have them by what is written, or if it has an invalid operand, operator or range.
 /// - [`Fault::Memory`] if an allocation fails.
 ///
 /// After an error the position of `cursor` is unspecified.
@@ -122,11 +125,11 @@ impl Operator {
 pub fn parse_class_set(
     cursor: &mut Cursor,
     tables: &Tables,
-    unicode: bool,
+    parameters: &Parameters,
     nesting: u32,
     opened: usize,
 ) -> Result<ClassSet, Fault>
-    ensures value { ParsesAs IsClassSetRead (source cursor.new) result (class_set_by (table_of tables.now) unicode nesting (source cursor.old)) }
+    ensures value { ParsesAs IsClassSetRead (source cursor.new) result (class_set_by (table_of tables.now) parameters.now nesting (source cursor.old)) }
     ensures nesting { IfOk result (λ class. class.value.others.nesting < nesting) }
     ensures kind { FailsByDepthOnlyIf result (nesting ≤ length (source cursor.old)) }
 {
@@ -136,23 +139,30 @@ pub fn parse_class_set(
     let negated = cursor.try_consume('^');
     let around = OperandContext {
         tables,
-        unicode,
-        negated,
+        parameters,
+        negated: is_judged(negated, parameters.dialect),
         nesting: nesting - 1,
         opened,
     };
     let value = parse_contents(cursor, &around)?;
-    if negated && value.has_strings() {
+    if negated && value.is_not_negatable(parameters.dialect) {
         return Err(rejected(opened, FaultKind::InvalidNegatedClass));
     }
     Ok(ClassSet { negated, value })
+}
+
+/// Returns whether a class is negated and judged by its contents.
+fn is_judged(negated: bool, dialect: Dialect) -> bool
+    ensures { result ≡ (negated && judges_contents dialect) }
+{
+    negated && dialect.judges_contents()
 }
 
 /// Parses the contents of a class, up to its `]`.
 #[cycle(class_set)]
 fn parse_contents(cursor: &mut Cursor, around: &OperandContext) -> Result<Value, Fault>
     ensures value { ParsesAs IsValue (source cursor.new) result
-        (contents_at (table_of around.now.tables.now) around.now.unicode (inner_of around.now) around.now.negated (source cursor.old)) }
+        (contents_at (table_of around.now.tables.now) around.now.parameters.now (inner_of around.now) around.now.negated (source cursor.old)) }
     ensures kind { FailsByDepthOnlyIf result (around.now.nesting < length (source cursor.old)) }
 {
     if cursor.try_consume(']') {
@@ -176,7 +186,7 @@ fn parse_after_first_operand(
 ) -> Result<Value, Fault>
     requires { (operand : WrittenOperand) × IsOperand first operand }
     ensures value { (operand : WrittenOperand) → IsOperand first operand → ParsesAs IsValue (source cursor.new) result
-        (contents_after (table_of around.now.tables.now) around.now.unicode (inner_of around.now) around.now.negated (operand, source cursor.old)) }
+        (contents_after (table_of around.now.tables.now) around.now.parameters.now (inner_of around.now) around.now.negated (operand, source cursor.old)) }
     ensures kind { FailsByDepthOnlyIf result (around.now.nesting < length (source cursor.old)) }
 {
     if try_consume_twice(cursor, '&') {
@@ -185,7 +195,7 @@ fn parse_after_first_operand(
     } else if try_consume_twice(cursor, '-') {
         let value = first.into_value(cursor.alloc)?;
         parse_operands(cursor, around, value, Operator::Subtraction)
-    } else if cursor.try_consume('&') {
+    } else if try_consume_ampersand(cursor, around.parameters.dialect) {
         let mut union = Union::new(cursor.alloc);
         union.add_operand(first)?;
         union.add_point(u32::from('&'))?;
@@ -195,6 +205,18 @@ fn parse_after_first_operand(
         parse_rest_of_part(cursor, around, first, left, &mut union)?;
         parse_parts(cursor, around, union)
     }
+}
+
+/// Consumes a `&` after the first operand, if one is next and begins no range in the dialect.
+fn try_consume_ampersand(cursor: &mut Cursor, dialect: Dialect) -> bool
+    ensures found { result ≡ (is_at (char "&") (source cursor.old) && isolates_ampersand dialect) }
+    ensures moves { source cursor.new ≡ (if result then drop 1 (source cursor.old) else source cursor.old) }
+{
+    let found = cursor.is_at('&') && dialect.isolates_ampersand();
+    if found {
+        cursor.rest = &cursor.rest[1..];
+    }
+    found
 }
 
 /// Consumes `c` and another `c`, if both are next.
@@ -227,7 +249,7 @@ fn parse_parts(
     mut union: Union,
 ) -> Result<Value, Fault>
     ensures value { (held : Written) → IsUnion union held → ParsesAs IsValue (source cursor.new) result
-        (parts_onto (table_of around.now.tables.now) around.now.unicode (inner_of around.now) around.now.negated held (source cursor.old)) }
+        (parts_onto (table_of around.now.tables.now) around.now.parameters.now (inner_of around.now) around.now.negated held (source cursor.old)) }
     ensures kind { FailsByDepthOnlyIf result (around.now.nesting < length (source cursor.old)) }
 {
     while !cursor.is_at(']') {
@@ -254,7 +276,7 @@ fn parse_rest_of_part(
 ) -> Result<(), Fault>
     requires { (operand : WrittenOperand) × IsOperand first operand }
     ensures value { (operand : WrittenOperand) → IsOperand first operand → ParsesAs (λ _ part. Joins part union.old union.new) (source cursor.new) result
-        (part_after (table_of around.now.tables.now) around.now.unicode (inner_of around.now) around.now.negated (operand, source cursor.old)) }
+        (part_after (table_of around.now.tables.now) around.now.parameters.now (inner_of around.now) around.now.negated (operand, source cursor.old)) }
     ensures kind { FailsByDepthOnlyIf result (around.now.nesting < length (source cursor.old)) }
 {
     if !cursor.try_consume('-') {
@@ -279,19 +301,37 @@ fn parse_operands(
     operator: Operator,
 ) -> Result<Value, Fault>
     ensures value { (held : Written) → IsValue value held → ParsesAs IsValue (source cursor.new) result
-        (operands_onto (table_of around.now.tables.now) around.now.unicode (inner_of around.now) around.now.negated
+        (operands_onto (table_of around.now.tables.now) around.now.parameters.now (inner_of around.now) around.now.negated
         (symbol_of operator) (applied operator) held (source cursor.old)) }
     ensures kind { FailsByDepthOnlyIf result (around.now.nesting < length (source cursor.old)) }
 {
     let mut chain = Chain::new(value, operator);
     loop {
-        let operand = parse_operand(cursor, around)?.into_value(cursor.alloc)?;
+        let operand = parse_next_operand(cursor, around, operator)?.into_value(cursor.alloc)?;
         if cursor.try_consume(']') {
             return Ok(chain.finish(operand)?);
         }
         consume_operator(cursor, operator, around.opened)?;
         chain = chain.push(operand)?;
     }
+}
+
+/// Parses the operand after an operator. In some dialects it does not begin with the character of the operator.
+#[cycle(class_set)]
+fn parse_next_operand(
+    cursor: &mut Cursor,
+    around: &OperandContext,
+    operator: Operator,
+) -> Result<Operand, Fault>
+    ensures value { ParsesAs IsOperand (source cursor.new) result
+        (next_operand_at (table_of around.now.tables.now) around.now.parameters.now (inner_of around.now) around.now.negated
+        (symbol_of operator) (source cursor.old)) }
+    ensures kind { FailsByDepthOnlyIf result (around.now.nesting < length (source cursor.old)) }
+{
+    if !around.parameters.dialect.isolates_ampersand() && cursor.is_at(operator.sign()) {
+        return Err(cursor.reject(FaultKind::InvalidSetCharacter));
+    }
+    parse_operand(cursor, around)
 }
 
 /// Consumes an operator. Fails if none is next; at the end of the source the error is that the class is not closed.
@@ -317,7 +357,7 @@ fn consume_operator(cursor: &mut Cursor, operator: Operator, opened: usize) -> R
 #[cycle(class_set)]
 fn parse_operand(cursor: &mut Cursor, around: &OperandContext) -> Result<Operand, Fault>
     ensures value { ParsesAs IsOperand (source cursor.new) result
-        (operand_at (table_of around.now.tables.now) around.now.unicode (inner_of around.now) around.now.negated (source cursor.old)) }
+        (operand_at (table_of around.now.tables.now) around.now.parameters.now (inner_of around.now) around.now.negated (source cursor.old)) }
     ensures kind { FailsByDepthOnlyIf result (around.now.nesting < length (source cursor.old)) }
 {
     if cursor.rest.is_empty() {
@@ -325,12 +365,18 @@ fn parse_operand(cursor: &mut Cursor, around: &OperandContext) -> Result<Operand
     }
     let begin = cursor.rest.len();
     if cursor.try_consume('[') {
-        let class = parse_class_set(cursor, around.tables, around.unicode, around.nesting, begin)?;
+        let class = parse_class_set(
+            cursor,
+            around.tables,
+            around.parameters,
+            around.nesting,
+            begin,
+        )?;
         return Ok(Operand::Class(class.into_nested()?));
     }
     if cursor.try_consume('\\') {
         return read_escaped_operand(cursor, around, begin);
     }
-    let character = parse_set_character(cursor, around.unicode)?;
+    let character = parse_set_character(cursor, around.parameters)?;
     Ok(Operand::Character(character))
 }

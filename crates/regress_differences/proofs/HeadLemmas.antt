@@ -13,7 +13,11 @@ use Rattle.regress_lexer.proofs.lemmas.InRange.{Finds, finds_none, finds_some, f
 use Rattle.regress_lexer.proofs.lemmas.Sources.{EachProduction, no_more, ◌also◌, first_production-has}
 use Rattle.regress_classes.specs.Properties.{Property, of_points, of_strings, property_at}
 use Rattle.regress_classes.specs.ClassProductions.{complement, class_letter, class_at}
-use Rattle.regress_classes.specs.ClassSets.{Value, has_strings, unless_negated_strings, contents_at, class_set_by, class_set_at}
+use Rattle.regress_lexer.specs.declared.dialect.Dialect.{Dialect}
+use Rattle.regress_lexer.specs.Dialects.{judges_contents}
+use Rattle.regress_classes.specs.declared.parameters.Parameters.{Parameters}
+use Rattle.regress_classes.proofs.lemmas.ClassSets.{no_strings}
+use Rattle.regress_classes.specs.ClassSets.{Value, has_strings, is_not_negatable, unless_negated_strings, contents_at, class_set_by, class_set_at}
 use Rattle.regress_base.specs.Limits.{max_nesting_depth}
 use Rattle.regress_syntax.specs.Syntax.{Atom, literal, dot, anchor, boundary, class_escape, class, class_set, string_property, back_reference, by_number, by_name, grouping, modified, capture, look}
 use Rattle.regress_syntax.specs.Names.{group_name_at}
@@ -31,16 +35,18 @@ any_found found = record { each = λ x e. tt }
 abbrev AreApart : Bool × Value → Type 0
 AreApart found = (found.0 && has_strings found.1) ≡ false
 
-unless-apart : (negated : Bool) (x : Value × Source) → Finds AreApart (unless_negated_strings negated x)
-unless-apart negated (v, t) = finds_cond AreApart (negated && has_strings v) _ _ (λ _. finds_none AreApart) (λ e. finds_some AreApart ((negated, v), t) e)
+unless-apart : (dialect : Dialect) (negated : Bool) (x : Value × Source) → Finds AreApart (unless_negated_strings dialect negated x)
+unless-apart dialect negated (v, t) =
+    finds_cond AreApart (negated && is_not_negatable dialect v) _ _ (λ _. finds_none AreApart)
+    (λ e. finds_some AreApart ((negated, v), t) (no_strings dialect negated v e))
 
-class_set_by-apart : (table : Table) (unicode : Bool) (n : ℕ) (t : Source) → Finds AreApart (class_set_by table unicode n t)
+class_set_by-apart : (table : Table) (parameters : Parameters) (n : ℕ) (t : Source) → Finds AreApart (class_set_by table parameters n t)
 unfolding class_set_by
-class_set_by-apart table unicode zero t = finds_none AreApart
-class_set_by-apart table unicode (suc n) t =
+class_set_by-apart table parameters zero t = finds_none AreApart
+class_set_by-apart table parameters (suc n) t =
     finds_then (λ _. Unit {0}) AreApart
-    (contents_at table unicode (class_set_by table unicode n) (is_at 94 t) (cond (is_at 94 t) (drop 1 t) t))
-    (unless_negated_strings (is_at 94 t)) (any_found _) (λ x _. unless-apart (is_at 94 t) x)
+    (contents_at table parameters (class_set_by table parameters n) (is_at 94 t && judges_contents parameters.dialect) (cond (is_at 94 t) (drop 1 t) t))
+    (unless_negated_strings parameters.dialect (is_at 94 t)) (any_found _) (λ x _. unless-apart parameters.dialect (is_at 94 t) x)
 
 -- ---- atoms
 
@@ -128,8 +134,8 @@ module _ (ctx : Context) where
   brackets_fit : (s t : Source) → class_escape_at s ≡ None → Finds (AtomFits s) (brackets_at ctx t)
   brackets_fit s t none =
       finds_cond (AtomFits s) ctx.setting.flags.unicode_sets _ _
-      (λ sets. finds_map AreApart (AtomFits s) _ (class_set_at ctx.setting.table ctx.setting.flags.unicode t) (λ x apart. (none, sets, apart))
-      (class_set_by-apart ctx.setting.table ctx.setting.flags.unicode max_nesting_depth t))
+      (λ sets. finds_map AreApart (AtomFits s) _ (class_set_at ctx.setting.table (class_parameters ctx) t) (λ x apart. (none, sets, apart))
+      (class_set_by-apart ctx.setting.table (class_parameters ctx) max_nesting_depth t))
       (λ _. finds_map (λ _. Unit {0}) (AtomFits s) _ (class_at ctx.setting.table (class_parameters ctx) t) (λ x _. none) (any_found _))
 
   -- an opening bracket is no backslash

@@ -6,13 +6,15 @@ use Rattle.regress_base.specs.Limits.{max_nesting_depth}
 use Rattle.regress_base.specs.Table.{Table}
 use Rattle.regress_base.specs.declared.charclasses.CharacterClassType.{CharacterClassType}
 use Rattle.regress_base.specs.declared.types.Flags.{Flags}
+use Rattle.regress_lexer.specs.Dialects.{isolates_ampersand, judges_contents}
 use Rattle.regress_lexer.specs.Source.{Source, Found, found_map, first_production, char, is_one_of, is_at}
 use Rattle.regress_classes.specs.declared.parameters.Parameters.{Parameters}
 use Rattle.regress_classes.specs.ClassProductions.{members_of, class_letter, complement_if, class_members, one_point, points_between}
 use Rattle.regress_classes.specs.ClassProductions as ClassProductions
-use Rattle.regress_classes.specs.ClassSets.{Value, nothing, has_strings, joined, folded_left, common, without, value_of_string, value_of_strings, nested, unless_negated_strings, Operand, value_of, range_of, escaped_character_at, set_character_at, strings_by, quoted_at, property_operand, are_at, class_set_at}
+use Rattle.regress_classes.specs.ClassSets.{Value, nothing, has_strings, is_not_negatable, joined, folded_left, common, without, value_of_string, value_of_strings, nested, unless_negated_strings, Operand, value_of, range_of, escaped_character_at, set_character_at, strings_by, quoted_at, property_operand, are_at, class_set_at}
 use Rattle.regress_classes.specs.ClassSets as ClassSets
 use Rattle.regress_classes.specs.Properties.{Property, of_points, of_strings, property_at}
+use Rattle.regress_classes.proofs.lemmas.ClassSets.{no_strings as none_if_negated}
 use Rattle.regress_ecma.specs.Notation.{CharSet}
 use Rattle.regress_ecma.specs.Characters.{character_complement, character_class_escape}
 use Rattle.regress_ecma.specs.Atoms.{one_character}
@@ -132,8 +134,8 @@ module _ (table : Table) (maps : HasCaseDataOfUnicode table) (rer : Flags) (with
   nested_is node (false, v) is =
       ap (λ (i : Bool). if i then complement table rer (compile node.contents) else compile node.contents) is.invert ∙ is.contents
 
-  module _ (unicode in_negated : Bool) where
-    strings_follow : (t : Source) → Follows IsOperand (quoted_at unicode t) (class_strings_at table unicode t)
+  module _ (parameters : Parameters) (in_negated : Bool) where
+    strings_follow : (t : Source) → Follows IsOperand (quoted_at parameters t) (class_strings_at table parameters t)
     strings_follow t =
         follows_if IsOperand (is_at (char "{") t) _ _ _ _
         (λ _.
@@ -142,7 +144,7 @@ module _ (table : Table) (maps : HasCaseDataOfUnicode table) (rer : Flags) (with
         (λ _. follows_none IsOperand None)
 
     productions_follow : (c : ℕ) (t : Source) →
-        Follows IsOperand (first_production (ClassSets.operand_productions table unicode in_negated c t)) (first_production (operand_productions table unicode c t))
+        Follows IsOperand (first_production (ClassSets.operand_productions table parameters in_negated c t)) (first_production (operand_productions table parameters c t))
     productions_follow c t =
         follows_if IsOperand (c == char "q") _ _ _ _ (λ _. strings_follow t)
         (λ _. follows_if IsOperand (is_one_of "pP" c) _ _ _ _
@@ -151,10 +153,10 @@ module _ (table : Table) (maps : HasCaseDataOfUnicode table) (rer : Flags) (with
         (λ p q u same. subst (λ (r : Property). Follows IsOperand (property_operand in_negated (c == char "P") (p, u)) (Some (property_node (c == char "P") r, u))) (sym same)
         (property_follows in_negated (c == char "P") p u)))
         (λ _.
-        follows_map (λ (y x : ℕ). y ≡ x) IsOperand ClassSets.character character _ _ (follows_same (escaped_character_at unicode (c ∷ t)))
+        follows_map (λ (y x : ℕ). y ≡ x) IsOperand ClassSets.character character _ _ (follows_same (escaped_character_at parameters.unicode (c ∷ t)))
         (λ x y same. ap character same)))
 
-    escape_follows : (t : Source) → Follows IsOperand (ClassSets.escaped_operand_at table unicode in_negated t) (escaped_operand_at table unicode t)
+    escape_follows : (t : Source) → Follows IsOperand (ClassSets.escaped_operand_at table parameters in_negated t) (escaped_operand_at table parameters t)
     escape_follows [] = follows_none IsOperand None
     escape_follows (c ∷ t) = by (class_letter c)
       where
@@ -162,11 +164,11 @@ module _ (table : Table) (maps : HasCaseDataOfUnicode table) (rer : Flags) (with
             Follows IsOperand
             (elim letter as (λ _. Found Operand) [
               | Some named ↦ Some (ClassSets.class (ClassSets.only (class_members named)), t)
-              | None ↦ first_production (ClassSets.operand_productions table unicode in_negated c t)
+              | None ↦ first_production (ClassSets.operand_productions table parameters in_negated c t)
             ])
             (elim letter as (λ _. Found ClassAtom) [
               | Some named ↦ Some (class_escape named.0 named.1, t)
-              | None ↦ first_production (operand_productions table unicode c t)
+              | None ↦ first_production (operand_productions table parameters c t)
             ])
         by (Some (kind, capital)) =
             follows_some IsOperand (class_escape kind capital) (ClassSets.class (ClassSets.only (class_members (kind, capital)))) t
@@ -175,7 +177,7 @@ module _ (table : Table) (maps : HasCaseDataOfUnicode table) (rer : Flags) (with
 
     module _ (inner : Source → Found (Bool × Value)) (inner' : Source → Found CharacterClass)
         (inside : (t : Source) → Follows IsClassSet (inner t) (inner' t)) where
-      operand_follows : (t : Source) → Follows IsOperand (ClassSets.operand_at table unicode inner in_negated t) (operand_at table unicode inner' t)
+      operand_follows : (t : Source) → Follows IsOperand (ClassSets.operand_at table parameters inner in_negated t) (operand_at table parameters inner' t)
       unfolding ClassSets.operand_at operand_at
       operand_follows t =
           follows_if IsOperand (is_at (char "[") t) _ _ _ _
@@ -185,7 +187,7 @@ module _ (table : Table) (maps : HasCaseDataOfUnicode table) (rer : Flags) (with
           (λ _.
           follows_if IsOperand (is_at (char "\\") t) _ _ _ _ (λ _. escape_follows (drop 1 t))
           (λ _.
-          follows_map (λ (y x : ℕ). y ≡ x) IsOperand ClassSets.character character _ _ (follows_same (set_character_at unicode t))
+          follows_map (λ (y x : ℕ). y ≡ x) IsOperand ClassSets.character character _ _ (follows_same (set_character_at parameters t))
           (λ x y same. ap character same)))
 
       -- ---- unions
@@ -220,7 +222,7 @@ module _ (table : Table) (maps : HasCaseDataOfUnicode table) (rer : Flags) (with
       range_follows first last (ClassSets.class value) b t is_first is_last = follows_none IsPart _
 
       part_follows : (first : ClassAtom) (operand : Operand) (t : Source) → IsOperand first operand →
-          Follows IsPart (ClassSets.part_after table unicode inner in_negated (operand, t)) (part_after table unicode inner' (first, t))
+          Follows IsPart (ClassSets.part_after table parameters inner in_negated (operand, t)) (part_after table parameters inner' (first, t))
       part_follows first operand t is_first =
           follows_if IsPart (is_at (char "-") t) _ _ _ _
           (λ _.
@@ -237,7 +239,7 @@ module _ (table : Table) (maps : HasCaseDataOfUnicode table) (rer : Flags) (with
       more_parts with_part part is contents parts are held =
           ap (union (elements held)) (is contents) ∙ union-assoc (elements held) (elements part) (compile contents) ∙ are (joined held part)
 
-      union_follows : (n : ℕ) (t : Source) → Follows AreParts (ClassSets.parts_by table unicode inner in_negated n t) (class_union_by table unicode inner' n t)
+      union_follows : (n : ℕ) (t : Source) → Follows AreParts (ClassSets.parts_by table parameters inner in_negated n t) (class_union_by table parameters inner' n t)
       unfolding ClassSets.parts_by class_union_by
       union_follows zero t = follows_none AreParts None
       union_follows (suc n) t =
@@ -251,6 +253,9 @@ module _ (table : Table) (maps : HasCaseDataOfUnicode table) (rer : Flags) (with
           (λ parts contents are. more_parts with_part part is contents parts are)))
 
       -- ---- operators
+
+      next_follows : (c : ℕ) (t : Source) → Follows IsOperand (ClassSets.next_operand_at table parameters inner in_negated c t) (operand_at table parameters inner' t)
+      next_follows c t = follows_unless IsOperand (not (isolates_ampersand parameters.dialect) && is_at c t) _ _ (λ _. operand_follows t)
 
       abbrev IsContents : ClassContents → Value → Type 0
       IsContents contents value = compile contents ≡ elements value
@@ -272,11 +277,11 @@ module _ (table : Table) (maps : HasCaseDataOfUnicode table) (rer : Flags) (with
         IsLeft held contents operands = IsContents contents (folded_left f held operands)
 
         operands_follow : (n : ℕ) (left : ClassContents) (held : Value) (t : Source) → IsContents left held →
-            Follows (IsLeft held) (ClassSets.operands_by table unicode inner in_negated n c t) (operands_by table unicode inner' n c operator left t)
+            Follows (IsLeft held) (ClassSets.operands_by table parameters inner in_negated n c t) (operands_by table parameters inner' n c operator left t)
         unfolding ClassSets.operands_by operands_by
         operands_follow zero left held t is_left = follows_none (IsLeft held) None
         operands_follow (suc n) left held t is_left =
-            follows_then IsOperand (IsLeft held) _ _ _ _ (operand_follows t)
+            follows_then IsOperand (IsLeft held) _ _ _ _ (next_follows c t)
             (λ operand right rest is_right.
             let both : IsContents (operator left right) (f held (value_of operand)) =
             is left right held (value_of operand) is_left (operand_is right operand is_right) in
@@ -292,8 +297,8 @@ module _ (table : Table) (maps : HasCaseDataOfUnicode table) (rer : Flags) (with
 
         operator_follows : (first : ClassAtom) (operand : Operand) (t : Source) → IsOperand first operand →
             Follows IsContents
-            (found_map (folded_left f (value_of operand)) (ClassSets.operands_at table unicode inner in_negated c t))
-            (operands_by table unicode inner' (length t + 1) c operator (atom_then first empty) t)
+            (found_map (folded_left f (value_of operand)) (ClassSets.operands_at table parameters inner in_negated c t))
+            (operands_by table parameters inner' (length t + 1) c operator (atom_then first empty) t)
         operator_follows first operand t is_first =
             follows_mapped (IsLeft (value_of operand)) IsContents (folded_left f (value_of operand)) _ _
             (operands_follow (length t + 1) (atom_then first empty) (value_of operand) t
@@ -303,7 +308,7 @@ module _ (table : Table) (maps : HasCaseDataOfUnicode table) (rer : Flags) (with
       -- ---- contents
 
       after_follows : (first : ClassAtom) (operand : Operand) (t : Source) → IsOperand first operand →
-          Follows IsContents (ClassSets.contents_after table unicode inner in_negated (operand, t)) (contents_after table unicode inner' (first, t))
+          Follows IsContents (ClassSets.contents_after table parameters inner in_negated (operand, t)) (contents_after table parameters inner' (first, t))
       after_follows first operand t is_first =
           follows_if IsContents (are_at (char "&") t) _ _ _ _
           (λ _. operator_follows (char "&") intersection common is_intersection first operand (drop 2 t) is_first)
@@ -311,7 +316,7 @@ module _ (table : Table) (maps : HasCaseDataOfUnicode table) (rer : Flags) (with
           follows_if IsContents (are_at (char "-") t) _ _ _ _
           (λ _. operator_follows (char "-") subtraction without is_subtraction first operand (drop 2 t) is_first)
           (λ _.
-          follows_if IsContents (is_at (char "&") t) _ _ _ _
+          follows_if IsContents (is_at (char "&") t && isolates_ampersand parameters.dialect) _ _ _ _
           (λ _.
           follows_map AreParts IsContents
           (λ parts. folded_left joined (value_of operand) (ClassSets.only (one_point (char "&")) ∷ parts))
@@ -327,7 +332,7 @@ module _ (table : Table) (maps : HasCaseDataOfUnicode table) (rer : Flags) (with
           follows_map AreParts IsContents (folded_left joined part) with_part _ _ (union_follows (length rest + 1) rest)
           (λ parts contents are. is contents ∙ are part)))))
 
-      contents_follow : (t : Source) → Follows IsContents (ClassSets.contents_at table unicode inner in_negated t) (contents_at table unicode inner' t)
+      contents_follow : (t : Source) → Follows IsContents (ClassSets.contents_at table parameters inner in_negated t) (contents_at table parameters inner' t)
       contents_follow t =
           follows_if IsContents (is_at (char "]") t) _ _ _ _ (λ _. follows_some IsContents empty nothing (drop 1 t) refl)
           (λ _. follows_then IsOperand IsContents _ _ _ _ (operand_follows t) (λ operand first rest is. after_follows first operand rest is))
@@ -337,27 +342,27 @@ module _ (table : Table) (maps : HasCaseDataOfUnicode table) (rer : Flags) (with
   abbrev HasContents : ClassContents → Value → Type 0
   HasContents contents value = compile contents ≡ elements value
 
-  set_follows : (unicode : Bool) (n : ℕ) (t : Source) → Follows IsClassSet (ClassSets.class_set_by table unicode n t) (class_set_by table unicode n t)
+  set_follows : (parameters : Parameters) (n : ℕ) (t : Source) → Follows IsClassSet (ClassSets.class_set_by table parameters n t) (class_set_by table parameters n t)
   unfolding ClassSets.class_set_by class_set_by
-  set_follows unicode zero t = follows_none IsClassSet None
-  set_follows unicode (suc n) t =
+  set_follows parameters zero t = follows_none IsClassSet None
+  set_follows parameters (suc n) t =
       let negated : Bool = is_at (char "^") t in
       follows_then HasContents IsClassSet _ _ _ _
-      (contents_follow unicode negated (ClassSets.class_set_by table unicode n) (class_set_by table unicode n) (set_follows unicode n)
+      (contents_follow parameters (negated && judges_contents parameters.dialect) (ClassSets.class_set_by table parameters n) (class_set_by table parameters n) (set_follows parameters n)
       (if negated then drop 1 t else t))
       (λ value contents rest is. unless_strings negated value contents rest is)
     where
       unless_strings : (negated : Bool) (value : Value) (contents : ClassContents) (rest : Source) → HasContents contents value →
-          Follows IsClassSet (unless_negated_strings negated (value, rest)) (Some (record { invert = negated; contents = contents }, rest))
-      unless_strings negated value contents rest is = by_test (negated && has_strings value) refl
+          Follows IsClassSet (unless_negated_strings parameters.dialect negated (value, rest)) (Some (record { invert = negated; contents = contents }, rest))
+      unless_strings negated value contents rest is = by_test (negated && is_not_negatable parameters.dialect value) refl
         where
-          by_test : (b : Bool) → (negated && has_strings value) ≡ b →
+          by_test : (b : Bool) → (negated && is_not_negatable parameters.dialect value) ≡ b →
               Follows IsClassSet (if b then None else Some ((negated, value), rest)) (Some (record { invert = negated; contents = contents }, rest))
           by_test true e = follows_none IsClassSet _
           by_test false e =
-              follows_some IsClassSet _ (negated, value) rest (record { invert = refl; contents = is; no_strings = e })
+              follows_some IsClassSet _ (negated, value) rest (record { invert = refl; contents = is; no_strings = none_if_negated parameters.dialect negated value e })
 
   pub class_set_follows : (parameters : Parameters) (t : Source) →
-      Follows IsClassSet (class_set_at table parameters.unicode t) (character_class_at table parameters true t)
+      Follows IsClassSet (class_set_at table parameters t) (character_class_at table parameters true t)
   unfolding character_class_at
-  class_set_follows parameters t = set_follows parameters.unicode max_nesting_depth t
+  class_set_follows parameters t = set_follows parameters max_nesting_depth t

@@ -108,7 +108,7 @@ module _ (ctx : Context) where
   brackets_hold : (t : Source) → Holds HasFlags (brackets_at ctx t)
   brackets_hold t =
       holds_if HasFlags ctx.setting.flags.unicode_sets _ _
-      (holds_map HasFlags _ (class_set_at ctx.setting.table ctx.setting.flags.unicode t) (λ a. refl))
+      (holds_map HasFlags _ (class_set_at ctx.setting.table (class_parameters ctx) t) (λ a. refl))
       (holds_map HasFlags _ (class_at ctx.setting.table (class_parameters ctx) t) (λ a. refl))
 
   atoms_hold : (c : ℕ) (t : Source) → EachProduction (Holds HasFlags) (atom_productions ctx c t)

@@ -129,7 +129,7 @@ module _ (setting : Setting) (maps : HasCaseDataOfUnicode setting.table) (with_u
         flags none
 
     class_set_good : (c : ℕ) (t : Source) (negated : Bool) (value : Value) (rest : Source) → (c == char "[") ≡ true →
-        flags'.unicode_sets ≡ true → class_set_at ctx.setting.table flags'.unicode t ≡ Some ((negated, value), rest) →
+        flags'.unicode_sets ≡ true → class_set_at ctx.setting.table (class_parameters ctx) t ≡ Some ((negated, value), rest) →
         IsGood (c ∷ t) (class_set flags' negated value)
     class_set_good c t negated value rest first sets found d flags none =
         let plain : flags'.icase ≡ false = (or_parts flags'.icase (negated && has_strings value) none).0 in
@@ -154,10 +154,10 @@ module _ (setting : Setting) (maps : HasCaseDataOfUnicode setting.table) (with_u
         by_test : (v : Bool) → flags'.unicode_sets ≡ v →
             Holds (IsGood (c ∷ t))
             (if v
-            then found_map (λ (negated, value). class_set flags' negated value) (class_set_at ctx.setting.table flags'.unicode t)
+            then found_map (λ (negated, value). class_set flags' negated value) (class_set_at ctx.setting.table (class_parameters ctx) t)
             else found_map (λ (inverted, members). class flags' inverted members) (class_at ctx.setting.table (class_parameters ctx) t))
         by_test true e =
-            holds_found (IsGood (c ∷ t)) (λ (negated, value). class_set flags' negated value) (class_set_at ctx.setting.table flags'.unicode t)
+            holds_found (IsGood (c ∷ t)) (λ (negated, value). class_set flags' negated value) (class_set_at ctx.setting.table (class_parameters ctx) t)
             (λ (negated, value) rest found. class_set_good c t negated value rest first e found)
         by_test false e =
             holds_found (IsGood (c ∷ t)) (λ (inverted, members). class flags' inverted members) (class_at ctx.setting.table (class_parameters ctx) t)
@@ -421,7 +421,7 @@ module _ (ctx : Context) (maps : HasCaseDataOfUnicode ctx.setting.table)
       and_false true = refl
       and_false false = refl
 
-  class_set_ends : (t : Source) (x : (Bool × Value) × Source) → class_set_at ctx.setting.table ctx.setting.flags.unicode t ≡ Some x → EndsAt t true x.1
+  class_set_ends : (t : Source) (x : (Bool × Value) × Source) → class_set_at ctx.setting.table (class_parameters ctx) t ≡ Some x → EndsAt t true x.1
   class_set_ends t (read, rest) e =
       let found = (class_set_follows ctx.setting.table maps without_i with_u refl (class_parameters ctx) t).each read rest e in
       (found.value, found.found)
@@ -438,11 +438,11 @@ module _ (ctx : Context) (maps : HasCaseDataOfUnicode ctx.setting.table)
     where
       by_test : (v : Bool) →
           (if v
-          then found_map (λ (negated, value). class_set ctx.setting.flags negated value) (class_set_at ctx.setting.table ctx.setting.flags.unicode t)
+          then found_map (λ (negated, value). class_set ctx.setting.flags negated value) (class_set_at ctx.setting.table (class_parameters ctx) t)
           else found_map (λ (inverted, members). class ctx.setting.flags inverted members) (class_at ctx.setting.table (class_parameters ctx) t))
           ≡ Some (a, rest) → EndsAt t v rest
       by_test true h =
-          let found = mapped_end (λ (negated, value). class_set ctx.setting.flags negated value) (class_set_at ctx.setting.table ctx.setting.flags.unicode t) a rest h in
+          let found = mapped_end (λ (negated, value). class_set ctx.setting.flags negated value) (class_set_at ctx.setting.table (class_parameters ctx) t) a rest h in
           class_set_ends t (found.0, rest) found.1
       by_test false h =
           let found = mapped_end (λ (inverted, members). class ctx.setting.flags inverted members) (class_at ctx.setting.table (class_parameters ctx) t) a rest h in

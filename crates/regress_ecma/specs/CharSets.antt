@@ -125,7 +125,7 @@ module _ (table : Table) (rer : Flags) where
 
   -- the class of the syntax tree with these elements
   abbrev pub class_of : Elements → Atom
-  class_of a = class_set rer false (record { members = a.characters; strings = a.strings; has_empty = a.has_empty; nesting = 0 })
+  class_of a = class_set rer false (record { members = a.characters; strings = a.strings; has_empty = a.has_empty; may_have_strings = false; nesting = 0 })
 
   -- 22.2.2.8 CompileCharacterClass: with the flag v the complement is taken, without it the matcher inverts.
   abbrev pub compile_character_class : CharacterClass → Atom

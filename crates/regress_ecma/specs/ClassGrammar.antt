@@ -5,7 +5,7 @@ use Rattle.regress_base.specs.Limits.{max_nesting_depth}
 use Rattle.regress_base.specs.Table.{Table}
 use Rattle.regress_lexer.specs.Source.{Source, Found, ◌>>=◌, found_map, Production, when, otherwise, first_production, char, is_one_of, is_at}
 use Rattle.regress_lexer.specs.Digits.{is_decimal, is_letter, control}
-use Rattle.regress_lexer.specs.Dialects.{reserves_k}
+use Rattle.regress_lexer.specs.Dialects.{reserves_k, isolates_ampersand}
 use Rattle.regress_lexer.specs.Escapes.{character_escape_at}
 use Rattle.regress_classes.specs.declared.parameters.Parameters.{Parameters}
 use Rattle.regress_classes.specs.ClassProductions.{class_letter, begins_range}
@@ -71,18 +71,18 @@ module _ (table : Table) (parameters : Parameters) where
 
 -- ---- with the flag v
 
-module _ (table : Table) (unicode : Bool) where
+module _ (table : Table) (parameters : Parameters) where
   -- ClassStringDisjunction, after `\q`
   abbrev pub class_strings_at : Source → Found ClassAtom
   class_strings_at t =
-      if is_at (char "{") t then found_map class_strings (strings_by (length t) unicode [] (drop 1 t)) else None
+      if is_at (char "{") t then found_map class_strings (strings_by (length t) parameters [] (drop 1 t)) else None
 
   -- an escape from c on
   abbrev pub operand_productions : ℕ → Source → List (Production ClassAtom)
   operand_productions c t =
       when (c == char "q") (class_strings_at t)
       ∷ when (is_one_of "pP" c) (found_map (property_node (c == char "P")) (property_at true table t))
-      ∷ otherwise (found_map character (escaped_character_at unicode (c ∷ t))) ∷ []
+      ∷ otherwise (found_map character (escaped_character_at parameters.unicode (c ∷ t))) ∷ []
 
   -- after a backslash
   abbrev pub escaped_operand_at : Source → Found ClassAtom
@@ -100,7 +100,7 @@ module _ (table : Table) (unicode : Bool) where
     operand_at t =
         if is_at (char "[") t then found_map (λ node. nested_class node.invert node.contents) (inner (drop 1 t))
         else if is_at (char "\\") t then escaped_operand_at (drop 1 t)
-        else found_map character (set_character_at unicode t)
+        else found_map character (set_character_at parameters t)
 
     -- an operand or a ClassSetRange, from its first operand on
     abbrev pub part_after : ClassAtom × Source → Found (ClassContents → ClassContents)
@@ -135,7 +135,7 @@ module _ (table : Table) (unicode : Bool) where
         then operands_by (length (drop 2 t) + 1) (char "&") intersection (atom_then first empty) (drop 2 t)
         else if are_at (char "-") t
         then operands_by (length (drop 2 t) + 1) (char "-") subtraction (atom_then first empty) (drop 2 t)
-        else if is_at (char "&") t
+        else if is_at (char "&") t && isolates_ampersand parameters.dialect
         then found_map (λ rest. atom_then first (atom_then (character (char "&")) rest)) (class_union_at (drop 1 t))
         else part_after (first, t) >>= λ (with_part, rest). found_map with_part (class_union_at rest)
 
@@ -156,6 +156,6 @@ unfoldable pub character_class_at : Table → Parameters → (sets : Bool) → S
 character_class_at table parameters sets t =
     let invert = is_at (char "^") t in
     let inside = if invert then drop 1 t else t in
-    if sets then class_set_by table parameters.unicode max_nesting_depth t
+    if sets then class_set_by table parameters max_nesting_depth t
     else found_map (λ contents. record { invert = invert; contents = contents })
     (class_ranges_by table parameters (length inside + 1) inside)

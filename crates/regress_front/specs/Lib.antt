@@ -3,6 +3,7 @@ pub mod Optimized
 
 -- Sets, bytes and limits.
 pub use Rattle.regress_base.specs.Limits
+pub use Rattle.regress_base.specs.NoFlags
 pub use Rattle.regress_base.specs.Intervals
 pub use Rattle.regress_base.specs.Classes
 pub use Rattle.regress_base.specs.Brackets

@@ -4,7 +4,7 @@ use Rattle.std.specs.List.{join_by}
 use Rattle.std.proofs.lemmas.Bool.{and_parts, eq-eqb, ne_eqb}
 use Rattle.std.proofs.lemmas.List.{append_cancel_left}
 use Rattle.regress_json.specs.Json.{is_word_byte, is_word}
-use Rattle.regress_json.specs.Numbers.{numeral}
+use Rattle.regress_json.specs.Json.{numeral}
 use Rattle.regress_json.proofs.NumeralLemmas.{value, numeral-is_word, value-numeral, numeral-begins}
 
 -- Whatever follows them, equal texts imply E, and the two end at the same position.

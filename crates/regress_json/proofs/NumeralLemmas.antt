@@ -7,7 +7,7 @@ use Rattle.std.proofs.lemmas.Bool.{and_from, le-leb, ne_eqb}
 use Rattle.std.proofs.lemmas.Fmt.{decimal_digit, decimal-digits_of}
 use Rattle.std.proofs.lemmas.Int.Digits.{all_below_base_digits_of, first_digits_of, number_digits_of}
 use Rattle.regress_json.specs.Json.{is_word_byte, is_word}
-use Rattle.regress_json.specs.Numbers.{numeral}
+use Rattle.regress_json.specs.Json.{numeral}
 
 -- digits as text, and back
 abbrev glyphs : List ℕ → List ℕ

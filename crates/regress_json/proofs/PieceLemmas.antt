@@ -8,7 +8,7 @@ use Rattle.regress_base.specs.declared.types.Flags.{Flags}
 use Rattle.regress_base.specs.declared.types.Quantifier.{Quantifier}
 use Rattle.regress_tree.specs.Display.{anchored, truth}
 use Rattle.regress_json.specs.Json.{is_word, numbers, pair, interval, number_or_null, quantifier, name, flags_json}
-use Rattle.regress_json.specs.Numbers.{numeral}
+use Rattle.regress_json.specs.Json.{numeral}
 use Rattle.regress_json.proofs.NumeralLemmas.{value, numeral-is_word, value-numeral, BeginsWithDigit, numeral-begins}
 use Rattle.regress_json.proofs.DeterminingLemmas.{Determines, DeterminesIfEnded, gives, start, apart, more, more_items, items-determine, words-determine, read-determines, number-determines, number-goes_on}
 

@@ -1,5 +1,6 @@
 -- A tree as JSON (RFC 8259): one object for each node, whose `kind` and members are named as in `Node`.
-use Rattle.std.specs.Prelude.{ℕ, ◌+◌, Bool, true, false, List, [], ◌∷◌, ◌++◌, codes, Option, Some, None, if◌then◌else◌, nat_le, ◌==◌, ◌||◌, ◌&&◌}
+use Rattle.std.specs.Prelude.{ℕ, ◌+◌, Bool, true, false, List, [], ◌∷◌, ◌++◌, codes, Option, Some, None, if◌then◌else◌, nat_le, ◌==◌, ◌||◌, ◌&&◌, map}
+use Rattle.std.specs.Int.Digits.{digits_of}
 use Rattle.std.specs.List.{join_by, slice_get}
 use Rattle.regress_base.specs.Intervals.{Bounds}
 use Rattle.regress_base.specs.declared.types.Flags.{Flags}
@@ -8,7 +9,10 @@ use Rattle.regress_tree.specs.Display.{anchored, truth}
 use Rattle.regress_tree.specs.Tree.{Leaf, empty, goal, char, byte_sequence, byte_set, char_set, match_any, match_any_except_line_terminator, anchor, word_boundary, bracket, back_ref, string_set, Wrapper, capture_group, loop, loop_one, lookaround, Tree, Trees, leaf, cat, alt, wrapped, no_trees, more_trees}
 use Rattle.regress_tree.specs.Visits.{nodes, nodes_in_list}
 use Rattle.regress_parse.specs.declared.span.Span.{Span}
-use Rattle.regress_json.specs.Numbers.{numeral}
+
+-- the decimal digits of a number, the highest first; `0` for 0
+unfoldable pub numeral : ℕ → List ℕ
+numeral n = if n == 0 then codes "0" else map (λ d. 48 + d) (digits_of 10 n)
 
 -- `[97,98]`
 abbrev pub numbers : List ℕ → List ℕ

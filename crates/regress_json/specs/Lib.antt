@@ -1,3 +1,2 @@
 pub mod Json
-pub mod Numbers
 pub mod Passed

@@ -2,4 +2,5 @@ pub mod lemmas
 pub mod ReadingLemmas
 pub mod WordLemmas
 pub mod ReferenceLemmas
-pub mod StartSets
+pub mod StringLemmas
+pub mod AsciiSetLemmas

@@ -162,7 +162,7 @@ pub fn takes_one(node: &Node) -> bool
 }
 
 /// Returns the character whose UTF-8 these bytes are, or `None` if they are not the UTF-8 of exactly one.
-fn sole_character(bytes: &[u8]) -> Option<u32>
+pub(crate) fn sole_character(bytes: &[u8]) -> Option<u32>
     ensures { result ≡ sole_character bytes.now }
 {
     // no character has more bytes, so a long literal is not checked

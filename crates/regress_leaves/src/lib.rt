@@ -2,6 +2,7 @@
 #![tactic(auto)]
 
 pub mod ascii;
+mod ascii_sets;
 pub mod case_facts;
 pub mod characters;
 pub mod known;

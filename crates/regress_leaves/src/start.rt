@@ -7,12 +7,12 @@ ghost use Rattle.regress_tree.specs.Reading.{direction_if};
 ghost use Rattle.regress_tree.specs.Setting.{Setting};
 ghost use Rattle.regress_tree.specs.Steps.{MatchState};
 ghost use Rattle.regress_tree.specs.Tree.{Tree, tree};
-ghost use Rattle.regress_prefilter.specs.OneCharacter.{test_of};
 ghost use Rattle.regress_leaves.specs.Leaves.{put};
 ghost use Rattle.regress_leaves.specs.Starts.{IsFoldedFrom, IsStart};
 
 use crate::ascii::next_ascii;
-use crate::leaves::{accepts, takes_one};
+use crate::ascii_sets::{ascii_of, others};
+use crate::leaves::takes_one;
 use regress_base::bytesearch::ByteBitmap;
 use regress_prefilter::first_sets::first_bytes;
 use regress_tree::ir::Node;
@@ -79,19 +79,6 @@ fn case_variants(c: u8) -> ByteBitmap
     with_others(set)
 }
 
-/// Returns the ASCII characters that a leaf matches.
-fn ascii_of(node: &Node) -> ByteBitmap
-    ensures { (b : ℕ) → b < 128 → contains result b ≡ test_of (tree node.now) b }
-{
-    let mut set = ByteBitmap::default();
-    for b in 0..128u8 {
-        if accepts(node, u32::from(b)) {
-            set.set(b);
-        }
-    }
-    set
-}
-
 impl Start {
     /// Returns where a leaf ends, or `Some(None)` if it fails; `None` if the leaf may match more or less than one
     /// character, or if the next one is not ASCII.
@@ -117,8 +104,6 @@ pub fn with_others(set: ByteBitmap) -> ByteBitmap
     ensures { (b : ℕ) → b < 256 → contains result b ≡ false → (b < 128) × (contains set b ≡ false) }
 {
     let mut all = set;
-    for i in 0..128u8 {
-        all.set(128 + i);
-    }
+    all.bitor(&others());
     all
 }

@@ -28,3 +28,23 @@ is_lone_u dialect unicode c t = c == char "u" && not (has_braces dialect unicode
 abbrev pub reserves_k : Dialect → Bool
 reserves_k Regress = false
 reserves_k Ecma = true
+
+-- ---- classes with the flag v
+
+-- Of the punctuators that are operators or may become such when doubled, no two follow each other. Otherwise no one
+-- follows itself (ECMA-262, ClassSetReservedDoublePunctuator).
+abbrev pub reserves_pairs : Dialect → Bool
+reserves_pairs Regress = true
+reserves_pairs Ecma = false
+
+-- A `&` after the first operand begins no range, and one after `&&` is an operand. Otherwise the former may begin one, and
+-- the latter is an error (ECMA-262, ClassUnion and ClassIntersection).
+abbrev pub isolates_ampersand : Dialect → Bool
+isolates_ampersand Regress = true
+isolates_ampersand Ecma = false
+
+-- A negated class is judged by its contents: it has no string, and no property of strings as an operand. Otherwise it is
+-- judged by what is written in it (ECMA-262, MayContainStrings).
+abbrev pub judges_contents : Dialect → Bool
+judges_contents Regress = true
+judges_contents Ecma = false

@@ -9,14 +9,14 @@ pub enum Dialect {
     /// `\u{..}` is an escape under all flags.
     Regress,
     /// These rules as in ECMA-262 with Annex B: the flag v implies the flag u, no quantifier may follow `\b` and `\B`,
-    /// `\u{..}` is an escape only with the flag u, and beside a group with a name `\k` is an error in a class. The other
-    /// rules are still those of `Regress`.
+    /// `\u{..}` is an escape only with the flag u, beside a group with a name `\k` is an error in a class, and classes with
+    /// the flag v. The other rules are still those of `Regress`.
     Ecma,
 }
 
 impl Dialect {
     ghost use Rattle.std.specs.Prelude.{◌≡◌};
-    ghost use Rattle.regress_lexer.specs.Dialects.{flags_in_force, quantifies_boundaries, has_braces, reserves_k};
+    ghost use Rattle.regress_lexer.specs.Dialects.{flags_in_force, quantifies_boundaries, has_braces, reserves_k, reserves_pairs, isolates_ampersand, judges_contents};
 
     /// Returns the flags in force for a pattern with the flags `given`.
     pub fn flags_in_force(self, given: Flags) -> Flags
@@ -58,6 +58,39 @@ impl Dialect {
         match self {
             Dialect::Regress => false,
             Dialect::Ecma => true,
+        }
+    }
+
+    /// Returns whether in a class with the flag v no two of the punctuators that may not be doubled may follow each other.
+    /// Otherwise only the same one twice is an error.
+    pub fn reserves_pairs(self) -> bool
+        ensures { result ≡ reserves_pairs self }
+    {
+        match self {
+            Dialect::Regress => true,
+            Dialect::Ecma => false,
+        }
+    }
+
+    /// Returns whether in a class with the flag v a `&` after the first operand begins no range, and one after `&&` is an
+    /// operand. Otherwise the former may begin one, and the latter is an error.
+    pub fn isolates_ampersand(self) -> bool
+        ensures { result ≡ isolates_ampersand self }
+    {
+        match self {
+            Dialect::Regress => true,
+            Dialect::Ecma => false,
+        }
+    }
+
+    /// Returns whether a negated class with the flag v is judged by its contents, which must have no string, and not by
+    /// what is written in it.
+    pub fn judges_contents(self) -> bool
+        ensures { result ≡ judges_contents self }
+    {
+        match self {
+            Dialect::Regress => true,
+            Dialect::Ecma => false,
         }
     }
 }

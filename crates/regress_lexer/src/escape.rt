@@ -1,5 +1,5 @@
 //! Parses escapes of one character.
-ghost use Rattle.std.specs.Prelude.{◌≡◌, ◌≤◌, true, false, ◌∷◌, length, drop, Some, None, if◌then◌else◌, ◌&&◌, ◌+◌, nat_le, All, IfSome};
+ghost use Rattle.std.specs.Prelude.{◌≡◌, ◌≤◌, true, false, not, ◌∷◌, length, drop, Some, None, if◌then◌else◌, ◌&&◌, ◌+◌, nat_le, All, IfSome};
 ghost use Rattle.regress_lexer.specs.Escapes.{
   braced_hex_at,
   unit_at,
@@ -16,8 +16,8 @@ ghost use Rattle.regress_lexer.specs.Escapes.{
   escape_at,
   character_escape_at,
 };
-ghost use Rattle.regress_lexer.specs.Dialects.{is_lone_u};
-ghost use Rattle.regress_lexer.specs.Source.{IsCodePoint, char};
+ghost use Rattle.regress_lexer.specs.Dialects.{has_braces};
+ghost use Rattle.regress_lexer.specs.Source.{IsCodePoint, char, is_at};
 ghost use Rattle.regress_lexer.specs.Fault.{is_limit};
 ghost use Rattle.regress_lexer.specs.Digits as digits_spec;
 ghost use Rattle.regress_lexer.specs.Reads.{returned};
@@ -216,15 +216,14 @@ pub fn parse_escape<'a>(source: &'a [u32], unicode: bool) -> Read<'a, u32>
     }
 }
 
-/// Returns whether `c`, which follows a backslash, is a `u` that is a letter, since the brace after it makes no escape.
-/// `source` is what follows `c`.
-fn is_lone_u(c: u32, source: &[u32], dialect: Dialect, unicode: bool) -> bool
-    ensures { result ≡ is_lone_u dialect unicode c source.now }
+/// Returns whether `source`, which follows `\\u`, starts with a brace that makes no escape: then the `u` is a letter.
+fn begins_lone_brace(source: &[u32], dialect: Dialect, unicode: bool) -> bool
+    ensures { result ≡ (not (has_braces dialect unicode) && is_at (char "{") source.now) }
 {
-    if dialect.has_braces(unicode) {
-        return false;
+    match source {
+        [c, ..] if *c == u32::from('{') => !dialect.has_braces(unicode),
+        _ => false,
     }
-    c == u32::from('u') && source.first() == Some(&u32::from('{'))
 }
 
 /// Parses an escape as [`parse_escape`] does, in a dialect: where braces make no escape, a `u` before them is a letter.
@@ -237,7 +236,7 @@ pub fn parse_character_escape<'a>(
     ensures in_range { All IsCodePoint source.now → IfSome result (λ found. IsCodePoint found.0) }
 {
     let (c, rest) = source.split_first()?;
-    if is_lone_u(*c, rest, dialect, unicode) {
+    if *c == u32::from('u') && begins_lone_brace(rest, dialect, unicode) {
         return Some((*c, rest));
     }
     parse_escape(source, unicode)

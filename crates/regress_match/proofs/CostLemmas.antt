@@ -5,7 +5,7 @@ use Rattle.std.specs.Arc.{arc_value}
 use Rattle.std.specs.declared.alloc.AllocError.{AllocError}
 use Rattle.regress_program.specs.Cost.{Cost, IsCost}
 use Rattle.regress_program.specs.Program.{Out}
-use Rattle.regress_code.specs.Code.{code_routines, search_cost, setting_with}
+use Rattle.regress_code.specs.Code.{captures_cost, code_routines, search_cost, setting_with}
 use Rattle.regress_backtrack.specs.Backtracker.{SameRuns, run_code, run_tables, run_text}
 use Rattle.regress_backtrack.specs.declared.backtracker.Backtracker.{Backtracker}
 use Rattle.regress_unicode.specs.declared.Tables.{Tables}
@@ -43,6 +43,7 @@ new_run m text b code tables same = record {
   code = subst (λ c. IsCodeOf (matcher_setting m) (matcher_tree m) (run_tables b) c) (sym code)
       (subst (λ ts. IsCodeOf (matcher_setting m) (matcher_tree m) ts m.code) (sym tables) m.compiled);
   costs = same_costs m.code (run_code b) (arc_value m.tables) (run_tables b) text (run_text b) code tables same;
+  captures = ap captures_cost code;
   find_cost = same_cost m.code (run_code b) (arc_value m.tables) (run_tables b) text (run_text b) code tables same;
   same_text = same;
 }
@@ -60,6 +61,7 @@ runs_on m text b new is same = record {
   costs = λ outs costs are.
       same_costs (run_code b) (run_code new) (run_tables b) (run_tables new) (run_text b) (run_text new) same.code same.tables same.text outs costs
       (is.costs outs costs are);
+  captures = ap captures_cost same.code ∙ is.captures;
   find_cost = λ costs from.
       same_cost (run_code b) (run_code new) (run_tables b) (run_tables new) (run_text b) (run_text new) same.code same.tables same.text costs from
       ∙ is.find_cost costs from;

@@ -21,8 +21,8 @@ use Rattle.regress_program.specs.Linear.{is_linear, reason}
 use Rattle.regress_program.specs.Program.{IsSolution, Out, Routine}
 use Rattle.regress_program.specs.declared.fault.CompileFault.{CompileFault}
 use Rattle.regress_program.specs.Ranges.{inner_groups}
-use Rattle.regress_tables.specs.Search.{capturing_steps, steps_up_to}
-use Rattle.regress_tables.specs.TextSearch.{searched_code, searched_size, searched_tables, searched_text}
+use Rattle.regress_tables.specs.Search.{capturing_steps, steps_up_to, walk_weight}
+use Rattle.regress_tables.specs.TextSearch.{searched_code, searched_groups, searched_size, searched_tables, searched_text}
 use Rattle.regress_program.specs.Tidy.{is_tabled}
 use Rattle.regress_found.specs.declared.found.Match.{Match}
 use Rattle.regress_tables.specs.declared.found.Search.{Search}
@@ -34,7 +34,7 @@ use Rattle.regress_program.proofs.lemmas.Solutions.{finds_by, solution}
 use Rattle.regress_program.proofs.lemmas.Strict.{linear-inner, linear-tabled}
 use Rattle.regress_backtrack.specs.Backtracker.{AreOutcomes, run_code, run_tables, run_text}
 use Rattle.regress_backtrack.specs.Backtracker as runs
-use Rattle.regress_code.specs.Code.{code_flags, code_groups, code_routines, outcomes_from, setting_with}
+use Rattle.regress_code.specs.Code.{captures_cost, code_flags, code_groups, code_routines, outcomes_from, setting_with}
 use Rattle.regress_backtrack.specs.declared.backtracker.Backtracker.{Backtracker}
 use Rattle.regress_code.specs.declared.code.Code.{Code}
 use Rattle.regress_found.specs.declared.outcome.Found.{Found}
@@ -168,68 +168,73 @@ sums c fill s t s' a d b e before more sum is small =
     let all : s' ≤ fill + 2 * c * (a + d) = omega (arith, before, more, sum, twice) in
     omega (arith, all, ap (λ k. 2 * c * k) is)
 
--- the steps of one more search
-pub more_steps : (instructions : ℕ) (text : List ℕ) (from s t s' : ℕ) (at : ℕ → List MatchState) (found : Option Match) →
-    s ≤ 2 * instructions * (length text + 1) + 2 * (2 * instructions + 1) * min from (length text + 1) →
-    t ≤ steps_up_to instructions text from found → s' ≤ s + t → IsSearchResult text at from (outcome_if found) →
+-- the steps of one more search, where an instruction of its walk counts b more
+pub more_steps : (instructions b : ℕ) (text : List ℕ) (from s t s' : ℕ) (at : ℕ → List MatchState) (found : Option Match) →
+    s ≤ 2 * instructions * (length text + 1) + 2 * ((1 + b) * (2 * instructions + 1)) * min from (length text + 1) →
+    t ≤ steps_up_to instructions (1 + b) text from found → s' ≤ s + t → IsSearchResult text at from (outcome_if found) →
     IfSome found (λ m. (state_of m).position ≤ length text) →
-    s' ≤ 2 * instructions * (length text + 1) + 2 * (2 * instructions + 1) * min (offset_after text from (outcome_if found)) (length text + 1)
-more_steps instructions text from s t s' at None before more sum is inside =
-    sums (2 * instructions + 1) (2 * instructions * (length text + 1)) s t s' (min from (length text + 1)) (length text + 1 - min from (length text + 1))
-    (min (length text + 1) (length text + 1)) (length text + 1 - from) before (at_least_one (2 * instructions) (length text + 1 - from) t more) sum (omega arith) (omega arith)
+    s' ≤ 2 * instructions * (length text + 1) + 2 * ((1 + b) * (2 * instructions + 1)) * min (offset_after text from (outcome_if found)) (length text + 1)
+more_steps instructions b text from s t s' at None before more sum is inside =
+    sums ((1 + b) * (2 * instructions + 1)) (2 * instructions * (length text + 1)) s t s' (min from (length text + 1)) (length text + 1 - min from (length text + 1))
+    (min (length text + 1) (length text + 1)) (length text + 1 - from) before (at_least_one (length text + 1 - from) more) sum (omega arith) (omega arith)
   where
-    at_least_one : (k d t : ℕ) → t ≤ d → t ≤ (k + 1) * d
-    at_least_one k d t le = omega (arith, le)
-more_steps instructions text from s t s' at (Some m) before more sum is inside =
+    at_least_one : (d : ℕ) → t ≤ d → t ≤ (1 + b) * (2 * instructions + 1) * d
+    at_least_one d le =
+        let e : (1 + b) * (2 * instructions + 1) * d ≡ (2 * instructions + b * (2 * instructions + 1)) * d + d = grind arith in
+        omega (arith, e, le)
+more_steps instructions b text from s t s' at (Some m) before more sum is inside =
     let n = length text in
     let start = start_of m in
     let end = (state_of m).position in
     let low : from ≤ start = is.from in
     let high : start ≤ n = is.boundary.0 in
-    sums (2 * instructions + 1) (2 * instructions * (n + 1)) s t s' (min from (n + 1)) (max end (start + 1) - from)
+    sums ((1 + b) * (2 * instructions + 1)) (2 * instructions * (n + 1)) s t s' (min from (n + 1)) (max end (start + 1) - from)
     (min (max end (start + 1)) (n + 1)) (end + 1 - from) before more sum (omega (arith, low, high, inside)) (omega (arith, low, high, inside))
 
 -- all steps of a repeated search
-pub all_steps : (instructions n limit remaining searched from steps : ℕ) → limit ≤ 64 * (n + 1) →
-    searched ≤ 2 * instructions * (n + 1) + 2 * (2 * instructions + 1) * min from (n + 1) → steps ≤ (limit - remaining) + searched →
-    steps ≤ (64 + 2 * instructions + 2 * (2 * instructions + 1)) * (n + 1)
-all_steps instructions n limit remaining searched from steps budget kept sum =
-    let most = mul-le-mul_left (2 * (2 * instructions + 1)) (let h : min from (n + 1) ≤ n + 1 = omega arith in h) in
+pub all_steps : (instructions walks n limit remaining searched from steps : ℕ) → limit ≤ 64 * (n + 1) →
+    searched ≤ 2 * instructions * (n + 1) + 2 * walks * min from (n + 1) → steps ≤ (limit - remaining) + searched →
+    steps ≤ (64 + 2 * instructions + 2 * walks) * (n + 1)
+all_steps instructions walks n limit remaining searched from steps budget kept sum =
+    let most = mul-le-mul_left (2 * walks) (let h : min from (n + 1) ≤ n + 1 = omega arith in h) in
     omega (arith, most, budget, kept, sum)
 
--- A bound for the steps for each character is that of some number of instructions.
-factor_form : (m : Matcher) (n : ℕ) → factor_of m ≡ Some n → (i : ℕ) × (n ≡ factor i)
+-- A bound for the steps for each byte is that of some number of instructions.
+factor_form : (m : Matcher) (n : ℕ) → factor_of m ≡ Some n → (i : ℕ) × (n ≡ factor i (code_groups m.code))
 factor_form m n is = by (m.within && is_linear (code_routines m.code)) is
   where
-    by : (b : Bool) → (if b then Some (factor (total (code_routines m.code))) else None) ≡ Some n → (j : ℕ) × (n ≡ factor j)
-    by true same = (total (code_routines m.code), let h : n ≡ factor (total (code_routines m.code)) = cc in h)
+    by : (b : Bool) → (if b then Some (factor (total (code_routines m.code)) (code_groups m.code)) else None) ≡ Some n →
+        (j : ℕ) × (n ≡ factor j (code_groups m.code))
+    by true same = (total (code_routines m.code), let h : n ≡ factor (total (code_routines m.code)) (code_groups m.code) = cc in h)
     by false same = absurd (cc)
 
 -- a bound is that of a linear program
-pub bound_linear : (routines : List Routine) (within : Bool) → is_some (factor_with routines within) ≡ true →
-    (is_linear routines ≡ true) × (factor_with routines within ≡ Some (factor (total routines)))
-bound_linear routines true some = by (is_linear routines) some
+pub bound_linear : (groups : ℕ) (routines : List Routine) (within : Bool) → is_some (factor_with groups routines within) ≡ true →
+    (is_linear routines ≡ true) × (factor_with groups routines within ≡ Some (factor (total routines) groups))
+bound_linear groups routines true some = by (is_linear routines) some
   where
-    by : (b : Bool) → is_some (if b then Some (factor (total routines)) else None) ≡ true →
-        (b ≡ true) × ((if b then Some (factor (total routines)) else None) ≡ Some (factor (total routines)))
+    by : (b : Bool) → is_some (if b then Some (factor (total routines) groups) else None) ≡ true →
+        (b ≡ true) × ((if b then Some (factor (total routines) groups) else None) ≡ Some (factor (total routines) groups))
     by true is = (refl, refl)
     by false is = absurd (cc)
-bound_linear routines false some = absurd (cc)
+bound_linear groups routines false some = absurd (cc)
 
 -- Tables lead to the matches of a linear program.
-pub linear_has_tables : (tidy : Bool) (routines : List Routine) (within : Bool) → is_some (factor_with routines within) ≡ true → is_tabled tidy routines ≡ false → ⊥
-linear_has_tables tidy routines within some none = by (is_tabled tidy routines) (linear-tabled tidy routines (bound_linear routines within some).0) none
+pub linear_has_tables : (groups : ℕ) (tidy : Bool) (routines : List Routine) (within : Bool) → is_some (factor_with groups routines within) ≡ true →
+    is_tabled tidy routines ≡ false → ⊥
+linear_has_tables groups tidy routines within some none =
+    by (is_tabled tidy routines) (linear-tabled tidy routines (bound_linear groups routines within some).0) none
   where
     by : (b : Bool) → (if b then Some (inner_groups routines) else None) ≡ Some 0 → b ≡ false → ⊥
     by true is none = cc
     by false is none = cc
 
 -- There is a bound exactly if there is no reason against it.
-pub linear-unless : (routines : List Routine) (within : Bool) → is_none (nonlinear_with routines within) ≡ is_some (factor_with routines within)
-linear-unless routines within =
-    by (reason routines) within ∙ ap (λ b. is_some (if within && b then Some (factor (total routines)) else None)) (sym (linear-reason routines))
+pub linear-unless : (groups : ℕ) (routines : List Routine) (within : Bool) → is_none (nonlinear_with routines within) ≡ is_some (factor_with groups routines within)
+linear-unless groups routines within =
+    by (reason routines) within ∙ ap (λ b. is_some (if within && b then Some (factor (total routines) groups) else None)) (sym (linear-reason routines))
   where
-    by : (r : Option Reason) (w : Bool) → is_none (nonlinear_by r w) ≡ is_some (if w && is_none r then Some (factor (total routines)) else None)
+    by : (r : Option Reason) (w : Bool) → is_none (nonlinear_by r w) ≡ is_some (if w && is_none r then Some (factor (total routines) groups) else None)
     by None true = refl
     by None false = refl
     by (Some reasons.BackReference) true = refl
@@ -247,10 +252,10 @@ module _ (m : Matcher) (text : List ℕ) (limit remaining from taken : ℕ) (sea
           steps ≤ n * (length text + 1)
       in_tables n None none is small =
           let form = factor_form m n is in
-          subst (λ k. steps ≤ k * (length text + 1)) (sym form.1) (let h : steps ≤ factor form.0 * (length text + 1) = omega (arith, none, small, sum) in h)
+          subst (λ k. steps ≤ k * (length text + 1)) (sym form.1) (let h : steps ≤ factor form.0 (code_groups m.code) * (length text + 1) = omega (arith, none, small, sum) in h)
       in_tables n (Some s) k is small =
-          let same : factor (searched_size s) ≡ n = let e : Some (factor (searched_size s)) ≡ Some n = sym k.size ∙ is in cc in
-          let all = all_steps (searched_size s) (length text) limit remaining taken from steps small k.steps sum in
+          let same : factor (searched_size s) (searched_groups s) ≡ n = let e : Some (factor (searched_size s) (searched_groups s)) ≡ Some n = sym k.size ∙ is in cc in
+          let all = all_steps (searched_size s) (walk_weight (searched_groups s) * (2 * searched_size s + 1)) (length text) limit remaining taken from steps small k.steps sum in
           subst (λ k. steps ≤ k * (length text + 1)) same all
 
       by : (o : Option ℕ) → factor_of m ≡ o → IfSome o (λ _. limit ≤ 64 * (length text + 1)) → IfSome o (λ n. steps ≤ n * (length text + 1))
@@ -274,17 +279,17 @@ kept_none m text from from' taken (Some s) none kept = cc
 -- ---- one search in the tables
 
 -- Where no lookaround captures, no steps come on top.
-no_captures : (i inner d most steps : ℕ) → inner ≡ 0 → steps ≤ most + capturing_steps i inner * d → steps ≤ most
-no_captures i inner d most steps none is =
-    let small : steps ≤ most + 2 * i * 0 * d = subst (λ k. steps ≤ most + 2 * i * k * d) none is in
+no_captures : (i inner weight d most steps : ℕ) → inner ≡ 0 → steps ≤ most + capturing_steps i inner weight * d → steps ≤ most
+no_captures i inner weight d most steps none is =
+    let small : steps ≤ most + 2 * i * 0 * weight * d = subst (λ k. steps ≤ most + 2 * i * k * weight * d) none is in
     omega (arith, small)
 
 module _ (m : Matcher) (text : List ℕ) (from taken : ℕ) (s : TextSearch) (kept : IsKept m text from taken s) (search : Search)
     (solved : (outs : ℕ → Out) → IsSolution (setting_with (searched_code s) (searched_tables s)) (searched_text s) (code_routines (searched_code s)) outs →
     searches.Finds (searched_text s) (outcomes_from (searched_code s) (searched_tables s) (searched_text s) outs) from search.found)
     (inside : IfSome search.found (λ x. (state_of x).position ≤ length (searched_text s)))
-    (steps : search.steps ≤ steps_up_to (searched_size s) (searched_text s) from search.found
-    + capturing_steps (searched_size s) (inner_groups (code_routines (searched_code s))) * (length (searched_text s) + 1)) where
+    (steps : search.steps ≤ steps_up_to (searched_size s) (walk_weight (searched_groups s)) (searched_text s) from search.found
+    + capturing_steps (searched_size s) (inner_groups (code_routines (searched_code s))) (walk_weight (searched_groups s)) * (length (searched_text s) + 1)) where
   pub kept_finds : IsSearchResult text (matcher_outcomes m text) from (outcome_if search.found)
   kept_finds =
       table_finds (matcher_setting m) (matcher_tree m) (searched_tables s) (searched_code s) text from search.found kept.code
@@ -298,9 +303,9 @@ module _ (m : Matcher) (text : List ℕ) (from taken : ℕ) (s : TextSearch) (ke
   kept_inside utf8 = found_inside (matcher_setting m) text utf8 (matcher_tree m) from (outcome_if search.found) kept_finds
 
   -- in a linear program no lookaround captures
-  kept_steps : search.steps ≤ steps_up_to (searched_size s) (searched_text s) from search.found
+  kept_steps : search.steps ≤ steps_up_to (searched_size s) (walk_weight (searched_groups s)) (searched_text s) from search.found
   kept_steps =
-      no_captures (searched_size s) (inner_groups (code_routines (searched_code s))) (length (searched_text s) + 1) _ search.steps
+      no_captures (searched_size s) (inner_groups (code_routines (searched_code s))) (walk_weight (searched_groups s)) (length (searched_text s) + 1) _ search.steps
       (linear-inner (code_routines (searched_code s)) kept.linear) steps
 
   pub kept_more : (from' taken' : ℕ) → taken' ≤ taken + search.steps → from' ≡ offset_after text from (outcome_if search.found) → IsKept m text from' taken' s
@@ -308,11 +313,12 @@ module _ (m : Matcher) (text : List ℕ) (from taken : ℕ) (s : TextSearch) (ke
     code = kept.code;
     linear = kept.linear;
     size = kept.size;
+    captures = kept.captures;
     same_text = kept.same_text;
-    steps = subst (λ k. taken' ≤ 2 * searched_size s * (length text + 1) + 2 * (2 * searched_size s + 1) * min k (length text + 1))
+    steps = subst (λ k. taken' ≤ 2 * searched_size s * (length text + 1) + 2 * (walk_weight (searched_groups s) * (2 * searched_size s + 1)) * min k (length text + 1))
         (sym is)
-        (more_steps (searched_size s) text from taken search.steps taken' (matcher_outcomes m text) search.found kept.steps
-        (subst (λ t. search.steps ≤ steps_up_to (searched_size s) t from search.found) kept.same_text kept_steps) sum kept_finds
+        (more_steps (searched_size s) (captures_cost (searched_code s)) text from taken search.steps taken' (matcher_outcomes m text) search.found kept.steps
+        (subst (λ t. search.steps ≤ steps_up_to (searched_size s) (walk_weight (searched_groups s)) t from search.found) kept.same_text kept_steps) sum kept_finds
         (subst (λ t. IfSome search.found (λ x. (state_of x).position ≤ length t)) kept.same_text inside));
   }
 
@@ -338,11 +344,12 @@ pub tables_kept : (m : Matcher) (text : List ℕ) (from steps : ℕ) (s : TextSe
     IsCodeOf (matcher_setting m) (matcher_tree m) (arc_value m.tables) m.code → searched_code s ≡ m.code → searched_tables s ≡ arc_value m.tables →
     searched_text s ≡ text → steps ≤ 2 * searched_size s * (length (searched_text s) + 1) → IsKept m text from steps s
 tables_kept m text from steps s is_fast compiled code tables same_text counted =
-    let bound = bound_linear (code_routines m.code) m.within is_fast in
+    let bound = bound_linear (code_groups m.code) (code_routines m.code) m.within is_fast in
     record {
       code = code_of m (searched_tables s) (searched_code s) tables code compiled;
       linear = subst (λ (c : Code). is_linear (code_routines c) ≡ true) (sym code) bound.0;
-      size = bound.1 ∙ ap (λ (c : Code). Some (factor (total (code_routines c)))) (sym code);
+      size = bound.1 ∙ ap (λ (c : Code). Some (factor (total (code_routines c)) (code_groups c))) (sym code);
+      captures = ap captures_cost code;
       same_text = same_text;
       steps = let same = ap length same_text in
           let all : steps ≤ 2 * searched_size s * (length text + 1) =

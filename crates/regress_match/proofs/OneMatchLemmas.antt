@@ -7,11 +7,11 @@ use Rattle.regress_program.specs.Compiled.{total}
 use Rattle.regress_found.specs.Found as searches
 use Rattle.regress_program.specs.Program.{IsSolution, Out, Routine}
 use Rattle.regress_program.specs.Ranges.{inner_groups}
-use Rattle.regress_tables.specs.Search.{capturing_steps, per_character}
+use Rattle.regress_tables.specs.Search.{capturing_steps, per_byte, walk_weight}
 use Rattle.regress_program.specs.Tidy.{is_tabled}
 use Rattle.regress_found.specs.declared.found.Match.{Match}
 use Rattle.regress_program.proofs.lemmas.Strict.{linear-tabled}
-use Rattle.regress_code.specs.Code.{code_routines, outcomes_from, setting_with}
+use Rattle.regress_code.specs.Code.{code_groups, code_routines, outcomes_from, setting_with}
 use Rattle.regress_code.specs.declared.code.Code.{Code}
 use Rattle.regress_match.specs.Compiled.{IsCodeOf}
 use Rattle.regress_found.specs.Results.{IsSearchResult, IfOutOfSteps}
@@ -23,14 +23,17 @@ use Rattle.regress_match.proofs.MatcherLemmas.{bound_linear, code_of, table_find
 -- ---- which searches take linear time
 
 -- Where searches for all matches take linear time the bounds are the same.
-pub same_bound : (tidy : Bool) (routines : List Routine) (within : Bool) → is_some (factor_with routines within) ≡ true →
-    find_factor_with tidy routines within ≡ factor_with routines within
-same_bound tidy routines true some =
-    let linear = bound_linear routines true some in
-    ap (option_map (find_factor (total routines))) (linear-tabled tidy routines linear.0)
-    ∙ ap (λ n. Some n) (let h : find_factor (total routines) 0 ≡ factor (total routines) = omega arith in h)
+pub same_bound : (groups : ℕ) (tidy : Bool) (routines : List Routine) (within : Bool) → is_some (factor_with groups routines within) ≡ true →
+    find_factor_with groups tidy routines within ≡ factor_with groups routines within
+same_bound groups tidy routines true some =
+    let linear = bound_linear groups routines true some in
+    ap (option_map (find_factor (total routines) groups)) (linear-tabled tidy routines linear.0)
+    ∙ ap (λ n. Some n) (none_inside (total routines) groups)
     ∙ sym linear.1
-same_bound tidy routines false some = refl
+  where
+    none_inside : (i n : ℕ) → find_factor i n 0 ≡ factor i n
+    none_inside i n = omega arith
+same_bound groups tidy routines false some = refl
 
 -- Where no search takes linear time for one match alone, the bounds are the same.
 pub same_bounds : (all one : Option ℕ) → (is_some all ≡ true → one ≡ all) → (is_some one && not (is_some all)) ≡ false → one ≡ all
@@ -40,26 +43,31 @@ same_bounds (Some n) one same is = same refl
 
 -- ---- the steps of a search for one match
 
-with_backtracking : (i c d steps : ℕ) → steps ≤ (4 * i + 1 + c) * d → steps + 64 * d ≤ (64 + 2 * i + 2 * (2 * i + 1) + c) * d
-with_backtracking i c d steps few = omega (arith, few)
+with_backtracking : (i walks c d steps : ℕ) → steps ≤ (2 * i + walks + c) * d → steps + 64 * d ≤ (64 + 2 * i + 2 * walks + c) * d
+with_backtracking i walks c d steps few = omega (arith, few)
 
 never_ends_early : (found : Option Match) → IfOutOfSteps (outcome_if found) ⊥
 never_ends_early None = tt
 never_ends_early (Some m) = tt
 
 -- A search by tables leaves the steps of backtracking.
-pub searched_bounded : (tidy : Bool) (routines : List Routine) (within : Bool) (c : Code) (text : List ℕ) (found : Option Match) (steps : ℕ) →
-    code_routines c ≡ routines → steps ≤ per_character c * (length text + 1) →
-    IfSome (find_factor_with tidy routines within) (λ n. (steps + 64 * (length text + 1) ≤ n * (length text + 1)) × IfOutOfSteps (outcome_if found) ⊥)
-searched_bounded tidy routines false c text found steps same few = tt
-searched_bounded tidy routines true c text found steps same few = by (is_tabled tidy routines)
+pub searched_bounded : (groups : ℕ) (tidy : Bool) (routines : List Routine) (within : Bool) (c : Code) (text : List ℕ) (found : Option Match) (steps : ℕ) →
+    code_routines c ≡ routines → code_groups c ≡ groups → steps ≤ per_byte c * (length text + 1) →
+    IfSome (find_factor_with groups tidy routines within) (λ n. (steps + 64 * (length text + 1) ≤ n * (length text + 1)) × IfOutOfSteps (outcome_if found) ⊥)
+searched_bounded groups tidy routines false c text found steps same counted few = tt
+searched_bounded groups tidy routines true c text found steps same counted few = by (is_tabled tidy routines)
   where
-    by : (b : Bool) → IfSome (option_map (find_factor (total routines)) (if b then Some (inner_groups routines) else None))
+    per : (weight i inner : ℕ) → ℕ
+    per weight i inner = 2 * i + weight * (2 * i + 1) + capturing_steps i inner weight
+
+    by : (b : Bool) → IfSome (option_map (find_factor (total routines) groups) (if b then Some (inner_groups routines) else None))
         (λ n. (steps + 64 * (length text + 1) ≤ n * (length text + 1)) × IfOutOfSteps (outcome_if found) ⊥)
     by false = tt
     by true = (
-      with_backtracking (total routines) (capturing_steps (total routines) (inner_groups routines)) (length text + 1) steps
-          (subst (λ rs. steps ≤ (4 * total rs + 1 + capturing_steps (total rs) (inner_groups rs)) * (length text + 1)) same few),
+      with_backtracking (total routines) (walk_weight groups * (2 * total routines + 1)) (capturing_steps (total routines) (inner_groups routines) (walk_weight groups))
+          (length text + 1) steps
+          (subst (λ n. steps ≤ per (walk_weight n) (total routines) (inner_groups routines) * (length text + 1)) counted
+          (subst (λ rs. steps ≤ per (walk_weight (code_groups c)) (total rs) (inner_groups rs) * (length text + 1)) same few)),
       never_ends_early found,
     )
 

@@ -1,14 +1,17 @@
 -- The steps that a repeated search spends.
-use Rattle.std.proofs.Common.{◌≡◌, ℕ, ◌+◌, ◌-◌, ◌^◌, ◌≤◌, List, Option, Some, None, arith, min}
-use Rattle.std.specs.Prelude.{IsNone}
+use Rattle.std.proofs.Common.{◌≡◌, ℕ, ◌+◌, ◌-◌, ◌^◌, ◌≤◌, List, Option, Some, None, ap, arith, min}
+use Rattle.std.specs.Prelude.{IfSome, IsNone}
+use Rattle.regress_code.specs.Code.{captures_cost}
 use Rattle.regress_found.specs.Tried.{positions_tried}
 use Rattle.regress_found.specs.Results.{IfMatched}
 use Rattle.regress_found.specs.declared.found.Match.{Match}
 use Rattle.regress_found.specs.declared.outcome.Outcome.{Outcome}
 use Rattle.regress_found.specs.declared.outcome.Outcome.TheVariants as outcomes
+use Rattle.regress_tables.specs.TextSearch.{searched_code, searched_text}
 use Rattle.regress_tables.specs.declared.text.TextSearch.{TextSearch}
-use Rattle.regress_match.specs.Iterated.{HasCounted, IsSameIteration, Spends, iterated_from, iterated_text, steps_remaining}
-use Rattle.regress_match.specs.Kept.{IfKept}
+use Rattle.regress_match.specs.Iterated.{HasCounted, IsSameIteration, Spends, iterated_from, iterated_matcher, iterated_text, steps_remaining}
+use Rattle.regress_match.specs.Kept.{IfKept, IsKept}
+use Rattle.regress_match.specs.Matcher.{outcome_if}
 use Rattle.regress_match.specs.declared.matcher.Matcher.{Matcher}
 use Rattle.regress_match.specs.declared.matcher_matches.MatcherMatches.{MatcherMatches}
 
@@ -50,17 +53,19 @@ counted_both limit remaining old new tried most within more = omega (arith, with
 -- a search that first looks for a byte that each match contains, and then backtracks
 pub runs_counted : (old mid new : MatcherMatches) (m : Match) → old.remaining ≤ old.limit → IsSameIteration old mid → IsSameIteration mid new →
     iterated_from mid ≡ iterated_from old → Spends old mid → mid.searched ≡ old.searched → new.searched ≡ mid.searched →
-    steps_remaining new ≤ steps_remaining mid - positions_tried (iterated_text mid) (iterated_from mid) (Some m) → HasCounted old new m
+    steps_remaining new ≤ steps_remaining mid - (captures_cost (iterated_matcher mid).code + positions_tried (iterated_text mid) (iterated_from mid) (Some m)) → HasCounted old new m
 runs_counted old mid new m within same same' stays looked searched searched' ran =
-    let tried = positions_tried (iterated_text old) (iterated_from old) (Some m) in
-    let sum = counted_runs old.limit old.remaining mid.remaining new.remaining old.searched tried (2 ^ 64 - 1) within looked.remaining (omega (arith, ran, stays)) in
+    let tried = captures_cost (iterated_matcher old).code + positions_tried (iterated_text old) (iterated_from old) (Some m) in
+    let groups : captures_cost (iterated_matcher mid).code ≡ captures_cost (iterated_matcher old).code = ap (λ (k : Matcher). captures_cost k.code) same.matcher in
+    let sum = counted_runs old.limit old.remaining mid.remaining new.remaining old.searched tried (2 ^ 64 - 1) within looked.remaining (omega (arith, ran, stays, groups)) in
     omega (arith, sum, same.limit, same'.limit, searched, searched')
 
 -- one in tables
 pub tables_counted : (old new : MatcherMatches) (m : Match) → IsSameIteration old new → new.remaining ≡ old.remaining →
-    min (old.searched + positions_tried (iterated_text old) (iterated_from old) (Some m)) (2 ^ 64 - 1) ≤ new.searched → HasCounted old new m
+    min (old.searched + (captures_cost (iterated_matcher old).code + positions_tried (iterated_text old) (iterated_from old) (Some m))) (2 ^ 64 - 1) ≤ new.searched →
+    HasCounted old new m
 tables_counted old new m same remaining ran =
-    let tried = positions_tried (iterated_text old) (iterated_from old) (Some m) in
+    let tried = captures_cost (iterated_matcher old).code + positions_tried (iterated_text old) (iterated_from old) (Some m) in
     let sum = counted_tables old.limit old.remaining old.searched new.searched tried (2 ^ 64 - 1) ran in
     omega (arith, sum, same.limit, remaining)
 
@@ -68,6 +73,13 @@ tables_counted old new m same remaining ran =
 pub both_counted : (old new : MatcherMatches) (m : Match) → old.remaining ≤ old.limit → new.limit ≡ old.limit → new.remaining ≡ 0 →
     old.searched ≤ new.searched → HasCounted old new m
 both_counted old new m within same none more =
-    let tried = positions_tried (iterated_text old) (iterated_from old) (Some m) in
+    let tried = captures_cost (iterated_matcher old).code + positions_tried (iterated_text old) (iterated_from old) (Some m) in
     let sum = counted_both old.limit old.remaining old.searched new.searched tried (2 ^ 64 - 1) within more in
     omega (arith, sum, same, none)
+
+-- What a search in tables counts.
+pub tables_tried : (m : Matcher) (text : List ℕ) (from taken : ℕ) (s : TextSearch) → IsKept m text from taken s → (found : Option Match) (steps before after : ℕ) →
+    IfSome found (λ x. captures_cost (searched_code s) + positions_tried (searched_text s) from (Some x) ≤ steps) → after ≡ min (before + steps) (2 ^ 64 - 1) →
+    IfMatched (outcome_if found) (λ x. min (before + (captures_cost m.code + positions_tried text from (Some x))) (2 ^ 64 - 1) ≤ after)
+tables_tried m text from taken s kept None steps before after charged is = tt
+tables_tried m text from taken s kept (Some x) steps before after charged is = omega (arith, charged, is, kept.captures)

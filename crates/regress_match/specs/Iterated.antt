@@ -1,5 +1,6 @@
 -- Repeated searches with a matcher.
 use Rattle.std.specs.Prelude.{◌≡◌, ℕ, ◌+◌, ◌-◌, ◌^◌, ◌≤◌, List, Some, min}
+use Rattle.regress_code.specs.Code.{captures_cost}
 use Rattle.regress_found.specs.Tried.{positions_tried}
 use Rattle.regress_found.specs.declared.found.Match.{Match}
 use Rattle.regress_tree.specs.Steps.{MatchState}
@@ -45,7 +46,9 @@ pub record Spends (old new : MatcherMatches) : Type 0 where
   pub remaining : steps_remaining new ≤ steps_remaining old
   pub taken : steps_taken old ≤ steps_taken new
 
--- The search for a match has counted a step for each position up to it, or all that remained. It counts up to 2^64 - 1.
+-- The search for a match has counted a step for each position up to it, and one for each 64 groups, or all that remained. It
+-- counts up to 2^64 - 1.
 abbrev pub HasCounted : (old new : MatcherMatches) → Match → Type 0
 HasCounted old new m =
-    min (steps_taken old + min (steps_remaining old) (positions_tried (iterated_text old) (iterated_from old) (Some m))) (2 ^ 64 - 1) ≤ steps_taken new
+    min (steps_taken old + min (steps_remaining old) (captures_cost (iterated_matcher old).code + positions_tried (iterated_text old) (iterated_from old) (Some m))) (2 ^ 64 - 1)
+    ≤ steps_taken new

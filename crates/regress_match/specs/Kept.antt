@@ -2,8 +2,9 @@
 use Rattle.std.specs.Prelude.{◌≡◌, ℕ, ◌+◌, ◌*◌, ◌≤◌, true, List, length, min, Option, Some, MatchOption, IfSome}
 use Rattle.std.proofs.Props.{props}
 use Rattle.regress_program.specs.Linear.{is_linear}
-use Rattle.regress_code.specs.Code.{code_routines}
-use Rattle.regress_tables.specs.TextSearch.{searched_code, searched_size, searched_tables, searched_text}
+use Rattle.regress_code.specs.Code.{captures_cost, code_routines}
+use Rattle.regress_tables.specs.Search.{walk_weight}
+use Rattle.regress_tables.specs.TextSearch.{searched_code, searched_groups, searched_size, searched_tables, searched_text}
 use Rattle.regress_tables.specs.declared.text.TextSearch.{TextSearch}
 use Rattle.regress_program.specs.Cost.{Cost}
 use Rattle.regress_program.specs.Program.{Out}
@@ -20,18 +21,20 @@ use Rattle.regress_match.specs.declared.matcher.Matcher.{Matcher}
 pub record IsRunOf (m : Matcher) (text : List ℕ) (b : Backtracker) : Type 0 where
   pub code : IsCodeOf (matcher_setting m) (matcher_tree m) (run_tables b) (run_code b)
   pub costs : (outs : ℕ → Out) (costs : ℕ → Cost) → AreCosts m text outs costs → runs.AreCosts b outs costs
+  pub captures : captures_cost (run_code b) ≡ captures_cost m.code
   pub find_cost : (costs : ℕ → Cost) (from : ℕ) → search_cost_at b costs from ≡ find_cost m text costs from
   pub same_text : run_text b ≡ text
 
 -- The tables are those of a linear program of the matcher's pattern and of the text. The steps are those of making them, and of
--- searches in them, each of which took at most one walk for each character that it has passed.
+-- searches in them, each of which took at most one walk for each byte that it has passed.
 pub record IsKept (m : Matcher) (text : List ℕ) (from taken : ℕ) (s : TextSearch) : Type 0 where
   pub code : IsCodeOf (matcher_setting m) (matcher_tree m) (searched_tables s) (searched_code s)
   pub linear : is_linear (code_routines (searched_code s)) ≡ true
-  pub size : factor_of m ≡ Some (factor (searched_size s))
+  pub size : factor_of m ≡ Some (factor (searched_size s) (searched_groups s))
+  pub captures : captures_cost (searched_code s) ≡ captures_cost m.code
   pub same_text : searched_text s ≡ text
   pub steps : taken ≤ 2 * searched_size s * (length text + 1)
-      + 2 * (2 * searched_size s + 1) * min from (length text + 1)
+      + 2 * (walk_weight (searched_groups s) * (2 * searched_size s + 1)) * min from (length text + 1)
 
 -- the same, or no step was taken before there are tables
 abbrev pub IfKept : (m : Matcher) (text : List ℕ) (from steps : ℕ) → Option TextSearch → Type 0

@@ -1,17 +1,17 @@
 -- The costs of searches with a matcher.
 use Rattle.std.specs.Prelude.{◌≡◌, if◌then◌else◌, ℕ, ◌+◌, ◌*◌, ◌≤◌, Bool, true, not, ◌&&◌, is_some, nat_le, List, length, Option, Some, None, option_map}
 use Rattle.regress_tree.specs.Tree.{Tree}
-use Rattle.regress_tree.specs.WellFormed.{IsWellFormed}
+use Rattle.regress_tree.specs.WellFormed.{IsWellFormed, captures}
 use Rattle.regress_program.specs.Compiled.{IsPattern, total}
 use Rattle.regress_program.specs.Linear.{has_back_reference, is_linear, is_linear_tree, reason, reason_of}
 use Rattle.regress_program.specs.Program.{Routine}
-use Rattle.regress_tables.specs.Search.{capturing_steps}
+use Rattle.regress_tables.specs.Search.{capturing_steps, walk_weight}
 use Rattle.regress_program.specs.Size.{program_size}
 use Rattle.regress_program.specs.Tidy.{has_no_back_reference, table_groups}
 use Rattle.regress_found.specs.declared.found.Match.{Match}
 use Rattle.regress_program.specs.declared.nonlinear.Nonlinear.{Nonlinear as Reason}
 use Rattle.regress_program.specs.declared.nonlinear.Nonlinear.TheVariants as reasons
-use Rattle.regress_code.specs.Code.{code_routines, code_tidy}
+use Rattle.regress_code.specs.Code.{code_groups, code_routines, code_tidy}
 use Rattle.regress_found.specs.declared.outcome.Outcome.{Outcome}
 use Rattle.regress_found.specs.declared.outcome.Outcome.TheVariants as outcomes
 use Rattle.regress_found.specs.Results.{IfOutOfSteps}
@@ -19,29 +19,30 @@ use Rattle.regress_match.specs.declared.matcher.Matcher.{Matcher}
 use Rattle.regress_match.specs.declared.nonlinear.Nonlinear.{Nonlinear}
 use Rattle.regress_match.specs.declared.nonlinear.Nonlinear.TheVariants.{BackReference, CapturingLookaround, TooManyInstructions}
 
--- An upper bound for the steps for each character, and once more for the end of the text: those of backtracking until
--- the tables are made, of making them, and of all searches in them.
-abbrev pub factor : (instructions : ℕ) → ℕ
-factor instructions = 64 + 2 * instructions + 2 * (2 * instructions + 1)
+-- An upper bound for the steps for each byte, and once more for the end of the text: those of backtracking until the tables
+-- are made, of making them, and of all searches in them, whose walks count more with more groups.
+abbrev pub factor : (instructions groups : ℕ) → ℕ
+factor instructions groups = 64 + 2 * instructions + 2 * (walk_weight groups * (2 * instructions + 1))
 
 -- the bound for a program that is searched in linear time if it is linear and within the limit on tables; else none
-abbrev pub factor_with : List Routine → (within : Bool) → Option ℕ
-factor_with routines within = if within && is_linear routines then Some (factor (total routines)) else None
+abbrev pub factor_with : (groups : ℕ) → List Routine → (within : Bool) → Option ℕ
+factor_with groups routines within = if within && is_linear routines then Some (factor (total routines) groups) else None
 
 -- An upper bound for those of a search for one match, where lookarounds may set `inner` groups: those that find what they
 -- have captured come on top.
-abbrev pub find_factor : (instructions inner : ℕ) → ℕ
-find_factor instructions inner = factor instructions + capturing_steps instructions inner
+abbrev pub find_factor : (instructions groups inner : ℕ) → ℕ
+find_factor instructions groups inner = factor instructions groups + capturing_steps instructions inner (walk_weight groups)
 
 -- the bound for a program that is searched for one match in linear time: if tables lead to its matches, and it is within
 -- the limit on tables; else none
-abbrev pub find_factor_with : (tidy : Bool) → List Routine → (within : Bool) → Option ℕ
-find_factor_with tidy routines within = if within then option_map (find_factor (total routines)) (table_groups tidy routines) else None
+abbrev pub find_factor_with : (groups : ℕ) (tidy : Bool) → List Routine → (within : Bool) → Option ℕ
+find_factor_with groups tidy routines within =
+    if within then option_map (find_factor (total routines) groups) (table_groups tidy routines) else None
 
 -- The bound is that of a program of the tree. Searches for all matches take linear time exactly if the tree is linear and
 -- the program within the limit; else there is none.
 abbrev pub IsFactorOf : (limit : ℕ) → Tree → Option ℕ → Type 0
-IsFactorOf limit t bound = bound ≡ (if nat_le (program_size t) limit && is_linear_tree t then Some (factor (program_size t)) else None)
+IsFactorOf limit t bound = bound ≡ (if nat_le (program_size t) limit && is_linear_tree t then Some (factor (program_size t) (length (captures t))) else None)
 
 -- A search for one match in a program of a well-formed tree takes linear time: the tree has no back reference, and the
 -- program is within the limit.
@@ -59,7 +60,7 @@ pub record IsFindFactorOf (limit : ℕ) (t : Tree) (bound : Option ℕ) : Type 0
   pub plain : has_no_back_reference routines ≡ not (has_back_reference t)
   pub tidy : Bool
   pub tidy_if : IsWellFormed t → tidy ≡ true
-  pub is : bound ≡ find_factor_with tidy routines (nat_le (total routines) limit)
+  pub is : bound ≡ find_factor_with (length (captures t)) tidy routines (nat_le (total routines) limit)
   pub exactly : IsWellFormed t → is_some bound ≡ is_find_linear_tree limit t
 
 -- why a program is not searched in linear time: by its instructions, or else because it is not within the limit on tables;
@@ -78,17 +79,17 @@ IsNonlinearOf limit t why = why ≡ nonlinear_by (reason_of t) (nat_le (program_
 
 -- that of a matcher; none if its searches for all matches are not known to take linear time
 abbrev pub factor_of : Matcher → Option ℕ
-factor_of m = factor_with (code_routines m.code) m.within
+factor_of m = factor_with (code_groups m.code) (code_routines m.code) m.within
 
 -- the same for a search for one match
 abbrev pub find_factor_of : Matcher → Option ℕ
-find_factor_of m = find_factor_with (code_tidy m.code) (code_routines m.code) m.within
+find_factor_of m = find_factor_with (code_groups m.code) (code_tidy m.code) (code_routines m.code) m.within
 
 -- why its searches are not known to take linear time
 abbrev pub nonlinear_of : Matcher → Option Nonlinear
 nonlinear_of m = nonlinear_with (code_routines m.code) m.within
 
--- A search in linear time is never out of steps, and takes at most this number of steps for each character.
+-- A search in linear time is never out of steps, and takes at most this number of steps for each byte, and once more.
 abbrev pub IsLinear : (factor : ℕ) (text : List ℕ) → Outcome → (steps : ℕ) → Type 0
 IsLinear factor text outcome steps = (steps ≤ factor * (length text + 1)) × IfOutOfSteps outcome ⊥
 

@@ -10,7 +10,8 @@ ghost use Rattle.regress_program.specs.Linear.{has_back_reference, is_linear, is
 ghost use Rattle.regress_program.specs.Size.{program_size};
 ghost use Rattle.regress_program.specs.Tidy.{has_no_back_reference};
 ghost use Rattle.regress_program.specs.declared.fault.CompileFault.TheVariants.{TooLong};
-ghost use Rattle.regress_code.specs.Code.{code_routines, code_tidy};
+ghost use Rattle.regress_tables.specs.Search.{walk_weight};
+ghost use Rattle.regress_code.specs.Code.{code_groups, code_routines, code_tidy};
 ghost use Rattle.regress_match.specs.Compiled.{IsCodeOf};
 ghost use Rattle.regress_match.specs.Costs.{HasCosts};
 ghost use Rattle.regress_match.specs.Matcher.{IsFactorOf, IsFindFactorOf, IsNonlinearOf, factor, factor_of, find_factor, find_factor_of, nonlinear_of};
@@ -22,6 +23,7 @@ use regress_code::Code;
 use regress_leaves::case_facts::CaseFacts;
 use regress_prefilter::required_byte;
 use regress_program::CompileFault;
+use regress_program::blocks::blocks;
 use regress_tree::ir::Regex;
 use regress_unicode::Tables;
 use std::alloc::Global;
@@ -95,7 +97,7 @@ impl Matcher {
 
     /// Returns an upper bound for the steps of a search for all matches for each byte of a text, counting its end as one
     /// more; at most `u64::MAX`. The result is `None` if such searches are not known to take linear time.
-    pub fn steps_per_character(&self) -> Option<u64>
+    pub fn steps_per_byte(&self) -> Option<u64>
         ensures { result ≡ option_map (λ n. min n u64.MAX) (factor_of self.now) }
     {
         if self.is_linear() {
@@ -106,7 +108,7 @@ impl Matcher {
     }
 
     /// Returns the same for a search for one match.
-    pub fn find_steps_per_character(&self) -> Option<u64>
+    pub fn find_steps_per_byte(&self) -> Option<u64>
         ensures { result ≡ option_map (λ n. min n u64.MAX) (find_factor_of self.now) }
     {
         if !self.within {
@@ -127,6 +129,7 @@ fn compiled(alloc: Global, regex: &Regex, limit: usize) -> Result<Code, CompileF
     ensures plain { IfOk result (λ code. has_no_back_reference (code_routines code) ≡ not (has_back_reference (tree regex.now.node))) }
     ensures tidy { IfOk result (λ code. IsWellFormed (tree regex.now.node) → code_tidy code ≡ true) }
     ensures size { IfOk result (λ code. total (code_routines code) ≡ program_size (tree regex.now.node)) }
+    ensures groups { IfOk result (λ code. code_groups code ≡ length (captures (tree regex.now.node))) }
     ensures within { IfOk result (λ code. total (code_routines code) ≤ limit) }
     ensures too_long { result ≡ Err TooLong → length (captures (tree regex.now.node)) < usize.MAX → limit < program_size (tree regex.now.node) }
 {
@@ -138,22 +141,31 @@ fn compiled(alloc: Global, regex: &Regex, limit: usize) -> Result<Code, CompileF
     Ok(code)
 }
 
-/// Returns an upper bound for the steps for each character, at most `u64::MAX`: those of backtracking, of making the
-/// tables, and of searching in them.
+/// Returns an upper bound for the steps for each byte, at most `u64::MAX`: those of backtracking, of making the tables, and
+/// of searching in them.
 fn factor(code: &Code) -> u64
-    ensures { result ≡ min (factor (total (code_routines code.now))) u64.MAX }
+    ensures { result ≡ min (factor (total (code_routines code.now)) (code_groups code.now)) u64.MAX }
 {
-    (code.instructions() as u64)
-        .saturating_mul(6)
-        .saturating_add(66)
+    let bits = (code.instructions() as u64).saturating_mul(2);
+    let walks = weight_of(code).saturating_mul(bits.saturating_add(1));
+    bits.saturating_add(64)
+        .saturating_add(walks.saturating_mul(2))
+}
+
+/// Returns the steps that an instruction of a walk counts.
+fn weight_of(code: &Code) -> u64
+    ensures { result ≡ min (walk_weight (code_groups code.now)) u64.MAX }
+{
+    blocks(code.groups()).saturating_add(1)
 }
 
 /// Returns the same for a search for one match, where lookarounds may set `inner` groups.
 fn find_factor(code: &Code, inner: usize) -> u64
-    ensures { result ≡ min (find_factor (total (code_routines code.now)) inner) u64.MAX }
+    ensures { result ≡ min (find_factor (total (code_routines code.now)) (code_groups code.now) inner) u64.MAX }
 {
     let capturing = (code.instructions() as u64)
         .saturating_mul(2)
-        .saturating_mul(inner as u64);
+        .saturating_mul(inner as u64)
+        .saturating_mul(weight_of(code));
     factor(code).saturating_add(capturing)
 }

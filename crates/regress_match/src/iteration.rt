@@ -3,6 +3,7 @@ ghost use Rattle.std.specs.Prelude.{◌≡◌, ◌<◌, ◌≤◌, ◌+◌, ◌-
 ghost use Rattle.regress_tree.specs.WellFormed.{IsWellFormed};
 ghost use Rattle.regress_program.specs.Cost.{Cost};
 ghost use Rattle.regress_program.specs.Program.{Out};
+ghost use Rattle.regress_code.specs.Code.{captures_cost};
 ghost use Rattle.regress_match.specs.Costs.{AreCosts, IsWithinFindCost, find_cost};
 ghost use Rattle.regress_match.specs.Iterated.{HasCounted, IsSameIteration, Spends, iterated_from, iterated_matcher, iterated_text, step_limit, steps_remaining, steps_taken};
 ghost use Rattle.regress_match.specs.Kept.{IsRunOf};
@@ -33,10 +34,11 @@ impl<'m> MatcherMatches<'m> {
     /// as it is. The spans of a match are as [`Matcher::find`] states.
     ///
     /// # Complexity
-    /// If [`Matcher::is_linear`], all calls together take at most [`Matcher::steps_per_character`] steps for each byte of
+    /// If [`Matcher::is_linear`], all calls together take at most [`Matcher::steps_per_byte`] steps for each byte of
     /// the text, and once more. For any other pattern the step limit is for all calls together, and a call takes at most
     /// the cost of its search, and one step for each byte of the text and once more. Steps are only spent, also by a call that
-    /// returns an error; a match takes at least one for each byte offset up to its start, or all that remain.
+    /// returns an error; a match takes at least one for each byte offset up to its start and one for each 64 groups, or all
+    /// that remain.
     ///
     /// # Errors
     /// Returns [`AllocError`] if an allocation fails. The position of the search stays as it is, so that the call may
@@ -151,7 +153,8 @@ impl<'m> MatcherMatches<'m> {
         ensures spent { Spends self.old self.new }
         ensures searched { self.new.searched ≡ self.old.searched }
         ensures tried { IfOk result (λ outcome. IfMatched outcome (λ m.
-            steps_remaining self.new ≤ steps_remaining self.old - positions_tried (iterated_text self.old) (iterated_from self.old) (Some m))) }
+            steps_remaining self.new ≤ steps_remaining self.old
+            - (captures_cost (iterated_matcher self.old).code + positions_tried (iterated_text self.old) (iterated_from self.old) (Some m)))) }
     {
         let text = self.text();
         let kept = self.backtracker.take();
@@ -196,7 +199,8 @@ impl<'m> MatcherMatches<'m> {
         ensures made { IfOk result (λ outcome. IsSome self.old.search → IfOutOfSteps outcome ⊥) }
         ensures spent { Spends self.old self.new }
         ensures tried { IfOk result (λ outcome. IfMatched outcome (λ m.
-            min (self.old.searched + positions_tried (iterated_text self.old) (iterated_from self.old) (Some m)) u64.MAX ≤ self.new.searched)) }
+            min (self.old.searched
+            + (captures_cost (iterated_matcher self.old).code + positions_tried (iterated_text self.old) (iterated_from self.old) (Some m))) u64.MAX ≤ self.new.searched)) }
     {
         let text = self.text();
         let Some(search) = &self.search else {

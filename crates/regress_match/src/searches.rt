@@ -29,7 +29,7 @@ impl Matcher {
     ///
     /// # Complexity
     /// If [`Matcher::is_find_linear`], the result is never [`Outcome::OutOfSteps`], and the steps are at most
-    /// [`Matcher::find_steps_per_character`] for each byte of the text, and once more. The search first backtracks within
+    /// [`Matcher::find_steps_per_byte`] for each byte of the text, and once more. The search first backtracks within
     /// some steps for each byte; once they are used up it makes tables, whose memory is proportional to the number of
     /// instructions and the length of the text.
     ///

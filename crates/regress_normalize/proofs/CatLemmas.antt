@@ -3,6 +3,7 @@ use Rattle.std.proofs.Common.{◌≡◌, Bool, true, false, if◌then◌else◌,
 use Rattle.std.specs.Prelude.{OnOk, MatchBool, Result, Ok, Err}
 use Rattle.std.specs.List.Retain.{DedupsFrom, IsDeduped}
 use Rattle.regress_tree.specs.declared.ir.node.Node.{Node}
+use Rattle.regress_tree.specs.Matching.{in_direction}
 use Rattle.regress_tree.specs.NodeTests.{is_empty}
 use Rattle.regress_tree.specs.Reading.{Direction}
 use Rattle.regress_tree.specs.Shapes.{first_in_list, some_part, has_bytes, has_neighbours}
@@ -11,22 +12,22 @@ use Rattle.regress_tree.proofs.lemmas.Lists.{append_trees-assoc}
 use Rattle.regress_rewrite.specs.Taken.{list_without}
 use Rattle.regress_rewrite.proofs.lemmas.Joining.{is_written}
 use Rattle.regress_rewrite.proofs.lemmas.Segments.{is_empty-leaf}
-use Rattle.regress_normalize.specs.Packed.{in_text_order, Packs, TakesBytes}
+use Rattle.regress_normalize.specs.Packed.{Packs, TakesBytes}
 use Rattle.regress_normalize.proofs.PackedLemmas.{Packs-refl, Packs-trans, leaves_out, takes_packs}
 
 -- ---- parts left out
 
 -- packing after parts that don't change, whatever they are
 abbrev PacksAfter : (d : Direction) (before old new : Trees) → Type 0
-PacksAfter d before old new = Packs d (in_text_order d (append_trees before old)) (in_text_order d (append_trees before new))
+PacksAfter d before old new = Packs d (in_direction d (append_trees before old)) (in_direction d (append_trees before new))
 
 -- packing after one more part
 after_one : (d : Direction) (before : Trees) (t : Tree) (old new : Trees) →
     PacksAfter d (append_trees before (more_trees t no_trees)) old new → PacksAfter d before (more_trees t old) (more_trees t new)
 after_one d before t old new packs =
-    subst (λ (ts : Trees). Packs d (in_text_order d ts) (in_text_order d (append_trees before (more_trees t new))))
+    subst (λ (ts : Trees). Packs d (in_direction d ts) (in_direction d (append_trees before (more_trees t new))))
     (append_trees-assoc before (more_trees t no_trees) old)
-    (subst (λ (ts : Trees). Packs d (in_text_order d (append_trees (append_trees before (more_trees t no_trees)) old)) (in_text_order d ts))
+    (subst (λ (ts : Trees). Packs d (in_direction d (append_trees (append_trees before (more_trees t no_trees)) old)) (in_direction d ts))
     (append_trees-assoc before (more_trees t no_trees) new) packs)
 
 without_packs : (d : Direction) (before ts : Trees) → PacksAfter d before ts (list_without is_empty ts)
@@ -39,9 +40,9 @@ without_packs d before (more_trees t ts) = one_more (is_empty t) refl (λ front.
     one_more false is rest =
         rw is (after_one d before t ts (list_without is_empty ts) (rest (append_trees before (more_trees t no_trees))))
 
-pub left_out_packs : (d : Direction) (ts us : Trees) → us ≡ list_without is_empty ts → Packs d (in_text_order d ts) (in_text_order d us)
+pub left_out_packs : (d : Direction) (ts us : Trees) → us ≡ list_without is_empty ts → Packs d (in_direction d ts) (in_direction d us)
 left_out_packs d ts us is =
-    subst (λ (vs : Trees). Packs d (in_text_order d ts) (in_text_order d vs)) (sym is) (without_packs d no_trees ts)
+    subst (λ (vs : Trees). Packs d (in_direction d ts) (in_direction d vs)) (sym is) (without_packs d no_trees ts)
 
 pub without_none : (ts : Trees) → some_part is_empty (list_without is_empty ts) ≡ false
 without_none no_trees = refl
@@ -86,8 +87,8 @@ module _ {S : Type 0} (R : S → Node → Node → Bool → S → Node → Node 
       ∙ ap₂ (λ (u : Tree) (b : Bool). is_empty u || b) same.0
       (after_empties t x' xs zs rest ∙ ap (λ (u : Tree). is_empty u || some_part is_empty (trees xs)) same.1)
 
-  pub deduped_packs : (s : S) (xs ys : List Node) → IsDeduped R s xs ys → (d : Direction) → Packs d (in_text_order d (trees xs)) (in_text_order d (trees ys))
-  deduped_packs s [] ys is d = subst (λ (ns : List Node). Packs d (in_text_order d no_trees) (in_text_order d (trees ns))) (sym is.told) (Packs-refl d _)
+  pub deduped_packs : (s : S) (xs ys : List Node) → IsDeduped R s xs ys → (d : Direction) → Packs d (in_direction d (trees xs)) (in_direction d (trees ys))
+  deduped_packs s [] ys is d = subst (λ (ns : List Node). Packs d (in_direction d no_trees) (in_direction d (trees ns))) (sym is.told) (Packs-refl d _)
   deduped_packs s (x ∷ xs) ys is d = after_packs s x xs ys is.told d no_trees
 
   pub deduped_empties : (s : S) (xs ys : List Node) → IsDeduped R s xs ys → some_part is_empty (trees ys) ≡ some_part is_empty (trees xs)

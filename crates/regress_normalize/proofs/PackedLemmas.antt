@@ -2,6 +2,7 @@
 use Rattle.std.proofs.Common.{◌≡◌, ℕ, ◌+◌, Bool, true, false, ◌&&◌, ◌||◌, max, List, [], ◌∷◌, ◌++◌, refl, sym, ap, ap₂, ◌∙◌, subst, arith, le_refl, le_trans, length-append}
 use Rattle.std.proofs.Math.Bool.{and-false, or_assoc, or-false}
 use Rattle.std.proofs.lemmas.Bool.{or_parts, true≢false}
+use Rattle.regress_tree.specs.Matching.{in_direction}
 use Rattle.regress_tree.specs.Measures.{total_in_list, nesting_of_deepest}
 use Rattle.regress_tree.specs.NodeTests.{is_empty, is_goal, match_always_fails}
 use Rattle.regress_tree.specs.NormalForm.{IsNormal}
@@ -19,7 +20,7 @@ use Rattle.regress_rewrite.proofs.lemmas.Keeps.{Keeps-refl, Keeps-trans}
 use Rattle.regress_rewrite.proofs.lemmas.Segments.{Keeps-segment, empty_keeps, pair_keeps}
 use Rattle.regress_rewrite.proofs.lemmas.Splicing.{list_length-append}
 use Rattle.regress_normalize.specs.Normalized.{ListIsNormal}
-use Rattle.regress_normalize.specs.Packed.{in_text_order, Packs, IsPacked, TakesBytes}
+use Rattle.regress_normalize.specs.Packed.{Packs, IsPacked, TakesBytes}
 use Rattle.regress_normalize.proofs.NormalLemmas.{IsNormal-leaf}
 
 -- ---- appended lists
@@ -147,8 +148,8 @@ longer_normal (x ∷ a) b normal = IsNormal-leaf (byte_sequence (x ∷ (a ++ b))
 
 -- two neighbours with bytes, in the order of the text, become one
 pair_packs : (d : Direction) (a b : List ℕ) →
-    Packs d (in_text_order d (more_trees (written a) (more_trees (written b) no_trees)))
-    (in_text_order d (more_trees (written (a ++ b)) no_trees))
+    Packs d (in_direction d (more_trees (written a) (more_trees (written b) no_trees)))
+    (in_direction d (more_trees (written (a ++ b)) no_trees))
 pair_packs forwards a b = record {
   keeps = pair_keeps forwards a b;
   normal = λ each. (longer_normal a b each.0, tt);
@@ -185,7 +186,7 @@ turned-around xs ts zs =
 
 -- an `Empty` among other parts is left out
 pub leaves_out : (d : Direction) (before after : Trees) →
-    Packs d (in_text_order d (append_trees before (more_trees (leaf empty) after))) (in_text_order d (append_trees before after))
+    Packs d (in_direction d (append_trees before (more_trees (leaf empty) after))) (in_direction d (append_trees before after))
 leaves_out forwards before after = Packs-segment forwards (leaf empty) no_trees no_trees (empty_packs forwards) before after
 leaves_out backwards before after =
     subst (λ (ts : Trees). Packs backwards ts (reverse_trees (append_trees before after)))
@@ -195,8 +196,8 @@ leaves_out backwards before after =
     (Packs-segment backwards (leaf empty) no_trees no_trees (empty_packs backwards) (reverse_trees after) (reverse_trees before)))
 
 joins : (d : Direction) (before after : Trees) (a b : List ℕ) →
-    Packs d (in_text_order d (append_trees before (more_trees (written a) (more_trees (written b) after))))
-    (in_text_order d (append_trees before (more_trees (written (a ++ b)) after)))
+    Packs d (in_direction d (append_trees before (more_trees (written a) (more_trees (written b) after))))
+    (in_direction d (append_trees before (more_trees (written (a ++ b)) after)))
 joins forwards before after a b =
     Packs-segment forwards (written a) (more_trees (written b) no_trees) (more_trees (written (a ++ b)) no_trees)
     (pair_packs forwards a b) before after
@@ -212,16 +213,16 @@ joins backwards before after a b =
 
 -- a part takes the bytes of the next one
 pub takes_packs : (d : Direction) (before after : Trees) (old part new : Tree) → TakesBytes old part new →
-    Packs d (in_text_order d (append_trees before (more_trees old (more_trees part after)))) (in_text_order d (append_trees before (more_trees new after)))
+    Packs d (in_direction d (append_trees before (more_trees old (more_trees part after)))) (in_direction d (append_trees before (more_trees new after)))
 takes_packs d before after old part new takes =
-    subst (λ (t : Tree). Packs d (in_text_order d (append_trees before (more_trees t (more_trees part after))))
-    (in_text_order d (append_trees before (more_trees new after))))
+    subst (λ (t : Tree). Packs d (in_direction d (append_trees before (more_trees t (more_trees part after))))
+    (in_direction d (append_trees before (more_trees new after))))
     (sym (is_written old takes.own).is)
-    (subst (λ (t : Tree). Packs d (in_text_order d (append_trees before (more_trees (written (bytes_of old)) (more_trees t after))))
-    (in_text_order d (append_trees before (more_trees new after))))
+    (subst (λ (t : Tree). Packs d (in_direction d (append_trees before (more_trees (written (bytes_of old)) (more_trees t after))))
+    (in_direction d (append_trees before (more_trees new after))))
     (sym (is_written part takes.more).is)
-    (subst (λ (t : Tree). Packs d (in_text_order d (append_trees before (more_trees (written (bytes_of old)) (more_trees (written (bytes_of part)) after))))
-    (in_text_order d (append_trees before (more_trees t after))))
+    (subst (λ (t : Tree). Packs d (in_direction d (append_trees before (more_trees (written (bytes_of old)) (more_trees (written (bytes_of part)) after))))
+    (in_direction d (append_trees before (more_trees t after))))
     (sym takes.is) (joins d before after (bytes_of old) (bytes_of part))))
 
 -- ---- nothing to pack

@@ -2,9 +2,9 @@
 use Rattle.std.specs.Prelude.{◌≡◌, ℕ, ◌+◌, ◌≤◌, Bool, true, false, ◌++◌, max}
 use Rattle.regress_tree.specs.Measures.{total_in_list, nesting_of_deepest}
 use Rattle.regress_tree.specs.NodeTests.{is_empty, is_goal, match_always_fails}
-use Rattle.regress_tree.specs.Reading.{Direction, forwards, backwards}
+use Rattle.regress_tree.specs.Reading.{Direction}
 use Rattle.regress_tree.specs.Shapes.{on_leaf, on_wrapper, some_node_in_list, some_part, has_neighbours, has_bytes, has_cat, is_string_set}
-use Rattle.regress_tree.specs.Tree.{Wrapper, Tree, Trees, leaf, byte_sequence, cat, reverse_trees}
+use Rattle.regress_tree.specs.Tree.{Wrapper, Tree, Trees, leaf, byte_sequence, cat}
 use Rattle.regress_tree.specs.Units.{charges}
 use Rattle.regress_rewrite.specs.Formed.{bytes_of}
 use Rattle.regress_rewrite.specs.Law.{Keeps}
@@ -12,11 +12,6 @@ use Rattle.regress_rewrite.specs.Splice.{spliced, list_length}
 use Rattle.regress_normalize.specs.Normalized.{ListIsNormal}
 use Rattle.regress_normalize.specs.declared.facts.PartFacts.{PartFacts}
 use Rattle.regress_normalize.specs.declared.facts.ListFacts.{ListFacts}
-
--- the parts in the order of the text that they match
-abbrev pub in_text_order : Direction → Trees → Trees
-in_text_order forwards ts = ts
-in_text_order backwards ts = reverse_trees ts
 
 -- The new list may replace the old one, and its facts follow from those of the old one.
 pub record Packs (d : Direction) (old new : Trees) : Type 0 where

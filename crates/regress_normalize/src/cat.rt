@@ -1,5 +1,6 @@
 //! Normalizes a `Cat` whose parts are in normal form.
 ghost use Rattle.std.specs.Prelude.{◌≡◌, ◌⊎◌, ◌≤◌, ◌||◌, true, false, MatchBool, IfOk, OnOk, OnErr, IfSome, None};
+ghost use Rattle.regress_tree.specs.Matching.{in_direction};
 ghost use Rattle.regress_tree.specs.NodeTests.{is_empty, is_goal};
 ghost use Rattle.regress_tree.specs.Reading.{Direction};
 ghost use Rattle.regress_tree.specs.Shapes.{has_bytes, has_cat, has_neighbours, some_part};
@@ -8,7 +9,7 @@ ghost use Rattle.regress_tree.specs.Walk.{direction_of};
 ghost use Rattle.regress_rewrite.specs.Law.{IsPart, Keeps};
 ghost use Rattle.regress_rewrite.specs.Splice.{spliced};
 ghost use Rattle.regress_normalize.specs.Normalized.{Normalized, IsCatOf};
-ghost use Rattle.regress_normalize.specs.Packed.{in_text_order, Packs, IsPacked, TakesBytes, IsListPacked, IsFactsOf};
+ghost use Rattle.regress_normalize.specs.Packed.{Packs, IsPacked, TakesBytes, IsListPacked, IsFactsOf};
 
 use crate::facts::{ListFacts, PartFacts};
 use crate::leaf::leaf_facts;
@@ -147,7 +148,7 @@ fn pack_in_order(parts: &mut NodeList, walk: &Walk) -> Result<(), AllocError>
 /// Removes each `Empty`, and joins the bytes of neighbours, where those of the earlier part come first. It works in
 /// place, and allocates memory only for bytes. If that fails, two neighbours remain separate.
 fn pack_in_text_order(parts: &mut NodeList) -> Result<(), AllocError>
-    ensures packs { (d : Direction) → Packs d (in_text_order d (trees parts.old.items)) (in_text_order d (trees parts.new.items)) }
+    ensures packs { (d : Direction) → Packs d (in_direction d (trees parts.old.items)) (in_direction d (trees parts.new.items)) }
     ensures packed { OnOk result (IsPacked (trees parts.new.items)) }
 {
     drop_empties(parts);
@@ -160,7 +161,7 @@ fn pack_in_text_order(parts: &mut NodeList) -> Result<(), AllocError>
 
 /// Joins the bytes of neighbours. If an allocation fails, two neighbours remain separate.
 fn join_neighbours(parts: &mut NodeList)
-    ensures packs { (d : Direction) → Packs d (in_text_order d (trees parts.old.items)) (in_text_order d (trees parts.new.items)) }
+    ensures packs { (d : Direction) → Packs d (in_direction d (trees parts.old.items)) (in_direction d (trees parts.new.items)) }
     ensures empties { some_part is_empty (trees parts.new.items) ≡ some_part is_empty (trees parts.old.items) }
 {
     parts.dedup_by(|part, last| take_bytes(last, part));

@@ -178,7 +178,7 @@ module _ (table : Table) (ctx : Context) (most : ℕ) (few : (name : Name) → l
     where
       by : (sets : Bool) → Finds (AtMost (cond sets 5 1))
           (cond sets (found_map (λ (negated, value). class_set ctx.setting.flags negated value)
-          (class_set_at ctx.setting.table ctx.setting.flags.unicode t))
+          (class_set_at ctx.setting.table (class_parameters ctx) t))
           (found_map (λ (inverted, members). class ctx.setting.flags inverted members)
           (class_at ctx.setting.table (class_parameters ctx) t)))
       by true = finds_map (λ _. Unit {0}) (AtMost 5) _ _ (λ x _. class-nodes _ _ _ _ _) (any_found _)

@@ -168,7 +168,7 @@ module _ (ctx : Context) (lawful : IsValidTable ctx.setting.table) (n : ℕ) (wi
       finds_cond _ ctx.setting.flags.unicode_sets _ _
       (λ _. finds_map (λ (found : Bool × Value). OfCodePoints found.1.strings) (IsGoodAtom n)
       (λ (negated, value). class_set ctx.setting.flags negated value) _ (λ found h. h)
-      (class_set_at-in_range ctx.setting.table lawful ctx.setting.flags.unicode t all.each))
+      (class_set_at-in_range ctx.setting.table lawful (class_parameters ctx) t all.each))
       (λ _. finds_map (λ (_ : Bool × List Bounds). Unit {0}) (IsGoodAtom n) (λ (inverted, members). class ctx.setting.flags inverted members) _
       (λ x holds. tt) (finds_any (class_at ctx.setting.table (class_parameters ctx) t)))
 

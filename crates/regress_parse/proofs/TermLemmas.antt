@@ -247,3 +247,15 @@ module _ (table : Table) (names : List (Option Name)) (ctx : Context) where
       let same = same_Some _ x (sym (atom_item t none ∙ ap (found_map atom) h.1) ∙ found) in
       sym h.2.allows ∙ ap (λ (y : Item × Source). allows ctx (head_of_item y.0)) same
   atom_allowed left allowed new (Err fault) t none h = tt
+
+  -- Where no quantifier can start after it, it is a term.
+  pub atom_alone : (d : Direction) (depth left : ℕ) (allowed : Bool) (old new : Parser) (node : Node) (t : Source) → t ≡ text old →
+      is_at opening t ≡ false → depth + left ≡ max_nesting_depth → counted new ≡ counted old → may_begin (text new) ≡ false →
+      ReadsAtom ctx left allowed (text new) (Ok node) (atom_at ctx t) →
+      table ≡ ctx.setting.table → names ≡ ctx.names →
+      Yields (term_part table names) d depth (counted old) new (Ok node) (term_at ctx (text old))
+  atom_alone d depth left allowed old new node t here none all same free h tables all_names =
+      subst (λ (u : Source). Yields (term_part table names) d depth (counted old) new (Ok node) (term_at ctx u)) here
+      (subst (λ (f : Found Term). Yields (term_part table names) d depth (counted old) new (Ok node) f) (sym (term_at-is ctx t))
+      (alone d depth (counted old) new (Ok node) (item_at ctx t) free
+      (atom_yields d depth left allowed old new (Ok node) t none all same h tables all_names)))

@@ -6,17 +6,13 @@ use Rattle.regress_base.specs.declared.types.Quantifier.{Quantifier}
 use Rattle.regress_tree.specs.Reading.{Direction, forwards, backwards}
 use Rattle.regress_base.specs.Table.{class_of}
 use Rattle.regress_base.specs.Table.{Table}
-use Rattle.regress_tree.specs.Tree.{Leaf, empty, goal, char, char_set, match_any, match_any_except_line_terminator, word_boundary, bracket, back_ref, string_set, Tree, Trees, leaf, cat, alt, wrapped, capture_group, loop, lookaround, no_trees, more_trees, reverse_trees}
+use Rattle.regress_tree.specs.Tree.{Leaf, empty, goal, char, char_set, match_any, match_any_except_line_terminator, word_boundary, bracket, back_ref, string_set, Tree, Trees, leaf, cat, alt, wrapped, capture_group, loop, lookaround, no_trees, more_trees}
 use Rattle.regress_tree.specs.Tree as tree
+pub use Rattle.regress_tree.specs.Matching.{in_direction}
 use Rattle.regress_classes.specs.ClassProductions.{members_of}
 use Rattle.regress_classes.specs.ClassSets.{Value}
 use Rattle.regress_syntax.specs.Syntax.{Name, Atom, literal, dot, anchor, boundary, class_escape, class, class_set, string_property, back_reference, Group, grouping, modified, capture, look, Pattern, Terms, Item, one, either, no_terms, more_terms, atom, group, opened_by, counts_of_item, counts_of_terms, counts_of_term, names, direction_of_group}
 use Rattle.regress_syntax.specs.Meaning.{is_in_class, longest_first, referred}
-
--- A list of parts is reversed where matching runs backwards.
-abbrev pub in_direction : Direction → Trees → Trees
-in_direction forwards ts = ts
-in_direction backwards ts = reverse_trees ts
 
 -- the tree of an alternative: `Empty` for no part, the part itself for one, a `Cat` for several
 abbrev pub concatenation : Direction → Trees → Tree

@@ -186,17 +186,12 @@ fn read_brackets(
     ensures value { ReadsAtom (context_of scope.now) left true (source cursor.new) result (brackets_at (context_of scope.now) (source cursor.old)) }
     ensures kind { FailsByDepthOnlyIf result (left ≤ length (source cursor.old)) }
 {
+    let parameters = scope.class_parameters();
     if !scope.flags.unicode_sets {
-        let class = parse_class(cursor, scope.tables, scope.class_parameters(), opened)?;
+        let class = parse_class(cursor, scope.tables, &parameters, opened)?;
         return Ok(make_class(class.inverted, class.set, scope)?);
     }
-    let class = parse_class_set(
-        cursor,
-        scope.tables,
-        scope.flags.unicode,
-        MAX_NESTING_DEPTH,
-        opened,
-    )?;
+    let class = parse_class_set(cursor, scope.tables, &parameters, MAX_NESTING_DEPTH, opened)?;
     // The scan before parsing has rejected these already.
     if class.value.others.nesting > left {
         return Err(rejected(opened, FaultKind::TooDeep));

@@ -1,6 +1,7 @@
 //! Parses the productions of the grammar.
 ghost use Rattle.std.specs.Prelude.{◌≡◌, ◌≤◌, ◌+◌, ◌∷◌, true, false, Bool, List, Some, OnOk, length};
 ghost use Rattle.regress_lexer.specs.Fault.{FailsBy};
+ghost use Rattle.regress_lexer.specs.FirstCodePoint.{may_begin};
 ghost use Rattle.regress_lexer.specs.Source.{Source, opening, ends_alternative};
 ghost use Rattle.regress_syntax.specs.Views.{group_of};
 ghost use Rattle.regress_syntax.specs.Syntax.{Item, Counts};
@@ -185,11 +186,16 @@ impl Parser<'_> {
             let item = self.consume_group::<RECORDS>(kind, opened, around)?;
             return self.consume_times::<RECORDS>(item, allowed, first, opened, around);
         }
-        let allowed = !begins_lone(self.cursor.rest, around.scope.dialect);
+        let front = self.cursor.rest;
         let left = MAX_NESTING_DEPTH - around.depth;
         let item = parse_atom(&mut self.cursor, &around.scope, left)?;
         record_nodes::<RECORDS>(&item, &mut self.spans, around, opened, &self.cursor)?;
-        self.consume_times::<RECORDS>(item, allowed, first, opened, around)
+        // Most items have no quantifier.
+        if !may_begin(self.cursor.rest) {
+            return Ok(item);
+        }
+        let allowed = !begins_lone(front, around.scope.dialect);
+        self.consume_quantifier::<RECORDS>(item, allowed, first, opened, around)
     }
 
     /// Parses the quantifier after an item, if there is one (ECMA-262, Quantifier). `first` is the number of groups
@@ -215,6 +221,29 @@ impl Parser<'_> {
         if !may_begin(self.cursor.rest) {
             return Ok(item);
         }
+        self.consume_quantifier::<RECORDS>(item, allowed, first, opened, around)
+    }
+
+    /// Parses the quantifier after an item, where one may begin, as [`Self::consume_times`] does.
+    #[inline(always)]
+    fn consume_quantifier<const RECORDS: bool>(
+        &mut self,
+        item: Node,
+        allowed: bool,
+        first: CaptureGroupID,
+        opened: usize,
+        around: &PartContext,
+    ) -> Result<Node, Fault>
+        requires { may_begin (text self.old) ≡ true }
+        ensures value { (x : Item) (before : Counts) → before.groups ≡ first → allowed ≡ allows (context_in around.now) (head_of_item x) →
+            Builds (direction_of around.now) around.now.depth before self.old item (item_part (table_in around.now) (names_in_context around.now) x) (text self.old) →
+            Yields (term_part (table_in around.now) (names_in_context around.now)) (direction_of around.now) around.now.depth before self.new result
+            (with_quantifier (context_in around.now) (Some (x, text self.old))) }
+        ensures reached { FailsBy result (λ kind. Reaches kind (counted self.old) around.now.depth (text self.old)) }
+        ensures spans { (t : Source) (before : List Span) → RECORDS ≡ true → opened ≡ length t →
+            RecordsItem around.now.whole (context_in around.now) (direction_of around.now) t before (text self.old) self.old.spans.items allowed →
+            OnOk result (RecordsTerm around.now.whole (context_in around.now) (direction_of around.now) t before (text self.new) self.new.spans.items) }
+    {
         let left = self.cursor.rest.len();
         let times = parse_optional_quantifier(&mut self.cursor, &around.scope, allowed)?;
         let Some(quantifier) = times else {

@@ -1,2 +1,3 @@
 pub mod Escape
+pub mod Links
 pub mod Markup

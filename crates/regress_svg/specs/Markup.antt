@@ -35,17 +35,24 @@ text_bytes class x y text note =
     codes "<text class=\"" ++ escaped_text class ++ codes "\" x=\"" ++ decimal x ++ codes "\" y=\"" ++ decimal y ++ codes "\">"
     ++ escaped_text text ++ note_bytes note ++ codes "</text>"
 
+-- a rectangle with its class, its upper left corner, its size, and the radius of its corners
+abbrev pub rectangle_bytes : List ℕ → ℕ → ℕ → ℕ → ℕ → ℕ → List ℕ
+rectangle_bytes class x y width height radius =
+    codes "<rect class=\"" ++ escaped_text class ++ codes "\" x=\"" ++ decimal x ++ codes "\" y=\"" ++ decimal y ++ codes "\" width=\"" ++ decimal width
+    ++ codes "\" height=\"" ++ decimal height ++ codes "\" rx=\"" ++ decimal radius ++ codes "\"/>"
+
+abbrev pub title_bytes : List ℕ → List ℕ
+title_bytes text = codes "<title>" ++ escaped_text text ++ codes "</title>"
+
 -- an element that contains no other element
 abbrev pub element_bytes : Element → List ℕ
-element_bytes (Rectangle class x y width height radius) =
-    codes "<rect class=\"" ++ escaped_text class.now ++ codes "\" x=\"" ++ decimal x ++ codes "\" y=\"" ++ decimal y ++ codes "\" width=\"" ++ decimal width
-    ++ codes "\" height=\"" ++ decimal height ++ codes "\" rx=\"" ++ decimal radius ++ codes "\"/>"
+element_bytes (Rectangle class x y width height radius) = rectangle_bytes class.now x y width height radius
 element_bytes (Circle class x y radius) =
     codes "<circle class=\"" ++ escaped_text class.now ++ codes "\" cx=\"" ++ decimal x ++ codes "\" cy=\"" ++ decimal y ++ codes "\" r=\"" ++ decimal radius
     ++ codes "\"/>"
 element_bytes (Path class x y commands) = path_bytes class.now x y commands.now
 element_bytes (Text class x y text note) = text_bytes class.now x y text.now note.now
-element_bytes (Title text) = codes "<title>" ++ escaped_text text.now ++ codes "</title>"
+element_bytes (Title text) = title_bytes text.now
 element_bytes (Description text) = codes "<desc>" ++ escaped_text text.now ++ codes "</desc>"
 element_bytes (Style text) = codes "<style>" ++ escaped_text text.now ++ codes "</style>"
 

@@ -4,9 +4,11 @@
 mod element;
 mod escape;
 mod law;
+mod link;
 mod sheet;
 
 pub use element::{Element, PathCommand};
 pub use escape::Escaped;
 pub use law::texts_hold_no_markup;
-pub use sheet::Sheet;
+pub use link::Area;
+pub use sheet::{Linked, Sheet};

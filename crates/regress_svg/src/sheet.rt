@@ -1,11 +1,22 @@
 //! The canvas on which a picture is drawn.
-ghost use Rattle.std.specs.Prelude.{◌≡◌, ◌<◌, ◌+◌, ◌++◌, IfOk, OnOk, OnErr, codes, string_bytes};
+ghost use Rattle.std.specs.Prelude.{◌≡◌, ◌<◌, ◌+◌, ◌++◌, All, IfOk, OnOk, OnErr, codes, string_bytes};
+ghost use Rattle.regress_svg.specs.Links.{IsLinkedDocument};
 ghost use Rattle.regress_svg.specs.Markup.{IsDocument, element_bytes, group_tag, root_tag};
 
 use crate::element::Element;
 use crate::escape::Escaped;
+use crate::link::{Area, write_links};
 use std::alloc::{AllocError, Global};
 use std::marker::Model;
+
+/// A picture with links.
+#[derive(Drop)]
+pub struct Linked {
+    /// The picture, an SVG document.
+    pub text: String,
+    /// Of each link, in order, the line that it leads to.
+    pub lines: Vec<usize>,
+}
 
 /// A picture that is drawn element by element. A later element is above the earlier ones. A call of `draw`,
 /// `open_group` or `close_group` that returns an error changes nothing, and may be repeated.
@@ -15,6 +26,8 @@ pub struct Sheet {
     text: String,
     /// The number of open groups.
     depth: usize,
+    /// The areas that are to be links.
+    areas: Vec<Area>,
 }
 
 impl Model for Sheet {
@@ -44,6 +57,7 @@ impl Sheet {
             alloc,
             text,
             depth: 0,
+            areas: Vec::new(alloc),
         })
     }
 
@@ -102,7 +116,24 @@ impl Sheet {
         Ok(())
     }
 
-    /// Returns the whole picture, an SVG document.
+    /// Returns the allocator of the picture.
+    pub fn alloc(&self) -> Global {
+        self.alloc
+    }
+
+    /// Adds an area that is to be a link if [`Sheet::finish_with_links`] finishes the picture. What is added later is
+    /// above what was added before.
+    ///
+    /// # Errors
+    /// Returns [`AllocError`] if an allocation fails. The picture is unchanged.
+    pub fn add_area(&mut self, area: Area) -> Result<(), AllocError>
+        ensures { self.new ≡ self.old }
+    {
+        self.areas.push(area)?;
+        Ok(())
+    }
+
+    /// Returns the whole picture, an SVG document without links.
     ///
     /// # Preconditions
     /// No group is open.
@@ -117,5 +148,23 @@ impl Sheet {
         let mut text = self.text;
         text.push_str("</svg>")?;
         Ok(text)
+    }
+
+    /// Returns the whole picture, with a link over each area that leads to one of the first `count` lines.
+    ///
+    /// # Preconditions
+    /// No group is open.
+    ///
+    /// # Errors
+    /// Returns [`AllocError`] if an allocation fails. The picture is dropped.
+    pub fn finish_with_links(self, count: usize) -> Result<Linked, AllocError>
+        requires { self.depth ≡ 0 }
+        ensures document { IfOk result (λ picture. IsLinkedDocument picture.lines.items (string_bytes picture.text)) }
+        ensures lines { IfOk result (λ picture. All (λ line. line < count) picture.lines.items) }
+    {
+        let mut text = self.text;
+        let lines = write_links(self.alloc, &self.areas, count, &mut text)?;
+        text.push_str("</svg>")?;
+        Ok(Linked { text, lines })
     }
 }

@@ -243,10 +243,10 @@ module _ (ctx : Context) (lawful : IsValidTable ctx.setting.table) where
       Gives (tokens sets ctx.setting.table (class 0 0) t) (λ a rest. tokens_of_atom a ++ tokens sets ctx.setting.table plain rest)
       (cond sets
       (found_map (λ (x : Bool × Value). Syntax.class_set ctx.setting.flags x.0 x.1)
-      (class_set_at ctx.setting.table ctx.setting.flags.unicode t))
+      (class_set_at ctx.setting.table (class_parameters ctx) t))
       (found_map (λ (x : Bool × List Bounds). Syntax.class ctx.setting.flags x.0 x.1)
       (class_at ctx.setting.table (class_parameters ctx) t)))
-  gives_class true t = gives_map _ _ _ (gives_class_set_at ctx.setting.table ctx.setting.flags.unicode t) (λ x rest. refl)
+  gives_class true t = gives_map _ _ _ (gives_class_set_at ctx.setting.table (class_parameters ctx) t) (λ x rest. refl)
   gives_class false t = gives_map _ _ _ (gives_leads (lead_class_at (class_parameters ctx) t)) (λ x rest. refl)
 
   same_open_bracket : (t : Source) → tokens_in ctx plain (91 ∷ t) ≡ tokens_in ctx (class 0 0) t

@@ -194,7 +194,7 @@ module _ (ctx : Context) where
   brackets_at t =
       if ctx.setting.flags.unicode_sets
       then found_map (λ (negated, value). class_set ctx.setting.flags negated value)
-      (class_set_at ctx.setting.table ctx.setting.flags.unicode t)
+      (class_set_at ctx.setting.table (class_parameters ctx) t)
       else found_map (λ (inverted, members). class ctx.setting.flags inverted members)
       (class_at ctx.setting.table (class_parameters ctx) t)
 

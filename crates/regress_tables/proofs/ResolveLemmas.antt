@@ -1,6 +1,6 @@
 -- Slots that are replaced by what they mean.
 use Rattle.std.proofs.Common.{◌≡◌, ℕ, zero, suc, ◌+◌, ◌-◌, ◌*◌, ◌≤◌, ◌<◌, ◌⊎◌, List, [], ◌∷◌, length, replicate, slice_get, take, Option, Some, None, refl, sym, ap, ap₂, ◌∙◌, subst, inl, inr, arith}
-use Rattle.std.proofs.Math.Nat.{mul-le-mul, mul-le-mul_right}
+use Rattle.std.proofs.Math.Nat.{mul-le-mul, mul-le-mul_left, mul-le-mul_right}
 use Rattle.std.proofs.lemmas.Bool.{cases_eq}
 use Rattle.std.proofs.lemmas.Option.{slice_get_within}
 use Rattle.regress_tree.specs.Steps.{CaptureSpan}
@@ -255,3 +255,13 @@ leftmost_steps w whole part inner m start' end from s t u end' few fewer on low 
     let more' : 2 * part * inner * m ≤ 2 * whole * inner * m = mul-le-mul_right m (mul-le-mul_right inner (let h : 2 * part ≤ 2 * whole = omega (arith, fewer) in h)) in
     let one : (2 * whole + 1) * all ≡ 2 * whole * all + all = grind arith in
     omega (arith, walk, walk', more, more', one, before, on, low, same)
+
+-- the same, where a match counts b steps more, and so does each instruction of the walks
+pub weighted_steps : (b whole inner m all tried walked steps : ℕ) → 1 ≤ tried → tried + walked ≤ (2 * whole + 1) * all + 2 * whole * inner * m →
+    steps ≤ tried + b + (1 + b) * walked → steps ≤ (1 + b) * (2 * whole + 1) * all + 2 * whole * inner * (1 + b) * m
+weighted_steps b whole inner m all tried walked steps one bound is =
+    let some : b * 1 ≤ b * tried = mul-le-mul_left b one in
+    let times : (1 + b) * (tried + walked) ≤ (1 + b) * ((2 * whole + 1) * all + 2 * whole * inner * m) = mul-le-mul_left (1 + b) bound in
+    let left : (1 + b) * (tried + walked) ≡ tried + b * tried + (1 + b) * walked = grind arith in
+    let right : (1 + b) * ((2 * whole + 1) * all + 2 * whole * inner * m) ≡ (1 + b) * (2 * whole + 1) * all + 2 * whole * inner * (1 + b) * m = grind arith in
+    omega (arith, some, times, left, right, is)

@@ -50,16 +50,29 @@ module _ (t : Table) (is : t.backwards ≡ false) where
       let on = onward t.width t.length pc pc' moved' start end lt in_start in_end (omega (arith, falls, first, last)) in
       (on, sum t.width t.length pc pc' moved' start end lt in_start in_end s s' on (omega (arith, more, first, last)))
 
--- the steps of filling the tables and of one search, which takes `more` for each character to find what lookarounds capture
-pub fill_and_find : (instructions more : ℕ) (text : List ℕ) (origin : ℕ) (found : Option Match) (fill find : ℕ) →
-    fill ≤ 2 * instructions * (length text + 1) → find ≤ steps_up_to instructions text origin found + more * (length text + 1) →
-    IfSome found (λ m. (state_of m).position ≤ length text) → find + fill ≤ (4 * instructions + 1 + more) * (length text + 1)
-fill_and_find instructions more text origin None fill find filled searched inside =
-    let sum : find + fill ≤ 2 * instructions * (length text + 1) + (length text + 1) + more * (length text + 1) = omega (arith, filled, searched) in
-    omega (arith, sum)
-fill_and_find instructions more text origin (Some m) fill find filled searched inside =
-    let most = mul-le-mul_left (2 * instructions + 1) (let h : (state_of m).position + 1 - origin ≤ length text + 1 = omega (arith, inside) in h) in
-    omega (arith, most, filled, searched)
+-- what is counted for each of d positions, of at most m
+within_all : (i p more m d fill find : ℕ) → fill ≤ 2 * i * m → find ≤ p * d + more * m → d ≤ m → find + fill ≤ (2 * i + p + more) * m
+within_all i p more m d fill find filled searched few =
+    let most : p * d ≤ p * m = mul-le-mul_left p few in
+    let all : (2 * i + p + more) * m ≡ 2 * i * m + p * m + more * m = grind arith in
+    omega (arith, most, filled, searched, all)
+
+-- a position counts at least one step
+pub at_least_one : (b i d : ℕ) → d ≤ (1 + b) * (2 * i + 1) * d
+at_least_one b i d = let e : (1 + b) * (2 * i + 1) * d ≡ (2 * i + b * (2 * i + 1)) * d + d = grind arith in omega (arith, e)
+
+-- the steps of filling the tables and of one search, where an instruction of the walk counts b steps more, and where it
+-- takes `more` for each character to find what lookarounds capture
+pub fill_and_find : (instructions b more : ℕ) (text : List ℕ) (origin : ℕ) (found : Option Match) (fill find : ℕ) →
+    fill ≤ 2 * instructions * (length text + 1) → find ≤ steps_up_to instructions (1 + b) text origin found + more * (length text + 1) →
+    IfSome found (λ m. (state_of m).position ≤ length text) → find + fill ≤ (2 * instructions + (1 + b) * (2 * instructions + 1) + more) * (length text + 1)
+fill_and_find instructions b more text origin None fill find filled searched inside =
+    let d = length text + 1 - origin in
+    let least = at_least_one b instructions d in
+    within_all instructions ((1 + b) * (2 * instructions + 1)) more (length text + 1) d fill find filled (omega (arith, searched, least)) (omega arith)
+fill_and_find instructions b more text origin (Some m) fill find filled searched inside =
+    within_all instructions ((1 + b) * (2 * instructions + 1)) more (length text + 1) ((state_of m).position + 1 - origin) fill find filled searched
+    (let h : (state_of m).position + 1 - origin ≤ length text + 1 = omega (arith, inside) in h)
 
 pub not_backwards : (b : Bool) → direction_if b ≡ forwards → b ≡ false
 not_backwards true is = cc

@@ -1,7 +1,7 @@
 -- A text that is prepared for searches with a program.
 use Rattle.std.specs.Prelude.{ℕ, List}
 use Rattle.regress_program.specs.Compiled.{total}
-use Rattle.regress_code.specs.Code.{code_routines}
+use Rattle.regress_code.specs.Code.{code_groups, code_routines}
 use Rattle.regress_code.specs.declared.code.Code.{Code}
 use Rattle.regress_tables.specs.declared.text.TextSearch.{TextSearch}
 use Rattle.regress_unicode.specs.declared.Tables.{Tables}
@@ -21,3 +21,7 @@ searched_tables s = s.linear.known.tables.now
 -- the text that is searched
 abbrev pub searched_text : TextSearch → List ℕ
 searched_text s = s.text.now
+
+-- the number of groups of its pattern
+abbrev pub searched_groups : TextSearch → ℕ
+searched_groups s = code_groups (searched_code s)

@@ -1,10 +1,11 @@
 //! The leftmost match, by the tables of a program.
-ghost use Rattle.std.specs.Prelude.{◌≡◌, ◌≤◌, ◌<◌, ◌+◌, ◌-◌, ◌*◌, ℕ, IfOk, IfSome, length};
+ghost use Rattle.std.specs.Prelude.{◌≡◌, ◌≤◌, ◌<◌, ◌+◌, ◌-◌, ◌*◌, ◌^◌, ℕ, IfOk, IfSome, Some, length};
 ghost use Rattle.regress_program.specs.Compiled.{total};
+ghost use Rattle.regress_program.specs.Cost.{blocks};
 ghost use Rattle.regress_found.specs.Found.{Finds, state_of};
 ghost use Rattle.regress_found.specs.Tried.{positions_tried};
 ghost use Rattle.regress_program.specs.Program.{Out};
-ghost use Rattle.regress_tables.specs.Search.{steps_up_to};
+ghost use Rattle.regress_tables.specs.Search.{capturing_steps, steps_up_to, walk_weight};
 ghost use Rattle.regress_tables.specs.Searchable.{IsSearchable, Solves, outcomes_in, program_in};
 
 use crate::filled::Filled;
@@ -13,6 +14,7 @@ use crate::found::Search;
 use crate::resolve::resolve;
 use crate::slots::captures_of;
 use regress_found::Match;
+use regress_program::blocks::blocks;
 use std::alloc::{AllocError, Global};
 
 /// Returns the leftmost match that starts at the byte offset `from` or later.
@@ -29,9 +31,11 @@ pub(crate) fn find_leftmost(
     ensures solved { IfOk result (λ search. (outs : ℕ → Out) → Solves filled.entry outs → Finds filled.entry.input.text.now
         (outcomes_in filled.entry outs (length (program_in filled.entry) - 1) groups) from search.found) }
     ensures inside { IfOk result (λ search. IfSome search.found (λ m. (state_of m).position ≤ length filled.entry.input.text.now)) }
-    ensures steps { IfOk result (λ search. search.steps ≤ steps_up_to (total (program_in filled.entry)) filled.entry.input.text.now from search.found
-        + 2 * total (program_in filled.entry) * filled.entry.inner * (length filled.entry.input.text.now + 1)) }
+    ensures steps { IfOk result (λ search. search.steps ≤ steps_up_to (total (program_in filled.entry)) (walk_weight groups) filled.entry.input.text.now from search.found
+        + capturing_steps (total (program_in filled.entry)) filled.entry.inner (walk_weight groups) * (length filled.entry.input.text.now + 1)) }
     ensures tried { IfOk result (λ search. positions_tried filled.entry.input.text.now from search.found ≤ search.steps) }
+    ensures charged { IfOk result (λ search. IfSome search.found (λ m.
+        blocks groups + positions_tried filled.entry.input.text.now from (Some m) ≤ search.steps)) }
 {
     let last = filled.input.code.program.routines.len() - 1;
     let mut tried: u64 = 0;
@@ -51,7 +55,7 @@ pub(crate) fn find_leftmost(
                 let captures = captures_of(alloc, &first.slots)?;
                 return Ok(Search {
                     found: Some(Match::new(start, first.end, captures)),
-                    steps: tried.saturating_add(walked),
+                    steps: steps_of_match(tried, walked, groups),
                 });
             }
         }
@@ -60,4 +64,17 @@ pub(crate) fn find_leftmost(
         found: None,
         steps: tried,
     })
+}
+
+/// Returns the steps of a search that has found a match: the positions that it tried, the captures of the match, and the
+/// instructions of the walks, each of which may have written a capture for each group.
+fn steps_of_match(tried: u64, walked: u64, groups: usize) -> u64
+    requires { tried ≤ 2 ^ 63 }
+    ensures within { result ≤ tried + blocks groups + walk_weight groups * walked }
+    ensures charged { tried + blocks groups ≤ result }
+{
+    let captures = blocks(groups);
+    let weight = captures.saturating_add(1);
+    let walks = weight.saturating_mul(walked);
+    tried.saturating_add(captures).saturating_add(walks)
 }

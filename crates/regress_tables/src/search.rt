@@ -1,40 +1,41 @@
 //! Searching with a program, by tables.
-ghost use Rattle.std.specs.Prelude.{◌≡◌, ◌≤◌, ◌<◌, ◌+◌, ◌*◌, ℕ, IfOk, length, min};
+ghost use Rattle.std.specs.Prelude.{◌≡◌, ◌≤◌, ◌<◌, ◌+◌, ◌*◌, ℕ, IfOk, IfSome, Some, length, min};
 ghost use Rattle.regress_tree.specs.Tree.{Tree};
 ghost use Rattle.regress_program.specs.Compiled.{IsPattern, total};
 ghost use Rattle.regress_found.specs.Found.{Finds};
 ghost use Rattle.regress_found.specs.Tried.{positions_tried};
 ghost use Rattle.regress_program.specs.Program.{IsSolution, Out};
-ghost use Rattle.regress_code.specs.Code.{code_routines, outcomes_from, setting_with, tree_outcomes_from};
-ghost use Rattle.regress_tables.specs.Search.{per_character};
+ghost use Rattle.regress_code.specs.Code.{captures_cost, code_routines, outcomes_from, setting_with, tree_outcomes_from};
+ghost use Rattle.regress_tables.specs.Search.{per_byte};
 ghost use Rattle.regress_tables.specs.TextSearch.{searched_code, searched_tables, searched_text};
 
 use crate::found::Search;
 use crate::linear::Linear;
 use crate::text::TextSearch;
 use crate::text_search::find_filled;
+use regress_program::blocks::blocks;
 use std::alloc::{AllocError, Global};
 
 impl Linear<'_, '_> {
-    /// Returns an upper bound for the steps of a search for each character of a text, counting its end as one more; at
-    /// most `u64::MAX`.
-    pub fn steps_per_character(&self) -> u64
-        ensures { result ≡ min (per_character self.now.code.now) u64.MAX }
+    /// Returns an upper bound for the steps of a search for each byte of a text, counting its end as one more; at most
+    /// `u64::MAX`.
+    pub fn steps_per_byte(&self) -> u64
+        ensures { result ≡ min (per_byte self.now.code.now) u64.MAX }
     {
         let instructions = self.code.instructions() as u64;
-        let groups = self.inner as u64;
-        instructions
-            .saturating_mul(4)
-            .saturating_add(1)
-            .saturating_add(instructions.saturating_mul(2).saturating_mul(groups))
+        let weight = blocks(self.code.groups()).saturating_add(1);
+        let inner = self.inner as u64;
+        let bits = instructions.saturating_mul(2);
+        bits.saturating_add(weight.saturating_mul(bits.saturating_add(1)))
+            .saturating_add(bits.saturating_mul(inner).saturating_mul(weight))
     }
 
     /// Returns the leftmost match in `text` that starts at the byte offset `from` or later, on a character boundary.
     ///
     /// # Complexity
-    /// The steps are at most [`Linear::steps_per_character`] for each byte of the text, and once more. A step takes
-    /// constant time, but for literals, sets, and the groups that an iteration unsets or a lookaround sets. The memory is
-    /// proportional to the number of instructions and the length of the text.
+    /// The steps are at most [`Linear::steps_per_byte`] for each byte of the text, and once more. A step takes
+    /// constant time, but for literals and sets. The memory is proportional to the number of instructions and the length of
+    /// the text.
     ///
     /// # Errors
     /// Returns [`AllocError`] if an allocation fails.
@@ -62,9 +63,11 @@ impl Linear<'_, '_> {
             Finds text.now (outcomes_from code tables text.now outs) from search.found)) }
         ensures finds { IfOk result (λ search. (let code = self.now.code.now in let tables = self.now.known.tables.now in
             (t : Tree) → IsPattern (code_routines code) t → Finds text.now (tree_outcomes_from code tables text.now t) from search.found)) }
-        ensures steps { IfOk result (λ search. search.steps ≤ per_character self.now.code.now * (length text.now + 1)) }
+        ensures steps { IfOk result (λ search. search.steps ≤ per_byte self.now.code.now * (length text.now + 1)) }
         ensures counted { IfOk result (λ search. min (2 * total (code_routines self.now.code.now) * (length text.now + 1)) u64.MAX ≤ search.steps) }
         ensures tried { IfOk result (λ search. positions_tried text.now from search.found ≤ search.steps) }
+        ensures charged { IfOk result (λ search. IfSome search.found (λ m.
+            captures_cost self.now.code.now + positions_tried text.now from (Some m) ≤ search.steps)) }
     {
         let mut steps = 0;
         let tables = self.fill_all(alloc, text, &mut steps)?;

@@ -1,15 +1,15 @@
 //! Searching a text whose tables are filled.
-ghost use Rattle.std.specs.Prelude.{◌≡◌, ◌≤◌, ◌+◌, ◌*◌, ℕ, IfOk, IfSome, length, min};
+ghost use Rattle.std.specs.Prelude.{◌≡◌, ◌≤◌, ◌+◌, ◌*◌, ℕ, IfOk, IfSome, Some, length, min};
 ghost use Rattle.regress_tree.specs.Tree.{Tree};
 ghost use Rattle.regress_program.specs.Compiled.{IsPattern, total};
 ghost use Rattle.regress_found.specs.Found.{Finds, state_of};
 ghost use Rattle.regress_found.specs.Tried.{positions_tried};
 ghost use Rattle.regress_program.specs.Program.{IsSolution, Out};
 ghost use Rattle.regress_program.specs.Ranges.{inner_groups};
-ghost use Rattle.regress_code.specs.Code.{code_routines, outcomes_from, setting_with, tree_outcomes_from};
+ghost use Rattle.regress_code.specs.Code.{captures_cost, code_groups, code_routines, outcomes_from, setting_with, tree_outcomes_from};
 ghost use Rattle.regress_tables.specs.Filled.{AreFilled};
-ghost use Rattle.regress_tables.specs.Search.{capturing_steps, steps_up_to};
-ghost use Rattle.regress_tables.specs.TextSearch.{searched_code, searched_size, searched_tables, searched_text};
+ghost use Rattle.regress_tables.specs.Search.{capturing_steps, steps_up_to, walk_weight};
+ghost use Rattle.regress_tables.specs.TextSearch.{searched_code, searched_groups, searched_size, searched_tables, searched_text};
 
 use crate::evaluate::Input;
 use crate::filled::Filled;
@@ -25,11 +25,13 @@ impl<'p> TextSearch<'p> {
     /// Returns the leftmost match that starts at the byte offset `from` or later, on a character boundary.
     ///
     /// # Complexity
-    /// With a match the steps are at most twice the number of instructions and one for each byte from `from` to its end,
-    /// and once more. Without a match they are at most one for each byte from `from` on, and once more. If lookarounds
-    /// capture, the steps that find what they have captured come on top, at most twice the number of instructions for
-    /// each group that they may set and each byte of the text, and once more. A step takes constant time, but for
-    /// literals, sets, and the groups that an iteration unsets or a lookaround sets.
+    /// A step is a position that is tried, an instruction of the walk along the match, or 64 captures: a match counts one
+    /// for each 64 groups, and so does each instruction of the walk, which may set or unset them. Without a match the steps
+    /// are at most one for each byte from `from` on, and once more. With a match they are at most twice the number of
+    /// instructions and one for each byte from `from` to its end, and once more, times 1 for each 64 groups and once more.
+    /// If lookarounds capture, the steps that find what they have captured come on top: at most twice the number of
+    /// instructions for each group that they may set and each byte of the text, and once more, times the same. A step
+    /// takes constant time, but for literals and sets.
     ///
     /// # Errors
     /// Returns [`AllocError`] if an allocation fails.
@@ -40,9 +42,12 @@ impl<'p> TextSearch<'p> {
             (t : Tree) → IsPattern (code_routines code) t → Finds text (tree_outcomes_from code tables text t) from search.found)) }
         ensures inside { IfOk result (λ search. IfSome search.found (λ m. (state_of m).position ≤ length (searched_text self.now))) }
         ensures steps { IfOk result (λ search. (let size = searched_size self.now in let text = searched_text self.now in
-            search.steps ≤ steps_up_to size text from search.found
-            + capturing_steps size (inner_groups (code_routines (searched_code self.now))) * (length text + 1))) }
+            let weight = walk_weight (searched_groups self.now) in
+            search.steps ≤ steps_up_to size weight text from search.found
+            + capturing_steps size (inner_groups (code_routines (searched_code self.now))) weight * (length text + 1))) }
         ensures tried { IfOk result (λ search. positions_tried (searched_text self.now) from search.found ≤ search.steps) }
+        ensures charged { IfOk result (λ search. IfSome search.found (λ m.
+            captures_cost (searched_code self.now) + positions_tried (searched_text self.now) from (Some m) ≤ search.steps)) }
     {
         find_filled(alloc, &self.linear, self.text, &self.tables, from)
     }
@@ -79,9 +84,12 @@ pub(crate) fn find_filled(
         (t : Tree) → IsPattern (code_routines code) t → Finds text.now (tree_outcomes_from code mappings text.now t) from search.found)) }
     ensures inside { IfOk result (λ search. IfSome search.found (λ m. (state_of m).position ≤ length text.now)) }
     ensures steps { IfOk result (λ search. (let program = code_routines linear.now.code.now in
-        search.steps ≤ steps_up_to (total program) text.now from search.found
-        + capturing_steps (total program) (inner_groups program) * (length text.now + 1))) }
+        let weight = walk_weight (code_groups linear.now.code.now) in
+        search.steps ≤ steps_up_to (total program) weight text.now from search.found
+        + capturing_steps (total program) (inner_groups program) weight * (length text.now + 1))) }
     ensures tried { IfOk result (λ search. positions_tried text.now from search.found ≤ search.steps) }
+    ensures charged { IfOk result (λ search. IfSome search.found (λ m.
+        captures_cost linear.now.code.now + positions_tried text.now from (Some m) ≤ search.steps)) }
 {
     let input = Input {
         text,

@@ -11,7 +11,12 @@ use Rattle.regress_tree.specs.Repetition.{repeat_matcher}
 use Rattle.regress_tree.specs.Lookaround.{lookaround_matcher}
 use Rattle.regress_tree.specs.References.{back_reference}
 use Rattle.regress_tree.specs.Strings.{any_string}
-use Rattle.regress_tree.specs.Tree.{Leaf, empty, goal, char, byte_sequence, byte_set, char_set, match_any, match_any_except_line_terminator, anchor, word_boundary, bracket, back_ref, string_set, Wrapper, capture_group, loop, loop_one, lookaround, Tree, Trees, leaf, cat, alt, wrapped, no_trees, more_trees}
+use Rattle.regress_tree.specs.Tree.{Leaf, empty, goal, char, byte_sequence, byte_set, char_set, match_any, match_any_except_line_terminator, anchor, word_boundary, bracket, back_ref, string_set, Wrapper, capture_group, loop, loop_one, lookaround, Tree, Trees, leaf, cat, alt, wrapped, no_trees, more_trees, reverse_trees}
+
+-- A list of parts, in the order of the text, in the order of matching; and the other way round.
+abbrev pub in_direction : Direction → Trees → Trees
+in_direction forwards ts = ts
+in_direction backwards ts = reverse_trees ts
 
 -- the direction in which the body of a wrapper is matched
 abbrev pub direction_in : Wrapper → Direction → Direction

@@ -7,71 +7,65 @@ use std::alloc::{AllocError, Global};
 #[derive(Clone, Copy)]
 struct Name(&'static str, &'static str);
 
-/// Returns the name of a control character, a space or a punctuation mark.
+/// The control characters, spaces and punctuation marks that have names, with their words.
+const NAMES: [(u32, &str, &str); 47] = [
+    (0x00, "a null character", "null characters"),
+    (0x08, "a backspace", "backspaces"),
+    (0x09, "a tab", "tabs"),
+    (0x0A, "a line feed", "line feeds"),
+    (0x0B, "a vertical tab", "vertical tabs"),
+    (0x0C, "a form feed", "form feeds"),
+    (0x0D, "a carriage return", "carriage returns"),
+    (0x1B, "an escape character", "escape characters"),
+    (0x20, "a space", "spaces"),
+    (0x7F, "a delete character", "delete characters"),
+    (0xA0, "a no-break space", "no-break spaces"),
+    (0x200D, "a zero width joiner", "zero width joiners"),
+    (0x2028, "a line separator", "line separators"),
+    (0x2029, "a paragraph separator", "paragraph separators"),
+    (0xFEFF, "a byte order mark", "byte order marks"),
+    (0x21, "an exclamation mark", "exclamation marks"),
+    (0x22, "a double quote", "double quotes"),
+    (0x23, "a number sign", "number signs"),
+    (0x24, "a dollar sign", "dollar signs"),
+    (0x25, "a percent sign", "percent signs"),
+    (0x26, "an ampersand", "ampersands"),
+    (0x27, "an apostrophe", "apostrophes"),
+    (0x28, "an opening parenthesis", "opening parentheses"),
+    (0x29, "a closing parenthesis", "closing parentheses"),
+    (0x2A, "an asterisk", "asterisks"),
+    (0x2B, "a plus sign", "plus signs"),
+    (0x2C, "a comma", "commas"),
+    (0x2D, "a hyphen", "hyphens"),
+    (0x2E, "a dot", "dots"),
+    (0x2F, "a slash", "slashes"),
+    (0x3A, "a colon", "colons"),
+    (0x3B, "a semicolon", "semicolons"),
+    (0x3C, "a less-than sign", "less-than signs"),
+    (0x3D, "an equals sign", "equals signs"),
+    (0x3E, "a greater-than sign", "greater-than signs"),
+    (0x3F, "a question mark", "question marks"),
+    (0x40, "an at sign", "at signs"),
+    (0x5B, "an opening bracket", "opening brackets"),
+    (0x5C, "a backslash", "backslashes"),
+    (0x5D, "a closing bracket", "closing brackets"),
+    (0x5E, "a caret", "carets"),
+    (0x5F, "an underscore", "underscores"),
+    (0x60, "a backtick", "backticks"),
+    (0x7B, "an opening brace", "opening braces"),
+    (0x7C, "a vertical bar", "vertical bars"),
+    (0x7D, "a closing brace", "closing braces"),
+    (0x7E, "a tilde", "tildes"),
+];
+
+/// Returns the name of a character, if it has one.
 fn full_name(c: u32) -> Option<Name> {
-    Some(match c {
-        0x00 => Name("a null character", "null characters"),
-        0x08 => Name("a backspace", "backspaces"),
-        0x09 => Name("a tab", "tabs"),
-        0x0A => Name("a line feed", "line feeds"),
-        0x0B => Name("a vertical tab", "vertical tabs"),
-        0x0C => Name("a form feed", "form feeds"),
-        0x0D => Name("a carriage return", "carriage returns"),
-        0x1B => Name("an escape character", "escape characters"),
-        0x20 => Name("a space", "spaces"),
-        0x7F => Name("a delete character", "delete characters"),
-        0xA0 => Name("a no-break space", "no-break spaces"),
-        0x200D => Name("a zero width joiner", "zero width joiners"),
-        0x2028 => Name("a line separator", "line separators"),
-        0x2029 => Name("a paragraph separator", "paragraph separators"),
-        0xFEFF => Name("a byte order mark", "byte order marks"),
-        c => return punctuation(c),
-    })
-}
-
-/// Returns the name of an ASCII punctuation mark or symbol.
-fn punctuation(c: u32) -> Option<Name> {
-    Some(match c {
-        0x21 => Name("an exclamation mark", "exclamation marks"),
-        0x22 => Name("a double quote", "double quotes"),
-        0x23 => Name("a number sign", "number signs"),
-        0x24 => Name("a dollar sign", "dollar signs"),
-        0x25 => Name("a percent sign", "percent signs"),
-        0x26 => Name("an ampersand", "ampersands"),
-        0x27 => Name("an apostrophe", "apostrophes"),
-        0x28 => Name("an opening parenthesis", "opening parentheses"),
-        0x29 => Name("a closing parenthesis", "closing parentheses"),
-        0x2A => Name("an asterisk", "asterisks"),
-        0x2B => Name("a plus sign", "plus signs"),
-        0x2C => Name("a comma", "commas"),
-        0x2D => Name("a hyphen", "hyphens"),
-        0x2E => Name("a dot", "dots"),
-        0x2F => Name("a slash", "slashes"),
-        0x3A => Name("a colon", "colons"),
-        0x3B => Name("a semicolon", "semicolons"),
-        c => return symbol(c),
-    })
-}
-
-fn symbol(c: u32) -> Option<Name> {
-    Some(match c {
-        0x3C => Name("a less-than sign", "less-than signs"),
-        0x3D => Name("an equals sign", "equals signs"),
-        0x3E => Name("a greater-than sign", "greater-than signs"),
-        0x3F => Name("a question mark", "question marks"),
-        0x40 => Name("an at sign", "at signs"),
-        0x5B => Name("an opening bracket", "opening brackets"),
-        0x5C => Name("a backslash", "backslashes"),
-        0x5D => Name("a closing bracket", "closing brackets"),
-        0x5E => Name("a caret", "carets"),
-        0x5F => Name("an underscore", "underscores"),
-        0x60 => Name("a backtick", "backticks"),
-        0x7B => Name("an opening brace", "opening braces"),
-        0x7C => Name("a vertical bar", "vertical bars"),
-        0x7D => Name("a closing brace", "closing braces"),
-        0x7E => Name("a tilde", "tildes"),
-        _ => return None,
-    })
+    for (named, one, many) in &NAMES {
+        if *named == c {
+            return Some(Name(*one, *many));
+        }
+    }
+    None
 }
 
 /// Returns one such character by its name, or several, without the character itself.

@@ -4,6 +4,16 @@ ghost use Rattle.std.specs.Prelude.{IfOk};
 ghost use Rattle.regress_front.specs.Tree.{tree};
 ghost use Rattle.regress_front.specs.WellFormed.{IsWellFormed};
 
+/// As `assert_eq!`, but its message has the expressions in place of the values: so a test is proved in less time.
+macro_rules! expect_eq {
+    ($rt:expr; $left:expr, $right:expr $(,)?) => {
+        assert!($rt; $left == $right)
+    };
+    ($rt:expr; $left:expr, $right:expr, $($message:tt)+) => {
+        assert!($rt; $left == $right, $($message)+)
+    };
+}
+
 mod calls;
 mod differences;
 mod examples;

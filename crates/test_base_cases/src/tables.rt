@@ -6,6 +6,17 @@ use regress_base::codepointset::CodePointSet;
 use regress_unicode::{CodePointRange, FoldRange, Tables, TablesError};
 use test_notation::{Call, Fault, parse_decimal};
 
+/// The fields of a test case that state tables: entries for folding and for upper case, sets for the first and the further
+/// characters of names, separated by `;`, the sets of each list, and strings.
+#[derive(Clone, Copy)]
+struct Stated<'a> {
+    folds: &'a str,
+    uppers: &'a str,
+    names: &'a str,
+    sets: &'a str,
+    strings: &'a str,
+}
+
 /// Makes the call with this name, and returns whether there is one.
 pub(crate) fn response(call: &mut Call, name: &str) -> bool {
     match name {
@@ -16,15 +27,16 @@ pub(crate) fn response(call: &mut Call, name: &str) -> bool {
     true
 }
 
-/// Makes tables from entries for folding and for upper case, sets for the first and the further characters of names,
-/// separated by `;`, lists of sets, and strings. Reports whether they are accepted.
+/// Makes tables, and reports whether they are accepted.
 fn make(call: &mut Call) {
-    let folds = call.field();
-    let uppers = call.field();
-    let names = call.field();
-    let sets = call.field();
-    let strings = call.field();
-    match tables_in(call, folds, uppers, names, sets, strings) {
+    let stated = Stated {
+        folds: call.field(),
+        uppers: call.field(),
+        names: call.field(),
+        sets: call.field(),
+        strings: call.field(),
+    };
+    match tables_in(call, stated) {
         Ok(_) => call.say("accepted"),
         Err(TablesError::Memory(_)) => call.fail(Fault::Memory),
         Err(rejection) => call.report(&rejection),
@@ -33,7 +45,14 @@ fn make(call: &mut Call) {
 
 /// Returns tables with these entries for folding and for upper case, and with these sets in each list.
 pub(crate) fn table_of(call: &mut Call, mappings: &str, sets: &str) -> Option<Tables> {
-    match tables_in(call, mappings, mappings, "", sets, "") {
+    let stated = Stated {
+        folds: mappings,
+        uppers: mappings,
+        names: "",
+        sets,
+        strings: "",
+    };
+    match tables_in(call, stated) {
         Ok(tables) => return Some(tables),
         Err(TablesError::Memory(_)) => call.fail(Fault::Memory),
         Err(_) => call.fail(Fault::Line),
@@ -41,26 +60,19 @@ pub(crate) fn table_of(call: &mut Call, mappings: &str, sets: &str) -> Option<Ta
     None
 }
 
-fn tables_in(
-    call: &mut Call,
-    folds: &str,
-    uppers: &str,
-    names: &str,
-    sets: &str,
-    strings: &str,
-) -> Result<Tables, TablesError> {
-    let (starts, further) = names.split_once(';').unwrap_or((names, ""));
+fn tables_in(call: &mut Call, stated: Stated) -> Result<Tables, TablesError> {
+    let (starts, further) = stated.names.split_once(';').unwrap_or((stated.names, ""));
     Tables::new(
         call.alloc(),
-        mappings_in(call, folds),
-        mappings_in(call, uppers),
+        mappings_in(call, stated.folds),
+        mappings_in(call, stated.uppers),
         call.set_in(starts),
         call.set_in(further),
-        sets_in(call, sets),
-        sets_in(call, sets),
-        sets_in(call, sets),
-        sets_in(call, sets),
-        lists_in(call, strings),
+        sets_in(call, stated.sets),
+        sets_in(call, stated.sets),
+        sets_in(call, stated.sets),
+        sets_in(call, stated.sets),
+        lists_in(call, stated.strings),
     )
 }
 

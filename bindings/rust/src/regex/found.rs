@@ -3,6 +3,7 @@
 use super::names::Names;
 use super::spans::Spans;
 use super::{Regex, SearchError};
+use crate::ffi::{self, MatchList};
 use std::fmt;
 use std::iter;
 use std::ops::{Index, Range};
@@ -40,16 +41,16 @@ pub type Captures<'t> = Match<'t>;
 impl<'t> Match<'t> {
     /// Returns the match with these spans.
     pub(crate) fn new(
-        regex: &Regex,
         text: &'t str,
         spans: Spans,
+        names: &Option<Arc<Names>>,
     ) -> Result<Match<'t>, SearchError> {
         match spans.get(0) {
             Some(range) if spans.are_in(text) => Ok(Match {
                 text,
                 range,
                 spans,
-                names: regex.compiled.named.clone(),
+                names: names.clone(),
             }),
             _ => Err(SearchError::Library),
         }
@@ -197,28 +198,62 @@ impl fmt::Debug for Match<'_> {
     }
 }
 
+/// The matches that a search has found, as the library lists them.
+pub(crate) struct Found<'t> {
+    text: &'t str,
+    list: MatchList,
+    /// How many are left.
+    left: usize,
+    /// The number of groups of the pattern.
+    groups: usize,
+    names: Option<Arc<Names>>,
+}
+
+impl<'t> Found<'t> {
+    pub(crate) fn new(regex: &Regex, text: &'t str, mut list: MatchList) -> Found<'t> {
+        let groups = regex.group_count();
+        Found {
+            text,
+            left: list.left() / (2 * (groups + 1)),
+            list,
+            groups,
+            names: regex.compiled.named.clone(),
+        }
+    }
+
+    /// Returns the next match.
+    pub(crate) fn next(&mut self) -> Option<Result<Match<'t>, SearchError>> {
+        if self.left == 0 {
+            return None;
+        }
+        self.left -= 1;
+        let mut spans = Spans::unset(self.groups);
+        match self.list.next(spans.numbers_mut()) {
+            ffi::OK => Some(Match::new(self.text, spans, &self.names)),
+            _ => Some(Err(SearchError::Library)),
+        }
+    }
+
+    /// Returns how many matches are left.
+    pub(crate) fn left(&self) -> usize {
+        self.left
+    }
+}
+
 /// The non-overlapping matches in a text, from left to right. [`Regex::find_iter`] returns it.
 pub struct Matches<'r, 't> {
     regex: &'r Regex,
-    text: &'t str,
-    /// The spans of all matches, and the index of those of the next one.
-    spans: Vec<usize>,
-    next: usize,
+    /// `None` after an error.
+    found: Option<Found<'t>>,
     error: Option<SearchError>,
 }
 
 impl<'r, 't> Matches<'r, 't> {
-    pub(crate) fn new(
-        regex: &'r Regex,
-        text: &'t str,
-        spans: Result<Vec<usize>, SearchError>,
-    ) -> Matches<'r, 't> {
-        let error = spans.as_ref().err().copied();
+    pub(crate) fn new(regex: &'r Regex, found: Result<Found<'t>, SearchError>) -> Matches<'r, 't> {
+        let error = found.as_ref().err().copied();
         Matches {
             regex,
-            text,
-            spans: spans.unwrap_or_default(),
-            next: 0,
+            found: found.ok(),
             error,
         }
     }
@@ -228,20 +263,17 @@ impl<'t> Iterator for Matches<'_, 't> {
     type Item = Result<Match<'t>, SearchError>;
 
     fn next(&mut self) -> Option<Result<Match<'t>, SearchError>> {
-        if let Some(error) = self.error.take() {
-            return Some(Err(error));
+        match &mut self.found {
+            Some(found) => found.next(),
+            None => self.error.take().map(Err),
         }
-        let mut spans = Spans::unset(self.regex.group_count());
-        let after = self.next + spans.numbers().len();
-        let numbers = self.spans.get(self.next..after)?;
-        spans.numbers_mut().copy_from_slice(numbers);
-        self.next = after;
-        Some(Match::new(self.regex, self.text, spans))
     }
 
     fn size_hint(&self) -> (usize, Option<usize>) {
-        let width = 2 * (self.regex.group_count() + 1);
-        let count = (self.spans.len() - self.next) / width + usize::from(self.error.is_some());
+        let count = match &self.found {
+            Some(found) => found.left(),
+            None => usize::from(self.error.is_some()),
+        };
         (count, Some(count))
     }
 }
@@ -254,7 +286,6 @@ impl fmt::Debug for Matches<'_, '_> {
     fn fmt(&self, f: &mut fmt::Formatter<'_>) -> fmt::Result {
         f.debug_struct("Matches")
             .field("regex", &self.regex)
-            .field("text", &self.text)
             .finish_non_exhaustive()
     }
 }

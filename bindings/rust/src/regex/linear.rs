@@ -1,5 +1,6 @@
 //! Regular expressions whose searches take linear time.
 
+use super::found::Found;
 use super::{Captures, Error, Match, Options, Regex, Replacer, SearchError, Split};
 use crate::flags::{Flags, PatternFlags};
 use std::alloc::{handle_alloc_error, Layout};
@@ -7,7 +8,6 @@ use std::borrow::Cow;
 use std::fmt;
 use std::iter::FusedIterator;
 use std::str::FromStr;
-use std::vec;
 
 /// A regular expression whose searches take linear time ([`Regex::is_linear`]). They cannot be out of steps, so that no
 /// call returns a `Result`, as in the crate `regex`. An allocation that fails aborts, as elsewhere in `std`.
@@ -76,7 +76,7 @@ impl LinearRegex {
 
     /// Returns an iterator over the non-overlapping matches in `text`, as [`Regex::find_iter`].
     pub fn find_iter<'t>(&self, text: &'t str) -> LinearMatches<'t> {
-        LinearMatches(found(self.0.find_all(text)).into_iter())
+        LinearMatches(found(self.0.found_from(text, 0)))
     }
 
     /// Returns an iterator over the non-overlapping matches in `text` with the captures of their groups: it is that of
@@ -153,21 +153,26 @@ impl fmt::Debug for LinearRegex {
 }
 
 /// The non-overlapping matches in a text, from left to right. [`LinearRegex::find_iter`] returns it.
-#[derive(Clone, Debug)]
-pub struct LinearMatches<'t>(vec::IntoIter<Match<'t>>);
+pub struct LinearMatches<'t>(Found<'t>);
 
 impl<'t> Iterator for LinearMatches<'t> {
     type Item = Match<'t>;
 
     fn next(&mut self) -> Option<Match<'t>> {
-        self.0.next()
+        self.0.next().map(found)
     }
 
     fn size_hint(&self) -> (usize, Option<usize>) {
-        self.0.size_hint()
+        (self.0.left(), Some(self.0.left()))
     }
 }
 
 impl ExactSizeIterator for LinearMatches<'_> {}
 
 impl FusedIterator for LinearMatches<'_> {}
+
+impl fmt::Debug for LinearMatches<'_> {
+    fn fmt(&self, f: &mut fmt::Formatter<'_>) -> fmt::Result {
+        f.debug_struct("LinearMatches").finish_non_exhaustive()
+    }
+}

@@ -13,10 +13,10 @@ returns-in-Ok-clause-found g c is =
     let contents = g.W.Write.contents in
     let old = contents c.args.out in
     let start = writer_contents contents c.in-Ok.buffered in
-    let between = writer_contents contents c.run_regex-status.new.out in
+    let between = writer_contents contents c.run_arguments-status.new.out in
     let input = g.I.Read.remaining c.args.input in
     let empty : start ≡ append_known old [] = λ i. append_known (contents (c.in-Ok.ensures.inner i)) (c.in-Ok.ensures.empty i) in
-    IfOk_then (asked_by c.args.arguments) (c.run_regex-status.ensures.found is)
+    IfOk_then (asked_by c.args.arguments) (c.run_arguments-status.ensures.found is)
     (λ ask written. ended contents between c.into_inner.result c.ok.result (λ new. Prints input old new _ ask) c.into_inner.ensures.ok
     c.ok.ensures.value (λ new kept. through input old start between new empty kept _ ask written))
 
@@ -25,9 +25,9 @@ returns-in-Ok-clause-none g c is =
     let contents = g.W.Write.contents in
     let old = contents c.args.out in
     let start = writer_contents contents c.in-Ok.buffered in
-    let between = writer_contents contents c.run_regex-status.new.out in
+    let between = writer_contents contents c.run_arguments-status.new.out in
     let input = g.I.Read.remaining c.args.input in
     let empty : start ≡ append_known old [] = λ i. append_known (contents (c.in-Ok.ensures.inner i)) (c.in-Ok.ensures.empty i) in
-    IfOk_then (asked_by c.args.arguments) (c.run_regex-status.ensures.none is)
+    IfOk_then (asked_by c.args.arguments) (c.run_arguments-status.ensures.none is)
     (λ ask written. ended contents between c.into_inner.result c.ok.result (λ new. Prints input old new _ ask) c.into_inner.ensures.ok
     c.ok.ensures.value (λ new kept. through input old start between new empty kept _ ask written))

@@ -1,7 +1,6 @@
 -- The steps of a repeated search are at most what its searches cost.
 use Rattle.std.proofs.Common.{◌≡◌, ◌∙◌, ℕ, ◌+◌, ◌-◌, ◌≤◌, List, [], ◌∷◌, ◌++◌, Some, None, IfNone, arith, subst, sym, ap}
 use Rattle.std.specs.Prelude.{Err, Ok}
-use Rattle.regress_front.specs.Steps.{MatchState}
 use Rattle.regress_program.specs.Cost.{Cost}
 use Rattle.regress_program.specs.Program.{Out}
 use Rattle.regress_found.specs.Repeated.{AreMatches}
@@ -12,9 +11,9 @@ use Rattle.regress_match.specs.Matcher as program
 use Rattle.regress_match.proofs.lemmas.Costs.{has_costs}
 use Rattle.regress_match.proofs.lemmas.Matches.{matches_cost-more}
 use Rattle.regress.specs.Compiled.{outcomes_of}
-use Rattle.regress.specs.Costs.{AllCostLimit, AllAreTooCostly, factor_of, limit_of, matcher_of}
+use Rattle.regress.specs.Costs.{AllAreTooCostly, factor_of, limit_of, matcher_of}
 use Rattle.regress.specs.Found.{match_of}
-use Rattle.regress.specs.Searched.{Advances, next_from, search_limit, search_remaining, searched_factor, searched_matcher, searched_text}
+use Rattle.regress.specs.Searched.{Advances, next_from, search_limit, search_remaining, searched_matcher, searched_text}
 use Rattle.regress.specs.declared.failure.SearchError.{SearchError}
 use Rattle.regress.specs.declared.failure.SearchError.TheVariants.{OutOfSteps}
 use Rattle.regress.specs.declared.found.Match.{Match}

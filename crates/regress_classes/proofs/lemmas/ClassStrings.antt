@@ -8,14 +8,17 @@ use Rattle.std.specs.Str.{bytes_eq}
 use Rattle.regress_base.specs.Intervals.{Bounds, code_point_max}
 use Rattle.regress_base.specs.Limits.{max_nesting_depth}
 use Rattle.regress_base.specs.Table.{Table, Named, named, is_string, IsValidTable}
+use Rattle.regress_lexer.specs.declared.dialect.Dialect.{Dialect}
+use Rattle.regress_lexer.specs.Dialects.{isolates_ampersand, judges_contents}
 use Rattle.regress_lexer.specs.Source.{Source, Found, ◌>>=◌, found_map, IsCodePoint, is_at, first_production}
+use Rattle.regress_classes.specs.declared.parameters.Parameters.{Parameters}
 use Rattle.regress_classes.specs.Properties.{Property, of_points, of_strings, list_named, strings_named, lone_value, value_in, closed_property, property_at, property_word_at}
 use Rattle.regress_classes.specs.ClassProductions.{class_letter, class_members, one_point, complement_if}
-use Rattle.regress_classes.specs.ClassSets.{Value, has_strings, nothing, only, joined, folded_left, common, without, is_among, value_of_string, value_of_strings, nested, unless_negated_strings, Operand, character, class, value_of, is_set_syntax, is_double, begins_double, is_reserved, escaped_character_at, set_character_at, strings_by, quoted_at, property_operand, operand_productions, escaped_operand_at, operand_at, range_of, part_after, parts_by, are_at, operands_by, contents_after, contents_at, class_set_by, class_set_at}
+use Rattle.regress_classes.specs.ClassSets.{Value, is_not_negatable, nothing, only, joined, folded_left, common, without, is_among, value_of_string, value_of_strings, nested, unless_negated_strings, Operand, character, class, value_of, is_set_syntax, begins_pair, is_reserved, escaped_character_at, set_character_at, strings_by, quoted_at, property_operand, operand_productions, escaped_operand_at, operand_at, next_operand_at, range_of, part_after, parts_by, are_at, operands_by, contents_after, contents_at, class_set_by, class_set_at}
 use Rattle.regress_lexer.proofs.lemmas.Digits.{and_both}
 use Rattle.regress_lexer.proofs.lemmas.After.{Ends, ends_then, after_all}
 use Rattle.regress_lexer.proofs.lemmas.InRange.{Finds, finds_none, finds_some, finds_cond, finds_then, finds_map, escape_at-in_range}
-use Rattle.regress_classes.proofs.lemmas.ClassSets.{set_character_at-ends, operand_at-ends, part_after-ends, class_set_by-ends}
+use Rattle.regress_classes.proofs.lemmas.ClassSets.{set_character_at-ends, operand_at-ends, next_operand_at-ends, part_after-ends, class_set_by-ends}
 use Rattle.regress_lexer.proofs.lemmas.Sources.{EachProduction, no_more, ◌also◌, first_production-has}
 
 abbrev pub OfCodePoints : List (List ℕ) → Type 0
@@ -133,27 +136,27 @@ escaped_character_at-in_range unicode (c ∷ t) all =
     (λ _. escape_at-in_range unicode (c ∷ t) all))
 
 -- A character is a code point.
-pub set_character_at-in_range : (unicode : Bool) (t : Source) → All IsCodePoint t → Finds IsCodePoint (set_character_at unicode t)
+pub set_character_at-in_range : (parameters : Parameters) (t : Source) → All IsCodePoint t → Finds IsCodePoint (set_character_at parameters t)
 unfolding set_character_at
-set_character_at-in_range unicode [] all = finds_none _
-set_character_at-in_range unicode (c ∷ t) all =
-    finds_cond _ (c == 92) _ _ (λ _. escaped_character_at-in_range unicode t (All-drop IsCodePoint 1 (c ∷ t) all))
-    (λ _. finds_cond _ (is_set_syntax c || (is_double c && begins_double t)) _ _ (λ _. finds_none _)
+set_character_at-in_range parameters [] all = finds_none _
+set_character_at-in_range parameters (c ∷ t) all =
+    finds_cond _ (c == 92) _ _ (λ _. escaped_character_at-in_range parameters.unicode t (All-drop IsCodePoint 1 (c ∷ t) all))
+    (λ _. finds_cond _ (is_set_syntax c || begins_pair parameters.dialect c t) _ _ (λ _. finds_none _)
     (λ _. finds_some _ (c, t) (All-head IsCodePoint c t all)))
 
-strings_by-in_range : (n : ℕ) (unicode : Bool) (s : List ℕ) (t : Source) → All IsCodePoint s → All IsCodePoint t →
-    Finds OfCodePoints (strings_by n unicode s t)
+strings_by-in_range : (n : ℕ) (parameters : Parameters) (s : List ℕ) (t : Source) → All IsCodePoint s → All IsCodePoint t →
+    Finds OfCodePoints (strings_by n parameters s t)
 unfolding strings_by
-strings_by-in_range zero unicode s t h all = finds_none _
-strings_by-in_range (suc n) unicode s t h all =
+strings_by-in_range zero parameters s t h all = finds_none _
+strings_by-in_range (suc n) parameters s t h all =
     finds_cond _ (is_at 125 t) _ _ (λ _. finds_some _ (s ∷ [], drop 1 t) (All-cons (All IsCodePoint) s [] h (All-nil _)))
     (λ _. finds_cond _ (is_at 124 t) _ _
-    (λ _. finds_map OfCodePoints OfCodePoints (λ ss. s ∷ ss) (strings_by n unicode [] (drop 1 t))
+    (λ _. finds_map OfCodePoints OfCodePoints (λ ss. s ∷ ss) (strings_by n parameters [] (drop 1 t))
     (λ ss k. All-cons (All IsCodePoint) s ss h k)
-    (strings_by-in_range n unicode [] (drop 1 t) (All-nil _) (All-drop IsCodePoint 1 t all)))
-    (λ _. finds_next IsCodePoint OfCodePoints (set_character_at unicode t) _ t (set_character_at-in_range unicode t all)
-    (set_character_at-ends unicode t) all
-    (λ x c_in rest. strings_by-in_range n unicode (s ++ x.0 ∷ []) x.1
+    (strings_by-in_range n parameters [] (drop 1 t) (All-nil _) (All-drop IsCodePoint 1 t all)))
+    (λ _. finds_next IsCodePoint OfCodePoints (set_character_at parameters t) _ t (set_character_at-in_range parameters t all)
+    (set_character_at-ends parameters t) all
+    (λ x c_in rest. strings_by-in_range n parameters (s ++ x.0 ∷ []) x.1
     (All-append IsCodePoint s (x.0 ∷ []) h (All-cons IsCodePoint x.0 [] c_in (All-nil _))) rest)))
 
 -- ---- predicates that are kept
@@ -169,11 +172,11 @@ module _ (P : Value → Type 0) (kept : IsKept P) where
   value_of-kept (character c) h = kept.points (one_point c)
   value_of-kept (class value) h = h
 
-  quoted_at-kept : (unicode : Bool) (t : Source) → All IsCodePoint t → Finds (Holds P) (quoted_at unicode t)
-  quoted_at-kept unicode t all =
+  quoted_at-kept : (parameters : Parameters) (t : Source) → All IsCodePoint t → Finds (Holds P) (quoted_at parameters t)
+  quoted_at-kept parameters t all =
       finds_cond _ (is_at 123 t) _ _
-      (λ _. finds_map OfCodePoints (Holds P) _ (strings_by (length t) unicode [] (drop 1 t)) kept.strings
-      (strings_by-in_range (length t) unicode [] (drop 1 t) (All-nil _) (All-drop IsCodePoint 1 t all)))
+      (λ _. finds_map OfCodePoints (Holds P) _ (strings_by (length t) parameters [] (drop 1 t)) kept.strings
+      (strings_by-in_range (length t) parameters [] (drop 1 t) (All-nil _) (All-drop IsCodePoint 1 t all)))
       (λ _. finds_none _)
 
   property_operand-kept : (in_negated negated : Bool) (x : Property × Source) → PropertyInRange x.0 →
@@ -184,39 +187,39 @@ module _ (P : Value → Type 0) (kept : IsKept P) where
       finds_cond _ (in_negated || negated) _ _ (λ _. finds_none _)
       (λ _. finds_some _ (class (value_of_strings written), t) (kept.strings written h))
 
-  module _ (table : Table) (lawful : IsValidTable table) (unicode : Bool) where
+  module _ (table : Table) (lawful : IsValidTable table) (parameters : Parameters) where
     operand_productions-kept : (in_negated : Bool) (c : ℕ) (t : Source) → All IsCodePoint (c ∷ t) →
-        EachProduction (Finds (Holds P)) (operand_productions table unicode in_negated c t)
+        EachProduction (Finds (Holds P)) (operand_productions table parameters in_negated c t)
     operand_productions-kept in_negated c t all =
-        (λ _. quoted_at-kept unicode t (All-drop IsCodePoint 1 (c ∷ t) all))
+        (λ _. quoted_at-kept parameters t (All-drop IsCodePoint 1 (c ∷ t) all))
         also (λ _. finds_then PropertyInRange (Holds P) (property_at true table t) _ (property_at-in_range table lawful true t)
         (property_operand-kept in_negated _))
-        also (λ _. finds_map IsCodePoint (Holds P) character _ (λ d h. h) (escaped_character_at-in_range unicode (c ∷ t) all))
+        also (λ _. finds_map IsCodePoint (Holds P) character _ (λ d h. h) (escaped_character_at-in_range parameters.unicode (c ∷ t) all))
         also no_more
 
     escaped_operand_at-kept : (in_negated : Bool) (t : Source) → All IsCodePoint t →
-        Finds (Holds P) (escaped_operand_at table unicode in_negated t)
+        Finds (Holds P) (escaped_operand_at table parameters in_negated t)
     escaped_operand_at-kept in_negated [] all = finds_none _
     escaped_operand_at-kept in_negated (c ∷ t) all =
         elim (class_letter c) as (λ named. Finds (Holds P) (elim named as (λ _. Found Operand) [
           | Some name ↦ Some (class (only (class_members name)), t)
-          | None ↦ first_production (operand_productions table unicode in_negated c t)
+          | None ↦ first_production (operand_productions table parameters in_negated c t)
         ])) [
           | Some name ↦ finds_some _ (class (only (class_members name)), t) (kept.points (class_members name))
-          | None ↦ first_production-has (Finds (Holds P)) (operand_productions table unicode in_negated c t) (finds_none _) (operand_productions-kept in_negated c t all)
+          | None ↦ first_production-has (Finds (Holds P)) (operand_productions table parameters in_negated c t) (finds_none _) (operand_productions-kept in_negated c t all)
         ]
 
     module _ (inner : Source → Found (Bool × Value)) (inner_ends : (t : Source) → Ends (inner t) t)
         (I : Bool × Value → Type 0) (nest : (found : Bool × Value) → I found → P (nested found))
         (inner_in : (t : Source) → All IsCodePoint t → Finds I (inner t)) (in_negated : Bool) where
-      operand_at-kept : (t : Source) → All IsCodePoint t → Finds (Holds P) (operand_at table unicode inner in_negated t)
+      operand_at-kept : (t : Source) → All IsCodePoint t → Finds (Holds P) (operand_at table parameters inner in_negated t)
       unfolding operand_at
       operand_at-kept t all =
           let rest = All-drop IsCodePoint 1 t all in
           finds_cond _ (is_at 91 t) _ _
           (λ _. finds_map I (Holds P) _ (inner (drop 1 t)) nest (inner_in (drop 1 t) rest))
           (λ _. finds_cond _ (is_at 92 t) _ _ (λ _. escaped_operand_at-kept in_negated (drop 1 t) rest)
-          (λ _. finds_map IsCodePoint (Holds P) character (set_character_at unicode t) (λ c h. h) (set_character_at-in_range unicode t all)))
+          (λ _. finds_map IsCodePoint (Holds P) character (set_character_at parameters t) (λ c h. h) (set_character_at-in_range parameters t all)))
 
       made-kept : (made : Option (List Bounds)) (t : Source) →
           Finds P (elim made as (λ _. Found Value) [ None ↦ None | Some members ↦ Some (only members, t) ])
@@ -224,41 +227,45 @@ module _ (P : Value → Type 0) (kept : IsKept P) where
       made-kept (Some members) t = finds_some _ (only members, t) (kept.points members)
 
       part_after-kept : (x : Operand × Source) → Holds P x.0 → All IsCodePoint x.1 →
-          Finds P (part_after table unicode inner in_negated x)
+          Finds P (part_after table parameters inner in_negated x)
       part_after-kept (first, t) h all =
           finds_cond _ (is_at 45 t) _ _
-          (λ _. finds_then (Holds P) P (operand_at table unicode inner in_negated (drop 1 t)) _
+          (λ _. finds_then (Holds P) P (operand_at table parameters inner in_negated (drop 1 t)) _
           (operand_at-kept (drop 1 t) (All-drop IsCodePoint 1 t all)) (λ x _. made-kept (range_of first x.0) x.1))
           (λ _. finds_some _ (value_of first, t) (value_of-kept first h))
 
-      operand_ends : (t : Source) → Ends (operand_at table unicode inner in_negated t) t
-      operand_ends = operand_at-ends table unicode inner inner_ends in_negated
+      operand_ends : (t : Source) → Ends (operand_at table parameters inner in_negated t) t
+      operand_ends = operand_at-ends table parameters inner inner_ends in_negated
 
-      after_ends : (x : Operand × Source) → Ends (part_after table unicode inner in_negated x) x.1
-      after_ends = part_after-ends table unicode inner inner_ends in_negated
+      after_ends : (x : Operand × Source) → Ends (part_after table parameters inner in_negated x) x.1
+      after_ends = part_after-ends table parameters inner inner_ends in_negated
 
-      parts_by-kept : (n : ℕ) (t : Source) → All IsCodePoint t → Finds (All P) (parts_by table unicode inner in_negated n t)
+      parts_by-kept : (n : ℕ) (t : Source) → All IsCodePoint t → Finds (All P) (parts_by table parameters inner in_negated n t)
       unfolding parts_by
       parts_by-kept zero t all = finds_none _
       parts_by-kept (suc n) t all =
           finds_cond _ (is_at 93 t) _ _ (λ _. finds_some _ ([], drop 1 t) (All-nil P))
           (λ _. finds_next P (All P) _ _ t
-          (finds_next (Holds P) P (operand_at table unicode inner in_negated t) _ t (operand_at-kept t all) (operand_ends t) all
+          (finds_next (Holds P) P (operand_at table parameters inner in_negated t) _ t (operand_at-kept t all) (operand_ends t) all
           part_after-kept)
           (ends_then _ _ t (operand_ends t) after_ends) all
-          (λ x k rest. finds_map (All P) (All P) (λ parts. x.0 ∷ parts) (parts_by table unicode inner in_negated n x.1)
+          (λ x k rest. finds_map (All P) (All P) (λ parts. x.0 ∷ parts) (parts_by table parameters inner in_negated n x.1)
           (λ parts. All-cons P x.0 parts k) (parts_by-kept n x.1 rest)))
 
-      operands_by-kept : (n c : ℕ) (t : Source) → All IsCodePoint t → Finds (All P) (operands_by table unicode inner in_negated n c t)
+      next_operand_at-kept : (c : ℕ) (t : Source) → All IsCodePoint t → Finds (Holds P) (next_operand_at table parameters inner in_negated c t)
+      next_operand_at-kept c t all = finds_cond _ (not (isolates_ampersand parameters.dialect) && is_at c t) _ _ (λ _. finds_none _) (λ _. operand_at-kept t all)
+
+      operands_by-kept : (n c : ℕ) (t : Source) → All IsCodePoint t → Finds (All P) (operands_by table parameters inner in_negated n c t)
       unfolding operands_by
       operands_by-kept zero c t all = finds_none _
       operands_by-kept (suc n) c t all =
-          finds_next (Holds P) (All P) (operand_at table unicode inner in_negated t) _ t (operand_at-kept t all) (operand_ends t) all
+          finds_next (Holds P) (All P) (next_operand_at table parameters inner in_negated c t) _ t (next_operand_at-kept c t all)
+          (next_operand_at-ends table parameters inner inner_ends in_negated c t) all
           (λ x k rest.
           let has = value_of-kept x.0 k in
           finds_cond _ (is_at 93 x.1) _ _ (λ _. finds_some _ (value_of x.0 ∷ [], drop 1 x.1) (All-cons P (value_of x.0) [] has (All-nil P)))
           (λ _. finds_cond _ (are_at c x.1) _ _
-          (λ _. finds_map (All P) (All P) (λ others. value_of x.0 ∷ others) (operands_by table unicode inner in_negated n c (drop 2 x.1))
+          (λ _. finds_map (All P) (All P) (λ others. value_of x.0 ∷ others) (operands_by table parameters inner in_negated n c (drop 2 x.1))
           (λ others. All-cons P (value_of x.0) others has) (operands_by-kept n c (drop 2 x.1) (All-drop IsCodePoint 2 x.1 rest)))
           (λ _. finds_none _)))
 
@@ -269,7 +276,7 @@ module _ (P : Value → Type 0) (kept : IsKept P) where
           finds_map (All P) P (folded_left f held) found (λ others. folded_left-kept P f keeps held others h) all
 
       contents_after-kept : (x : Operand × Source) → Holds P x.0 → All IsCodePoint x.1 →
-          Finds P (contents_after table unicode inner in_negated x)
+          Finds P (contents_after table parameters inner in_negated x)
       contents_after-kept (first, t) h all =
           let held = value_of-kept first h in
           let one = All-drop IsCodePoint 1 t all in
@@ -278,27 +285,27 @@ module _ (P : Value → Type 0) (kept : IsKept P) where
           (λ _. onto-kept common (value_of first) _ kept.intersects held (operands_by-kept _ 38 (drop 2 t) two))
           (λ _. finds_cond _ (are_at 45 t) _ _
           (λ _. onto-kept without (value_of first) _ kept.subtracts held (operands_by-kept _ 45 (drop 2 t) two))
-          (λ _. finds_cond _ (is_at 38 t) _ _
+          (λ _. finds_cond _ (is_at 38 t && isolates_ampersand parameters.dialect) _ _
           (λ _. onto-kept joined (joined (value_of first) (only (one_point 38))) _ kept.joins
           (kept.joins (value_of first) (only (one_point 38)) held (kept.points (one_point 38))) (parts_by-kept _ (drop 1 t) one))
-          (λ _. finds_next P P (part_after table unicode inner in_negated (first, t)) _ t
+          (λ _. finds_next P P (part_after table parameters inner in_negated (first, t)) _ t
           (part_after-kept (first, t) h all) (after_ends (first, t)) all
           (λ x k rest. onto-kept joined x.0 _ kept.joins k (parts_by-kept (length x.1 + 1) x.1 rest)))))
 
-      contents_at-kept : (t : Source) → All IsCodePoint t → Finds P (contents_at table unicode inner in_negated t)
+      contents_at-kept : (t : Source) → All IsCodePoint t → Finds P (contents_at table parameters inner in_negated t)
       contents_at-kept t all =
           finds_cond _ (is_at 93 t) _ _ (λ _. finds_some _ (nothing, drop 1 t) (kept.points []))
-          (λ _. finds_next (Holds P) P (operand_at table unicode inner in_negated t) _ t (operand_at-kept t all) (operand_ends t) all
+          (λ _. finds_next (Holds P) P (operand_at table parameters inner in_negated t) _ t (operand_at-kept t all) (operand_ends t) all
           contents_after-kept)
 
 inside-in_range : (t : Source) → All IsCodePoint t → All IsCodePoint (cond (is_at 94 t) (drop 1 t) t)
 inside-in_range t all =
     elim (is_at 94 t) as (λ b. All IsCodePoint (cond b (drop 1 t) t)) [ true ↦ All-drop IsCodePoint 1 t all | false ↦ all ]
 
-unless_negated_strings-kept : (P : Value → Type 0) (negated : Bool) (x : Value × Source) → P x.0 →
-    Finds (λ found. P found.1) (unless_negated_strings negated x)
-unless_negated_strings-kept P negated (v, t) h =
-    finds_cond _ (negated && has_strings v) _ _ (λ _. finds_none _) (λ _. finds_some _ ((negated, v), t) h)
+unless_negated_strings-kept : (P : Value → Type 0) (dialect : Dialect) (negated : Bool) (x : Value × Source) → P x.0 →
+    Finds (λ found. P found.1) (unless_negated_strings dialect negated x)
+unless_negated_strings-kept P dialect negated (v, t) h =
+    finds_cond _ (negated && is_not_negatable dialect v) _ _ (λ _. finds_none _) (λ _. finds_some _ ((negated, v), t) h)
 
 -- ---- strings of code points
 
@@ -345,28 +352,29 @@ nesting_kept n = record {
 
 -- ---- classes
 
-module _ (table : Table) (lawful : IsValidTable table) (unicode : Bool) where
-  class_set_by-in_range : (n : ℕ) (t : Source) → All IsCodePoint t → Finds (λ found. ValueInRange found.1) (class_set_by table unicode n t)
+module _ (table : Table) (lawful : IsValidTable table) (parameters : Parameters) where
+  class_set_by-in_range : (n : ℕ) (t : Source) → All IsCodePoint t → Finds (λ found. ValueInRange found.1) (class_set_by table parameters n t)
   unfolding class_set_by
   class_set_by-in_range zero t all = finds_none _
   class_set_by-in_range (suc n) t all =
       finds_then ValueInRange _ _ _
-      (contents_at-kept ValueInRange strings_kept table lawful unicode (class_set_by table unicode n) (class_set_by-ends table unicode n)
-      (λ found. ValueInRange found.1) (λ found h. h) (class_set_by-in_range n) (is_at 94 t) (cond (is_at 94 t) (drop 1 t) t) (inside-in_range t all))
-      (unless_negated_strings-kept ValueInRange (is_at 94 t))
+      (contents_at-kept ValueInRange strings_kept table lawful parameters (class_set_by table parameters n) (class_set_by-ends table parameters n)
+      (λ found. ValueInRange found.1) (λ found h. h) (class_set_by-in_range n) (is_at 94 t && judges_contents parameters.dialect) (cond (is_at 94 t) (drop 1 t) t) (inside-in_range t all))
+      (unless_negated_strings-kept ValueInRange parameters.dialect (is_at 94 t))
 
   -- The strings of a class consist of code points.
   pub class_set_at-in_range : (t : Source) → All IsCodePoint t →
-      Finds (λ found. All (All IsCodePoint) found.1.strings) (class_set_at table unicode t)
+      Finds (λ found. All (All IsCodePoint) found.1.strings) (class_set_at table parameters t)
   class_set_at-in_range t all = class_set_by-in_range max_nesting_depth t all
 
   -- How deep the classes in a class nest.
-  pub class_set_by-nesting : (n : ℕ) (t : Source) → All IsCodePoint t → Finds (λ found. found.1.nesting < n) (class_set_by table unicode n t)
+  pub class_set_by-nesting : (n : ℕ) (t : Source) → All IsCodePoint t → Finds (λ found. found.1.nesting < n) (class_set_by table parameters n t)
   unfolding class_set_by
   class_set_by-nesting zero t all = finds_none _
   class_set_by-nesting (suc n) t all =
       finds_then (λ value. value.nesting ≤ n) _ _ _
-      (contents_at-kept (λ value. value.nesting ≤ n) (nesting_kept n) table lawful unicode (class_set_by table unicode n)
-      (class_set_by-ends table unicode n) (λ found. found.1.nesting < n) (λ found h. omega (arith, h)) (class_set_by-nesting n) (is_at 94 t)
+      (contents_at-kept (λ value. value.nesting ≤ n) (nesting_kept n) table lawful parameters (class_set_by table parameters n)
+      (class_set_by-ends table parameters n) (λ found. found.1.nesting < n) (λ found h. omega (arith, h)) (class_set_by-nesting n)
+      (is_at 94 t && judges_contents parameters.dialect)
       (cond (is_at 94 t) (drop 1 t) t) (inside-in_range t all))
-      (λ x h. unless_negated_strings-kept (λ value. value.nesting < suc n) (is_at 94 t) x (omega (arith, h)))
+      (λ x h. unless_negated_strings-kept (λ value. value.nesting < suc n) parameters.dialect (is_at 94 t) x (omega (arith, h)))

@@ -51,7 +51,7 @@ pub(super) fn read_escaped_operand(
     begin: usize,
 ) -> Result<Operand, Fault>
     ensures value { ParsesAs IsOperand (source cursor.new) result
-        (escaped_operand_at (table_of around.now.tables.now) around.now.unicode around.now.negated (source cursor.old)) }
+        (escaped_operand_at (table_of around.now.tables.now) around.now.parameters.now around.now.negated (source cursor.old)) }
     ensures kind { FailsByNoLimit result }
 {
     let Some((c, rest)) = cursor.rest.split_first() else {
@@ -63,12 +63,12 @@ pub(super) fn read_escaped_operand(
         Ok(Operand::Class(class_value(cursor.alloc, kind, negated)?))
     } else if c == u32::from('q') {
         cursor.rest = rest;
-        read_quoted(cursor, around.unicode, begin)
+        read_quoted(cursor, around.parameters, begin)
     } else if is_property_letter(c) {
         cursor.rest = rest;
         read_property_operand(cursor, around, c == u32::from('P'), begin)
     } else {
-        let character = read_escaped_character(cursor, around.unicode, begin)?;
+        let character = read_escaped_character(cursor, around.parameters.unicode, begin)?;
         Ok(Operand::Character(character))
     }
 }

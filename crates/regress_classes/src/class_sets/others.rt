@@ -5,7 +5,7 @@ ghost use Rattle.std.specs.Cmp.Lexicographic.{slice_cmp};
 ghost use Rattle.std.specs.Ordering.{nat_cmp};
 ghost use Rattle.regress_base.specs.Intervals.{Bounds};
 ghost use Rattle.regress_classes.specs.ClassSets.{Value as Written, only, joined, is_among};
-ghost use Rattle.regress_classes.specs.ClassViews.{HasOthers, AreKeptStrings, strings_of, applied, kept};
+ghost use Rattle.regress_classes.specs.ClassViews.{HasOthers, AreKeptStrings, strings_of, applied, kept, may_be_left};
 
 use super::Operator;
 use std::alloc::{AllocError, Global};
@@ -18,6 +18,8 @@ pub struct Others {
     pub strings: Vec<Vec<u32>>,
     /// Whether the class has the empty string.
     pub has_empty: bool,
+    /// Whether what is written may contain strings (ECMA-262, MayContainStrings).
+    pub may_have_strings: bool,
     /// How deep classes nest inside the class: 0 if there is none.
     pub nesting: u32,
 }
@@ -30,6 +32,7 @@ impl Others {
         Others {
             strings: Vec::new(alloc),
             has_empty: false,
+            may_have_strings: false,
             nesting: 0,
         }
     }
@@ -40,6 +43,7 @@ impl Others {
     {
         self.strings.append(&mut other.strings)?;
         self.has_empty |= other.has_empty;
+        self.may_have_strings |= other.may_have_strings;
         self.nesting = self.nesting.max(other.nesting);
         Ok(())
     }
@@ -49,6 +53,7 @@ impl Others {
         ensures strings { OnOk result (self.new.strings.items
             ≡ filter (λ string. kept operator (is_among (strings_of other.now.strings.items) string.items)) self.old.strings.items) }
         ensures has_empty { OnOk result (self.new.has_empty ≡ (self.old.has_empty && kept operator other.now.has_empty)) }
+        ensures may { OnOk result (self.new.may_have_strings ≡ may_be_left operator self.old.may_have_strings other.now.may_have_strings) }
         ensures nesting { OnOk result (self.new.nesting ≡ max self.old.nesting other.now.nesting) }
     {
         match operator {
@@ -56,6 +61,11 @@ impl Others {
             Operator::Subtraction => remove_strings(&mut self.strings, &other.strings)?,
         }
         self.has_empty &= operator.keeps(other.has_empty);
+        self.may_have_strings = may_be_left(
+            operator,
+            self.may_have_strings,
+            other.may_have_strings,
+        );
         self.nesting = self.nesting.max(other.nesting);
         Ok(())
     }
@@ -68,6 +78,7 @@ impl Others {
         Ok(Others {
             strings: both_strings(operator, self.strings, other.strings)?,
             has_empty: both(operator, self.has_empty, other.has_empty),
+            may_have_strings: self.may_have_strings & other.may_have_strings,
             nesting: self.nesting.max(other.nesting),
         })
     }
@@ -125,6 +136,16 @@ fn both_strings(
             strings.append(&mut others)?;
             Ok(strings)
         }
+    }
+}
+
+/// Returns whether what an operator leaves may have strings, given whether its operands may.
+fn may_be_left(operator: Operator, first: bool, other: bool) -> bool
+    ensures { result ≡ may_be_left operator first other }
+{
+    match operator {
+        Operator::Intersection => first && other,
+        Operator::Subtraction => first,
     }
 }
 

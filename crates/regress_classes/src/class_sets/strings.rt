@@ -9,6 +9,7 @@ ghost use Rattle.regress_lexer.specs.Views.{source};
 use super::character::parse_set_character;
 use super::operand::Operand;
 use super::value::Value;
+use crate::parameters::Parameters;
 use regress_lexer::cursor::Cursor;
 use regress_lexer::fault::{Fault, FaultKind, rejected};
 
@@ -16,22 +17,22 @@ use regress_lexer::fault::{Fault, FaultKind, rejected};
 /// before the backslash.
 pub(super) fn read_quoted(
     cursor: &mut Cursor,
-    unicode: bool,
+    parameters: &Parameters,
     begin: usize,
 ) -> Result<Operand, Fault>
-    ensures value { ParsesAs IsOperand (source cursor.new) result (quoted_at unicode (source cursor.old)) }
+    ensures value { ParsesAs IsOperand (source cursor.new) result (quoted_at parameters.now (source cursor.old)) }
     ensures kind { FailsByNoLimit result }
 {
     if !cursor.try_consume('{') {
         return Err(cursor.reject(FaultKind::StringsWithoutBrace));
     }
-    Ok(Operand::Class(read_strings(cursor, unicode, begin)?))
+    Ok(Operand::Class(read_strings(cursor, parameters, begin)?))
 }
 
 /// Parses strings with `|` between them, up to `}`.
-fn read_strings(cursor: &mut Cursor, unicode: bool, begin: usize) -> Result<Value, Fault>
+fn read_strings(cursor: &mut Cursor, parameters: &Parameters, begin: usize) -> Result<Value, Fault>
     ensures value { let t = source cursor.old in
-        ParsesAs (λ held strings. IsValue held (value_of_strings strings)) (source cursor.new) result (strings_by (length t + 1) unicode [] t) }
+        ParsesAs (λ held strings. IsValue held (value_of_strings strings)) (source cursor.new) result (strings_by (length t + 1) parameters.now [] t) }
     ensures kind { FailsByNoLimit result }
 {
     let mut value = Value::new(cursor.alloc);
@@ -43,7 +44,7 @@ fn read_strings(cursor: &mut Cursor, unicode: bool, begin: usize) -> Result<Valu
         } else if cursor.rest.is_empty() {
             return Err(rejected(begin, FaultKind::UnbalancedStrings));
         } else {
-            string.push(parse_set_character(cursor, unicode)?)?;
+            string.push(parse_set_character(cursor, parameters)?)?;
         }
     }
     cursor.try_consume('}');

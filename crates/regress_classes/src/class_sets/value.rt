@@ -2,13 +2,14 @@
 ghost use Rattle.std.specs.Prelude.{◌≡◌, ◌&&◌, ℕ, All, List, IfOk, OnOk};
 ghost use Rattle.regress_base.specs.Intervals.{Bounds, is_member, IsCanonical};
 ghost use Rattle.regress_classes.specs.ClassProductions.{one_point};
-ghost use Rattle.regress_classes.specs.ClassSets.{Value as Written, nothing, has_strings, only, joined, value_of_string};
+ghost use Rattle.regress_classes.specs.ClassSets.{Value as Written, nothing, has_strings, is_not_negatable, only, joined, value_of_string};
 ghost use Rattle.regress_lexer.specs.Source.{IsCodePoint};
 ghost use Rattle.regress_classes.specs.ClassViews.{HasMembers, IsValue, applied, kept};
 
 use super::Operator;
 use super::others::Others;
 use regress_base::codepointset::CodePointSet;
+use regress_lexer::Dialect;
 use std::alloc::{AllocError, Global};
 
 /// The contents of a class with the flag v: code points and strings.
@@ -45,6 +46,13 @@ impl Value {
         !self.others.strings.is_empty() || self.others.has_empty
     }
 
+    /// Returns whether the class may not be negated in a dialect: it has strings, or it may have them by what is written.
+    pub(super) fn is_not_negatable(&self, dialect: Dialect) -> bool
+        ensures { (value : Written) → IsValue self.now value → result ≡ is_not_negatable dialect value }
+    {
+        self.has_strings() || (!dialect.judges_contents() && self.others.may_have_strings)
+    }
+
     /// Returns one code point.
     pub(super) fn of_point(alloc: Global, c: u32) -> Result<Value, AllocError>
         requires { IsCodePoint c }
@@ -61,9 +69,15 @@ impl Value {
         ensures { OnOk result ((a : Written) → IsValue self.old a → IsValue self.new (joined a (value_of_string string.items))) }
     {
         match string.as_slice() {
-            [] => self.others.has_empty = true,
+            [] => {
+                self.others.has_empty = true;
+                self.others.may_have_strings = true;
+            }
             [c] => self.set.add_one(*c)?,
-            _ => self.others.strings.push(string)?,
+            _ => {
+                self.others.strings.push(string)?;
+                self.others.may_have_strings = true;
+            }
         }
         Ok(())
     }

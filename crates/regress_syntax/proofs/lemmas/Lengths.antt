@@ -9,6 +9,7 @@ use Rattle.regress_lexer.specs.Source.{Source, Found, opening, closing, bar, que
 use Rattle.regress_lexer.specs.Quantifiers.{quantifier_at, is_ordered}
 use Rattle.regress_lexer.proofs.lemmas.Sources.{chosen}
 use Rattle.regress_lexer.proofs.lemmas.After.{quantifier_at-shortens}
+use Rattle.regress_classes.specs.declared.parameters.Parameters.{Parameters}
 use Rattle.regress_classes.specs.ClassSets.{Value, class_set_at}
 use Rattle.regress_syntax.specs.Syntax.{Name, Group, grouping, modified, capture, look, opened_by}
 use Rattle.regress_syntax.specs.Names.{group_name_at}
@@ -155,11 +156,11 @@ pub deepest-length : (sets : Bool) (table : Table) (t : Source) → deepest 1 (t
 deepest-length sets table t = omega (arith, no_deeper sets table t plain tt 1 (omega arith))
 
 -- The nesting depth of a class is at most the number of its code points.
-pub class_set_at-nesting : (table : Table) → IsValidTable table → (unicode : Bool) (t : Source) (x : (Bool × Value) × Source) →
-    class_set_at table unicode t ≡ Some x → x.0.1.nesting ≤ length t
-class_set_at-nesting table lawful unicode t x e =
+pub class_set_at-nesting : (table : Table) → IsValidTable table → (parameters : Parameters) (t : Source) (x : (Bool × Value) × Source) →
+    class_set_at table parameters t ≡ Some x → x.0.1.nesting ≤ length t
+class_set_at-nesting table lawful parameters t x e =
     omega (
       arith,
       no_deeper true table t (class 0 0) (omega arith) 1 (omega arith),
-      ap (deepest 1) ((gives_class_set_at table unicode t).each x e),
+      ap (deepest 1) ((gives_class_set_at table parameters t).each x e),
     )

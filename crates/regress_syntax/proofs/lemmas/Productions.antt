@@ -106,8 +106,8 @@ module _ (ctx : Context) where
   brackets_at-ends : (t : Source) → Ends (brackets_at ctx t) t
   brackets_at-ends t =
       ends_cond ctx.setting.flags.unicode_sets _ _ t
-      (ends_map _ (class_set_at ctx.setting.table ctx.setting.flags.unicode t) t
-      (class_set_at-ends ctx.setting.table ctx.setting.flags.unicode t))
+      (ends_map _ (class_set_at ctx.setting.table (class_parameters ctx) t) t
+      (class_set_at-ends ctx.setting.table (class_parameters ctx) t))
       (ends_map _ (class_at ctx.setting.table (class_parameters ctx) t) t
       (class_at-ends ctx.setting.table (class_parameters ctx) t))
 

@@ -62,9 +62,9 @@ fn constructs_that_differ_are_reported(rt: HostRuntime) -> Result<(), Fail> {
     ];
     for (pattern, flags, kind, start, end) in cases {
         let found = reported(alloc, pattern, flags, &tables)?;
-        assert_eq!(rt; found.len(), 1);
-        assert_eq!(rt; found[0].kind, kind);
-        assert_eq!(rt; found[0].span, Span { start, end });
+        expect_eq!(rt; found.len(), 1);
+        expect_eq!(rt; found[0].kind, kind);
+        expect_eq!(rt; found[0].span, Span { start, end });
     }
     Ok(())
 }
@@ -117,7 +117,7 @@ fn kinds_have_a_name_and_a_text(rt: HostRuntime) -> Result<(), Fail> {
         (StringSet, "string-set", "\\p{RGI_Emoji}"),
         (SameName, "same-name", "(?:(?<a>x)|(?<a>y))\\k<a>"),
     ] {
-        assert_eq!(rt; kind.name(), name);
+        expect_eq!(rt; kind.name(), name);
         assert!(rt; kind.text().contains(example));
     }
     Ok(())

@@ -1,6 +1,8 @@
-//! The examples of the doc comments up to `regress_front`: each line of an example is here. Expected values are from
-//! ECMA-262, the Unicode Character Database and docs/ir.md.
+//! The examples of the doc comments up to `regress_front`: each line of an example is here, or is one of those that parse
+//! a pattern, for which `parsed` is called. Expected values are from ECMA-262, the Unicode Character Database and
+//! docs/ir.md.
 
+use super::parsed;
 use regress_differences::{DifferenceKind, differences};
 use regress_escape::escape;
 use regress_front::bytesearch::{ByteSearcher, Needle};
@@ -25,15 +27,15 @@ use std::test::Fail;
 fn the_characters_of_a_text_are_listed(rt: HostRuntime) -> Result<(), Fail> {
     let alloc = rt.alloc();
     let points = code_points(alloc, "aé😀")?;
-    assert_eq!(rt; points.as_slice(), [0x61, 0xE9, 0x1F600].as_slice());
+    expect_eq!(rt; points.as_slice(), [0x61, 0xE9, 0x1F600].as_slice());
     Ok(())
 }
 
 #[test]
 fn a_string_of_bytes_is_found(rt: HostRuntime) -> Result<(), Fail> {
     let needle = Needle::new(b"na");
-    assert_eq!(rt; needle.find_in(b"banana"), Some(2));
-    assert_eq!(rt; needle.find_in(b"band"), None);
+    expect_eq!(rt; needle.find_in(b"banana"), Some(2));
+    expect_eq!(rt; needle.find_in(b"band"), None);
     Ok(())
 }
 
@@ -41,7 +43,7 @@ fn a_string_of_bytes_is_found(rt: HostRuntime) -> Result<(), Fail> {
 fn a_text_is_escaped(rt: HostRuntime) -> Result<(), Fail> {
     let alloc = rt.alloc();
     let pattern = escape(alloc, "1+1 = 2?")?;
-    assert_eq!(rt; pattern.as_str(), "\\x31\\+1\\x20\\x3d\\x202\\?");
+    expect_eq!(rt; pattern.as_str(), "\\x31\\+1\\x20\\x3d\\x202\\?");
     Ok(())
 }
 
@@ -49,13 +51,13 @@ fn a_text_is_escaped(rt: HostRuntime) -> Result<(), Fail> {
 fn each_kind_of_character_is_escaped(rt: HostRuntime) -> Result<(), Fail> {
     let alloc = rt.alloc();
     let line_feed = escape(alloc, "foo\nbar")?;
-    assert_eq!(rt; line_feed.as_str(), "\\x66oo\\nbar");
+    expect_eq!(rt; line_feed.as_str(), "\\x66oo\\nbar");
     let separator = escape(alloc, "foo\u{2028}bar")?;
-    assert_eq!(rt; separator.as_str(), "\\x66oo\\u2028bar");
+    expect_eq!(rt; separator.as_str(), "\\x66oo\\u2028bar");
     let emoji = escape(alloc, "foo😀_bar")?;
-    assert_eq!(rt; emoji.as_str(), "\\x66oo😀_bar");
+    expect_eq!(rt; emoji.as_str(), "\\x66oo😀_bar");
     let empty = escape(alloc, "")?;
-    assert_eq!(rt; empty.as_str(), "");
+    expect_eq!(rt; empty.as_str(), "");
     Ok(())
 }
 
@@ -67,7 +69,7 @@ fn intervals_are_added_to_a_set(rt: HostRuntime) -> Result<(), Fail> {
     set.add(Interval::new(0x67, 0x7A))?;
     assert!(rt; set.contains(0x62));
     // the two intervals touch, and are one
-    assert_eq!(rt; set.intervals(), [Interval::new(0x61, 0x7A)].as_slice());
+    expect_eq!(rt; set.intervals(), [Interval::new(0x61, 0x7A)].as_slice());
     Ok(())
 }
 
@@ -79,7 +81,7 @@ fn a_set_is_intersected(rt: HostRuntime) -> Result<(), Fail> {
     let mut other = CodePointSet::new(alloc);
     other.add(Interval::new(0x65, 0x7A))?;
     set.intersect(other.intervals())?;
-    assert_eq!(rt; set.intervals(), [Interval::new(0x65, 0x66)].as_slice());
+    expect_eq!(rt; set.intervals(), [Interval::new(0x65, 0x66)].as_slice());
     Ok(())
 }
 
@@ -89,7 +91,7 @@ fn a_set_is_inverted(rt: HostRuntime) -> Result<(), Fail> {
     let mut set = CodePointSet::new(alloc);
     set.add(Interval::new(0, 0x60))?;
     let inverted = set.inverted()?;
-    assert_eq!(rt;
+    expect_eq!(rt;
         inverted.intervals(),
         [Interval::new(0x61, 0x10FFFF)].as_slice()
     );
@@ -117,7 +119,7 @@ fn tables_are_made_of_parts(rt: HostRuntime) -> Result<(), Fail> {
         Vec::new(alloc),
         Vec::new(alloc),
     )?;
-    assert_eq!(rt; fold(0x41, &tables), 0x61);
+    expect_eq!(rt; fold(0x41, &tables), 0x61);
     assert!(rt; tables.id_start().contains(0x61));
     Ok(())
 }
@@ -126,7 +128,7 @@ fn tables_are_made_of_parts(rt: HostRuntime) -> Result<(), Fail> {
 fn the_small_table_has_few_properties(rt: HostRuntime) -> Result<(), Fail> {
     let alloc = rt.alloc();
     let tables = Tables::small(alloc)?;
-    assert_eq!(rt; fold(0x41, &tables), 0x61);
+    expect_eq!(rt; fold(0x41, &tables), 0x61);
     assert!(rt; tables.script(alloc, "Ogham")?.is_some());
     assert!(rt; tables.script(alloc, "Greek")?.is_none());
     Ok(())
@@ -147,7 +149,7 @@ fn the_example_of_the_whole_table_holds(rt: HostRuntime) -> Result<(), Fail> {
     let alloc = rt.alloc();
     let tables = unicode_tables(alloc)?;
     // the simple case folding of LATIN CAPITAL LETTER SHARP S
-    assert_eq!(rt; fold(0x1E9E, &tables), 0xDF);
+    expect_eq!(rt; fold(0x1E9E, &tables), 0xDF);
     match tables.script(alloc, "Greek")? {
         Some(greek) => assert!(rt; greek.contains(0x3B1)),
         None => assert!(rt; false, "Unicode has this script"),
@@ -160,8 +162,8 @@ fn a_code_point_is_folded(rt: HostRuntime) -> Result<(), Fail> {
     let alloc = rt.alloc();
     let tables = Tables::small(alloc)?;
     // K, and KELVIN SIGN
-    assert_eq!(rt; fold(0x4B, &tables), 0x6B);
-    assert_eq!(rt; fold(0x212A, &tables), 0x6B);
+    expect_eq!(rt; fold(0x4B, &tables), 0x6B);
+    expect_eq!(rt; fold(0x212A, &tables), 0x6B);
     Ok(())
 }
 
@@ -169,9 +171,9 @@ fn a_code_point_is_folded(rt: HostRuntime) -> Result<(), Fail> {
 fn the_upper_case_is_one_code_point(rt: HostRuntime) -> Result<(), Fail> {
     let alloc = rt.alloc();
     let tables = Tables::small(alloc)?;
-    assert_eq!(rt; uppercase(0x6B, &tables), 0x4B);
+    expect_eq!(rt; uppercase(0x6B, &tables), 0x4B);
     // the upper case of LATIN SMALL LETTER SHARP S is two letters
-    assert_eq!(rt; uppercase(0xDF, &tables), 0xDF);
+    expect_eq!(rt; uppercase(0xDF, &tables), 0xDF);
     Ok(())
 }
 
@@ -181,7 +183,7 @@ fn a_case_folding_is_inverted(rt: HostRuntime) -> Result<(), Fail> {
     let tables = Tables::small(alloc)?;
     // K, k and KELVIN SIGN
     let points = unfold_char(alloc, 0x6B, &tables)?;
-    assert_eq!(rt; points.as_slice(), [0x4B, 0x6B, 0x212A].as_slice());
+    expect_eq!(rt; points.as_slice(), [0x4B, 0x6B, 0x212A].as_slice());
     Ok(())
 }
 
@@ -190,10 +192,10 @@ fn a_literal_matches_its_class(rt: HostRuntime) -> Result<(), Fail> {
     let alloc = rt.alloc();
     let tables = Tables::small(alloc)?;
     let folded = expand_code_point(alloc, 0x6B, true, true, &tables)?;
-    assert_eq!(rt; folded.as_slice(), [0x4B, 0x6B, 0x212A].as_slice());
+    expect_eq!(rt; folded.as_slice(), [0x4B, 0x6B, 0x212A].as_slice());
     // without the flag u: KELVIN SIGN is its own upper case
     let upper = expand_code_point(alloc, 0x6B, true, false, &tables)?;
-    assert_eq!(rt; upper.as_slice(), [0x4B, 0x6B].as_slice());
+    expect_eq!(rt; upper.as_slice(), [0x4B, 0x6B].as_slice());
     Ok(())
 }
 
@@ -216,7 +218,7 @@ fn literals_are_lowered(rt: HostRuntime) -> Result<(), Fail> {
     let points = code_points(alloc, "12éK")?;
     let pieces = lower_code_point_sequence(alloc, &points, true, false, &tables)?;
     let printed = format!(in alloc; "{pieces:?}")?;
-    assert_eq!(rt;
+    expect_eq!(rt;
         printed.as_str(),
         "[ByteSequence([49, 50]), CharSet([201, 233]), ByteSet([75, 107])]"
     );
@@ -243,7 +245,7 @@ fn parts_are_reversed_in_a_lookbehind(rt: HostRuntime) -> Result<(), Fail> {
     let mut walk = Walk::root(false).looking(true);
     node.reverse_cats(&mut walk);
     let printed = node.to_string(alloc)?;
-    assert_eq!(rt; printed.as_str(), "Cat\n..'98'\n..'97'\n");
+    expect_eq!(rt; printed.as_str(), "Cat\n..'98'\n..'97'\n");
     Ok(())
 }
 
@@ -275,9 +277,7 @@ fn a_tree_is_well_formed(rt: HostRuntime) -> Result<(), Fail> {
 #[test]
 fn literals_are_counted(rt: HostRuntime) -> Result<(), Fail> {
     let alloc = rt.alloc();
-    let tables = Tables::small(alloc)?;
-    let points = code_points(alloc, "ab*|.")?;
-    let regex = try_parse(alloc, &points, Flags::default(), &tables)?;
+    let regex = parsed(alloc, "ab*|.", false)?;
     let mut literals = 0_usize;
     walk(
         false,
@@ -289,16 +289,14 @@ fn literals_are_counted(rt: HostRuntime) -> Result<(), Fail> {
             }
         },
     );
-    assert_eq!(rt; literals, 2);
+    expect_eq!(rt; literals, 2);
     Ok(())
 }
 
 #[test]
 fn a_dot_is_made_to_match_line_terminators(rt: HostRuntime) -> Result<(), Fail> {
     let alloc = rt.alloc();
-    let tables = Tables::small(alloc)?;
-    let points = code_points(alloc, "a.")?;
-    let mut regex = try_parse(alloc, &points, Flags::default(), &tables)?;
+    let mut regex = parsed(alloc, "a.", false)?;
     walk_mut(
         true,
         regex.flags.unicode,
@@ -310,7 +308,7 @@ fn a_dot_is_made_to_match_line_terminators(rt: HostRuntime) -> Result<(), Fail> 
         },
     );
     let printed = regex.to_string(alloc)?;
-    assert_eq!(rt;
+    expect_eq!(rt;
         printed.as_str(),
         "Cat\n..Cat\n....'97'\n....MatchAny\n..Goal\n"
     );
@@ -324,7 +322,7 @@ fn a_pattern_is_parsed(rt: HostRuntime) -> Result<(), Fail> {
     let points = code_points(alloc, "a|b")?;
     let regex = try_parse(alloc, &points, Flags::default(), &tables)?;
     let printed = regex.to_string(alloc)?;
-    assert_eq!(rt;
+    expect_eq!(rt;
         printed.as_str(),
         "Cat\n..Alt\n....'97'\n....'98'\n..Goal\n"
     );
@@ -348,11 +346,11 @@ fn each_node_has_a_span(rt: HostRuntime) -> Result<(), Fail> {
     let points = code_points(alloc, "a*")?;
     let parsed = try_parse_with_spans(alloc, &points, Flags::default(), &tables)?;
     // the letter, the loop, the end, and the whole pattern
-    assert_eq!(rt; parsed.spans.len(), 4);
-    assert_eq!(rt; parsed.spans[0], Span { start: 0, end: 1 });
-    assert_eq!(rt; parsed.spans[1], Span { start: 0, end: 2 });
-    assert_eq!(rt; parsed.spans[2], Span { start: 2, end: 2 });
-    assert_eq!(rt; parsed.spans[3], Span { start: 0, end: 2 });
+    expect_eq!(rt; parsed.spans.len(), 4);
+    expect_eq!(rt; parsed.spans[0], Span { start: 0, end: 1 });
+    expect_eq!(rt; parsed.spans[1], Span { start: 0, end: 2 });
+    expect_eq!(rt; parsed.spans[2], Span { start: 2, end: 2 });
+    expect_eq!(rt; parsed.spans[3], Span { start: 0, end: 2 });
     Ok(())
 }
 
@@ -361,7 +359,7 @@ fn the_nodes_of_a_pattern_are_bounded(rt: HostRuntime) -> Result<(), Fail> {
     let alloc = rt.alloc();
     let points = code_points(alloc, "a|b")?;
     // 3, one for each code point, and one more for the bar
-    assert_eq!(rt; node_bound(&points, Flags::default()), 7);
+    expect_eq!(rt; node_bound(&points, Flags::default()), 7);
     Ok(())
 }
 
@@ -377,9 +375,9 @@ fn the_example_of_differences_holds(rt: HostRuntime) -> Result<(), Fail> {
             ..Flags::default()
         };
         let found = differences(alloc, &points, flags, &tables)?;
-        assert_eq!(rt; found.len(), 1);
-        assert_eq!(rt; found[0].kind, DifferenceKind::CaseClosure);
-        assert_eq!(rt; found[0].span, Span { start: 1, end: 4 });
+        expect_eq!(rt; found.len(), 1);
+        expect_eq!(rt; found[0].kind, DifferenceKind::CaseClosure);
+        expect_eq!(rt; found[0].span, Span { start: 1, end: 4 });
     }
     Ok(())
 }
@@ -392,9 +390,9 @@ fn the_example_of_warnings_holds(rt: HostRuntime) -> Result<(), Fail> {
         let tables = Tables::small(alloc)?;
         let points = code_points(alloc, "x(?:a|ab)")?;
         let found = warnings(alloc, &points, Flags::default(), &tables)?;
-        assert_eq!(rt; found.len(), 1);
-        assert_eq!(rt; found[0].kind, WarningKind::HiddenAlternative);
-        assert_eq!(rt; found[0].span, Span { start: 4, end: 8 });
+        expect_eq!(rt; found.len(), 1);
+        expect_eq!(rt; found[0].kind, WarningKind::HiddenAlternative);
+        expect_eq!(rt; found[0].span, Span { start: 4, end: 8 });
     }
     Ok(())
 }
@@ -421,26 +419,22 @@ impl Rewrite for Counter {
 #[test]
 fn a_rewrite_is_applied_to_each_node(rt: HostRuntime) -> Result<(), Fail> {
     let alloc = rt.alloc();
-    let tables = Tables::small(alloc)?;
-    let points = code_points(alloc, "a|b")?;
-    let mut regex = try_parse(alloc, &points, Flags::default(), &tables)?;
+    let mut regex = parsed(alloc, "a|b", false)?;
     let mut counter = Counter { nodes: 0 };
     let changed = run_pass(&mut regex, &mut counter)?;
     assert!(rt; !changed);
     // the two letters, the alternation, the end, and the root
-    assert_eq!(rt; counter.nodes, 5);
+    expect_eq!(rt; counter.nodes, 5);
     Ok(())
 }
 
 #[test]
 fn a_tree_is_brought_into_normal_form(rt: HostRuntime) -> Result<(), Fail> {
     let alloc = rt.alloc();
-    let tables = Tables::small(alloc)?;
-    let points = code_points(alloc, "[ab]")?;
-    let mut regex = try_parse(alloc, &points, Flags::default(), &tables)?;
+    let mut regex = parsed(alloc, "[ab]", false)?;
     optimize(alloc, &mut regex)?;
     let printed = regex.to_string(alloc)?;
-    assert_eq!(rt; printed.as_str(), "Cat\n..ByteSet2 0x61 0x62\n..Goal\n");
+    expect_eq!(rt; printed.as_str(), "Cat\n..ByteSet2 0x61 0x62\n..Goal\n");
     Ok(())
 }
 
@@ -452,6 +446,6 @@ fn a_pattern_is_parsed_and_optimized(rt: HostRuntime) -> Result<(), Fail> {
     let (regex, optimized) = parse_and_optimize(alloc, &points, Flags::default(), &tables)?;
     optimized?;
     let printed = regex.to_string(alloc)?;
-    assert_eq!(rt; printed.as_str(), "Cat\n..ByteSeq3 0x616263\n..Goal\n");
+    expect_eq!(rt; printed.as_str(), "Cat\n..ByteSeq3 0x616263\n..Goal\n");
     Ok(())
 }

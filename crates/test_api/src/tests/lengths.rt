@@ -19,7 +19,7 @@ fn the_shortest_match_of_a_pattern(rt: HostRuntime) -> Result<(), Fail> {
         ("^(?=abc)d\\b(?<!e)", 1),
     ] {
         let regex = parsed(alloc, pattern, false)?;
-        assert_eq!(rt; least_length(&regex.node), wanted, "{pattern}");
+        expect_eq!(rt; least_length(&regex.node), wanted, "{pattern}");
     }
     Ok(())
 }
@@ -27,6 +27,6 @@ fn the_shortest_match_of_a_pattern(rt: HostRuntime) -> Result<(), Fail> {
 #[test]
 fn long_alternations_take_no_stack(rt: HostRuntime) -> Result<(), Fail> {
     let node = alternation(rt.alloc(), 200_000)?;
-    assert_eq!(rt; least_length(&node), 0);
+    expect_eq!(rt; least_length(&node), 0);
     Ok(())
 }

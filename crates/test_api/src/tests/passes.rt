@@ -100,7 +100,7 @@ fn children_are_visited_before_parents_and_left_before_right(rt: HostRuntime) ->
         ),
     ] {
         let found = visited(rt.alloc(), pattern, unicode, 9)?;
-        assert_eq!(rt; found.as_str(), want, "{pattern}");
+        expect_eq!(rt; found.as_str(), want, "{pattern}");
     }
     Ok(())
 }

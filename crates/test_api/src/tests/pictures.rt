@@ -7,7 +7,16 @@ use regress_front::types::Flags;
 use regress_front::unicode::Tables;
 use regress_front::util::code_points;
 use regress_railroad::{svg, svg_with_marks};
+use std::alloc::Global;
 use std::test::Fail;
+
+/// Returns the page of a pattern without flags.
+fn page_of(alloc: Global, pattern: &str, matched: Option<Matched<'_>>) -> Result<String, Fail> {
+    let tables = Tables::small(alloc)?;
+    let points = code_points(alloc, pattern)?;
+    let parsed = try_parse_with_spans(alloc, &points, Flags::default(), &tables)?;
+    Ok(page(alloc, &points, &parsed, matched)?)
+}
 
 #[test]
 fn a_picture_has_the_characters_and_the_names_of_its_pattern(rt: HostRuntime) -> Result<(), Fail> {
@@ -27,35 +36,36 @@ fn a_picture_has_the_characters_and_the_names_of_its_pattern(rt: HostRuntime) ->
 
 #[test]
 fn a_pattern_is_explained_and_drawn_part_by_part(rt: HostRuntime) -> Result<(), Fail> {
-    let alloc = rt.alloc();
-    let tables = Tables::small(alloc)?;
-    let points = code_points(alloc, "\\d{4}-")?;
-    let parsed = try_parse_with_spans(alloc, &points, Flags::default(), &tables)?;
-    let text = explain(alloc, &points, &parsed)?;
+    let (text, picture) = explained(rt.alloc(), "\\d{4}-")?;
     let lines =
         "Matches 5 characters, with \"-\" in them.\n0..5  \\d{4}  exactly 4 times: a digit (0-9)\n5..6  -  a hyphen (-)\n";
-    assert_eq!(rt; text.as_str(), lines);
-    let picture = svg_with_marks(alloc, &parsed.regex, &points, &parsed.spans)?;
+    expect_eq!(rt; text.as_str(), lines);
     for class in ["s0-2", "s0-5", "s5-6"] {
         assert!(rt; picture.contains(class));
     }
     Ok(())
 }
 
+/// Returns the explanation and the picture of a pattern without flags.
+fn explained(alloc: Global, pattern: &str) -> Result<(String, String), Fail> {
+    let tables = Tables::small(alloc)?;
+    let points = code_points(alloc, pattern)?;
+    let parsed = try_parse_with_spans(alloc, &points, Flags::default(), &tables)?;
+    let text = explain(alloc, &points, &parsed)?;
+    let picture = svg_with_marks(alloc, &parsed.regex, &points, &parsed.spans)?;
+    Ok((text, picture))
+}
+
 #[test]
 fn a_page_shows_a_pattern_its_diagram_its_explanation_and_the_matches(
     rt: HostRuntime,
 ) -> Result<(), Fail> {
-    let alloc = rt.alloc();
-    let tables = Tables::small(alloc)?;
-    let points = code_points(alloc, "(?<year>\\d{4})-(\\d\\d)")?;
-    let parsed = try_parse_with_spans(alloc, &points, Flags::default(), &tables)?;
     let matched = Matched {
         text: "from 2024-05 to 2025-01",
         ranges: &[5..12, 16..23],
         captures: &[Some(5..9), Some(10..12), None, Some(21..23)],
     };
-    let page = page(alloc, &points, &parsed, Some(matched))?;
+    let page = page_of(rt.alloc(), "(?<year>\\d{4})-(\\d\\d)", Some(matched))?;
     assert!(rt; page.starts_with("<!DOCTYPE html><html lang=\"en\">"));
     assert!(rt; page.ends_with("</main></body></html>"));
     for text in [
@@ -75,11 +85,7 @@ fn a_page_shows_a_pattern_its_diagram_its_explanation_and_the_matches(
 
 #[test]
 fn a_page_without_a_text_has_no_matches(rt: HostRuntime) -> Result<(), Fail> {
-    let alloc = rt.alloc();
-    let tables = Tables::small(alloc)?;
-    let points = code_points(alloc, "a")?;
-    let parsed = try_parse_with_spans(alloc, &points, Flags::default(), &tables)?;
-    let page = page(alloc, &points, &parsed, None)?;
+    let page = page_of(rt.alloc(), "a", None)?;
     assert!(rt; page.contains("the character &quot;a&quot;"));
     assert!(rt; !page.contains("<h2>Text"));
     Ok(())
@@ -87,20 +93,16 @@ fn a_page_without_a_text_has_no_matches(rt: HostRuntime) -> Result<(), Fail> {
 
 #[test]
 fn no_part_of_a_pattern_or_text_is_markup_in_a_page(rt: HostRuntime) -> Result<(), Fail> {
-    let alloc = rt.alloc();
-    let tables = Tables::small(alloc)?;
-    let points = code_points(alloc, "<script>|(?<name>\"&)")?;
-    let parsed = try_parse_with_spans(alloc, &points, Flags::default(), &tables)?;
     // The first range ends inside a character, and the last one is not after the second.
     let matched = Matched {
         text: "</style>é",
         ranges: &[0..9, 8..10, 8..10],
         captures: &[],
     };
-    let page = page(alloc, &points, &parsed, Some(matched))?;
+    let page = page_of(rt.alloc(), "<script>|(?<name>\"&)", Some(matched))?;
     assert!(rt; page.contains("&lt;script&gt;"));
     assert!(rt; page.contains("<p>&lt;/style&gt;<mark>é</mark></p>"));
     assert!(rt; !page.contains("<script"));
-    assert_eq!(rt; page.matches("</style>").count(), 2);
+    expect_eq!(rt; page.matches("</style>").count(), 2);
     Ok(())
 }

@@ -1,7 +1,7 @@
-//! The examples of the doc comments of searches: each line of an example is here. Expected values are from ECMA-262.
+//! The examples of the doc comments of searches: each line of an example is here, those that make a `Matcher` once, in
+//! `matcher_of`. Expected values are from ECMA-262.
 
 use regress_code::Code;
-use regress_front::optimizer::parse_and_optimize;
 use regress_front::parse::try_parse;
 use regress_front::types::Flags;
 use regress_front::unicode::Tables;
@@ -9,7 +9,18 @@ use regress_front::util::code_points;
 use regress_leaves::known::Known;
 use regress_match::{Limits, Matcher, Outcome};
 use regress_tables::Linear;
+use std::alloc::Global;
+use std::sync::Arc;
 use std::test::Fail;
+
+/// Returns the matcher of a pattern's tree.
+fn matcher_of(alloc: Global, pattern: &str) -> Result<Matcher, Fail> {
+    let tables = Arc::new(alloc, Tables::small(alloc)?)?;
+    let points = code_points(alloc, pattern)?;
+    let regex = try_parse(alloc, &points, Flags::default(), &tables)?;
+    let matcher = Matcher::new(alloc, regex, &tables, Limits::default())?;
+    Ok(matcher)
+}
 
 #[test]
 fn a_match_is_found(rt: HostRuntime) -> Result<(), Fail> {
@@ -22,12 +33,12 @@ fn a_match_is_found(rt: HostRuntime) -> Result<(), Fail> {
     if let Some(linear) = Linear::new(&code, Known::new(&tables, regex.flags)) {
         let search = linear.find(alloc, "xaaab", 0)?;
         if let Some(found) = &search.found {
-            assert_eq!(rt; found.start(), 1);
-            assert_eq!(rt; found.group(0), Some((1, 4)));
+            expect_eq!(rt; found.start(), 1);
+            expect_eq!(rt; found.group(0), Some((1, 4)));
             end = found.end();
         }
     }
-    assert_eq!(rt; end, 5);
+    expect_eq!(rt; end, 5);
     Ok(())
 }
 
@@ -45,18 +56,14 @@ fn a_program_has_a_back_reference(rt: HostRuntime) -> Result<(), Fail> {
 
 #[test]
 fn a_search_takes_linear_time(rt: HostRuntime) -> Result<(), Fail> {
-    use std::sync::Arc;
     let alloc = rt.alloc();
-    let tables = Arc::new(alloc, Tables::small(alloc)?)?;
-    let points = code_points(alloc, "(a*)*b")?;
-    let regex = try_parse(alloc, &points, Flags::default(), &tables)?;
-    let matcher = Matcher::new(alloc, regex, &tables, Limits::default())?;
+    let matcher = matcher_of(alloc, "(a*)*b")?;
     assert!(rt; matcher.is_linear());
     let found = matcher.find(alloc, "xaaab", 0, 0)?;
     match &found.outcome {
         Outcome::Matched(found) => {
-            assert_eq!(rt; found.start(), 1);
-            assert_eq!(rt; found.end(), 5);
+            expect_eq!(rt; found.start(), 1);
+            expect_eq!(rt; found.end(), 5);
         }
         _ => assert!(rt; false, "it matches"),
     }
@@ -65,12 +72,8 @@ fn a_search_takes_linear_time(rt: HostRuntime) -> Result<(), Fail> {
 
 #[test]
 fn one_match_after_another_is_found(rt: HostRuntime) -> Result<(), Fail> {
-    use std::sync::Arc;
     let alloc = rt.alloc();
-    let tables = Arc::new(alloc, Tables::small(alloc)?)?;
-    let points = code_points(alloc, "a+")?;
-    let regex = try_parse(alloc, &points, Flags::default(), &tables)?;
-    let matcher = Matcher::new(alloc, regex, &tables, Limits::default())?;
+    let matcher = matcher_of(alloc, "a+")?;
     let mut matches = matcher.find_iter("aabxa", 0, 0);
     let mut ends = Vec::new(alloc);
     for _ in 0..10 {
@@ -78,18 +81,14 @@ fn one_match_after_another_is_found(rt: HostRuntime) -> Result<(), Fail> {
             ends.push(found.end())?;
         }
     }
-    assert_eq!(rt; ends.as_slice(), [2, 5].as_slice());
+    expect_eq!(rt; ends.as_slice(), [2, 5].as_slice());
     Ok(())
 }
 
 #[test]
 fn all_matches_are_listed(rt: HostRuntime) -> Result<(), Fail> {
-    use std::sync::Arc;
     let alloc = rt.alloc();
-    let tables = Arc::new(alloc, Tables::small(alloc)?)?;
-    let points = code_points(alloc, "a+")?;
-    let regex = try_parse(alloc, &points, Flags::default(), &tables)?;
-    let matcher = Matcher::new(alloc, regex, &tables, Limits::default())?;
+    let matcher = matcher_of(alloc, "a+")?;
     let mut ends = Vec::new(alloc);
     match matcher.find_all(alloc, "aabxa", 0)? {
         Some(all) => {
@@ -99,20 +98,16 @@ fn all_matches_are_listed(rt: HostRuntime) -> Result<(), Fail> {
         }
         None => assert!(rt; false, "it is linear"),
     }
-    assert_eq!(rt; ends.as_slice(), [2, 5].as_slice());
+    expect_eq!(rt; ends.as_slice(), [2, 5].as_slice());
     Ok(())
 }
 
 #[test]
 fn a_pattern_matches_at_an_offset(rt: HostRuntime) -> Result<(), Fail> {
-    use std::sync::Arc;
     let alloc = rt.alloc();
-    let tables = Arc::new(alloc, Tables::small(alloc)?)?;
-    let points = code_points(alloc, "b+")?;
-    let regex = try_parse(alloc, &points, Flags::default(), &tables)?;
-    let matcher = Matcher::new(alloc, regex, &tables, Limits::default())?;
+    let matcher = matcher_of(alloc, "b+")?;
     match &matcher.match_at(alloc, "abb", 1, 1000)?.outcome {
-        Outcome::Matched(found) => assert_eq!(rt; found.end(), 3),
+        Outcome::Matched(found) => expect_eq!(rt; found.end(), 3),
         _ => assert!(rt; false, "it matches"),
     }
     let found = matcher.match_at(alloc, "abb", 0, 1000)?;

@@ -111,12 +111,14 @@ fn change(alloc: Global, postorder: bool, skip: bool, depth: usize) -> Result<St
 fn each_node_is_visited_before_its_children_or_after_them(rt: HostRuntime) -> Result<(), Fail> {
     let alloc = rt.alloc();
     for depth in [0, usize::MAX] {
-        assert_eq!(rt; look(alloc, false, false, depth)?.as_str(), PREORDER);
-        assert_eq!(rt; look(alloc, true, false, depth)?.as_str(), POSTORDER);
-        assert_eq!(rt; look(alloc, false, true, depth)?.as_str(), WITHOUT);
-        assert_eq!(rt; change(alloc, false, false, depth)?.as_str(), PREORDER);
-        assert_eq!(rt; change(alloc, true, false, depth)?.as_str(), POSTORDER);
-        assert_eq!(rt; change(alloc, false, true, depth)?.as_str(), WITHOUT);
+        for (postorder, skip, wanted) in [
+            (false, false, PREORDER),
+            (true, false, POSTORDER),
+            (false, true, WITHOUT),
+        ] {
+            expect_eq!(rt; look(alloc, postorder, skip, depth)?.as_str(), wanted);
+            expect_eq!(rt; change(alloc, postorder, skip, depth)?.as_str(), wanted);
+        }
     }
     Ok(())
 }
@@ -136,8 +138,8 @@ fn long_alternations_are_walked(rt: HostRuntime) -> Result<(), Fail> {
                 deepest = deepest.max(w.depth);
             },
         );
-        assert_eq!(rt; calls, 400_001);
-        assert_eq!(rt; deepest, 200_000);
+        expect_eq!(rt; calls, 400_001);
+        expect_eq!(rt; deepest, 200_000);
         let mut changes = 0_usize;
         walk_mut(
             postorder,
@@ -147,7 +149,7 @@ fn long_alternations_are_walked(rt: HostRuntime) -> Result<(), Fail> {
                 changes = changes.wrapping_add(1);
             },
         );
-        assert_eq!(rt; changes, 400_001);
+        expect_eq!(rt; changes, 400_001);
     }
     Ok(())
 }
@@ -176,6 +178,6 @@ fn a_postorder_walk_may_change_nodes(rt: HostRuntime) -> Result<(), Fail> {
             }
         },
     );
-    assert_eq!(rt; goals, 4);
+    expect_eq!(rt; goals, 4);
     Ok(())
 }

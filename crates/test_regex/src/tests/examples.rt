@@ -9,9 +9,9 @@ fn the_leftmost_match_is_found_with_its_groups(rt: HostRuntime) -> Result<(), Fa
     let regex = Regex::new(alloc, "(?<month>\\d\\d)-(\\d\\d)")?;
     match regex.find(alloc, "on 12-31")? {
         Some(found) => {
-            assert_eq!(rt; found.range(), 3..8);
-            assert_eq!(rt; found.named_group("month"), Some(3..5));
-            assert_eq!(rt; found.group(2), Some(6..8));
+            expect_eq!(rt; found.range(), 3..8);
+            expect_eq!(rt; found.named_group("month"), Some(3..5));
+            expect_eq!(rt; found.group(2), Some(6..8));
         }
         None => assert!(rt; false, "it matches"),
     }
@@ -23,7 +23,7 @@ fn letters_are_flags(rt: HostRuntime) -> Result<(), Fail> {
     let alloc = rt.alloc();
     let regex = Regex::with_flags(alloc, "\\p{Script=Greek}+", "u")?;
     match regex.find(alloc, "a βγ")? {
-        Some(found) => assert_eq!(rt; found.range(), 2..6),
+        Some(found) => expect_eq!(rt; found.range(), 2..6),
         None => assert!(rt; false, "it matches"),
     }
     assert!(rt; Regex::with_flags(alloc, "a", "gg").is_err());
@@ -38,7 +38,7 @@ fn all_matches_are_found(rt: HostRuntime) -> Result<(), Fail> {
     for found in regex.find_iter(alloc, "aabxa") {
         ends.push(found?.end())?;
     }
-    assert_eq!(rt; ends.as_slice(), [2, 5].as_slice());
+    expect_eq!(rt; ends.as_slice(), [2, 5].as_slice());
     Ok(())
 }
 
@@ -64,7 +64,7 @@ fn a_search_for_one_match_is_linear_where_a_lookahead_captures(
 fn a_pattern_with_a_back_reference_is_not_linear(rt: HostRuntime) -> Result<(), Fail> {
     let alloc = rt.alloc();
     let regex = Regex::new(alloc, "(a)\\1")?;
-    assert_eq!(rt; regex.nonlinear(), Some(Nonlinear::BackReference));
+    expect_eq!(rt; regex.nonlinear(), Some(Nonlinear::BackReference));
     Ok(())
 }
 
@@ -72,7 +72,7 @@ fn a_pattern_with_a_back_reference_is_not_linear(rt: HostRuntime) -> Result<(), 
 fn a_literal_that_each_match_contains_is_found(rt: HostRuntime) -> Result<(), Fail> {
     let alloc = rt.alloc();
     let regex = Regex::new(alloc, "(?:id|name)=x+, user=\\d+")?;
-    assert_eq!(rt; regex.required_literal(), Some(", user=".as_bytes()));
+    expect_eq!(rt; regex.required_literal(), Some(", user=".as_bytes()));
     assert!(rt; Regex::new(alloc, "user=|id=")?.required_literal().is_none());
     Ok(())
 }
@@ -91,9 +91,9 @@ fn a_template_swaps_two_words(rt: HostRuntime) -> Result<(), Fail> {
     let alloc = rt.alloc();
     let regex = Regex::new(alloc, "(\\w+) (\\w+)")?;
     let swapped = regex.replace(alloc, "one two three four", "$2 $1")?;
-    assert_eq!(rt; swapped.as_str(), "two one three four");
+    expect_eq!(rt; swapped.as_str(), "two one three four");
     let swapped = regex.replace_all(alloc, "one two three four", "$2 $1")?;
-    assert_eq!(rt; swapped.as_str(), "two one four three");
+    expect_eq!(rt; swapped.as_str(), "two one four three");
     Ok(())
 }
 
@@ -102,7 +102,7 @@ fn a_closure_returns_what_replaces_the_leftmost_match(rt: HostRuntime) -> Result
     let alloc = rt.alloc();
     let regex = Regex::new(alloc, "a+")?;
     let first = regex.replace_with(alloc, "aab", |m| Ok(format!(in alloc; "{}", m.end())?))?;
-    assert_eq!(rt; first.as_str(), "2b");
+    expect_eq!(rt; first.as_str(), "2b");
     Ok(())
 }
 
@@ -115,7 +115,7 @@ fn a_closure_counts(rt: HostRuntime) -> Result<(), Fail> {
         count = count.wrapping_add(1);
         Ok(format!(in alloc; "{count}")?)
     })?;
-    assert_eq!(rt; numbered.as_str(), "1-2");
+    expect_eq!(rt; numbered.as_str(), "1-2");
     Ok(())
 }
 
@@ -124,9 +124,9 @@ fn a_text_is_split_at_commas(rt: HostRuntime) -> Result<(), Fail> {
     let alloc = rt.alloc();
     let regex = Regex::new(alloc, ",\\s*")?;
     let pieces = regex.split(alloc, "a, b,c,")?;
-    assert_eq!(rt; pieces.as_slice(), ["a", "b", "c", ""].as_slice());
+    expect_eq!(rt; pieces.as_slice(), ["a", "b", "c", ""].as_slice());
     let pieces = regex.splitn(alloc, "a, b,c", 2)?;
-    assert_eq!(rt; pieces.as_slice(), ["a", "b,c"].as_slice());
+    expect_eq!(rt; pieces.as_slice(), ["a", "b,c"].as_slice());
     Ok(())
 }
 
@@ -136,6 +136,6 @@ fn captures_are_parts(rt: HostRuntime) -> Result<(), Fail> {
     let regex = Regex::new(alloc, "(-)|\\+")?;
     let parts = regex.split_with_captures(alloc, "1-2+3", None)?;
     let expected = [Some("1"), Some("-"), Some("2"), None, Some("3")];
-    assert_eq!(rt; parts.as_slice(), expected.as_slice());
+    expect_eq!(rt; parts.as_slice(), expected.as_slice());
     Ok(())
 }

@@ -66,7 +66,7 @@ fn a_document_is_validated_by_the_patterns_of_a_schema(rt: HostRuntime) -> Resul
         (MATCHING, "{\"a_X_31\": \"\"}", "/a_X_31 y\n/a_X_31 x\n"),
     ] {
         let found = listed(alloc, schema, document)?;
-        assert_eq!(rt; found.as_str(), wanted, "{schema} {document}");
+        expect_eq!(rt; found.as_str(), wanted, "{schema} {document}");
     }
     Ok(())
 }

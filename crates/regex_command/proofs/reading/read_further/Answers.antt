@@ -1,4 +1,4 @@
-use Rattle.std.proofs.Common.{get_or, rules, ◌≡◌, ◌-◌, ◌++◌, ℕ, drop, length, subst, ap}
+use Rattle.std.proofs.Common.{get_or, rules, ◌≡◌, ◌-◌, ◌++◌, ℕ, drop, length, refl, subst, ap}
 use Rattle.std.specs.Io.{StopsAt}
 use Rattle.std.specs.Io.KnownBytes.{Consumes}
 use Rattle.std.specs.Io.BufRead.{take_through}
@@ -18,4 +18,5 @@ returns-in-Some g c =
       search rules,
       subst (λ l. Consumes old (g.B.Read.remaining c.read_until.new.self) l) all read.none_lost,
       at_end old _ new (subst (λ l. IfSome old (λ xs. new ≡ l ++ take_through 10 xs)) c.clear.ensures.items read.bytes) read.rest none,
+      refl,
     )

@@ -11,7 +11,7 @@ returns-in_ok-push_spans-in-Some-clause-ends c = (
   match_of c.in-Some.found,
   subst (λ r. Finds c.args.text.now (outcomes_of c.args.regex.now c.args.text.now) c.args.from (option_map match_of r)) c.in-Some.is
       c.in_ok-found.ensures.finds,
-  c.in_ok-push_spans-in-Some.ensures ∙ ap (λ xs. xs ++ match_ends (match_of c.in-Some.found)) c.new-ends.ensures.items,
+  c.in_ok-push_spans-in-Some.ensures ∙ ap (λ xs. xs ++ match_ends (match_of c.in-Some.found)) c.in_ok-ends-in-Some.ensures.items,
 )
 
 pub returns-in_err-found-clause-failed : goal.returns-in_err-found-clause-failed

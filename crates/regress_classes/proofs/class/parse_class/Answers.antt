@@ -12,7 +12,7 @@ returns-in_err-set-clause-value c =
     let p = err_from_is_err_and c.from_residual.result c.from_residual.ensures.1 in
     let caret = c.try_consume-inverted in
     rw (p.1, p.2) (on_rejected_then c.in_err-set.field-0.0
-    (class_is (table_of c.args.tables.now) c.args.parameters caret.result (source c.args.cursor.now) (source caret.new.self) None caret.ensures.found
+    (class_is (table_of c.args.tables.now) c.args.parameters.now caret.result (source c.args.cursor.now) (source caret.new.self) None caret.ensures.found
     caret.ensures.moves)
     c.in_err-set.ensures.value)
 
@@ -21,7 +21,7 @@ returns-clause-value c =
     let caret = c.try_consume-inverted in
     let found = c.in_ok-set.ensures.value in (
       (caret.result, found.0),
-      class_is (table_of c.args.tables.now) c.args.parameters caret.result (source c.args.cursor.now) (source caret.new.self)
+      class_is (table_of c.args.tables.now) c.args.parameters.now caret.result (source c.args.cursor.now) (source caret.new.self)
           (Some (found.0, source c.parse_parts.new.cursor))
           caret.ensures.found caret.ensures.moves found.1,
       (refl, found.2),

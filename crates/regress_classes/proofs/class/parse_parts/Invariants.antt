@@ -5,8 +5,8 @@ use Rattle.regress_lexer.specs.Views.{source}
 use Rattle.regress_classes.proofs.ClassLemmas.{ReadUpTo}
 use Rattle.regress_classes.proofs.class.parse_parts.Given as goal
 
-abbrev pub invariant-loop-parameters : goal.invariant-loop-parameters
-invariant-loop-parameters l = ReadUpTo (table_of l.tables) l.parameters (source l.fn.cursor) (source l.cursor) l.gathered
+abbrev pub invariant-loop-cursor : goal.invariant-loop-cursor
+invariant-loop-cursor l = ReadUpTo (table_of l.tables) l.parameters (source l.fn.cursor) (source l.cursor) l.gathered
 
-abbrev pub decreases-loop-parameters : goal.decreases-loop-parameters
-decreases-loop-parameters l = length (source l.cursor)
+abbrev pub decreases-loop-cursor : goal.decreases-loop-cursor
+decreases-loop-cursor l = length (source l.cursor)

@@ -55,7 +55,7 @@ invariant_of-cursor-then-is_reserved c = record { in_range = c.args.cursor.now.i
 pub invariant_of-cursor-else-is_reserved : goal.invariant_of-cursor-else-is_reserved
 invariant_of-cursor-else-is_reserved c = record {
   in_range = after_all _ _
-      ((character_escape_at-ends c.args.parameters.dialect c.args.parameters.unicode c.args.cursor.now.rest.now).each
+      ((character_escape_at-ends c.args.parameters.now.dialect c.args.parameters.now.unicode c.args.cursor.now.rest.now).each
       (c.in-Some-parse_character_escape.point, c.in-Some-parse_character_escape.after.now) (sym c.in-Some-parse_character_escape.ensures.value))
       c.args.cursor.now.in_range;
 }
@@ -65,28 +65,28 @@ returns-in-Some-class_letter-clause-value c =
     let letter = c.in-Some.c.now in
     let front = c.in-Some.ensures.cases.0 in
     let named = c.in-Some-class_letter in
-    set_read (table_of c.args.tables.now) c.args.parameters (source c.args.cursor.now) letter c.in-Some.rest.now front
+    set_read (table_of c.args.tables.now) c.args.parameters.now (source c.args.cursor.now) letter c.in-Some.rest.now front
     (named.kind, named.negated) (sym c.class_letter.ensures ∙ named.is)
 
 pub returns-then-c-from-clause-value : goal.returns-then-c-from-clause-value
 returns-then-c-from-clause-value c =
     let letter = c.in-Some.c.now in
     let front = c.in-Some.ensures.cases.0 in
-    backspace_read (table_of c.args.tables.now) c.args.parameters (source c.args.cursor.now) letter c.in-Some.rest.now front
+    backspace_read (table_of c.args.tables.now) c.args.parameters.now (source c.args.cursor.now) letter c.in-Some.rest.now front
     (c.if-c-from.true ∙ c.from.ensures)
 
 pub returns-then-unicode-clause-value : goal.returns-then-unicode-clause-value
 returns-then-unicode-clause-value c =
     let letter = c.in-Some.c.now in
     let front = c.in-Some.ensures.cases.0 in
-    hyphen_read (table_of c.args.tables.now) c.args.parameters (source c.args.cursor.now) letter c.in-Some.rest.now front
+    hyphen_read (table_of c.args.tables.now) c.args.parameters.now (source c.args.cursor.now) letter c.in-Some.rest.now front
     (c.if-c-from-2.true ∙ c.from-else-c-from.ensures) c.if-unicode.true
 
 pub returns-then-not-unicode-clause-value : goal.returns-then-not-unicode-clause-value
 returns-then-not-unicode-clause-value c =
     let letter = c.in-Some.c.now in
     let front = c.in-Some.ensures.cases.0 in
-    control_read (table_of c.args.tables.now) c.args.parameters (source c.args.cursor.now) letter c.in-Some.rest.now front
+    control_read (table_of c.args.tables.now) c.args.parameters.now (source c.args.cursor.now) letter c.in-Some.rest.now front
     (c.if-c-from-3.true ∙ c.from-else-c-from-2.ensures) c.if-not-unicode.true
     ∙ sym c.class_control-atom.ensures.value
 
@@ -94,7 +94,7 @@ pub returns-then-unicode-2-clause-value : goal.returns-then-unicode-2-clause-val
 returns-then-unicode-2-clause-value c =
     let letter = c.in-Some.c.now in
     let front = c.in-Some.ensures.cases.0 in
-    let list = property_read (table_of c.args.tables.now) c.args.parameters (source c.args.cursor.now) letter c.in-Some.rest.now front
+    let list = property_read (table_of c.args.tables.now) c.args.parameters.now (source c.args.cursor.now) letter c.in-Some.rest.now front
     (sym c.is_property_letter.ensures ∙ c.if-is_property_letter.true) c.if-unicode-2.true in
     subst (Reads class_atom_of (source c.read_class_property.new.cursor) c.read_class_property.result)
     (ap (λ d. class_property_at (table_of c.args.tables.now) (letter == d) c.in-Some.rest.now) c.from-then-unicode-2.ensures ∙ sym list)
@@ -104,22 +104,22 @@ pub returns-in-Some-parse_character_escape-clause-value : goal.returns-in-Some-p
 returns-in-Some-parse_character_escape-clause-value c =
     let letter = c.in-Some.c.now in
     let front = c.in-Some.ensures.cases.0 in
-    let hyphen : (letter == 45 && c.args.parameters.unicode) ≡ false = elim c.else-c-from-2.branch [
-      | else-c-from-2-via-then-c-from-2+else-unicode w ↦ and_right (letter == 45) c.args.parameters.unicode w.if-unicode.false
+    let hyphen : (letter == 45 && c.args.parameters.now.unicode) ≡ false = elim c.else-c-from-2.branch [
+      | else-c-from-2-via-then-c-from-2+else-unicode w ↦ and_right (letter == 45) c.args.parameters.now.unicode w.if-unicode.false
       | else-c-from-2-via-else-c-from-2 w ↦
-          and_left (letter == 45) c.args.parameters.unicode (ne_eqb letter 45 (λ e. w.if-c-from-2.false (e ∙ sym c.from-else-c-from.ensures)))
+          and_left (letter == 45) c.args.parameters.now.unicode (ne_eqb letter 45 (λ e. w.if-c-from-2.false (e ∙ sym c.from-else-c-from.ensures)))
     ] in
-    let control : (letter == 99 && not c.args.parameters.unicode) ≡ false = elim c.else-c-from-3.branch [
-      | else-c-from-3-via-then-c-from-3+else-not-unicode w ↦ and_right (letter == 99) (not c.args.parameters.unicode) (ap not w.if-not-unicode.false)
+    let control : (letter == 99 && not c.args.parameters.now.unicode) ≡ false = elim c.else-c-from-3.branch [
+      | else-c-from-3-via-then-c-from-3+else-not-unicode w ↦ and_right (letter == 99) (not c.args.parameters.now.unicode) (ap not w.if-not-unicode.false)
       | else-c-from-3-via-else-c-from-3 w ↦
-          and_left (letter == 99) (not c.args.parameters.unicode) (ne_eqb letter 99 (λ e. w.if-c-from-3.false (e ∙ sym c.from-else-c-from-2.ensures)))
+          and_left (letter == 99) (not c.args.parameters.now.unicode) (ne_eqb letter 99 (λ e. w.if-c-from-3.false (e ∙ sym c.from-else-c-from-2.ensures)))
     ] in
-    let property : ((letter == 112 || letter == 80) && c.args.parameters.unicode) ≡ false = elim c.else-is_property_letter.branch [
-      | else-is_property_letter-via-then-is_property_letter+else-unicode-2 w ↦ and_right (letter == 112 || letter == 80) c.args.parameters.unicode w.if-unicode-2.false
+    let property : ((letter == 112 || letter == 80) && c.args.parameters.now.unicode) ≡ false = elim c.else-is_property_letter.branch [
+      | else-is_property_letter-via-then-is_property_letter+else-unicode-2 w ↦ and_right (letter == 112 || letter == 80) c.args.parameters.now.unicode w.if-unicode-2.false
       | else-is_property_letter-via-else-is_property_letter w ↦
-          and_left (letter == 112 || letter == 80) c.args.parameters.unicode (sym c.is_property_letter.ensures ∙ w.if-is_property_letter.false)
+          and_left (letter == 112 || letter == 80) c.args.parameters.now.unicode (sym c.is_property_letter.ensures ∙ w.if-is_property_letter.false)
     ] in
-    let list = point_read (table_of c.args.tables.now) c.args.parameters (source c.args.cursor.now) letter c.in-Some.rest.now front
+    let list = point_read (table_of c.args.tables.now) c.args.parameters.now (source c.args.cursor.now) letter c.in-Some.rest.now front
     (sym c.class_letter.ensures ∙ c.in_default-class_letter.is) (ne_eqb letter 98 (λ e. c.if-c-from.false (e ∙ sym c.from.ensures))) hyphen control property
     (sym c.is_reserved.ensures ∙ c.if-is_reserved.false) in
     list ∙ ap (found_map point) (sym c.in-Some-parse_character_escape.ensures.value)
@@ -128,23 +128,23 @@ pub returns-then-is_reserved-clause-value : goal.returns-then-is_reserved-clause
 returns-then-is_reserved-clause-value c =
     let letter = c.in-Some.c.now in
     let front = c.in-Some.ensures.cases.0 in
-    let hyphen : (letter == 45 && c.args.parameters.unicode) ≡ false = elim c.else-c-from-2.branch [
-      | else-c-from-2-via-then-c-from-2+else-unicode w ↦ and_right (letter == 45) c.args.parameters.unicode w.if-unicode.false
+    let hyphen : (letter == 45 && c.args.parameters.now.unicode) ≡ false = elim c.else-c-from-2.branch [
+      | else-c-from-2-via-then-c-from-2+else-unicode w ↦ and_right (letter == 45) c.args.parameters.now.unicode w.if-unicode.false
       | else-c-from-2-via-else-c-from-2 w ↦
-          and_left (letter == 45) c.args.parameters.unicode (ne_eqb letter 45 (λ e. w.if-c-from-2.false (e ∙ sym c.from-else-c-from.ensures)))
+          and_left (letter == 45) c.args.parameters.now.unicode (ne_eqb letter 45 (λ e. w.if-c-from-2.false (e ∙ sym c.from-else-c-from.ensures)))
     ] in
-    let control : (letter == 99 && not c.args.parameters.unicode) ≡ false = elim c.else-c-from-3.branch [
-      | else-c-from-3-via-then-c-from-3+else-not-unicode w ↦ and_right (letter == 99) (not c.args.parameters.unicode) (ap not w.if-not-unicode.false)
+    let control : (letter == 99 && not c.args.parameters.now.unicode) ≡ false = elim c.else-c-from-3.branch [
+      | else-c-from-3-via-then-c-from-3+else-not-unicode w ↦ and_right (letter == 99) (not c.args.parameters.now.unicode) (ap not w.if-not-unicode.false)
       | else-c-from-3-via-else-c-from-3 w ↦
-          and_left (letter == 99) (not c.args.parameters.unicode) (ne_eqb letter 99 (λ e. w.if-c-from-3.false (e ∙ sym c.from-else-c-from-2.ensures)))
+          and_left (letter == 99) (not c.args.parameters.now.unicode) (ne_eqb letter 99 (λ e. w.if-c-from-3.false (e ∙ sym c.from-else-c-from-2.ensures)))
     ] in
-    let property : ((letter == 112 || letter == 80) && c.args.parameters.unicode) ≡ false = elim c.else-is_property_letter.branch [
-      | else-is_property_letter-via-then-is_property_letter+else-unicode-2 w ↦ and_right (letter == 112 || letter == 80) c.args.parameters.unicode w.if-unicode-2.false
+    let property : ((letter == 112 || letter == 80) && c.args.parameters.now.unicode) ≡ false = elim c.else-is_property_letter.branch [
+      | else-is_property_letter-via-then-is_property_letter+else-unicode-2 w ↦ and_right (letter == 112 || letter == 80) c.args.parameters.now.unicode w.if-unicode-2.false
       | else-is_property_letter-via-else-is_property_letter w ↦
-          and_left (letter == 112 || letter == 80) c.args.parameters.unicode (sym c.is_property_letter.ensures ∙ w.if-is_property_letter.false)
+          and_left (letter == 112 || letter == 80) c.args.parameters.now.unicode (sym c.is_property_letter.ensures ∙ w.if-is_property_letter.false)
     ] in
     on_rejected c.rejected-then-is_reserved.result
-    (reserved_read (table_of c.args.tables.now) c.args.parameters (source c.args.cursor.now) letter c.in-Some.rest.now front
+    (reserved_read (table_of c.args.tables.now) c.args.parameters.now (source c.args.cursor.now) letter c.in-Some.rest.now front
     (sym c.class_letter.ensures ∙ c.in_default-class_letter.is) (ne_eqb letter 98 (λ e. c.if-c-from.false (e ∙ sym c.from.ensures))) hyphen control property
     (sym c.is_reserved.ensures ∙ c.if-is_reserved.true))
 
@@ -152,22 +152,22 @@ pub returns-in_default-parse_character_escape-clause-value : goal.returns-in_def
 returns-in_default-parse_character_escape-clause-value c =
     let letter = c.in-Some.c.now in
     let front = c.in-Some.ensures.cases.0 in
-    let hyphen : (letter == 45 && c.args.parameters.unicode) ≡ false = elim c.else-c-from-2.branch [
-      | else-c-from-2-via-then-c-from-2+else-unicode w ↦ and_right (letter == 45) c.args.parameters.unicode w.if-unicode.false
+    let hyphen : (letter == 45 && c.args.parameters.now.unicode) ≡ false = elim c.else-c-from-2.branch [
+      | else-c-from-2-via-then-c-from-2+else-unicode w ↦ and_right (letter == 45) c.args.parameters.now.unicode w.if-unicode.false
       | else-c-from-2-via-else-c-from-2 w ↦
-          and_left (letter == 45) c.args.parameters.unicode (ne_eqb letter 45 (λ e. w.if-c-from-2.false (e ∙ sym c.from-else-c-from.ensures)))
+          and_left (letter == 45) c.args.parameters.now.unicode (ne_eqb letter 45 (λ e. w.if-c-from-2.false (e ∙ sym c.from-else-c-from.ensures)))
     ] in
-    let control : (letter == 99 && not c.args.parameters.unicode) ≡ false = elim c.else-c-from-3.branch [
-      | else-c-from-3-via-then-c-from-3+else-not-unicode w ↦ and_right (letter == 99) (not c.args.parameters.unicode) (ap not w.if-not-unicode.false)
+    let control : (letter == 99 && not c.args.parameters.now.unicode) ≡ false = elim c.else-c-from-3.branch [
+      | else-c-from-3-via-then-c-from-3+else-not-unicode w ↦ and_right (letter == 99) (not c.args.parameters.now.unicode) (ap not w.if-not-unicode.false)
       | else-c-from-3-via-else-c-from-3 w ↦
-          and_left (letter == 99) (not c.args.parameters.unicode) (ne_eqb letter 99 (λ e. w.if-c-from-3.false (e ∙ sym c.from-else-c-from-2.ensures)))
+          and_left (letter == 99) (not c.args.parameters.now.unicode) (ne_eqb letter 99 (λ e. w.if-c-from-3.false (e ∙ sym c.from-else-c-from-2.ensures)))
     ] in
-    let property : ((letter == 112 || letter == 80) && c.args.parameters.unicode) ≡ false = elim c.else-is_property_letter.branch [
-      | else-is_property_letter-via-then-is_property_letter+else-unicode-2 w ↦ and_right (letter == 112 || letter == 80) c.args.parameters.unicode w.if-unicode-2.false
+    let property : ((letter == 112 || letter == 80) && c.args.parameters.now.unicode) ≡ false = elim c.else-is_property_letter.branch [
+      | else-is_property_letter-via-then-is_property_letter+else-unicode-2 w ↦ and_right (letter == 112 || letter == 80) c.args.parameters.now.unicode w.if-unicode-2.false
       | else-is_property_letter-via-else-is_property_letter w ↦
-          and_left (letter == 112 || letter == 80) c.args.parameters.unicode (sym c.is_property_letter.ensures ∙ w.if-is_property_letter.false)
+          and_left (letter == 112 || letter == 80) c.args.parameters.now.unicode (sym c.is_property_letter.ensures ∙ w.if-is_property_letter.false)
     ] in
-    let list = point_read (table_of c.args.tables.now) c.args.parameters (source c.args.cursor.now) letter c.in-Some.rest.now front
+    let list = point_read (table_of c.args.tables.now) c.args.parameters.now (source c.args.cursor.now) letter c.in-Some.rest.now front
     (sym c.class_letter.ensures ∙ c.in_default-class_letter.is) (ne_eqb letter 98 (λ e. c.if-c-from.false (e ∙ sym c.from.ensures))) hyphen control property
     (sym c.is_reserved.ensures ∙ c.if-is_reserved.false) in
     on_rejected c.rejected-in_default-parse_character_escape.result (list ∙ ap (found_map point) (sym c.in_default-parse_character_escape.ensures.value))

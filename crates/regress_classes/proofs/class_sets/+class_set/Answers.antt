@@ -5,7 +5,9 @@ use Rattle.std.proofs.lemmas.Result.{err_from_is_err_and}
 use Rattle.regress_unicode.specs.TableOf.{table_of}
 use Rattle.regress_classes.specs.declared.class_sets.OperandContext.{OperandContext}
 use Rattle.regress_classes.specs.ClassProductions.{one_point}
-use Rattle.regress_classes.specs.ClassSets.{Value, nothing, has_strings, only, joined, nested, unless_negated_strings, set_character_at, character, class, value_of, are_at}
+use Rattle.regress_classes.specs.ClassSets.{Value, nothing, is_not_negatable, only, joined, nested, unless_negated_strings, set_character_at, character, class, value_of, are_at}
+use Rattle.regress_lexer.specs.declared.dialect.Dialect.{Dialect}
+use Rattle.regress_lexer.specs.Dialects.{isolates_ampersand}
 use Rattle.regress_lexer.specs.Reads.{ParsesAs}
 use Rattle.regress_lexer.specs.Source.{Source, is_at}
 use Rattle.regress_classes.specs.ClassViews.{IsValue, IsUnion, IsChain, IsOperand, inner_of, symbol_of, applied}
@@ -20,13 +22,13 @@ use Rattle.regress_classes.proofs.lemmas.ClassSets.{part_after-ends, class_set_b
 use Rattle.regress_classes.proofs.lemmas.ClassStrings.{class_set_by-nesting}
 use Rattle.regress_lexer.proofs.lemmas.Sources.{length-none}
 use Rattle.regress_classes.proofs.ClassOperandLemmas.{nested_read, escape_read, character_read}
-use Rattle.regress_classes.proofs.ClassContentsLemmas.{no_operand, operand_shortens, parts_closed, no_contents, intersection_read, subtraction_read, ampersand_read, first_part_read, no_first, no_part, one_part, parts_end, no_last, last_read, more_read, none_read, no_nesting, class_read, read_on}
+use Rattle.regress_classes.proofs.ClassContentsLemmas.{no_operand, operand_shortens, next_shortens, parts_closed, no_contents, intersection_read, subtraction_read, ampersand_read, first_part_read, no_first, no_part, one_part, parts_end, no_last, last_read, more_read, none_read, no_nesting, class_read, read_on}
 use Rattle.regress_classes.proofs.ClassSetLemmas.{nothing-joined}
 use Rattle.regress_classes.proofs.class_sets.+class_set.Goals as goal
-use Rattle.regress_classes.proofs.class_sets.+class_set.Goals.{parse_class_set-else-negated-via-then-negated+else-has_strings, parse_class_set-else-negated-via-else-negated}
+use Rattle.regress_classes.proofs.class_sets.+class_set.Goals.{parse_class_set-else-negated-via-then-negated+else-is_not_negatable, parse_class_set-else-negated-via-else-negated}
 
 ends : (around : OperandContext) (t : Source) → Ends (inner_of around t) t
-ends around = class_set_by-ends (table_of around.tables.now) around.unicode around.nesting
+ends around = class_set_by-ends (table_of around.tables.now) around.parameters.now around.nesting
 
 -- ---- operands
 
@@ -34,7 +36,7 @@ pub parse_operand-returns-then-is_empty-clause-value : goal.parse_operand-return
 parse_operand-returns-then-is_empty-clause-value t c =
     let around = c.args.around.now in
     on_rejected c.reject.result
-    (no_operand (table_of around.tables.now) around.unicode (inner_of around) (ends around) around.negated (source c.args.cursor.now)
+    (no_operand (table_of around.tables.now) around.parameters.now (inner_of around) (ends around) around.negated (source c.args.cursor.now)
     (length-none (source c.args.cursor.now) (sym c.if-is_empty.ensures)))
 
 pub parse_operand-returns-in_err-class-clause-value : goal.parse_operand-returns-in_err-class-clause-value
@@ -42,7 +44,7 @@ parse_operand-returns-in_err-class-clause-value t c =
     let p = err_from_is_err_and c.from_residual.result c.from_residual.ensures.1 in
     let around = c.args.around.now in
     rw (p.1, p.2) (on_rejected_then c.in_err-class.field-0.0
-    (nested_read (table_of around.tables.now) around.unicode (inner_of around) around.negated (source c.args.cursor.now)
+    (nested_read (table_of around.tables.now) around.parameters.now (inner_of around) around.negated (source c.args.cursor.now)
     (source c.try_consume.new.self) None (sym c.try_consume.ensures.found ∙ c.if-try_consume.true)
     (c.try_consume.ensures.moves ∙ cond-true _ _ _ c.if-try_consume.true))
     c.in_err-class.ensures.value)
@@ -52,7 +54,7 @@ parse_operand-returns-then-try_consume-clause-value t c =
     let around = c.args.around.now in
     let found = c.in_ok-class.ensures.value in (
       class (nested found.0),
-      nested_read (table_of around.tables.now) around.unicode (inner_of around) around.negated (source c.args.cursor.now)
+      nested_read (table_of around.tables.now) around.parameters.now (inner_of around) around.negated (source c.args.cursor.now)
           (source c.try_consume.new.self) (Some (found.0, source c.parse_class_set.new.cursor))
           (sym c.try_consume.ensures.found ∙ c.if-try_consume.true)
           (c.try_consume.ensures.moves ∙ cond-true _ _ _ c.if-try_consume.true) found.1,
@@ -64,7 +66,7 @@ parse_operand-returns-then-try_consume-2-clause-value t c =
     let around = c.args.around.now in
     let same : source c.try_consume.new.self ≡ source c.args.cursor.now = c.try_consume.ensures.moves ∙ cond-false _ _ _ c.if-try_consume.false in
     subst (ParsesAs IsOperand (source c.read_escaped_operand.new.cursor) c.read_escaped_operand.result)
-    (sym (escape_read (table_of around.tables.now) around.unicode (inner_of around) around.negated (source c.args.cursor.now)
+    (sym (escape_read (table_of around.tables.now) around.parameters.now (inner_of around) around.negated (source c.args.cursor.now)
     (source c.try_consume-2.new.self) (sym c.try_consume.ensures.found ∙ c.if-try_consume.false)
     (ap (is_at 92) (sym same) ∙ sym c.try_consume-2.ensures.found ∙ c.if-try_consume-2.true)
     (c.try_consume-2.ensures.moves ∙ cond-true _ _ _ c.if-try_consume-2.true ∙ ap (λ (u : Source). drop 1 u) same)))
@@ -78,10 +80,10 @@ parse_operand-returns-in_err-character-clause-value t c =
     let still : source c.try_consume-2.new.self ≡ source c.args.cursor.now =
     c.try_consume-2.ensures.moves ∙ cond-false _ _ _ c.if-try_consume-2.false ∙ same in
     rw (p.1, p.2) (on_rejected c.in_err-character.field-0.0
-    (character_read (table_of around.tables.now) around.unicode (inner_of around) around.negated (source c.args.cursor.now) None
+    (character_read (table_of around.tables.now) around.parameters.now (inner_of around) around.negated (source c.args.cursor.now) None
     (sym c.try_consume.ensures.found ∙ c.if-try_consume.false)
     (ap (is_at 92) (sym same) ∙ sym c.try_consume-2.ensures.found ∙ c.if-try_consume-2.false)
-    (ap (set_character_at around.unicode) (sym still) ∙ c.in_err-character.ensures.value)))
+    (ap (set_character_at around.parameters.now) (sym still) ∙ c.in_err-character.ensures.value)))
 
 pub parse_operand-returns-clause-value : goal.parse_operand-returns-clause-value
 parse_operand-returns-clause-value t c =
@@ -91,10 +93,10 @@ parse_operand-returns-clause-value t c =
     let still : source c.try_consume-2.new.self ≡ source c.args.cursor.now =
     c.try_consume-2.ensures.moves ∙ cond-false _ _ _ c.if-try_consume-2.false ∙ same in (
       character read,
-      character_read (table_of around.tables.now) around.unicode (inner_of around) around.negated (source c.args.cursor.now)
+      character_read (table_of around.tables.now) around.parameters.now (inner_of around) around.negated (source c.args.cursor.now)
           (Some (read, source c.parse_set_character.new.cursor)) (sym c.try_consume.ensures.found ∙ c.if-try_consume.false)
           (ap (is_at 92) (sym same) ∙ sym c.try_consume-2.ensures.found ∙ c.if-try_consume-2.false)
-          (ap (set_character_at around.unicode) (sym still) ∙ c.in_ok-character.ensures.value),
+          (ap (set_character_at around.parameters.now) (sym still) ∙ c.in_ok-character.ensures.value),
       (refl, c.in_ok-character.ensures.in_range),
     )
 
@@ -105,14 +107,14 @@ parse_contents-returns-then-is_empty-clause-value t c =
     let around = c.args.around.now in
     let same : source c.try_consume.new.self ≡ source c.args.cursor.now = c.try_consume.ensures.moves ∙ cond-false _ _ _ c.if-try_consume.false in
     on_rejected c.rejected.result
-    (no_contents (table_of around.tables.now) around.unicode (inner_of around) (ends around) around.negated (source c.args.cursor.now)
+    (no_contents (table_of around.tables.now) around.parameters.now (inner_of around) (ends around) around.negated (source c.args.cursor.now)
     (sym same ∙ length-none (source c.try_consume.new.self) (sym c.if-is_empty.ensures)))
 
 pub parse_after_first_operand-returns-in_ok-value-clause-value : goal.parse_after_first_operand-returns-in_ok-value-clause-value
 parse_after_first_operand-returns-in_ok-value-clause-value t c = λ operand is.
     let around = c.args.around.now in
     subst (ParsesAs IsValue (source c.parse_operands.new.cursor) c.parse_operands.result)
-    (sym (intersection_read (table_of around.tables.now) around.unicode (inner_of around) (ends around) around.negated operand
+    (sym (intersection_read (table_of around.tables.now) around.parameters.now (inner_of around) (ends around) around.negated operand
     (source c.args.cursor.now) (source c.try_consume_twice.new.cursor)
     (sym c.try_consume_twice.ensures.found ∙ c.if-try_consume_twice.true)
     (c.try_consume_twice.ensures.moves ∙ cond-true _ _ _ c.if-try_consume_twice.true)))
@@ -125,7 +127,7 @@ parse_after_first_operand-returns-in_ok-value-2-clause-value t c = λ operand is
     let same : source c.try_consume_twice.new.cursor ≡ here = c.try_consume_twice.ensures.moves ∙ cond-false _ _ _ c.if-try_consume_twice.false in
     let second = c.try_consume_twice-else-try_consume_twice in
     subst (ParsesAs IsValue (source c.parse_operands-then-try_consume_twice-2.new.cursor) c.parse_operands-then-try_consume_twice-2.result)
-    (sym (subtraction_read (table_of around.tables.now) around.unicode (inner_of around) (ends around) around.negated operand here
+    (sym (subtraction_read (table_of around.tables.now) around.parameters.now (inner_of around) (ends around) around.negated operand here
     (source second.new.cursor) (sym c.try_consume_twice.ensures.found ∙ c.if-try_consume_twice.false)
     (ap (are_at 45) (sym same) ∙ sym second.ensures.found ∙ c.if-try_consume_twice-2.true)
     (second.ensures.moves ∙ cond-true _ _ _ c.if-try_consume_twice-2.true ∙ ap (λ (u : Source). drop 2 u) same)))
@@ -139,12 +141,12 @@ parse_after_first_operand-returns-in_ok-add_point-clause-value t c = λ operand 
     let still : source c.try_consume_twice-else-try_consume_twice.new.cursor ≡ here =
     c.try_consume_twice-else-try_consume_twice.ensures.moves ∙ cond-false _ _ _ c.if-try_consume_twice-2.false ∙ same in
     subst (ParsesAs IsValue (source c.parse_parts.new.cursor) c.parse_parts.result)
-    (sym (ampersand_read (table_of around.tables.now) around.unicode (inner_of around) (ends around) around.negated operand here
-    (source c.try_consume.new.self)
+    (sym (ampersand_read (table_of around.tables.now) around.parameters.now (inner_of around) (ends around) around.negated operand here
+    (source c.try_consume_ampersand.new.cursor)
     (sym c.try_consume_twice.ensures.found ∙ c.if-try_consume_twice.false)
     (ap (are_at 45) (sym same) ∙ sym c.try_consume_twice-else-try_consume_twice.ensures.found ∙ c.if-try_consume_twice-2.false)
-    (ap (is_at 38) (sym still) ∙ sym c.try_consume.ensures.found ∙ c.if-try_consume.true)
-    (c.try_consume.ensures.moves ∙ cond-true _ _ _ c.if-try_consume.true ∙ ap (λ (u : Source). drop 1 u) still)))
+    (ap (λ (u : Source). is_at 38 u && isolates_ampersand around.parameters.now.dialect) (sym still) ∙ sym c.try_consume_ampersand.ensures.found ∙ c.if-try_consume_ampersand.true)
+    (c.try_consume_ampersand.ensures.moves ∙ cond-true _ _ _ c.if-try_consume_ampersand.true ∙ ap (λ (u : Source). drop 1 u) still)))
     (c.parse_parts.ensures.value (joined (value_of operand) (only (one_point 38)))
     (subst (λ n. IsUnion c.add_point.new.self (joined (value_of operand) (only (one_point n)))) c.from.ensures
     (c.in_ok-add_point.ensures (value_of operand)
@@ -158,16 +160,16 @@ parse_after_first_operand-returns-in_ok-parse_rest_of_part-clause-value t c = λ
     let same : source c.try_consume_twice.new.cursor ≡ here = c.try_consume_twice.ensures.moves ∙ cond-false _ _ _ c.if-try_consume_twice.false in
     let still : source c.try_consume_twice-else-try_consume_twice.new.cursor ≡ here =
     c.try_consume_twice-else-try_consume_twice.ensures.moves ∙ cond-false _ _ _ c.if-try_consume_twice-2.false ∙ same in
-    let stays : source c.try_consume.new.self ≡ here = c.try_consume.ensures.moves ∙ cond-false _ _ _ c.if-try_consume.false ∙ still in
+    let stays : source c.try_consume_ampersand.new.cursor ≡ here = c.try_consume_ampersand.ensures.moves ∙ cond-false _ _ _ c.if-try_consume_ampersand.false ∙ still in
     let part = c.in_ok-parse_rest_of_part.ensures.value operand is in
-    subst (ParsesAs IsValue (source c.parse_parts-else-try_consume.new.cursor) c.parse_parts-else-try_consume.result)
-    (sym (first_part_read (table_of around.tables.now) around.unicode (inner_of around) (ends around) around.negated operand here
-    (source c.try_consume.new.self) (part.0, source c.parse_rest_of_part.new.cursor)
+    subst (ParsesAs IsValue (source c.parse_parts-else-try_consume_ampersand.new.cursor) c.parse_parts-else-try_consume_ampersand.result)
+    (sym (first_part_read (table_of around.tables.now) around.parameters.now (inner_of around) (ends around) around.negated operand here
+    (source c.try_consume_ampersand.new.cursor) (part.0, source c.parse_rest_of_part.new.cursor)
     (sym c.try_consume_twice.ensures.found ∙ c.if-try_consume_twice.false)
     (ap (are_at 45) (sym same) ∙ sym c.try_consume_twice-else-try_consume_twice.ensures.found ∙ c.if-try_consume_twice-2.false)
-    (ap (is_at 38) (sym still) ∙ sym c.try_consume.ensures.found ∙ c.if-try_consume.false) stays part.1))
-    (c.parse_parts-else-try_consume.ensures.value part.0
-    (subst (IsUnion c.parse_rest_of_part.new.union) (nothing-joined part.0) (part.2 nothing c.new-union-else-try_consume.ensures)))
+    (ap (λ (u : Source). is_at 38 u && isolates_ampersand around.parameters.now.dialect) (sym still) ∙ sym c.try_consume_ampersand.ensures.found ∙ c.if-try_consume_ampersand.false) stays part.1))
+    (c.parse_parts-else-try_consume_ampersand.ensures.value part.0
+    (subst (IsUnion c.parse_rest_of_part.new.union) (nothing-joined part.0) (part.2 nothing c.new-union-else-try_consume_ampersand.ensures)))
 
 pub parse_rest_of_part-returns-then-not-try_consume-clause-value : goal.parse_rest_of_part-returns-then-not-try_consume-clause-value
 parse_rest_of_part-returns-then-not-try_consume-clause-value t c = λ operand is. (
@@ -186,9 +188,9 @@ parse_parts-returns-then-is_empty-clause-value t c = λ held is.
     let so_far = l.invariant.0 held is in
     on_rejected c.rejected.result
     (so_far.whole
-    ∙ no_first (table_of around.tables.now) around.unicode (inner_of around) (ends around) around.negated so_far.value (source l.cursor)
+    ∙ no_first (table_of around.tables.now) around.parameters.now (inner_of around) (ends around) around.negated so_far.value (source l.cursor)
     (sym c.is_at.ensures ∙ c.loop-union-test.true)
-    (no_operand (table_of around.tables.now) around.unicode (inner_of around) (ends around) around.negated (source l.cursor)
+    (no_operand (table_of around.tables.now) around.parameters.now (inner_of around) (ends around) around.negated (source l.cursor)
     (length-none (source l.cursor) (sym c.if-is_empty.ensures))))
 
 pub parse_parts-returns-in_err-first-clause-value : goal.parse_parts-returns-in_err-first-clause-value
@@ -199,7 +201,7 @@ parse_parts-returns-in_err-first-clause-value t c = λ held is.
     let so_far = l.invariant.0 held is in
     rw (p.1, p.2) (on_rejected_then c.in_err-first.field-0.0
     (λ none. so_far.whole
-    ∙ no_first (table_of around.tables.now) around.unicode (inner_of around) (ends around) around.negated so_far.value (source l.cursor)
+    ∙ no_first (table_of around.tables.now) around.parameters.now (inner_of around) (ends around) around.negated so_far.value (source l.cursor)
     (sym c.is_at.ensures ∙ c.loop-union-test.true) none)
     c.in_err-first.ensures.value)
 
@@ -212,7 +214,7 @@ parse_parts-returns-in_err-parse_rest_of_part-clause-value t c = λ held is.
     let first = c.in_ok-first.ensures.value in
     rw (p.1, p.2) (on_rejected_then c.in_err-parse_rest_of_part.field-0.0
     (λ none. so_far.whole
-    ∙ no_part (table_of around.tables.now) around.unicode (inner_of around) (ends around) around.negated so_far.value (source l.cursor)
+    ∙ no_part (table_of around.tables.now) around.parameters.now (inner_of around) (ends around) around.negated so_far.value (source l.cursor)
     (first.0, source c.parse_operand.new.cursor) (sym c.is_at.ensures ∙ c.loop-union-test.true) first.1 none)
     (c.in_err-parse_rest_of_part.ensures.value first.0 first.2))
 
@@ -222,7 +224,7 @@ parse_parts-loop-union-smaller t c =
     let l = c.loop-union in
     let first = c.in_ok-first.ensures.value in
     let part = c.in_ok-parse_rest_of_part.ensures.value first.0 first.2 in
-    parts_end (table_of around.tables.now) around.unicode (inner_of around) (ends around) around.negated (source l.cursor)
+    parts_end (table_of around.tables.now) around.parameters.now (inner_of around) (ends around) around.negated (source l.cursor)
     (first.0, source c.parse_operand.new.cursor) (part.0, source c.parse_rest_of_part.new.cursor) first.1 part.1
 
 pub parse_parts-loop-union-preserved : goal.parse_parts-loop-union-preserved
@@ -235,14 +237,14 @@ parse_parts-loop-union-preserved t c =
           let so_far = l.invariant.0 held is in
           read_on IsUnion _ held (joined so_far.value part.0) (source c.args.cursor.now) (source l.cursor) (source c.parse_rest_of_part.new.cursor)
           l.union c.parse_rest_of_part.new.union so_far
-          (one_part (table_of around.tables.now) around.unicode (inner_of around) (ends around) around.negated so_far.value (source l.cursor)
+          (one_part (table_of around.tables.now) around.parameters.now (inner_of around) (ends around) around.negated so_far.value (source l.cursor)
           (first.0, source c.parse_operand.new.cursor) (part.0, source c.parse_rest_of_part.new.cursor)
           (sym c.is_at.ensures ∙ c.loop-union-test.true) first.1 part.1)
           (part.2 so_far.value so_far.is),
       omega (
         arith,
         l.invariant.1,
-        parts_end (table_of around.tables.now) around.unicode (inner_of around) (ends around) around.negated (source l.cursor)
+        parts_end (table_of around.tables.now) around.parameters.now (inner_of around) (ends around) around.negated (source l.cursor)
             (first.0, source c.parse_operand.new.cursor) (part.0, source c.parse_rest_of_part.new.cursor) first.1 part.1,
       ),
     )
@@ -255,7 +257,7 @@ parse_parts-returns-clause-value t c = λ held is.
     let closes = sym c.is_at.ensures ∙ c.loop-union-test.false in (
       so_far.value,
       so_far.whole
-          ∙ parts_closed (table_of around.tables.now) around.unicode (inner_of around) (ends around) around.negated so_far.value (source l.cursor)
+          ∙ parts_closed (table_of around.tables.now) around.parameters.now (inner_of around) (ends around) around.negated so_far.value (source l.cursor)
           closes
           ∙ ap (λ (u : Source). Some (so_far.value, u))
           (sym (c.try_consume.ensures.moves ∙ cond-true _ _ _ (c.try_consume.ensures.found ∙ closes))),
@@ -273,28 +275,28 @@ parse_operands-loop-chain-init t c = (
   omega arith,
 )
 
-pub parse_operands-returns-in_err-parse_operand-clause-value : goal.parse_operands-returns-in_err-parse_operand-clause-value
-parse_operands-returns-in_err-parse_operand-clause-value t c = λ held is.
+pub parse_operands-returns-in_err-parse_next_operand-clause-value : goal.parse_operands-returns-in_err-parse_next_operand-clause-value
+parse_operands-returns-in_err-parse_next_operand-clause-value t c = λ held is.
     let p = err_from_is_err_and c.from_residual.result c.from_residual.ensures.1 in
     let around = c.args.around.now in
     let l = c.loop-chain in
     let so_far = (l.invariant.0 held is).1 in
-    rw (p.1, p.2) (on_rejected_then c.in_err-parse_operand.field-0.0
+    rw (p.1, p.2) (on_rejected_then c.in_err-parse_next_operand.field-0.0
     (λ none. so_far.whole
-    ∙ no_last (table_of around.tables.now) around.unicode (inner_of around) (ends around) around.negated (symbol_of c.args.operator)
+    ∙ no_last (table_of around.tables.now) around.parameters.now (inner_of around) (ends around) around.negated (symbol_of c.args.operator)
     (applied c.args.operator) so_far.value (source l.cursor) none)
-    c.in_err-parse_operand.ensures.value)
+    c.in_err-parse_next_operand.ensures.value)
 
 pub parse_operands-returns-then-try_consume-clause-value : goal.parse_operands-returns-then-try_consume-clause-value
 parse_operands-returns-then-try_consume-clause-value t c = λ held is.
     let around = c.args.around.now in
     let l = c.loop-chain in
     let so_far = (l.invariant.0 held is).1 in
-    let operand = c.in_ok-parse_operand.ensures.value in (
+    let operand = c.in_ok-parse_next_operand.ensures.value in (
       applied c.args.operator so_far.value (value_of operand.0),
       so_far.whole
-          ∙ last_read (table_of around.tables.now) around.unicode (inner_of around) (ends around) around.negated (symbol_of c.args.operator)
-          (applied c.args.operator) so_far.value (source l.cursor) (operand.0, source c.parse_operand.new.cursor) (source c.try_consume.new.self)
+          ∙ last_read (table_of around.tables.now) around.parameters.now (inner_of around) (ends around) around.negated (symbol_of c.args.operator)
+          (applied c.args.operator) so_far.value (source l.cursor) (operand.0, source c.parse_next_operand.new.cursor) (source c.try_consume.new.self)
           operand.1 (sym c.try_consume.ensures.found ∙ c.if-try_consume.true)
           (c.try_consume.ensures.moves ∙ cond-true _ _ _ c.if-try_consume.true),
       subst (λ operator. IsValue c.in_ok-finish.field-0 (applied operator so_far.value (value_of operand.0))) (l.invariant.0 held is).0
@@ -307,12 +309,12 @@ parse_operands-returns-in_err-consume_operator-clause-value t c = λ held is.
     let around = c.args.around.now in
     let l = c.loop-chain in
     let so_far = (l.invariant.0 held is).1 in
-    let operand = c.in_ok-parse_operand.ensures.value in
-    let same : source c.try_consume.new.self ≡ source c.parse_operand.new.cursor = c.try_consume.ensures.moves ∙ cond-false _ _ _ c.if-try_consume.false in
+    let operand = c.in_ok-parse_next_operand.ensures.value in
+    let same : source c.try_consume.new.self ≡ source c.parse_next_operand.new.cursor = c.try_consume.ensures.moves ∙ cond-false _ _ _ c.if-try_consume.false in
     rw (p.1, p.2) (on_rejected c.in_err-consume_operator.field-0.0
     (so_far.whole
-    ∙ none_read (table_of around.tables.now) around.unicode (inner_of around) (ends around) around.negated (symbol_of c.args.operator)
-    (applied c.args.operator) so_far.value (source l.cursor) (operand.0, source c.parse_operand.new.cursor) operand.1
+    ∙ none_read (table_of around.tables.now) around.parameters.now (inner_of around) (ends around) around.negated (symbol_of c.args.operator)
+    (applied c.args.operator) so_far.value (source l.cursor) (operand.0, source c.parse_next_operand.new.cursor) operand.1
     (sym c.try_consume.ensures.found ∙ c.if-try_consume.false)
     (ap (are_at (symbol_of c.args.operator)) (sym same) ∙ c.in_err-consume_operator.ensures.err)))
 
@@ -320,12 +322,12 @@ pub parse_operands-loop-chain-smaller : goal.parse_operands-loop-chain-smaller
 parse_operands-loop-chain-smaller t c =
     let around = c.args.around.now in
     let l = c.loop-chain in
-    let operand = c.in_ok-parse_operand.ensures.value in
-    let same : source c.try_consume.new.self ≡ source c.parse_operand.new.cursor = c.try_consume.ensures.moves ∙ cond-false _ _ _ c.if-try_consume.false in
+    let operand = c.in_ok-parse_next_operand.ensures.value in
+    let same : source c.try_consume.new.self ≡ source c.parse_next_operand.new.cursor = c.try_consume.ensures.moves ∙ cond-false _ _ _ c.if-try_consume.false in
     omega (
       arith,
-      operand_shortens (table_of around.tables.now) around.unicode (inner_of around) (ends around) around.negated (source l.cursor)
-          (operand.0, source c.parse_operand.new.cursor) operand.1,
+      next_shortens (table_of around.tables.now) around.parameters.now (inner_of around) (ends around) around.negated (symbol_of c.args.operator)
+          (source l.cursor) (operand.0, source c.parse_next_operand.new.cursor) operand.1,
       ap length same,
       ap length c.in_ok-consume_operator.ensures.ok.1,
       length-drop 2 (source c.try_consume.new.self),
@@ -337,15 +339,15 @@ parse_operands-loop-chain-preserved t c = (
       let around = c.args.around.now in
       let l = c.loop-chain in
       let so_far = (l.invariant.0 held is).1 in
-      let operand = c.in_ok-parse_operand.ensures.value in
-      let same : source c.try_consume.new.self ≡ source c.parse_operand.new.cursor = c.try_consume.ensures.moves ∙ cond-false _ _ _ c.if-try_consume.false in
+      let operand = c.in_ok-parse_next_operand.ensures.value in
+      let same : source c.try_consume.new.self ≡ source c.parse_next_operand.new.cursor = c.try_consume.ensures.moves ∙ cond-false _ _ _ c.if-try_consume.false in
       let operator_is = (l.invariant.0 held is).0 in
       let pushed = c.in_ok-chain.ensures in (
         pushed.0 ∙ operator_is,
         read_on IsChain _ held (applied c.args.operator so_far.value (value_of operand.0)) (source c.args.cursor.now) (source l.cursor)
             (source c.consume_operator.new.cursor) l.chain c.in_ok-chain.chain so_far
-            (more_read (table_of around.tables.now) around.unicode (inner_of around) (ends around) around.negated (symbol_of c.args.operator)
-            (applied c.args.operator) so_far.value (source l.cursor) (operand.0, source c.parse_operand.new.cursor)
+            (more_read (table_of around.tables.now) around.parameters.now (inner_of around) (ends around) around.negated (symbol_of c.args.operator)
+            (applied c.args.operator) so_far.value (source l.cursor) (operand.0, source c.parse_next_operand.new.cursor)
             (source c.consume_operator.new.cursor) operand.1 (sym c.try_consume.ensures.found ∙ c.if-try_consume.false)
             (ap (are_at (symbol_of c.args.operator)) (sym same) ∙ c.in_ok-consume_operator.ensures.ok.0)
             (c.in_ok-consume_operator.ensures.ok.1 ∙ ap (λ (u : Source). drop 2 u) same))
@@ -359,48 +361,48 @@ parse_operands-loop-chain-preserved t c = (
 
 pub parse_class_set-returns-then-nesting-eq0-clause-value : goal.parse_class_set-returns-then-nesting-eq0-clause-value
 parse_class_set-returns-then-nesting-eq0-clause-value t c =
-    on_rejected c.rejected.result (no_nesting (table_of c.args.tables.now) c.args.unicode c.args.nesting (source c.args.cursor.now) c.if-nesting-eq0.true)
+    on_rejected c.rejected.result (no_nesting (table_of c.args.tables.now) c.args.parameters.now c.args.nesting (source c.args.cursor.now) c.if-nesting-eq0.true)
 
 pub parse_class_set-returns-in_err-value-clause-value : goal.parse_class_set-returns-in_err-value-clause-value
 parse_class_set-returns-in_err-value-clause-value t c =
     let p = err_from_is_err_and c.from_residual.result c.from_residual.ensures.1 in
     rw (p.1, p.2) (on_rejected_then c.in_err-value.field-0.0
-    (class_read (table_of c.args.tables.now) c.args.unicode c.args.nesting (c.args.nesting - 1) (source c.args.cursor.now)
-    (source c.try_consume-negated.new.self) c.try_consume-negated.result None (omega (arith, c.if-nesting-eq0.false))
-    c.try_consume-negated.ensures.found c.try_consume-negated.ensures.moves)
+    (class_read (table_of c.args.tables.now) c.args.parameters.now c.args.nesting (c.args.nesting - 1) (source c.args.cursor.now)
+    (source c.try_consume-negated.new.self) c.try_consume-negated.result c.is_judged.result None (omega (arith, c.if-nesting-eq0.false))
+    c.try_consume-negated.ensures.found c.try_consume-negated.ensures.moves c.is_judged.ensures)
     c.in_err-value.ensures.value)
 
-pub parse_class_set-returns-then-has_strings-clause-value : goal.parse_class_set-returns-then-has_strings-clause-value
-parse_class_set-returns-then-has_strings-clause-value t c =
+pub parse_class_set-returns-then-is_not_negatable-clause-value : goal.parse_class_set-returns-then-is_not_negatable-clause-value
+parse_class_set-returns-then-is_not_negatable-clause-value t c =
     let found = c.in_ok-value.ensures.value in
     let rest = source c.parse_contents.new.cursor in
-    on_rejected c.rejected-then-has_strings.result
-    (class_read (table_of c.args.tables.now) c.args.unicode c.args.nesting (c.args.nesting - 1) (source c.args.cursor.now)
-    (source c.try_consume-negated.new.self) c.try_consume-negated.result (Some (found.0, rest)) (omega (arith, c.if-nesting-eq0.false))
-    c.try_consume-negated.ensures.found c.try_consume-negated.ensures.moves found.1
+    on_rejected c.rejected-then-is_not_negatable.result
+    (class_read (table_of c.args.tables.now) c.args.parameters.now c.args.nesting (c.args.nesting - 1) (source c.args.cursor.now)
+    (source c.try_consume-negated.new.self) c.try_consume-negated.result c.is_judged.result (Some (found.0, rest)) (omega (arith, c.if-nesting-eq0.false))
+    c.try_consume-negated.ensures.found c.try_consume-negated.ensures.moves c.is_judged.ensures found.1
     ∙ cond-true _ _ _ (ap₂ (λ a b. a && b) c.if-negated.true
-    (sym (c.has_strings.ensures found.0 found.2) ∙ c.if-has_strings.true)))
+    (sym (c.is_not_negatable.ensures found.0 found.2) ∙ c.if-is_not_negatable.true)))
 
--- A class that is not negated, or has no strings, is its contents.
-kept_class : (negated : Bool) (value : Value) (t : Source) → (negated && has_strings value) ≡ false →
-    unless_negated_strings negated (value, t) ≡ Some ((negated, value), t)
-kept_class negated value t allowed = cond-false _ _ _ allowed
+-- A class that is not negated, or may be, is its contents.
+kept_class : (dialect : Dialect) (negated : Bool) (value : Value) (t : Source) → (negated && is_not_negatable dialect value) ≡ false →
+    unless_negated_strings dialect negated (value, t) ≡ Some ((negated, value), t)
+kept_class dialect negated value t allowed = cond-false _ _ _ allowed
 
 pub parse_class_set-returns-clause-value : goal.parse_class_set-returns-clause-value
 parse_class_set-returns-clause-value t c =
     let found = c.in_ok-value.ensures.value in
     let rest = source c.parse_contents.new.cursor in
-    let allowed : (c.try_consume-negated.result && has_strings found.0) ≡ false =
+    let allowed : (c.try_consume-negated.result && is_not_negatable c.args.parameters.now.dialect found.0) ≡ false =
     elim c.else-negated.branch [
-      | parse_class_set-else-negated-via-then-negated+else-has_strings w ↦
-          ap₂ (λ a b. a && b) w.if-negated.true (sym (w.has_strings.ensures found.0 found.2) ∙ w.if-has_strings.false)
-      | parse_class_set-else-negated-via-else-negated w ↦ ap (λ a. a && has_strings found.0) w.if-negated.false
+      | parse_class_set-else-negated-via-then-negated+else-is_not_negatable w ↦
+          ap₂ (λ a b. a && b) w.if-negated.true (sym (w.is_not_negatable.ensures found.0 found.2) ∙ w.if-is_not_negatable.false)
+      | parse_class_set-else-negated-via-else-negated w ↦ ap (λ a. a && is_not_negatable c.args.parameters.now.dialect found.0) w.if-negated.false
     ] in (
       (c.try_consume-negated.result, found.0),
-      class_read (table_of c.args.tables.now) c.args.unicode c.args.nesting (c.args.nesting - 1) (source c.args.cursor.now)
-          (source c.try_consume-negated.new.self) c.try_consume-negated.result (Some (found.0, rest)) (omega (arith, c.if-nesting-eq0.false))
-          c.try_consume-negated.ensures.found c.try_consume-negated.ensures.moves found.1
-          ∙ kept_class c.try_consume-negated.result found.0 rest allowed,
+      class_read (table_of c.args.tables.now) c.args.parameters.now c.args.nesting (c.args.nesting - 1) (source c.args.cursor.now)
+          (source c.try_consume-negated.new.self) c.try_consume-negated.result c.is_judged.result (Some (found.0, rest)) (omega (arith, c.if-nesting-eq0.false))
+          c.try_consume-negated.ensures.found c.try_consume-negated.ensures.moves c.is_judged.ensures found.1
+          ∙ kept_class c.args.parameters.now.dialect c.try_consume-negated.result found.0 rest allowed,
       (refl, found.2),
     )
 
@@ -408,7 +410,7 @@ pub parse_class_set-returns-clause-nesting : goal.parse_class_set-returns-clause
 parse_class_set-returns-clause-nesting t c =
     let tables = c.args.tables.now in
     let read = parse_class_set-returns-clause-value t c in
-    let fewer = (class_set_by-nesting (table_of tables) tables.sound.lawful c.args.unicode c.args.nesting (source c.args.cursor.now)
+    let fewer = (class_set_by-nesting (table_of tables) tables.sound.lawful c.args.parameters.now c.args.nesting (source c.args.cursor.now)
     c.args.cursor.now.in_range).each (read.0, source c.parse_contents.new.cursor) read.1 in
     omega (arith, fewer, read.2.1.others.nesting)
 
@@ -430,7 +432,7 @@ parse_contents-returns-clause-kind t c =
     (omega (
       arith,
       ap length same,
-      operand_shortens (table_of around.tables.now) around.unicode (inner_of around) (ends around) around.negated here
+      operand_shortens (table_of around.tables.now) around.parameters.now (inner_of around) (ends around) around.negated here
           (first.0, source c.parse_operand.new.cursor) first.1,
     )))
     c.parse_after_first_operand.ensures.kind
@@ -442,18 +444,18 @@ parse_after_first_operand-returns-in_ok-parse_rest_of_part-clause-kind t c =
     let same : source c.try_consume_twice.new.cursor ≡ here = c.try_consume_twice.ensures.moves ∙ cond-false _ _ _ c.if-try_consume_twice.false in
     let still : source c.try_consume_twice-else-try_consume_twice.new.cursor ≡ here =
     c.try_consume_twice-else-try_consume_twice.ensures.moves ∙ cond-false _ _ _ c.if-try_consume_twice-2.false ∙ same in
-    let stays : source c.try_consume.new.self ≡ here = c.try_consume.ensures.moves ∙ cond-false _ _ _ c.if-try_consume.false ∙ still in
+    let stays : source c.try_consume_ampersand.new.cursor ≡ here = c.try_consume_ampersand.ensures.moves ∙ cond-false _ _ _ c.if-try_consume_ampersand.false ∙ still in
     let part = c.in_ok-parse_rest_of_part.ensures.value c.requires.0 c.requires.1 in
-    fails_then c.parse_parts-else-try_consume.result
+    fails_then c.parse_parts-else-try_consume_ampersand.result
     (remaining_is_shorter here (source c.parse_rest_of_part.new.cursor)
     (omega (
       arith,
       ap length stays,
-      after_shorter (source c.try_consume.new.self) (source c.parse_rest_of_part.new.cursor)
-          ((part_after-ends (table_of around.tables.now) around.unicode (inner_of around) (ends around) around.negated
-          (c.requires.0, source c.try_consume.new.self)).each (part.0, source c.parse_rest_of_part.new.cursor) part.1),
+      after_shorter (source c.try_consume_ampersand.new.cursor) (source c.parse_rest_of_part.new.cursor)
+          ((part_after-ends (table_of around.tables.now) around.parameters.now (inner_of around) (ends around) around.negated
+          (c.requires.0, source c.try_consume_ampersand.new.cursor)).each (part.0, source c.parse_rest_of_part.new.cursor) part.1),
     )))
-    c.parse_parts-else-try_consume.ensures.kind
+    c.parse_parts-else-try_consume_ampersand.ensures.kind
 
 pub parse_parts-returns-in_err-first-clause-kind : goal.parse_parts-returns-in_err-first-clause-kind
 parse_parts-returns-in_err-first-clause-kind t c =
@@ -472,16 +474,16 @@ parse_parts-returns-in_err-parse_rest_of_part-clause-kind t c =
     (omega (
       arith,
       l.invariant.1,
-      operand_shortens (table_of around.tables.now) around.unicode (inner_of around) (ends around) around.negated (source l.cursor)
+      operand_shortens (table_of around.tables.now) around.parameters.now (inner_of around) (ends around) around.negated (source l.cursor)
           (first.0, source c.parse_operand.new.cursor) first.1,
     )))
     c.in_err-parse_rest_of_part.ensures.kind)
 
-pub parse_operands-returns-in_err-parse_operand-clause-kind : goal.parse_operands-returns-in_err-parse_operand-clause-kind
-parse_operands-returns-in_err-parse_operand-clause-kind t c =
+pub parse_operands-returns-in_err-parse_next_operand-clause-kind : goal.parse_operands-returns-in_err-parse_next_operand-clause-kind
+parse_operands-returns-in_err-parse_next_operand-clause-kind t c =
     let p = err_from_is_err_and c.from_residual.result c.from_residual.ensures.1 in
-    rw (p.1, p.2) (on_kind_then c.in_err-parse_operand.field-0.0
-    (remaining_is_shorter (source c.args.cursor.now) (source c.loop-chain.cursor) c.loop-chain.invariant.1) c.in_err-parse_operand.ensures.kind)
+    rw (p.1, p.2) (on_kind_then c.in_err-parse_next_operand.field-0.0
+    (remaining_is_shorter (source c.args.cursor.now) (source c.loop-chain.cursor) c.loop-chain.invariant.1) c.in_err-parse_next_operand.ensures.kind)
 
 -- ---- failed allocations
 

@@ -13,6 +13,9 @@ decreases-parse_class_set l = 8 * l.nesting
 abbrev pub decreases-parse_operand : goal.decreases-parse_operand
 decreases-parse_operand l = 8 * l.around.now.nesting + 1
 
+abbrev pub decreases-parse_next_operand : goal.decreases-parse_next_operand
+decreases-parse_next_operand l = 8 * l.around.now.nesting + 2
+
 abbrev pub decreases-parse_rest_of_part : goal.decreases-parse_rest_of_part
 decreases-parse_rest_of_part l = 8 * l.around.now.nesting + 2
 
@@ -31,7 +34,7 @@ decreases-parse_contents l = 8 * l.around.now.nesting + 5
 abbrev pub invariant-parse_parts-loop-union : goal.invariant-parse_parts-loop-union
 invariant-parse_parts-loop-union l =
     ((held : Value) → IsUnion l.fn.union held →
-    ReadFrom IsUnion (parts_onto (table_of l.around.tables.now) l.around.unicode (inner_of l.around) l.around.negated) held (source l.fn.cursor)
+    ReadFrom IsUnion (parts_onto (table_of l.around.tables.now) l.around.parameters.now (inner_of l.around) l.around.negated) held (source l.fn.cursor)
     (source l.cursor) l.union)
     × (length (source l.cursor) ≤ length (source l.fn.cursor))
 
@@ -43,7 +46,7 @@ invariant-parse_operands-loop-chain l =
     ((held : Value) → IsValue l.fn.value held →
     (l.chain.operator ≡ l.operator)
     × ReadFrom IsChain
-    (operands_onto (table_of l.around.tables.now) l.around.unicode (inner_of l.around) l.around.negated (symbol_of l.operator) (applied l.operator))
+    (operands_onto (table_of l.around.tables.now) l.around.parameters.now (inner_of l.around) l.around.negated (symbol_of l.operator) (applied l.operator))
     held (source l.fn.cursor) (source l.cursor) l.chain)
     × (length (source l.cursor) ≤ length (source l.fn.cursor))
 

@@ -2,7 +2,7 @@ use Rattle.std.proofs.Common.{rules, arith, ◌≡◌, true, [], ◌∷◌, drop
 use Rattle.std.specs.Box.{boxed_slice_items}
 use Rattle.regress_tree.specs.Tree.{leaf, string_set, tree}
 use Rattle.regress_tree.specs.declared.ir.node.Node.{the_lemmas}
-use Rattle.regress_leaves.proofs.StartSets.{ascii_below, first_of_string, narrowed, sole_string}
+use Rattle.regress_leaves.proofs.StringLemmas.{ascii_below, first_of_string, narrowed, sole_string}
 use Rattle.regress_leaves.proofs.start.folded_first.Goals as goal
 
 pub returns-then-is_ascii : goal.returns-then-is_ascii

@@ -10,6 +10,7 @@ use Rattle.regress_lexer.proofs.lemmas.Faults.{by_nesting_then}
 use Rattle.regress_syntax.proofs.lemmas.Lengths.{class_set_at-nesting}
 use Rattle.regress_classes.specs.declared.parameters.Parameters.{Parameters}
 use Rattle.regress_classes.specs.ClassProductions.{class_at}
+use Rattle.regress_classes.specs.ClassSets.{class_set_at}
 use Rattle.regress_syntax.specs.Syntax.{Atom, class, class_set, nesting_of_atom}
 use Rattle.regress_syntax.specs.Views.{names_in}
 use Rattle.regress_unicode.specs.TableOf.{table_of}
@@ -24,7 +25,7 @@ returns-then-not-scope-clause-value c =
       class flags found.0.0 found.0.1,
       cond-false _ _ _ c.if-not-scope.true
           ∙ ap (found_map (λ (inverted, members). class flags inverted members))
-          (ap (λ (p : Parameters). class_at (table_of c.args.scope.now.tables.now) p (source c.args.cursor.now)) (sym c.class_parameters.ensures) ∙ found.1),
+          (ap (λ (p : Parameters). class_at (table_of c.args.scope.now.tables.now) p (source c.args.cursor.now)) (sym c.class_parameters-parameters.ensures) ∙ found.1),
       record {
         node = c.in_ok-make_class.ensures found.0.1 found.2.1 ∙ ap (tree_of_atom (table_of c.args.scope.now.tables.now)
             (names_in c.args.scope.now.groups.now)) same;
@@ -37,7 +38,9 @@ pub returns-then-class-left-clause-value : goal.returns-then-class-left-clause-v
 returns-then-class-left-clause-value c =
     let flags = c.args.scope.now.flags in
     let found = c.in_ok-class-2.ensures.value in
-    let here = cond-true _ _ _ c.if-not-scope.false ∙ ap (found_map (λ (negated, value). class_set flags negated value)) found.1 in
+    let read = ap (λ (p : Parameters). class_set_at (table_of c.args.scope.now.tables.now) p (source c.args.cursor.now))
+    (sym c.class_parameters-parameters.ensures) ∙ found.1 in
+    let here = cond-true _ _ _ c.if-not-scope.false ∙ ap (found_map (λ (negated, value). class_set flags negated value)) read in
     on_rejected c.rejected.result
     (subst (λ (f : Found Atom). IfSome f (λ x. c.args.left < nesting_of_atom x.0)) (sym here) (omega (arith, found.2.1.others.nesting)))
 
@@ -45,9 +48,11 @@ pub returns-clause-value : goal.returns-clause-value
 returns-clause-value c =
     let flags = c.args.scope.now.flags in
     let found = c.in_ok-class-2.ensures.value in
+    let read = ap (λ (p : Parameters). class_set_at (table_of c.args.scope.now.tables.now) p (source c.args.cursor.now))
+    (sym c.class_parameters-parameters.ensures) ∙ found.1 in
     let same = ap (λ negated. class_set flags negated found.0.1) found.2.0 in (
       class_set flags found.0.0 found.0.1,
-      cond-true _ _ _ c.if-not-scope.false ∙ ap (found_map (λ (negated, value). class_set flags negated value)) found.1,
+      cond-true _ _ _ c.if-not-scope.false ∙ ap (found_map (λ (negated, value). class_set flags negated value)) read,
       record {
         node = c.in_ok-make_class_set.ensures found.0.1 found.2.1 ∙ ap (tree_of_atom (table_of c.args.scope.now.tables.now)
             (names_in c.args.scope.now.groups.now)) same;
@@ -71,7 +76,7 @@ returns-then-class-left-clause-kind c =
         arith,
         c.if-class-left.true,
         found.2.1.others.nesting,
-        class_set_at-nesting (table_of tables) tables.sound.lawful c.args.scope.now.flags.unicode (source c.args.cursor.now)
+        class_set_at-nesting (table_of tables) tables.sound.lawful c.class_parameters-parameters.result (source c.args.cursor.now)
             (found.0, source c.parse_class_set.new.cursor) found.1,
       ),
     ))

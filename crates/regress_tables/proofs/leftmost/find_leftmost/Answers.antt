@@ -4,6 +4,7 @@ use Rattle.std.specs.Str.{IsCharBoundary}
 use Rattle.regress_tree.specs.Steps.{MatchState}
 use Rattle.regress_tree.specs.Reading.{forwards}
 use Rattle.regress_program.specs.Compiled.{total}
+use Rattle.regress_program.specs.Cost.{blocks}
 use Rattle.regress_found.specs.Found.{state_of}
 use Rattle.regress_program.specs.Views.{routine_in}
 use Rattle.regress_program.specs.Isolated.{Captures}
@@ -12,7 +13,7 @@ use Rattle.regress_tables.specs.Searchable.{IsEnd, IsFirstOutcome, captures_in, 
 use Rattle.regress_tables.specs.Slots.{AreInside, resolved}
 use Rattle.regress_tables.specs.declared.first.FirstOutcome.{FirstOutcome}
 use Rattle.regress_program.proofs.lemmas.Totals.{routine_size, total_part}
-use Rattle.regress_tables.proofs.ResolveLemmas.{get-some, leftmost_steps}
+use Rattle.regress_tables.proofs.ResolveLemmas.{get-some, leftmost_steps, weighted_steps}
 use Rattle.regress_tables.proofs.SearchLemmas.{leftmost_by}
 use Rattle.regress_tables.proofs.WalkLemmas.{none-more, not-true}
 use Rattle.regress_tables.proofs.leftmost.find_leftmost.Goals as goal
@@ -63,7 +64,8 @@ returns-in-Some-clause-steps c =
     (c.loop-start.tried + 1 + c.first_outcome.new.steps) (c.loop-start.tried + 1 + c.resolve.new.steps) c.new.result.end
     (routine_size P (length P - 1) r.0 r.1) (total_part P last) forward.0 c.loop-start.auto.start (omega (arith, c.loop-start.invariant.tried, c.loop-start-test.true))
     (omega (arith, forward.1, c.loop-start.invariant.walked)) (omega (arith, c.in_ok-resolve.ensures.steps)) end_is in
-    omega (arith, bound)
+    weighted_steps (blocks c.args.groups) (total P) f.inner (length f.input.text.now + 1) (c.new.result.end + 1 - c.args.from) (c.loop-start.tried + 1) c.resolve.new.steps
+    c.steps_of_match.result (omega arith) (omega (arith, bound)) (omega (arith, c.steps_of_match.ensures.within))
 
 pub loop-start-preserved : goal.loop-start-preserved
 loop-start-preserved c =

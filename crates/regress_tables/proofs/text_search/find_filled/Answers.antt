@@ -2,7 +2,7 @@ use Rattle.std.proofs.Common.{◌+◌, ◌*◌, ◌≤◌, length, subst, IfOk}
 use Rattle.regress_program.specs.Compiled.{total}
 use Rattle.regress_found.specs.Found.{initial_state}
 use Rattle.regress_code.specs.Code.{code_groups, code_routines, code_tidy, outcomes_from, setting_with, tree_outcomes_from}
-use Rattle.regress_tables.specs.Search.{steps_up_to}
+use Rattle.regress_tables.specs.Search.{capturing_steps, steps_up_to, walk_weight}
 use Rattle.regress_program.proofs.lemmas.Solutions.{finds_by}
 use Rattle.regress_tables.proofs.SearchLemmas.{ok_map, tabled_by}
 use Rattle.regress_tables.proofs.text_search.find_filled.Goals as goal
@@ -30,5 +30,6 @@ returns-clause-steps c =
     let l = c.args.linear.now in
     let program = code_routines l.code.now in
     let text = c.args.text.now in
-    subst (λ k. IfOk c.find_leftmost.result (λ search. search.steps ≤ steps_up_to (total program) text c.args.from search.found
-    + 2 * total program * k * (length text + 1))) (tabled_by (code_tidy l.code.now) program l.inner l.tabled).1 c.find_leftmost.ensures.steps
+    let weight = walk_weight (code_groups l.code.now) in
+    subst (λ k. IfOk c.find_leftmost.result (λ search. search.steps ≤ steps_up_to (total program) weight text c.args.from search.found
+    + capturing_steps (total program) k weight * (length text + 1))) (tabled_by (code_tidy l.code.now) program l.inner l.tabled).1 c.find_leftmost.ensures.steps

@@ -17,14 +17,14 @@ invariant_of-cursor c = record {
 pub returns-then-try_consume-clause-value : goal.returns-then-try_consume-clause-value
 returns-then-try_consume-clause-value c =
     subst (ParsesWithoutAllocating (λ d. d) (source c.read_escaped_character.new.cursor) c.read_escaped_character.result)
-    (sym (set_escape_read c.args.unicode (source c.args.cursor.now) (source c.try_consume.new.self)
+    (sym (set_escape_read c.args.parameters.now (source c.args.cursor.now) (source c.try_consume.new.self)
     (sym c.try_consume.ensures.found ∙ c.if-try_consume.true) (c.try_consume.ensures.moves ∙ cond-true _ _ _ c.if-try_consume.true)))
     c.read_escaped_character.ensures.value
 
 pub returns-in-Some-clause-value : goal.returns-in-Some-clause-value
 returns-in-Some-clause-value c =
     let same : source c.try_consume.new.self ≡ source c.args.cursor.now = c.try_consume.ensures.moves ∙ cond-false _ _ _ c.if-try_consume.false in
-    literal_parsed c.args.unicode (source c.args.cursor.now) c.in-Some.c.now c.in-Some.rest.now (sym same ∙ c.in-Some.ensures.cases.0)
+    literal_parsed c.args.parameters.now (source c.args.cursor.now) c.in-Some.c.now c.in-Some.rest.now (sym same ∙ c.in-Some.ensures.cases.0)
     (sym c.try_consume.ensures.found ∙ c.if-try_consume.false) (sym c.is_literal.ensures ∙ c.if-is_literal.true)
 
 pub returns-in_default-clause-value : goal.returns-in_default-clause-value
@@ -32,7 +32,7 @@ returns-in_default-clause-value c =
     let same : source c.try_consume.new.self ≡ source c.args.cursor.now = c.try_consume.ensures.moves ∙ cond-false _ _ _ c.if-try_consume.false in
     elim c.in_default.branch [
       | in_default-via-in-Some+else-is_literal w ↦
-          no_itself c.args.unicode (source c.args.cursor.now) w.in-Some.c.now w.in-Some.rest.now (sym same ∙ w.in-Some.ensures.cases.0)
+          no_itself c.args.parameters.now (source c.args.cursor.now) w.in-Some.c.now w.in-Some.rest.now (sym same ∙ w.in-Some.ensures.cases.0)
           (sym c.try_consume.ensures.found ∙ c.if-try_consume.false) (sym w.is_literal.ensures ∙ w.if-is_literal.false)
-      | in_default-via-in_default w ↦ no_character c.args.unicode (source c.args.cursor.now) (ap length (sym same) ∙ w.in_default.ensures.cases)
+      | in_default-via-in_default w ↦ no_character c.args.parameters.now (source c.args.cursor.now) (ap length (sym same) ∙ w.in_default.ensures.cases)
     ]

@@ -36,7 +36,7 @@ pub returns-in_default-clause-value : goal.returns-in_default-clause-value
 returns-in_default-clause-value c =
     let around = c.args.around.now in
     on_rejected c.rejected.result
-    (ap (escaped_operand_at (table_of around.tables.now) around.unicode around.negated)
+    (ap (escaped_operand_at (table_of around.tables.now) around.parameters.now around.negated)
     (nil_from_length (source c.args.cursor.now) c.in_default.ensures.cases))
 
 pub returns-in_ok-class_value-clause-value : goal.returns-in_ok-class_value-clause-value
@@ -46,7 +46,7 @@ returns-in_ok-class_value-clause-value c =
     let front = c.in-Some.ensures.cases.0 in
     let named : CharacterClassType × Bool = (c.in-Some-class_letter.kind, c.in-Some-class_letter.negated) in (
       class (only (class_members named)),
-      class_escape_read (table_of around.tables.now) around.unicode around.negated (source c.args.cursor.now) letter c.in-Some.rest.now front named
+      class_escape_read (table_of around.tables.now) around.parameters.now around.negated (source c.args.cursor.now) letter c.in-Some.rest.now front named
           (sym c.class_letter.ensures ∙ c.in-Some-class_letter.is),
       (only (class_members named), refl, c.in_ok-class_value.ensures),
     )
@@ -57,7 +57,7 @@ returns-then-c-from-clause-value c =
     let letter = c.in-Some.c.now in
     let front = c.in-Some.ensures.cases.0 in
     subst (ParsesAs IsOperand (source c.read_quoted.new.cursor) c.read_quoted.result)
-    (sym (quoted_read (table_of around.tables.now) around.unicode around.negated (source c.args.cursor.now) letter c.in-Some.rest.now front
+    (sym (quoted_read (table_of around.tables.now) around.parameters.now around.negated (source c.args.cursor.now) letter c.in-Some.rest.now front
     (c.if-c-from.true ∙ c.from.ensures)))
     c.read_quoted.ensures.value
 
@@ -66,7 +66,7 @@ returns-then-is_property_letter-clause-value c =
     let around = c.args.around.now in
     let letter = c.in-Some.c.now in
     let front = c.in-Some.ensures.cases.0 in
-    let list = property_operand_read (table_of around.tables.now) around.unicode around.negated (source c.args.cursor.now) letter c.in-Some.rest.now front
+    let list = property_operand_read (table_of around.tables.now) around.parameters.now around.negated (source c.args.cursor.now) letter c.in-Some.rest.now front
     (sym c.is_property_letter.ensures ∙ c.if-is_property_letter.true) in
     subst (ParsesAs IsOperand (source c.read_property_operand.new.cursor) c.read_property_operand.result)
     (ap (λ d. property_operand_at (table_of around.tables.now) around.negated (letter == d) c.in-Some.rest.now) c.from-then-is_property_letter.ensures
@@ -78,7 +78,7 @@ returns-in_ok-character-clause-value c =
     let around = c.args.around.now in
     let letter = c.in-Some.c.now in
     let front = c.in-Some.ensures.cases.0 in
-    let list = character_escape_read (table_of around.tables.now) around.unicode around.negated (source c.args.cursor.now) letter c.in-Some.rest.now front
+    let list = character_escape_read (table_of around.tables.now) around.parameters.now around.negated (source c.args.cursor.now) letter c.in-Some.rest.now front
     (sym c.class_letter.ensures ∙ c.in_default-class_letter.is) (ne_eqb letter 113 (λ e. c.if-c-from.false (e ∙ sym c.from.ensures)))
     (sym c.is_property_letter.ensures ∙ c.if-is_property_letter.false) in (
       character c.in_ok-character.character,
@@ -92,7 +92,7 @@ returns-in_err-character-clause-value c =
     let around = c.args.around.now in
     let letter = c.in-Some.c.now in
     rw (p.1, p.2) (on_rejected c.in_err-character.field-0.0
-    (character_escape_read (table_of around.tables.now) around.unicode around.negated (source c.args.cursor.now) letter c.in-Some.rest.now
+    (character_escape_read (table_of around.tables.now) around.parameters.now around.negated (source c.args.cursor.now) letter c.in-Some.rest.now
     c.in-Some.ensures.cases.0 (sym c.class_letter.ensures ∙ c.in_default-class_letter.is)
     (ne_eqb letter 113 (λ e. c.if-c-from.false (e ∙ sym c.from.ensures))) (sym c.is_property_letter.ensures ∙ c.if-is_property_letter.false)
     ∙ ap (found_map character) c.in_err-character.ensures.value))

@@ -10,7 +10,7 @@ returns-clause-value c =
     let found = c.in_ok-read_strings.ensures.value in
     let opens = sym c.try_consume.ensures.found ∙ c.if-not-try_consume.false in (
       class (value_of_strings found.0),
-      quoted c.args.unicode (source c.args.cursor.now) (source c.try_consume.new.self) _ opens
+      quoted c.args.parameters.now (source c.args.cursor.now) (source c.try_consume.new.self) _ opens
           (c.try_consume.ensures.moves ∙ cond-true _ _ _ c.if-not-try_consume.false) found.1,
       (value_of_strings found.0, refl, found.2),
     )

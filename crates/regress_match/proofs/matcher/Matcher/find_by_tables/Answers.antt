@@ -1,6 +1,6 @@
 use Rattle.std.proofs.Common.{IfSome, subst, sym, ap, ◌∙◌}
 use Rattle.std.specs.Prelude.{◌+◌, ◌*◌, ◌≤◌, length}
-use Rattle.regress_code.specs.Code.{code_routines, code_tidy}
+use Rattle.regress_code.specs.Code.{code_groups, code_routines, code_tidy}
 use Rattle.regress_found.specs.Results.{IsSearchResult, IfOutOfSteps}
 use Rattle.regress_match.specs.Matcher.{find_factor_of}
 use Rattle.regress_match.specs.Pattern.{matcher_outcomes, matcher_setting, matcher_tree}
@@ -28,5 +28,5 @@ returns-clause-bounded c =
     let n = length c.args.text.now + 1 in
     let search = c.in_ok-search.search in
     subst (λ o. IfSome (find_factor_of m) (λ k. (search.steps + 64 * n ≤ k * n) × IfOutOfSteps o ⊥)) (sym c.outcome_of.ensures)
-    (searched_bounded (code_tidy m.code) (code_routines m.code) m.within c.in-Some.linear.code.now c.args.text.now search.found search.steps
-    (ap code_routines (rw c.in-Some.is at c.new.ensures.code)) c.in_ok-search.ensures.steps)
+    (searched_bounded (code_groups m.code) (code_tidy m.code) (code_routines m.code) m.within c.in-Some.linear.code.now c.args.text.now search.found search.steps
+    (ap code_routines (rw c.in-Some.is at c.new.ensures.code)) (ap code_groups (rw c.in-Some.is at c.new.ensures.code)) c.in_ok-search.ensures.steps)

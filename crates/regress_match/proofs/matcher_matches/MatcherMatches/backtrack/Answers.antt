@@ -58,7 +58,7 @@ returns-clause-inside c =
     c.in_ok-outcome.ensures.solved (subst IsUtf8 c.text-text.ensures c.text-text.utf8)
 
 pub returns-clause-tried : goal.returns-clause-tried
-returns-clause-tried c = matched_weaker c.in_ok-outcome.outcome _ _ (λ m ran. omega (arith, ran)) c.in_ok-outcome.ensures.counted
+returns-clause-tried c = matched_weaker c.in_ok-outcome.outcome _ _ (λ m ran. omega (arith, ran, c.in_ok-backtracker.ensures.captures)) c.in_ok-outcome.ensures.counted
 
 pub returns-clause-costs : goal.returns-clause-costs
 returns-clause-costs c = λ outs costs are.

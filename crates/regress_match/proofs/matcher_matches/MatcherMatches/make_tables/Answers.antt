@@ -1,7 +1,7 @@
 use Rattle.std.proofs.Common.{◌≡◌, false, ap, sym, ◌∙◌}
 use Rattle.std.specs.Prelude.{is_some}
 use Rattle.regress_program.specs.Tidy.{is_tabled}
-use Rattle.regress_code.specs.Code.{code_routines, code_tidy}
+use Rattle.regress_code.specs.Code.{code_groups, code_routines, code_tidy}
 use Rattle.regress_match.proofs.MatcherLemmas.{linear_has_tables, tables_kept}
 use Rattle.regress_match.proofs.matcher_matches.MatcherMatches.make_tables.Goals as goal
 
@@ -22,4 +22,4 @@ pub returns-in_default-clause-made : goal.returns-in_default-clause-made
 returns-in_default-clause-made c =
     let m = c.args.self.now.matcher.now in
     let none : is_tabled (code_tidy m.code) (code_routines m.code) ≡ false = sym c.new.ensures.linear ∙ ap is_some c.in_default.is in
-    absurd (linear_has_tables (code_tidy m.code) (code_routines m.code) m.within (sym c.is_linear.ensures ∙ c.if-is_linear.true) none)
+    absurd (linear_has_tables (code_groups m.code) (code_tidy m.code) (code_routines m.code) m.within (sym c.is_linear.ensures ∙ c.if-is_linear.true) none)

@@ -1,6 +1,6 @@
 -- Each clause follows from a lemma on what was parsed, at the values of the call.
 use Rattle.std.proofs.Common.{◌≡◌, ◌+◌, ◌-◌, ◌<◌, Bool, false, not, cond, ◌==◌, List, [], ◌∷◌, ◌++◌, inr, drop, replicate, Some, None, Ok, Err, length, refl, sym, ap, ◌∙◌, subst, arith, length-drop, ◌≤◌, OnOk}
-use Rattle.std.proofs.lemmas.List.{length_push}
+use Rattle.std.proofs.lemmas.List.{append-nil, length_push}
 use Rattle.std.proofs.lemmas.Result.{err_from_is_err_and, on_ok_weaker}
 use Rattle.regress_lexer.specs.declared.fault.FaultKind.TheVariants.{TooDeep}
 use Rattle.regress_lexer.specs.Source.{Source, Found, found_map, opening, is_at, ends_alternative, bar as the_bar}
@@ -12,6 +12,7 @@ use Rattle.regress_lexer.specs.Views.{source}
 use Rattle.regress_lexer.proofs.lemmas.Sources.{at_front, on_kind_then, on_each_kind}
 use Rattle.regress_lexer.specs.Fault.{OnKind, FailsBy}
 use Rattle.regress_lexer.proofs.lemmas.Faults.{fails_then, by_nesting_then}
+use Rattle.regress_syntax.proofs.lemmas.Plain.{no_times}
 use Rattle.regress_syntax.proofs.lemmas.Productions.{head_at-shortens}
 use Rattle.regress_syntax.proofs.lemmas.Lengths.{opened_by-one}
 use Rattle.regress_parse.proofs.ReachLemmas.{no_limit, nesting_reach, groups_reach, reaches_before, spends_same, spends_then, spends_read, costs_spends, terms_at-costs, item_at-costs, term_at-costs}
@@ -22,17 +23,17 @@ use Rattle.regress_parse.specs.declared.span.Span.{Span}
 use Rattle.regress_parse.specs.Spans.{between, span_of_group}
 use Rattle.regress_parse.specs.Recorded.{span_to, RecordsPattern, RecordsItem}
 use Rattle.regress_parse.proofs.SpanLists.{alternative_if}
-use Rattle.regress_parse.proofs.SpansOfItem.{node-flat, atom-records, group-records, records_inside}
+use Rattle.regress_parse.proofs.SpansOfItem.{node-flat, atom-records, group-records, records_inside, term-records}
 use Rattle.regress_parse.proofs.SpansOfTerms.{apart_in, term_spans-start, term_spans-step, term_spans-end}
 use Rattle.regress_parse.proofs.SpansOfPattern.{pattern_spans-start, pattern_spans-step, pattern_spans-end, lone-alternative}
 use Rattle.regress_parse.specs.Reader.{Term, item_after_head, pattern_at, terms_at, term_at, item_at, with_quantifier}
-use Rattle.regress_parse.specs.Parsing.{text, counted, context_in, table_in, names_in_context, direction_of, terms_part, term_part, item_part, atom_at, ReadsAtom, Yields, Reaches, CountsAtMostConsumed}
+use Rattle.regress_parse.specs.Parsing.{text, counted, context_in, table_in, names_in_context, direction_of, terms_part, term_part, item_part, atom_at, begins_lone, ReadsAtom, Yields, Reaches, CountsAtMostConsumed}
 use Rattle.regress_parse.proofs.CountLemmas.{added-nothing}
 use Rattle.regress_parse.proofs.ReaderLemmas.{terms_at-shortens, term_at-shortens, term_at-is}
 use Rattle.regress_parse.proofs.TermLoopInvariant.{TermsSoFar, none-fit, terms-start, terms-first, terms-step, terms-end, terms-fail, no_terms-yield, one_term-yields, first_term-fails}
 use Rattle.regress_parse.proofs.AlternativesLemmas.{alternatives-start, alternatives-step, lone-yields, first-fail, alternatives-fail}
 use Rattle.regress_parse.proofs.LengthLemmas.{term-shorter}
-use Rattle.regress_parse.proofs.TermLemmas.{front_is, times-fail, too_deep, plain_yields, no_term, opening_head, opening_item, opened_same, atom_item, atom_yields, atom_allowed}
+use Rattle.regress_parse.proofs.TermLemmas.{front_is, times-fail, too_deep, plain_yields, no_term, opening_head, opening_item, opened_same, atom_alone, atom_item, atom_yields, atom_allowed}
 use Rattle.regress_parse.proofs.ParserLemmas.{built, built_here, of_built}
 use Rattle.regress_parse.proofs.parser.Parser.+parser.Goals as goal
 
@@ -356,14 +357,27 @@ consume_term-returns-in_err-item-2-clause-value g t c =
     let same : here ≡ text old = past.moves in
     let none : is_at opening here ≡ false = ap (is_at opening) same ∙ sym past.found in
     let all : around.depth + (max_nesting_depth - around.depth) ≡ max_nesting_depth = omega (arith, c.requires) in
-    let read = subst (λ (b : Bool). ReadsAtom ctx (max_nesting_depth - around.depth) (not b) (source c.parse_atom.new.cursor) (Err c.in_err-item-2.field-0.0)
-    (atom_at ctx here))
-    (sym c.begins_lone-allowed.ensures) c.in_err-item-2.ensures.value in
     rw (p.1, p.2, ← same, term_at-is ctx here)
     (on_kind_then c.in_err-item-2.field-0.0 (λ kind. times-fail (table_in around) (names_in_context around) ctx kind _ (counted old) around.depth)
     (atom_yields (table_in around) (names_in_context around) ctx (direction_of around) around.depth (max_nesting_depth - around.depth)
-    (not c.begins_lone-allowed.result) old old (Err c.in_err-item-2.field-0.0) here none
-    all refl read refl refl))
+    (not (begins_lone around.scope.dialect here)) old old (Err c.in_err-item-2.field-0.0) here none
+    all refl c.in_err-item-2.ensures.value refl refl))
+
+pub consume_term-returns-then-not-may_begin-clause-value : goal.consume_term-returns-then-not-may_begin-clause-value
+consume_term-returns-then-not-may_begin-clause-value g t c =
+    let around = c.args.around.now in
+    let table = table_in around in
+    let names = names_in_context around in
+    let ctx = context_in around in
+    let d = direction_of around in
+    let old = c.args.self.now in
+    let past = c.if-try_open.ensures in
+    let here = source c.try_open.new.cursor in
+    let same : here ≡ text old = past.moves in
+    let none : is_at opening here ≡ false = ap (is_at opening) same ∙ sym past.found in
+    let all : around.depth + (max_nesting_depth - around.depth) ≡ max_nesting_depth = omega (arith, c.requires) in
+    atom_alone table names ctx d around.depth (max_nesting_depth - around.depth) (not (begins_lone around.scope.dialect here)) old _
+    c.in_ok-item-2.item here same none all refl (sym c.may_begin.ensures ∙ c.if-not-may_begin.true) c.in_ok-item-2.ensures.value refl refl
 
 pub consume_term-returns-clause-value : goal.consume_term-returns-clause-value
 consume_term-returns-clause-value g t c =
@@ -379,16 +393,16 @@ consume_term-returns-clause-value g t c =
     let read = subst (λ (b : Bool). ReadsAtom ctx (max_nesting_depth - around.depth) (not b) (source c.parse_atom.new.cursor) (Ok built_atom) (atom_at ctx here))
     (sym c.begins_lone-allowed.ensures) c.in_ok-item-2.ensures.value in
     subst (λ (u : Source). Yields (term_part (table_in around) (names_in_context around)) (direction_of around) around.depth (counted old)
-    c.consume_times-2.new.self c.consume_times-2.result (term_at ctx u)) same
+    c.consume_quantifier.new.self c.consume_quantifier.result (term_at ctx u)) same
     (subst (λ (f : Found Term). Yields (term_part (table_in around) (names_in_context around)) (direction_of around) around.depth (counted old)
-    c.consume_times-2.new.self c.consume_times-2.result f)
+    c.consume_quantifier.new.self c.consume_quantifier.result f)
     (sym (term_at-is ctx here))
     (of_built (item_part (table_in around) (names_in_context around)) (direction_of around) around.depth (counted old) _ (item_at ctx here)
     (with_quantifier ctx)
     (Yields (term_part (table_in around) (names_in_context around)) (direction_of around) around.depth (counted old)
-    c.consume_times-2.new.self c.consume_times-2.result)
+    c.consume_quantifier.new.self c.consume_quantifier.result)
     built_atom
-    (λ x found b. c.consume_times-2.ensures.value x (counted old) refl
+    (λ x found b. c.consume_quantifier.ensures.value x (counted old) refl
     (atom_allowed (table_in around) (names_in_context around) ctx (max_nesting_depth - around.depth)
     (not c.begins_lone-allowed.result) _ (Ok built_atom) here none read (x, _) found) b)
     (atom_yields (table_in around) (names_in_context around) ctx (direction_of around) around.depth (max_nesting_depth - around.depth)
@@ -511,10 +525,10 @@ consume_term-returns-clause-reached g t c =
     let found = c.in_ok-item-2.ensures.value in
     let cost = item_at-costs ctx here (atom found.0, there)
     (atom_item (table_in around) (names_in_context around) ctx here none ∙ ap (found_map atom) found.1) in
-    fails_then c.consume_times-2.result
+    fails_then c.consume_quantifier.result
     (reaches_before around.depth around.depth (spends_read (counted old) (text old) there (omega (arith, cost.groups, ap length same)))
     (omega (arith, cost.groups, ap length same)))
-    c.consume_times-2.ensures.reached
+    c.consume_quantifier.ensures.reached
 
 pub consume_group-returns-in_err-count_group-clause-reached : goal.consume_group-returns-in_err-count_group-clause-reached
 consume_group-returns-in_err-count_group-clause-reached g t c =
@@ -676,6 +690,29 @@ consume_term-returns-then-try_open-clause-spans g t c on =
     (sym c.allows_quantifier-allowed.ensures)
     (c.in_ok-item.ensures.spans (text old) on refl head))
 
+pub consume_term-returns-then-not-may_begin-clause-spans : goal.consume_term-returns-then-not-may_begin-clause-spans
+consume_term-returns-then-not-may_begin-clause-spans g t c on =
+    let around = c.args.around.now in
+    let ctx = context_in around in
+    let d = direction_of around in
+    let old = c.args.self.now in
+    let past = c.if-try_open.ensures in
+    let here = source c.try_open.new.cursor in
+    let new = source c.parse_atom.new.cursor in
+    let same : here ≡ text old = past.moves in
+    let none : is_at opening here ≡ false = ap (is_at opening) same ∙ sym past.found in
+    let node = c.in_ok-item-2.item in
+    let deep = max_nesting_depth - around.depth in
+    let allowed = not (begins_lone around.scope.dialect here) in
+    let read = c.in_ok-item-2.ensures.value in
+    let now = c.record_nodes.new.spans.items in
+    let added = c.in_ok-record_nodes.ensures on (node-flat ctx around.whole d here old.spans.items none deep new allowed node read) in
+    term-records ctx around.whole d (text old) old.spans.items new now allowed
+    (subst (λ (u : Source). RecordsItem around.whole ctx d u old.spans.items new now allowed) same
+    (atom-records ctx around.whole d here old.spans.items none deep new allowed node read now
+    (added ∙ ap (λ n. old.spans.items ++ replicate (nodes (tree node)) (span_to around.whole n new)) (ap length (sym same)))))
+    None new now (no_times ctx allowed new (sym c.may_begin.ensures ∙ c.if-not-may_begin.true)) (sym (append-nil now))
+
 pub consume_term-returns-clause-spans : goal.consume_term-returns-clause-spans
 consume_term-returns-clause-spans g t c on =
     let around = c.args.around.now in
@@ -693,7 +730,7 @@ consume_term-returns-clause-spans g t c on =
     c.in_ok-item-2.ensures.value in
     let now = c.record_nodes.new.spans.items in
     let added = c.in_ok-record_nodes.ensures on (node-flat ctx around.whole d here old.spans.items none deep new (not c.begins_lone-allowed.result) node read) in
-    c.consume_times-2.ensures.spans (text old) old.spans.items on refl
+    c.consume_quantifier.ensures.spans (text old) old.spans.items on refl
     (subst (λ (u : Source). RecordsItem around.whole ctx d u old.spans.items new now (not c.begins_lone-allowed.result)) same
     (atom-records ctx around.whole d here old.spans.items none deep new (not c.begins_lone-allowed.result) node read now
     (added ∙ ap (λ n. old.spans.items ++ replicate (nodes (tree node)) (span_to around.whole n new)) (ap length (sym same)))))

@@ -1,7 +1,7 @@
 use Rattle.std.proofs.Common.{◌+◌, ◌*◌, ◌≤◌, length, arith}
 use Rattle.regress_program.specs.Ranges.{inner_groups}
 use Rattle.regress_program.specs.Compiled.{total}
-use Rattle.regress_code.specs.Code.{code_routines}
+use Rattle.regress_code.specs.Code.{captures_cost, code_routines}
 use Rattle.regress_tables.specs.Search.{capturing_steps}
 use Rattle.regress_tables.proofs.StepLemmas.{fill_and_find}
 use Rattle.regress_tables.proofs.linear.Linear.find.Goals as goal
@@ -12,6 +12,7 @@ returns-clause-steps c =
     let search = c.in_ok-search.search in
     let find = c.in_ok-search.ensures in
     let filled : c.fill_all.new.steps ≤ 2 * total program * (length c.args.text.now + 1) = omega (arith, c.in_ok-tables.ensures.counted) in
-    let sum = fill_and_find (total program) (capturing_steps (total program) (inner_groups program)) c.args.text.now c.args.from search.found c.fill_all.new.steps search.steps
+    let b = captures_cost c.args.self.now.code.now in
+    let sum = fill_and_find (total program) b (capturing_steps (total program) (inner_groups program) (1 + b)) c.args.text.now c.args.from search.found c.fill_all.new.steps search.steps
     filled find.steps find.inside in
     omega (arith, sum, c.saturating_add.ensures)

@@ -10,4 +10,4 @@ returns c = λ v h.
     c.in_ok-points.ensures c.in_ok-remove.ensures.canonical
     (λ n. c.in_ok-remove.ensures.members n
     ∙ ap (λ (l : List Bounds). is_member c.args.value.set n && not (is_member l n)) c.intervals.ensures.value)
-    (others_over c.args.operator c.args.value.others c.apply.new.self c.args.self.others v h.others rest.strings rest.has_empty rest.nesting)
+    (others_over c.args.operator c.args.value.others c.apply.new.self c.args.self.others v h.others rest.strings rest.has_empty rest.may rest.nesting)

@@ -9,5 +9,6 @@ returns c = λ a b h k. record {
       ∙ map-append (λ string. string.items) c.args.self.now.strings.items c.args.other.strings.items
       ∙ ap₂ (λ xs ys. xs ++ ys) h.strings k.strings;
   has_empty = ap₂ (λ x y. x || y) h.has_empty k.has_empty;
+  may_have_strings = ap₂ (λ x y. x || y) h.may_have_strings k.may_have_strings;
   nesting = c.max-self.ensures ∙ ap₂ max h.nesting k.nesting;
 }

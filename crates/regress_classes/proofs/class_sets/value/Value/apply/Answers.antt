@@ -17,5 +17,5 @@ returns c = λ a b h k.
           c.in_ok-apply_points.ensures.canonical
           (λ n. c.in_ok-apply_points.ensures.members n ∙ ap₂ (λ x y. x && kept operator y) (h.members.each n) (k.members.each n));
       others = others_over operator old.others c.apply.new.self other.others (left_of operator a b)
-          (others_first operator a b old.others other.others h.others k.others) rest.strings rest.has_empty rest.nesting;
+          (others_first operator a b old.others other.others h.others k.others) rest.strings rest.has_empty rest.may rest.nesting;
     })
