@@ -1,6 +1,7 @@
 pub mod Ending
 pub mod InLine
 pub mod Patterns
+pub mod Remarks
 pub mod Prefix
 pub mod Printed
 pub mod Reading

@@ -10,8 +10,6 @@ use Rattle.regress.specs.Limits.{default_options}
 use Rattle.regress.specs.declared.pattern.Regex.{Regex}
 use Rattle.regress_differences.specs.CaseMode.{widest_flags}
 use Rattle.regress_differences.specs.Kinds as differences
-use Rattle.regress_differences.specs.Reported.{reported}
-use Rattle.regress_differences.specs.declared.kind.Difference.{Difference}
 use Rattle.regress_display.specs.Request as display
 use Rattle.regress_display.specs.Fault.{IsFaultOutput}
 use Rattle.regress_display.specs.Request.{Request}
@@ -25,11 +23,10 @@ use Rattle.regress_found.specs.declared.found.Match.{Match}
 use Rattle.regress_parse.specs.Accepted.{IsAccepted, NoneIsAccepted}
 use Rattle.regress_parse.specs.declared.span.Span.{Span}
 use Rattle.regress_spans.specs.Paired.{spanned_of}
+use Rattle.regress_spans.specs.Remarks.{Said}
 use Rattle.regress_syntax.specs.Syntax.{Pattern}
 use Rattle.regress_tree.specs.Setting.{Setting}
-use Rattle.regress_warnings.specs.Kinds as warnings
-use Rattle.regress_warnings.specs.Warned.{warned}
-use Rattle.regress_warnings.specs.declared.kind.Warning.{Warning}
+use Rattle.regress_warnings.specs.Warned as warnings
 use Rattle.regex_command.specs.Ending.{IsCostlyPattern, IsLate}
 use Rattle.regex_command.specs.declared.failure.Failure.TheVariants.{Argument, Memory, Output, Closed, Syntax, TooLarge, OutOfSteps, Unreadable, PatternNotUtf8, TooLong}
 use Rattle.regex_command.specs.declared.failure.Failure.{Failure}
@@ -70,49 +67,37 @@ IsShowFailure request (Unreadable name) = ⊥
 IsShowFailure request (PatternNotUtf8 name offset) = ⊥
 IsShowFailure request (TooLong name) = ⊥
 
--- the differences of an accepted pattern from ECMA-262
-abbrev pub HasDifferences : Setting → (source : List ℕ) → List Difference → Type 0
+-- what is said of the differences of an accepted pattern from ECMA-262
+abbrev pub HasDifferences : Setting → (source : List ℕ) → List Said → Type 0
 HasDifferences setting source found = (p : Pattern) × (accepted : IsAccepted setting source p)
-    × (found ≡ reported (widest_flags setting.flags source) source (spanned_of setting source p accepted.derived))
+    × (found ≡ differences.all_said (widest_flags setting.flags source) source (spanned_of setting source p accepted.derived))
 
--- the warnings for an accepted pattern
-abbrev pub HasWarnings : Setting → (source : List ℕ) → List Warning → Type 0
+-- what is said of what is warned of in an accepted pattern
+abbrev pub HasWarnings : Setting → (source : List ℕ) → List Said → Type 0
 HasWarnings setting source found = (p : Pattern) × (accepted : IsAccepted setting source p)
-    × (found ≡ warned setting.flags.unicode_sets source [] (spanned_of setting source p accepted.derived))
+    × (found ≡ warnings.all_said setting.flags.unicode_sets source (spanned_of setting source p accepted.derived))
 
 -- `1-4: case-closure: ` and a text, for the code points from 1 on before 4
-abbrev pub remark_line : Span → (name text : List ℕ) → List ℕ
-remark_line span name text = decimal span.start ++ codes "-" ++ decimal span.end ++ codes ": " ++ name ++ codes ": " ++ text ++ codes "\n"
-
--- the line of a difference: its span, its kind and what differs
-abbrev pub difference_line : Difference → List ℕ
-difference_line d = remark_line d.span (differences.name_of d.kind) (differences.text_of d.kind)
-
--- the line of a warning
-abbrev pub warning_line : Warning → List ℕ
-warning_line w = remark_line w.span (warnings.name_of w.kind) (warnings.text_of w.kind)
+abbrev pub line_of : Said → List ℕ
+line_of (span, name, text) = decimal span.start ++ codes "-" ++ decimal span.end ++ codes ": " ++ name ++ codes ": " ++ text ++ codes "\n"
 
 -- one line further, and what shows the position in the pattern
 abbrev pub IsListedNext : (before line after : List ℕ) → Type 0
 IsListedNext before line after = (shown : List ℕ) × (after ≡ before ++ (line ++ shown))
 
--- all differences in order, and then all warnings in order
-abbrev pub IsListed : List Difference → List Warning → List ℕ → Type 0
-IsListed found warned bytes = (middle : List ℕ) × FoldsTo IsListedNext [] (map difference_line found) middle
-    × FoldsTo IsListedNext middle (map warning_line warned) bytes
+-- the lines of these remarks, each with what is shown below it
+abbrev pub IsListed : List Said → List ℕ → Type 0
+IsListed remarks bytes = FoldsTo IsListedNext [] (map line_of remarks) bytes
 
--- there is no difference and no warning
-abbrev pub none_found : List Difference → List Warning → Bool
-none_found found warned = length found == 0 && length warned == 0
-
--- what is written for an accepted pattern, which is clean if nothing is
+-- What is written for an accepted pattern: all differences in order, and then all warnings in order. The pattern is clean
+-- if there are none.
 pub record IsReportOfAccepted (clean : Bool) (setting : Setting) (source : List ℕ) (bytes : List ℕ) : Type 0 where
-  pub found : List Difference
-  pub warned : List Warning
+  pub found : List Said
+  pub warned : List Said
   pub differ : HasDifferences setting source found
   pub warns : HasWarnings setting source warned
-  pub listed : IsListed found warned bytes
-  pub is_clean : clean ≡ none_found found warned
+  pub listed : IsListed (found ++ warned) bytes
+  pub is_clean : clean ≡ (length (found ++ warned) == 0)
 
 -- Nothing is written to standard output for a rejected pattern.
 pub record IsReportOfRejected (clean : Bool) (setting : Setting) (source : List ℕ) (bytes : List ℕ) : Type 0 where

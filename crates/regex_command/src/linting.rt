@@ -1,21 +1,28 @@
 //! `lint`.
-ghost use Rattle.std.specs.Prelude.{◌≡◌, true, Ok, IfOk, IfErr, OnOk, chars, string_bytes, map};
+ghost use Rattle.std.specs.Prelude.{◌≡◌, ◌==◌, true, Ok, IfOk, IfErr, OnOk, chars, length, string_bytes, map};
 ghost use Rattle.std.specs.List.{FoldsTo};
-ghost use Rattle.regress_arguments.specs.Output.{Took};
-ghost use Rattle.regex_command.specs.Ending.{IsLate, OrOutput};
-ghost use Rattle.regex_command.specs.Patterns.{IsListed, IsListedNext, IsReport, difference_line, none_found, remark_line, warning_line};
 ghost use Rattle.regress.specs.Unicode.{unicode_setting};
+ghost use Rattle.regress_arguments.specs.Output.{Took};
+ghost use Rattle.regress_spans.specs.Remarks.{said, said_by};
+ghost use Rattle.regress_tree.specs.Tree.{tree};
+ghost use Rattle.regex_command.specs.Ending.{IsLate, OrOutput};
+ghost use Rattle.regex_command.specs.Patterns.{IsListed, IsListedNext, IsReport, line_of};
+ghost use Rattle.regex_command.specs.Remarks.{AreRemarks};
 
 use crate::failure::{Failure, reject};
 use crate::pattern::Pattern;
 use crate::printing::print;
 use regress_arguments::write_with_caret;
 use regress_base::util::code_points;
-use regress_differences::{Difference, Span, differences};
+use regress_differences::remarks_of as differences;
+use regress_spans::{Remark, Span, SpannedRegex, try_parse_with_spans};
 use regress_ucd::unicode_tables;
-use regress_warnings::{Warning, warnings};
+use regress_warnings::remarks_of as warnings;
 use std::alloc::{AllocError, Global};
 use std::io::Write;
+
+/// How many code points of the pattern are shown at most before a position, and after it. A line has room for fewer.
+const REACH: usize = 200;
 
 /// Writes what may match otherwise than in ECMA-262, and then what is warned of, or to `err` why the pattern is
 /// rejected. Returns whether it is accepted and nothing is written.
@@ -33,117 +40,97 @@ pub(crate) fn print_lint<'f, W: Write, E: Write>(
 {
     let points = code_points(alloc, pattern.text)?;
     let tables = unicode_tables(alloc)?;
-    match differences(alloc, &points, pattern.flags, &tables) {
-        Ok(found) => match warnings(alloc, &points, pattern.flags, &tables) {
-            Ok(warned) => print_findings(alloc, pattern.text, &found, &warned, out),
-            Err(fault) => reject(fault, pattern.text, err),
-        },
+    match try_parse_with_spans(alloc, &points, pattern.flags, &tables) {
+        Ok(parsed) => {
+            let remarks = remarks_on(alloc, &points, &parsed)?;
+            print_remarks(alloc, &points, &remarks, out)
+        }
         Err(fault) => reject(fault, pattern.text, err),
     }
 }
 
-/// Writes the differences and the warnings, and returns whether there is none.
-fn print_findings<'f, W: Write>(
+/// Returns what is said of the differences of a parsed pattern, and then of what is warned of.
+fn remarks_on(
     alloc: Global,
-    pattern: &str,
-    found: &[Difference],
-    warned: &[Warning],
+    pattern: &[u32],
+    parsed: &SpannedRegex,
+) -> Result<Vec<Remark>, AllocError>
+    ensures { IfOk result (λ remarks. AreRemarks pattern.now parsed.now.regex.flags (tree parsed.now.regex.node) parsed.now.spans.items (said_by remarks.items)) }
+{
+    let mut remarks = differences(alloc, pattern, parsed)?;
+    let mut others = warnings(alloc, pattern, parsed)?;
+    remarks.append(&mut others)?;
+    Ok(remarks)
+}
+
+/// Writes the remarks, and returns whether there is none.
+fn print_remarks<'f, W: Write>(
+    alloc: Global,
+    pattern: &[u32],
+    remarks: &[Remark],
     out: &mut W,
 ) -> Result<bool, Failure<'f>>
-    ensures written { IfOk result (λ _. Took (W.contents out.old) (W.contents out.new) (IsListed found.now warned.now)) }
-    ensures clean { IfOk result (λ clean. clean ≡ none_found found.now warned.now) }
+    ensures written { IfOk result (λ _. Took (W.contents out.old) (W.contents out.new) (IsListed (said_by remarks.now))) }
+    ensures clean { IfOk result (λ clean. clean ≡ (length (said_by remarks.now) == 0)) }
     ensures first { IfErr result (OrOutput (out.new ≡ out.old)) }
     ensures late { IfErr result IsLate }
 {
     let mut text = Vec::new(alloc);
-    add_differences(alloc, pattern, found, &mut text)?;
-    add_warnings(alloc, pattern, warned, &mut text)?;
+    add_remarks(alloc, pattern, remarks, &mut text)?;
     print(&text, out)?;
-    Ok(found.is_empty() && warned.is_empty())
+    Ok(remarks.is_empty())
 }
 
-/// Adds the differences.
-fn add_differences(
+/// Adds the remarks.
+fn add_remarks(
     alloc: Global,
-    pattern: &str,
-    found: &[Difference],
+    pattern: &[u32],
+    remarks: &[Remark],
     to: &mut Vec<u8>,
 ) -> Result<(), AllocError>
-    ensures { OnOk result (FoldsTo IsListedNext to.old.items (map difference_line found.now) to.new.items) }
+    ensures { OnOk result (FoldsTo IsListedNext to.old.items (map line_of (said_by remarks.now)) to.new.items) }
 {
-    for difference in found {
-        let Difference { kind, span } = *difference;
-        add_remark(
-            alloc,
-            pattern,
-            Remark {
-                span,
-                name: kind.name(),
-                text: kind.text(),
-            },
-            to,
-        )?;
+    for remark in remarks {
+        add_remark(alloc, pattern, remark, to)?;
     }
     Ok(())
-}
-
-/// Adds the warnings.
-fn add_warnings(
-    alloc: Global,
-    pattern: &str,
-    warned: &[Warning],
-    to: &mut Vec<u8>,
-) -> Result<(), AllocError>
-    ensures { OnOk result (FoldsTo IsListedNext to.old.items (map warning_line warned.now) to.new.items) }
-{
-    for warning in warned {
-        let Warning { kind, span } = *warning;
-        add_remark(
-            alloc,
-            pattern,
-            Remark {
-                span,
-                name: kind.name(),
-                text: kind.text(),
-            },
-            to,
-        )?;
-    }
-    Ok(())
-}
-
-/// What is written of a part of a pattern.
-#[derive(Clone, Copy)]
-struct Remark {
-    span: Span,
-    /// The name of the kind of difference or warning.
-    name: &'static str,
-    /// A sentence about it.
-    text: &'static str,
 }
 
 /// Adds the line of a remark, and below it the pattern with a caret at the start of its span.
 fn add_remark(
     alloc: Global,
-    pattern: &str,
-    remark: Remark,
+    pattern: &[u32],
+    remark: &Remark,
     to: &mut Vec<u8>,
 ) -> Result<(), AllocError>
-    ensures { OnOk result (IsListedNext to.old.items (remark_line remark.span remark.name.now remark.text.now) to.new.items) }
+    ensures { OnOk result (IsListedNext to.old.items (line_of (said remark.now)) to.new.items) }
 {
     let line = line_of(alloc, remark)?;
     to.extend_from_slice(line.as_bytes())?;
     let mut shown = Vec::new(alloc);
-    write_with_caret(pattern, remark.span.start, &mut shown).map_err(|_| AllocError)?;
+    show(alloc, pattern, remark.span.start, &mut shown)?;
     to.extend_from_slice(&shown)?;
     Ok(())
 }
 
+/// Writes the pattern with a caret below a code point. Only what is near it is looked at, so that the time for all
+/// remarks together is linear in the length of the pattern.
+fn show(alloc: Global, pattern: &[u32], index: usize, to: &mut Vec<u8>) -> Result<(), AllocError> {
+    let start = index.saturating_sub(REACH);
+    let end = index.saturating_add(REACH).min(pattern.len());
+    let mut text = String::new(alloc);
+    for c in pattern.get(start..end).unwrap_or(&[]) {
+        text.push(char::from_u32(*c).unwrap_or(char::REPLACEMENT_CHARACTER))?;
+    }
+    write_with_caret(&text, index.saturating_sub(start), to).map_err(|_| AllocError)
+}
+
 /// Returns a line with the span of a remark in code points, its name and its text.
-fn line_of(alloc: Global, remark: Remark) -> Result<String, AllocError>
-    ensures { IfOk result (λ line. string_bytes line ≡ remark_line remark.span remark.name.now remark.text.now) }
+fn line_of(alloc: Global, remark: &Remark) -> Result<String, AllocError>
+    ensures { IfOk result (λ line. string_bytes line ≡ line_of (said remark.now)) }
 {
-    let Remark { span, name, text } = remark;
-    let Span { start, end } = span;
+    let Span { start, end } = remark.span;
+    let name = remark.name;
+    let text = remark.text.as_str();
     Ok(format!(in alloc; "{start}-{end}: {name}: {text}\n")?)
 }

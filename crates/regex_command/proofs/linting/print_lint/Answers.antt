@@ -1,20 +1,23 @@
 use Rattle.std.proofs.Common.{◌∙◌}
+use Rattle.regress_spans.specs.Remarks.{said_by}
+use Rattle.regress_tree.specs.Tree.{tree}
 use Rattle.regress_unicode.specs.TableOf.{table_of}
 use Rattle.regex_command.proofs.LintLemmas.{rejects, reports}
 use Rattle.regex_command.proofs.SettingLemmas.{rejected_by}
 use Rattle.regex_command.proofs.linting.print_lint.Goals as goal
 
-pub returns-in-Ok-warnings-clause-reported : goal.returns-in-Ok-warnings-clause-reported
-returns-in-Ok-warnings-clause-reported g c =
+pub returns-in-Ok-clause-reported : goal.returns-in-Ok-clause-reported
+returns-in-Ok-clause-reported g c =
+    let parsed = c.in-Ok.parsed in
     reports c.args.pattern.flags c.deref.result.now _ (table_of c.in_ok-tables.tables) (c.deref.ensures.value ∙ c.in_ok-points.ensures.characters)
-    c.in_ok-tables.ensures c.deref-in-Ok-warnings.result.now c.deref-in-Ok-warnings-2.result.now c.print_findings.result
-    (g.W.Write.contents c.args.out.now) (g.W.Write.contents c.print_findings.new.out) (rw c.deref-in-Ok-warnings.ensures.value c.in-Ok.ensures.listed)
-    (rw (c.deref-in-Ok-warnings-2.ensures.value, c.deref.ensures.value) (rw c.deref-in-Ok.ensures.value at c.in-Ok-warnings.ensures.listed))
-    c.print_findings.ensures.written c.print_findings.ensures.clean
+    c.in_ok-tables.ensures (said_by c.deref-in-Ok-3.result.now) parsed.regex.flags (tree parsed.regex.node) parsed.spans.items c.print_remarks.result
+    (g.W.Write.contents c.args.out.now) (g.W.Write.contents c.print_remarks.new.out)
+    (rw (c.deref-in-Ok-3.ensures.value, c.deref.ensures.value) (rw c.deref-in-Ok.ensures.value at c.in_ok-remarks-in-Ok.ensures))
+    c.in-Ok.ensures.flags c.in-Ok.ensures.paired c.print_remarks.ensures.written c.print_remarks.ensures.clean
 
 pub returns-clause-reported : goal.returns-clause-reported
 returns-clause-reported g c =
     rejects c.args.pattern.flags c.deref.result.now _ (table_of c.in_ok-tables.tables) (c.deref.ensures.value ∙ c.in_ok-points.ensures.characters)
-    c.in_ok-tables.ensures (g.W.Write.contents c.args.out.now) _ c.reject-in-Err.result c.reject-in-Err.ensures
+    c.in_ok-tables.ensures (g.W.Write.contents c.args.out.now) _ c.reject.result c.reject.ensures
     (rejected_by (record { flags = c.args.pattern.flags; table = table_of c.in_ok-tables.tables }) c.deref.result.now c.in-Err.fault
     c.in-Err.ensures.rejected)
