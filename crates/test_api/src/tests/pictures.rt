@@ -2,11 +2,11 @@
 
 use super::parsed;
 use regress_explain::{Matched, explain, page};
-use regress_front::parse::try_parse_with_spans;
+use regress_front::parse::{Span, try_parse_with_spans};
 use regress_front::types::Flags;
 use regress_front::unicode::Tables;
 use regress_front::util::code_points;
-use regress_railroad::{svg, svg_with_marks};
+use regress_railroad::{svg, svg_with_links};
 use std::test::Fail;
 
 #[test]
@@ -35,10 +35,12 @@ fn a_pattern_is_explained_and_drawn_part_by_part(rt: HostRuntime) -> Result<(), 
     let lines =
         "Matches 5 characters, with \"-\" in them.\n0..5  \\d{4}  exactly 4 times: a digit (0-9)\n5..6  -  a hyphen (-)\n";
     assert_eq!(rt; text.as_str(), lines);
-    let picture = svg_with_marks(alloc, &parsed.regex, &points, &parsed.spans)?;
+    let lines = [Span { start: 0, end: 5 }, Span { start: 5, end: 6 }];
+    let picture = svg_with_links(alloc, &parsed.regex, &points, &parsed.spans, &lines)?;
     for class in ["s0-2", "s0-5", "s5-6"] {
-        assert!(rt; picture.contains(class));
+        assert!(rt; picture.text.contains(class));
     }
+    assert_eq!(rt; picture.lines.as_slice(), [0, 0, 1]);
     Ok(())
 }
 
