@@ -1,15 +1,17 @@
 -- A page with more pieces, and what it contains.
-use Rattle.std.proofs.Common.{◌≡◌, ◌∙◌, ℕ, Bool, true, false, List, [], ◌∷◌, ◌++◌, Option, Some, None, ap, refl, subst, sym, append_assoc, append-nil, if◌then◌else◌}
+use borrow.Author.Count.{below_more}
+use Rattle.std.proofs.Common.{◌≡◌, ◌∙◌, ℕ, ◌+◌, ◌<◌, All, Bool, true, false, List, [], ◌∷◌, ◌++◌, Option, Some, None, ap, refl, subst, sym, append_assoc, append-nil, if◌then◌else◌}
 use Rattle.std.specs.declared.ops.Range.{Range}
 use Rattle.std.proofs.lemmas.List.{flat_map_more}
 use Rattle.std.proofs.lemmas.List.Concat.{flat_map-append}
 use Rattle.regress_svg.specs.Escape.{escaped_text}
-use Rattle.regress_svg.specs.Markup.{IsDocument}
+use Rattle.regress_parse.specs.declared.span.Span.{Span}
+use Rattle.regress_svg.specs.Links.{IsLinkedDocument}
 use Rattle.regress_explain.specs.declared.markup.Element.{Element}
 use Rattle.regress_explain.specs.declared.markup.Element.TheVariants.{Figure, Paragraph}
 use Rattle.regress_explain.specs.declared.markup.Tag.{Tag}
-use Rattle.regress_explain.specs.declared.markup.Tag.TheVariants.{Open, Close}
-use Rattle.regress_explain.specs.Page.{Contains, ContainsMatches, IsPage, IsPageOf, IsParagraph, IsPicture, Piece, tag, text, picture, ShowsSource, element_bytes, piece_bytes, pieces_bytes, tag_bytes}
+use Rattle.regress_explain.specs.declared.markup.Tag.TheVariants.{Open, Close, Line}
+use Rattle.regress_explain.specs.Page.{Contains, ContainsMatches, HasLine, IsPage, IsPageOf, IsParagraph, IsPicture, Piece, tag, text, picture, ShowsSource, element_bytes, piece_bytes, pieces_bytes, tag_bytes}
 use Rattle.regress_explain.specs.Written.{Adds, IsAnything}
 
 adds : (old new : List ℕ) (p : Piece) → new ≡ old ++ piece_bytes p → IsPage old → IsPage new
@@ -124,48 +126,99 @@ shows_paragraph P a b c d e heading opened inside closed =
     opened inside closed)
 
 -- a picture after a heading
-pub shows_picture : (bytes : List ℕ) (is : IsDocument bytes) (a b c d e : List ℕ) → Adds IsAnything a b → c ≡ b ++ tag_bytes (Open Figure) →
-    d ≡ c ++ bytes → e ≡ d ++ tag_bytes (Close Figure) → Adds (Contains IsPicture) a e
-shows_picture bytes is a b c d e heading opened drawn closed =
-    let P : List Piece → Type 0 = λ ps. ps ≡ picture bytes is ∷ [] in
-    adds_contained IsPicture a b e heading
-    (adds_framed P IsPicture (tag (Open Figure)) (tag (Close Figure)) b c d e
+pub shows_picture : (lines bytes : List ℕ) (is : IsLinkedDocument lines bytes) (a b c d e : List ℕ) → Adds IsAnything a b →
+    c ≡ b ++ tag_bytes (Open Figure) → d ≡ c ++ bytes → e ≡ d ++ tag_bytes (Close Figure) → Adds (Contains (IsPicture lines)) a e
+shows_picture lines bytes is a b c d e heading opened drawn closed =
+    let P : List Piece → Type 0 = λ ps. ps ≡ picture lines bytes is ∷ [] in
+    adds_contained (IsPicture lines) a b e heading
+    (adds_framed P (IsPicture lines) (tag (Open Figure)) (tag (Close Figure)) b c d e
     (λ ps one. record { bytes = bytes; document = is; is = ap (λ all. tag (Open Figure) ∷ (all ++ tag (Close Figure) ∷ [])) one })
-    opened (adds_one P (picture bytes is) c d refl drawn) closed)
+    opened (adds_one P (picture lines bytes is) c d refl drawn) closed)
+
+kept_bytes : (a b c d : List ℕ) → (a ++ b ++ c) ++ d ≡ a ++ b ++ (c ++ d)
+kept_bytes a b c d = simp append_assoc
+
+-- A line is there also after more is written,
+pub line_before : (number : ℕ) (old more new : List ℕ) → HasLine number old → new ≡ old ++ more → HasLine number new
+line_before number old more new found is = record {
+  span = found.span;
+  before = found.before;
+  after = found.after ++ more;
+  is = is ∙ ap (λ all. all ++ more) found.is ∙ kept_bytes found.before (tag_bytes (Line found.span number)) found.after more;
+}
+
+pub line_kept : (P : List Piece → Type 0) (number : ℕ) (old new : List ℕ) → HasLine number old → Adds P old new → HasLine number new
+line_kept P number old new found added = line_before number old (pieces_bytes added.pieces) new found added.added
+
+-- and after something else,
+pub line_after : (number : ℕ) (front other new : List ℕ) → HasLine number other → new ≡ front ++ other → HasLine number new
+line_after number front other new found is = record {
+  span = found.span;
+  before = front ++ found.before;
+  after = found.after;
+  is = is ∙ ap (λ all. front ++ all) found.is ∙ sym (append_assoc front found.before (tag_bytes (Line found.span number) ++ found.after));
+}
+
+-- and where it is written.
+line_written : (number : ℕ) (span : Span) (old new : List ℕ) → new ≡ old ++ tag_bytes (Line span number) → HasLine number new
+line_written number span old new is = record {
+  span = span;
+  before = old;
+  after = [];
+  is = is ∙ ap (λ all. old ++ all) (sym (append-nil (tag_bytes (Line span number))));
+}
+
+-- one more line, with anything around it
+pub one_line : (count : ℕ) (span : Span) (a b c d : List ℕ) → ((n : ℕ) → n < count → HasLine n a) → Adds IsAnything a b →
+    c ≡ b ++ tag_bytes (Line span count) → Adds IsAnything c d → (n : ℕ) → n < count + 1 → HasLine n d
+one_line count span a b c d lines between written content =
+    below_more (λ n. HasLine n d) count
+    (λ n below. line_kept IsAnything n c d (line_before n b (tag_bytes (Line span count)) c (line_kept IsAnything n a b (lines n below) between) written) content)
+    (line_kept IsAnything count c d (line_written count span b c written) content)
 
 matches_within : (matched : Option (List ℕ × List (Range ℕ))) (before pieces after : List Piece) → ContainsMatches matched pieces →
     ContainsMatches matched ((before ++ pieces) ++ after)
 matches_within None before pieces after found = tt
 matches_within (Some m) before pieces after found = contains_before _ (before ++ pieces) after (contains_after _ before pieces found)
 
--- the whole page
-pub whole_page : (pattern : List ℕ) (matched : Option (List ℕ × List (Range ℕ))) (a b c d e f : List ℕ) → Adds IsAnything [] a →
-    Adds (Contains (IsParagraph (ShowsSource 0 pattern))) a b → Adds (Contains IsPicture) b c → Adds IsAnything c d → Adds (ContainsMatches matched) d e →
-    Adds IsAnything e f → IsPageOf pattern matched f
-whole_page pattern matched a b c d e f head source diagram explanation matches foot =
-    let P : List Piece → Type 0 = Contains (IsParagraph (ShowsSource 0 pattern)) in
-    let one : Adds P [] b =
-    adds_both IsAnything P P [] a b (λ ps qs any found. contains_after (IsParagraph (ShowsSource 0 pattern)) ps qs found) head source in
-    let Q : List Piece → Type 0 = λ ps. P ps × Contains IsPicture ps in
-    let two : Adds Q [] c =
-    adds_both P (Contains IsPicture) Q [] b c
-    (λ ps qs shown drawn. (contains_before (IsParagraph (ShowsSource 0 pattern)) ps qs shown, contains_after IsPicture ps qs drawn)) one diagram in
-    let three : Adds Q [] d = adds_both Q IsAnything Q [] c d (λ ps qs has any. both_before ps qs has) two explanation in
-    let R : List Piece → Type 0 = λ ps. Q ps × ContainsMatches matched ps in
-    let four : Adds R [] e =
-    adds_both Q (ContainsMatches matched) R [] d e
-    (λ ps qs has found. (both_before ps qs has, matches_after ps qs found)) three matches in
-    let all : Adds R [] f =
-    adds_both R IsAnything R [] e f (λ ps qs has any. (both_before ps qs has.0, matches_before ps qs has.1)) four foot in
-    record { pieces = all.pieces; written = all.added; source = all.has.0.0; diagram = all.has.0.1; matches = all.has.1 }
-  where
-    both_before : (ps qs : List Piece) → Contains (IsParagraph (ShowsSource 0 pattern)) ps × Contains IsPicture ps →
-        Contains (IsParagraph (ShowsSource 0 pattern)) (ps ++ qs) × Contains IsPicture (ps ++ qs)
-    both_before ps qs has = (contains_before (IsParagraph (ShowsSource 0 pattern)) ps qs has.0, contains_before IsPicture ps qs has.1)
+-- the whole page, whose picture has links to these lines
+module _ (pattern : List ℕ) (matched : Option (List ℕ × List (Range ℕ))) (lines : List ℕ) where
+  abbrev Shown : List Piece → Type 0
+  Shown ps = Contains (IsParagraph (ShowsSource 0 pattern)) ps × Contains (IsPicture lines) ps
 
-    matches_after : (ps qs : List Piece) → ContainsMatches matched qs → ContainsMatches matched (ps ++ qs)
-    matches_after ps qs found =
-        subst (λ (all : List Piece). ContainsMatches matched all) (append-nil (ps ++ qs)) (matches_within matched ps qs [] found)
+  shown_before : (ps qs : List Piece) → Shown ps → Shown (ps ++ qs)
+  shown_before ps qs has = (contains_before (IsParagraph (ShowsSource 0 pattern)) ps qs has.0, contains_before (IsPicture lines) ps qs has.1)
 
-    matches_before : (ps qs : List Piece) → ContainsMatches matched ps → ContainsMatches matched (ps ++ qs)
-    matches_before ps qs found = matches_within matched [] ps qs found
+  matches_after : (ps qs : List Piece) → ContainsMatches matched qs → ContainsMatches matched (ps ++ qs)
+  matches_after ps qs found =
+      subst (λ (all : List Piece). ContainsMatches matched all) (append-nil (ps ++ qs)) (matches_within matched ps qs [] found)
+
+  matches_before : (ps qs : List Piece) → ContainsMatches matched ps → ContainsMatches matched (ps ++ qs)
+  matches_before ps qs found = matches_within matched [] ps qs found
+
+  pub whole_page : (a b c d e f : List ℕ) → Adds IsAnything [] a → Adds (Contains (IsParagraph (ShowsSource 0 pattern))) a b →
+      Adds (Contains (IsPicture lines)) b c → Adds IsAnything c d → All (λ line. HasLine line d) lines → Adds (ContainsMatches matched) d e →
+      Adds IsAnything e f → IsPageOf pattern matched f
+  whole_page a b c d e f head source diagram explanation linked matches foot =
+      let P : List Piece → Type 0 = Contains (IsParagraph (ShowsSource 0 pattern)) in
+      let one : Adds P [] b =
+      adds_both IsAnything P P [] a b (λ ps qs any found. contains_after (IsParagraph (ShowsSource 0 pattern)) ps qs found) head source in
+      let two : Adds Shown [] c =
+      adds_both P (Contains (IsPicture lines)) Shown [] b c
+      (λ ps qs shown drawn. (contains_before (IsParagraph (ShowsSource 0 pattern)) ps qs shown, contains_after (IsPicture lines) ps qs drawn)) one diagram in
+      let three : Adds Shown [] d = adds_both Shown IsAnything Shown [] c d (λ ps qs has any. shown_before ps qs has) two explanation in
+      let R : List Piece → Type 0 = λ ps. Shown ps × ContainsMatches matched ps in
+      let four : Adds R [] e =
+      adds_both Shown (ContainsMatches matched) R [] d e
+      (λ ps qs has found. (shown_before ps qs has, matches_after ps qs found)) three matches in
+      let all : Adds R [] f =
+      adds_both R IsAnything R [] e f (λ ps qs has any. (shown_before ps qs has.0, matches_before ps qs has.1)) four foot in
+      record {
+        pieces = all.pieces;
+        written = all.added;
+        source = all.has.0.0;
+        lines = lines;
+        diagram = all.has.0.1;
+        linked = λ k none below. line_kept IsAnything _ e f (line_kept (ContainsMatches matched) _ d e (linked k none below) matches) foot;
+        matches = all.has.1;
+      }

@@ -1,17 +1,17 @@
 -- A page (HTML): tags of a fixed list, escaped texts, and pictures; and what it contains.
-use Rattle.std.specs.Prelude.{◌≡◌, ◌⊎◌, ⊤, ℕ, ◌+◌, ◌≤◌, List, [], ◌∷◌, ◌++◌, codes, drop, flat_map, length, Option, Some, None, slice_range}
+use Rattle.std.specs.Prelude.{◌≡◌, ◌⊎◌, ⊤, ℕ, ◌+◌, ◌≤◌, List, [], ◌∷◌, ◌++◌, All, codes, drop, flat_map, length, Option, Some, None, slice_range}
 use Rattle.std.specs.Fmt.{decimal}
 use Rattle.std.specs.Str.{IsCharBoundary}
 use Rattle.std.specs.declared.ops.Range.{Range}
 use Rattle.regress_labels.specs.Symbols.{IsShownText}
 use Rattle.regress_parse.specs.declared.span.Span.{Span}
 use Rattle.regress_svg.specs.Escape.{escaped_text}
-use Rattle.regress_svg.specs.Markup.{IsDocument}
+use Rattle.regress_svg.specs.Links.{IsLinkedDocument}
 use Rattle.regress_explain.specs.Shown.{shown_text}
 use Rattle.regress_explain.specs.declared.markup.Element.{Element}
 use Rattle.regress_explain.specs.declared.markup.Element.TheVariants.{Section, Heading, Paragraph, Figure, Items, Item, Code, Small, Mark, Division, Inline, Footer, Link, Table, Row, ColumnHead, Cell}
 use Rattle.regress_explain.specs.declared.markup.Tag.{Tag}
-use Rattle.regress_explain.specs.declared.markup.Tag.TheVariants.{Head, Style, Body, End, Open, Close, Part, Line, To}
+use Rattle.regress_explain.specs.declared.markup.Tag.TheVariants.{Head, Style, Body, End, Open, Close, Part, Line, To, ToPicture}
 
 -- the name of an element
 abbrev pub name_of : Element → List ℕ
@@ -44,8 +44,10 @@ tag_bytes (Open element) = codes "<" ++ name_of element ++ codes ">"
 tag_bytes (Close element) = codes "</" ++ name_of element ++ codes ">"
 tag_bytes (Part span) = codes "<span class=\"m s" ++ decimal span.start ++ codes "-" ++ decimal span.end
     ++ codes "\" id=\"p" ++ decimal span.start ++ codes "-" ++ decimal span.end ++ codes "\">"
-tag_bytes (Line span) = codes "<div class=\"m s" ++ decimal span.start ++ codes "-" ++ decimal span.end ++ codes "\" tabindex=\"0\">"
+tag_bytes (Line span number) = codes "<div class=\"m s" ++ decimal span.start ++ codes "-" ++ decimal span.end ++ codes "\" id=\"l" ++ decimal number
+    ++ codes "\" tabindex=\"0\">"
 tag_bytes (To span) = codes "<a href=\"#p" ++ decimal span.start ++ codes "-" ++ decimal span.end ++ codes "\">"
+tag_bytes (ToPicture number) = codes "<a href=\"#d" ++ decimal number ++ codes "\">"
 
 -- an element that contains a text
 abbrev pub element_bytes : Element → (text : List ℕ) → List ℕ
@@ -55,12 +57,12 @@ element_bytes element text = tag_bytes (Open element) ++ escaped_text text ++ ta
 pub data Piece : Type 0 where
   tag : Tag → Piece
   text : List ℕ → Piece
-  picture : (bytes : List ℕ) → IsDocument bytes → Piece
+  picture : (lines bytes : List ℕ) → IsLinkedDocument lines bytes → Piece
 
 abbrev pub piece_bytes : Piece → List ℕ
 piece_bytes (tag t) = tag_bytes t
 piece_bytes (text t) = escaped_text t
-piece_bytes (picture bytes is) = bytes
+piece_bytes (picture lines bytes is) = bytes
 
 abbrev pub pieces_bytes : List Piece → List ℕ
 pieces_bytes pieces = flat_map piece_bytes pieces
@@ -125,11 +127,18 @@ pub record IsParagraph (P : List Piece → Type 0) (pieces : List Piece) : Type 
   pub has : P inside
   pub is : pieces ≡ tag (Open Paragraph) ∷ (inside ++ tag (Close Paragraph) ∷ [])
 
--- The pieces are a picture.
-pub record IsPicture (pieces : List Piece) : Type 0 where
+-- The pieces are a picture with links to these lines.
+pub record IsPicture (lines : List ℕ) (pieces : List Piece) : Type 0 where
   pub bytes : List ℕ
-  pub document : IsDocument bytes
-  pub is : pieces ≡ tag (Open Figure) ∷ picture bytes document ∷ tag (Close Figure) ∷ []
+  pub document : IsLinkedDocument lines bytes
+  pub is : pieces ≡ tag (Open Figure) ∷ picture lines bytes document ∷ tag (Close Figure) ∷ []
+
+-- Among the bytes is the start of the line with that number.
+pub record HasLine (number : ℕ) (bytes : List ℕ) : Type 0 where
+  pub span : Span
+  pub before : List ℕ
+  pub after : List ℕ
+  pub is : bytes ≡ before ++ tag_bytes (Line span number) ++ after
 
 -- Among the pieces are some, one after the other, of which P holds.
 pub record Contains (P : List Piece → Type 0) (pieces : List Piece) : Type 0 where
@@ -149,5 +158,8 @@ pub record IsPageOf (pattern : List ℕ) (matched : Option (List ℕ × List (Ra
   pub pieces : List Piece
   pub written : bytes ≡ pieces_bytes pieces
   pub source : Contains (IsParagraph (ShowsSource 0 pattern)) pieces
-  pub diagram : Contains IsPicture pieces
+  -- Each link in the picture leads to a line that is there.
+  pub lines : List ℕ
+  pub diagram : Contains (IsPicture lines) pieces
+  pub linked : All (λ line. HasLine line bytes) lines
   pub matches : ContainsMatches matched pieces

@@ -1,9 +1,11 @@
 //! An explanation as a page.
-ghost use Rattle.std.specs.Prelude.{IfOk, OnOk, option_map, string_bytes};
-ghost use Rattle.regress_explain.specs.Page.{Contains, ContainsMatches, IsPageOf, IsParagraph, IsPicture};
+ghost use Rattle.std.specs.Prelude.{ℕ, ◌<◌, All, IfOk, OnOk, length, option_map, string_bytes};
+ghost use Rattle.regress_svg.specs.Links.{IsLinkedDocument};
+ghost use Rattle.regress_explain.specs.Page.{Contains, ContainsMatches, HasLine, IsPageOf, IsPicture};
 ghost use Rattle.regress_explain.specs.Written.{Adds};
 
-use crate::listing::write_list;
+use crate::lines::{Line, lines_of, spans_of};
+use crate::listing::{Listing, write_lines};
 use crate::markup::{Element, Markup, Tag, Written};
 use crate::matched::{Matched, write_text};
 use crate::outline::{Part, outline};
@@ -12,7 +14,8 @@ use crate::style::write_style;
 use crate::summary::summary;
 use regress_labels::group_names;
 use regress_parse::SpannedRegex;
-use regress_railroad::svg_with_marks;
+use regress_railroad::svg_with_links;
+use regress_svg::Linked;
 use regress_tree::ir::Node;
 use std::alloc::{AllocError, Global};
 
@@ -21,7 +24,8 @@ use std::alloc::{AllocError, Global};
 /// their groups have captured, if one is given.
 ///
 /// Pointing at a part of the pattern or of the diagram, or at a line of the explanation, marks that part everywhere; so
-/// does focusing a line, or following its link to the pattern. Colours fit the light or dark scheme that the reader
+/// does focusing a line or a part of the diagram, or following a link to it. A part of the diagram is a link to its line,
+/// and a line has links to its part of the pattern and of the diagram. Colours fit the light or dark scheme that the reader
 /// prefers. What the pattern and the text contain is escaped. Invisible characters of the pattern are shown by their
 /// numbers, as `U+000A`, and so are, of the text, controls other than tabs and line feeds, and format characters such
 /// as those that change its direction.
@@ -41,16 +45,24 @@ pub fn page(
     matched: Option<Matched<'_>>,
 ) -> Result<String, AllocError>
     // Nothing of the pattern or of the text is markup: each text is escaped, and the tags are fixed. The whole pattern is
-    // there, each part of it at the span that its element names, and a picture. The whole text is there, and the ranges
-    // in it are marked, and nothing else.
+    // there, each part of it at the span that its element names, and a picture, each link of which leads to a line that is
+    // there. The whole text is there, and the ranges in it are marked, and nothing else.
     ensures { IfOk result (λ page. IsPageOf pattern.now (option_map (λ matched. (matched.text.now, matched.ranges.now)) matched.entry) (string_bytes page)) }
 {
     let parts = outline(alloc, pattern, parsed)?;
+    let all = lines_of(alloc, &parts)?;
+    let lines: &[Line<'_>] = &all;
+    let picture = picture(alloc, pattern, parsed, lines)?;
     let mut page = Markup::new(alloc);
     page.append(&head(alloc, &parts)?)?;
     write_pattern(pattern, parsed.regex.flags, &parts, &mut page)?;
-    write_diagram(pattern, parsed, &mut page)?;
-    page.append(&explanation(alloc, &parts, pattern, parsed)?)?;
+    write_diagram(&picture, &mut page)?;
+    let listing = Listing {
+        alloc,
+        pattern,
+        leads: &picture.lines,
+    };
+    page.append(&explanation(lines, &parsed.regex.node, listing)?)?;
     write_matches(matched, &parsed.regex.node, &mut page)?;
     page.append(&foot(alloc)?)?;
     Ok(page.finish())
@@ -67,29 +79,41 @@ fn head(alloc: Global, parts: &[Part]) -> Result<Markup, AllocError> {
     Ok(page)
 }
 
-/// Writes the diagram.
-fn write_diagram(pattern: &[u32], parsed: &SpannedRegex, page: &mut Markup) -> Written
-    ensures { OnOk result (Adds (Contains IsPicture) page.old page.new) }
+/// Returns the diagram, with links to lines.
+fn picture(
+    alloc: Global,
+    pattern: &[u32],
+    parsed: &SpannedRegex,
+    lines: &[Line<'_>],
+) -> Result<Linked, AllocError>
+    ensures document { IfOk result (λ picture. IsLinkedDocument picture.lines.items (string_bytes picture.text)) }
+    ensures lines { IfOk result (λ picture. All (λ line. line < length lines.now) picture.lines.items) }
 {
-    let picture = svg_with_marks(page.alloc(), &parsed.regex, pattern, &parsed.spans)?;
+    let spans = spans_of(alloc, lines)?;
+    svg_with_links(alloc, &parsed.regex, pattern, &parsed.spans, &spans)
+}
+
+/// Writes the diagram.
+fn write_diagram(picture: &Linked, page: &mut Markup) -> Written
+    requires { IsLinkedDocument picture.now.lines.items (string_bytes picture.now.text) }
+    ensures { OnOk result (Adds (Contains (IsPicture picture.now.lines.items)) page.old page.new) }
+{
     page.begin_section("Diagram")?;
     page.tag(Tag::Open(Element::Figure))?;
-    page.picture(&picture)?;
+    page.picture(picture)?;
     page.tag(Tag::Close(Element::Figure))?;
     page.tag(Tag::Close(Element::Section))
 }
 
 /// Returns the sentence about the pattern, and its parts.
-fn explanation(
-    alloc: Global,
-    parts: &[Part],
-    pattern: &[u32],
-    parsed: &SpannedRegex,
-) -> Result<Markup, AllocError> {
+fn explanation(lines: &[Line<'_>], root: &Node, listing: Listing<'_>) -> Result<Markup, AllocError>
+    ensures { IfOk result (λ page. (n : ℕ) → n < length lines.now → HasLine n page) }
+{
+    let alloc = listing.alloc;
     let mut page = Markup::new(alloc);
     page.begin_section("Explanation")?;
-    page.element(Element::Division, &summary(alloc, &parsed.regex.node)?)?;
-    write_list(parts, pattern, &mut page)?;
+    page.element(Element::Division, &summary(alloc, root)?)?;
+    write_lines(lines, listing, &mut page)?;
     page.tag(Tag::Close(Element::Section))?;
     Ok(page)
 }

@@ -57,8 +57,8 @@ impl Length {
     }
 }
 
-/// The lengths of the groups before a node, at most.
-type Groups = Vec<Option<usize>>;
+/// The lengths of the groups before a node, where they are known. A group that may be unset is empty at least.
+type Groups = Vec<Option<Length>>;
 
 /// Returns how many characters a tree matches, or `None` if it never matches since a set in it is empty.
 ///
@@ -80,8 +80,28 @@ fn length_of(node: &Node, groups: &mut Groups) -> Result<Option<Length>, AllocEr
             let Some(body) = body(node) else {
                 return Ok(length_of_leaf(node, groups));
             };
+            let first = groups.len();
             let inside = length_of(body, groups)?;
+            if is_optional(node) {
+                loosen(first, groups);
+            }
             length_around(node, inside, groups)
+        }
+    }
+}
+
+fn is_optional(node: &Node) -> bool {
+    match node {
+        Node::Loop { quant, .. } | Node::Loop1CharBody { quant, .. } => quant.min == 0,
+        _ => false,
+    }
+}
+
+/// Records that the groups from an index on may be unset.
+fn loosen(first: usize, groups: &mut Groups) {
+    for group in groups.iter_mut().skip(first) {
+        if let Some(length) = group {
+            length.min = 0;
         }
     }
 }
@@ -92,13 +112,18 @@ fn length_of_alternatives(node: &Node, groups: &mut Groups) -> Result<Option<Len
     let Node::Alt(left, right) = node else {
         return Ok(None);
     };
+    let first = groups.len();
     let mut sum = length_of(left, groups)?;
     let mut rest: &Node = right;
     while let Node::Alt(left, right) = rest {
+        loosen(first, groups);
         sum = either(sum, length_of(left, groups)?);
         rest = right;
     }
-    Ok(either(sum, length_of(rest, groups)?))
+    loosen(first, groups);
+    sum = either(sum, length_of(rest, groups)?);
+    loosen(first, groups);
+    Ok(sum)
 }
 
 /// Returns the length of one of two nodes, each of which may never match.
@@ -140,7 +165,7 @@ fn length_around(
                 groups.push(None)?;
             }
             if let Some(point) = groups.get_mut(id) {
-                *point = inside.and_then(|inside| inside.max);
+                *point = inside;
             }
             Ok(inside)
         }
@@ -169,16 +194,16 @@ fn length_of_leaf(node: &Node, groups: &Groups) -> Option<Length> {
             }
             sum
         }
-        Node::BackRef { group, .. } => Some(Length {
-            min: 0,
-            max: longest(*group, groups),
-        }),
+        Node::BackRef { group, .. } => Some(length_of_group(*group, groups)),
         _ => Some(Length::exactly(0)),
     }
 }
 
-/// Returns how long the text of a group is at most, numbered from 1.
-fn longest(group: u32, groups: &Groups) -> Option<usize> {
-    let index = group.checked_sub(1)?;
-    *groups.get(index as usize)?
+/// Returns the length of what a group, numbered from 1, has captured.
+fn length_of_group(group: u32, groups: &Groups) -> Length {
+    let index = group.saturating_sub(1) as usize;
+    match groups.get(index) {
+        Some(Some(length)) => *length,
+        _ => Length { min: 0, max: None },
+    }
 }

@@ -5,6 +5,7 @@ mod elements;
 mod gathering;
 mod html;
 mod lengths;
+mod lines;
 mod listing;
 mod markup;
 mod matched;

@@ -1,52 +1,104 @@
 //! The explanation as nested lists.
+ghost use Rattle.std.specs.Prelude.{ℕ, ◌<◌, OnOk, length};
+ghost use Rattle.regress_explain.specs.Page.{HasLine};
 
+use crate::lines::Line;
 use crate::markup::{Element, Markup, Tag, Written};
-use crate::outline::{Kind, Part};
 use crate::shown::written;
-use regress_parse::Span;
+use std::alloc::{AllocError, Global};
 
-/// Writes a list of parts, each with the list of the parts inside; nothing if there are none.
-#[cycle(write_list)]
-pub(crate) fn write_list(parts: &[Part], pattern: &[u32], page: &mut Markup) -> Written {
-    if parts.is_empty() {
-        return Ok(());
-    }
-    page.tag(Tag::Open(Element::Items))?;
-    for part in parts {
-        write_item(part, pattern, page)?;
-    }
-    page.tag(Tag::Close(Element::Items))
+/// What is known where a list is written.
+#[derive(Clone, Copy)]
+pub(crate) struct Listing<'a> {
+    pub(crate) alloc: Global,
+    pub(crate) pattern: &'a [u32],
+    /// Of each link in the picture, the line that it leads to.
+    pub(crate) leads: &'a [usize],
 }
 
-#[cycle(write_list)]
-fn write_item(part: &Part, pattern: &[u32], page: &mut Markup) -> Written {
-    page.tag(Tag::Open(Element::Item))?;
-    write_line(part, pattern, page)?;
-    if !matches!(part.kind, Kind::Inline) {
-        write_list(&part.parts, pattern, page)?;
+/// Writes a list of lines, each with the list of those inside.
+pub(crate) fn write_lines(lines: &[Line<'_>], listing: Listing<'_>, page: &mut Markup) -> Written
+    ensures { OnOk result ((n : ℕ) → n < length lines.now → HasLine n page.new) }
+{
+    let mut level = 0;
+    for number in 0..lines.len() {
+        let line = lines[number];
+        page.append(&between(listing.alloc, level, line.depth)?)?;
+        page.tag(Tag::Line(line.part.span, number))?;
+        page.append(&content(line, number, listing)?)?;
+        level = line.depth.saturating_add(1);
     }
-    page.tag(Tag::Close(Element::Item))
+    page.append(&end(listing.alloc, level)?)
 }
 
-/// Writes what a part is in the pattern, what it matches, and its span.
-fn write_line(part: &Part, pattern: &[u32], page: &mut Markup) -> Written {
-    page.tag(Tag::Line(part.span))?;
-    let written = written(page.alloc(), pattern, part.span)?;
+/// Returns what is between two lines, from the inside of that many lists to a line with that many parts around it.
+fn between(alloc: Global, level: usize, depth: usize) -> Result<Markup, AllocError> {
+    let mut tags = Markup::new(alloc);
+    let next = depth.saturating_add(1);
+    for _list in next..level {
+        tags.tag(Tag::Close(Element::Item))?;
+        tags.tag(Tag::Close(Element::Items))?;
+    }
+    if next <= level {
+        tags.tag(Tag::Close(Element::Item))?;
+        tags.tag(Tag::Open(Element::Item))?;
+    }
+    for _list in level..next {
+        tags.tag(Tag::Open(Element::Items))?;
+        tags.tag(Tag::Open(Element::Item))?;
+    }
+    Ok(tags)
+}
+
+/// Returns the end of that many lists.
+fn end(alloc: Global, level: usize) -> Result<Markup, AllocError> {
+    let mut tags = Markup::new(alloc);
+    for _list in 0..level {
+        tags.tag(Tag::Close(Element::Item))?;
+        tags.tag(Tag::Close(Element::Items))?;
+    }
+    Ok(tags)
+}
+
+/// Returns the rest of a line: what its part is in the pattern, what it matches, and links to it in the pattern and in the
+/// picture, where it is there.
+fn content(line: Line<'_>, number: usize, listing: Listing<'_>) -> Result<Markup, AllocError> {
+    let span = line.part.span;
+    let (start, end) = (span.start, span.end);
+    let mut page = Markup::new(listing.alloc);
+    let written = written(listing.alloc, listing.pattern, span)?;
     if !written.is_empty() {
         page.element(Element::Code, &written)?;
         page.text(" ")?;
     }
-    page.text(&part.words)?;
+    page.text(&line.part.words)?;
     page.text(" ")?;
-    write_link(part.span, page)?;
-    page.tag(Tag::Close(Element::Division))
+    let place = format!(in listing.alloc; "{start}..{end}")?;
+    if start == end {
+        page.element(Element::Small, &place)?;
+    } else {
+        write_link(Tag::To(span), &place, &mut page)?;
+    }
+    if let Some(link) = link_to(number, listing.leads) {
+        page.text(" ")?;
+        write_link(Tag::ToPicture(link), "picture", &mut page)?;
+    }
+    page.tag(Tag::Close(Element::Division))?;
+    Ok(page)
 }
 
-/// Writes a span, as a link to the part of the pattern.
-fn write_link(span: Span, page: &mut Markup) -> Written {
-    let Span { start, end } = span;
-    let text = format!(in page.alloc(); "{start}..{end}")?;
-    page.tag(Tag::To(span))?;
-    page.element(Element::Small, &text)?;
+fn write_link(to: Tag, text: &str, page: &mut Markup) -> Written {
+    page.tag(to)?;
+    page.element(Element::Small, text)?;
     page.tag(Tag::Close(Element::Link))
+}
+
+/// Returns the first link in the picture that leads to a line.
+fn link_to(line: usize, leads: &[usize]) -> Option<usize> {
+    let link = leads.partition_point(|lead| *lead < line);
+    if *leads.get(link)? == line {
+        Some(link)
+    } else {
+        None
+    }
 }

@@ -1,12 +1,12 @@
 //! A page that is written piece by piece.
 ghost use Rattle.std.specs.Prelude.{◌≡◌, ◌++◌, [], OnOk, IfOk, string_bytes};
 ghost use Rattle.regress_svg.specs.Escape.{escaped_text};
-ghost use Rattle.regress_svg.specs.Markup.{IsDocument};
+ghost use Rattle.regress_svg.specs.Links.{IsLinkedDocument};
 ghost use Rattle.regress_explain.specs.Page.{element_bytes, name_of, tag_bytes};
 ghost use Rattle.regress_explain.specs.Written.{Adds, IsAnything};
 
 use regress_parse::Span;
-use regress_svg::Escaped;
+use regress_svg::{Escaped, Linked};
 use std::alloc::{AllocError, Global};
 use std::marker::Model;
 
@@ -84,10 +84,12 @@ pub(crate) enum Tag {
     Close(Element),
     /// The start of a part of the pattern with this span.
     Part(Span),
-    /// The start of a line of the explanation of a part with this span.
-    Line(Span),
+    /// The start of the line with this number of the explanation, of a part with this span.
+    Line(Span, usize),
     /// The start of a link to the part of the pattern with this span.
     To(Span),
+    /// The start of a link to the link with this number in the picture.
+    ToPicture(usize),
 }
 
 /// Returns the markup of a tag.
@@ -115,11 +117,12 @@ fn tag_text(alloc: Global, tag: Tag) -> Result<String, AllocError>
             let Span { start, end } = span;
             format!(in alloc; "<span class=\"m s{start}-{end}\" id=\"p{start}-{end}\">")
         }
-        Tag::Line(span) => format!(in alloc;
-            "<div class=\"m s{}-{}\" tabindex=\"0\">",
+        Tag::Line(span, number) => format!(in alloc;
+            "<div class=\"m s{}-{}\" id=\"l{number}\" tabindex=\"0\">",
             span.start, span.end
         ),
         Tag::To(span) => format!(in alloc; "<a href=\"#p{}-{}\">", span.start, span.end),
+        Tag::ToPicture(number) => format!(in alloc; "<a href=\"#d{number}\">"),
     }
 }
 
@@ -194,7 +197,8 @@ impl Markup {
 
     /// Writes what has been written of another page.
     pub(crate) fn append(&mut self, other: &Markup) -> Written
-        ensures { OnOk result (Adds IsAnything self.old self.new) }
+        ensures anything { OnOk result (Adds IsAnything self.old self.new) }
+        ensures other { OnOk result (self.new ≡ self.old ++ other.now) }
     {
         self.text.push_str(&other.text)
     }
@@ -202,12 +206,12 @@ impl Markup {
     /// Writes a picture.
     ///
     /// # Preconditions
-    /// The picture is a document.
-    pub(crate) fn picture(&mut self, picture: &str) -> Written
-        requires { IsDocument picture.now }
-        ensures { OnOk result (self.new ≡ self.old ++ picture.now) }
+    /// The picture is a document with links to its lines.
+    pub(crate) fn picture(&mut self, picture: &Linked) -> Written
+        requires { IsLinkedDocument picture.now.lines.items (string_bytes picture.now.text) }
+        ensures { OnOk result (self.new ≡ self.old ++ string_bytes picture.now.text) }
     {
-        self.text.push_str(picture)
+        self.text.push_str(&picture.text)
     }
 
     /// Returns the page.

@@ -25,6 +25,7 @@ code{background:var(--panel);border:1px solid var(--edge);border-radius:4px;padd
 small,footer,a{color:var(--dim)}\
 footer{margin-top:2rem;font-size:.85rem}\
 :focus-visible{outline:2px solid var(--rim);outline-offset:1px}\
+.area{fill:none;pointer-events:all}svg :focus-visible{outline:none}:focus-visible .area{stroke:var(--rim);stroke-width:3}\
 p+figure{box-sizing:border-box;width:fit-content;max-width:100%;margin-top:.6rem}\
 table{border-collapse:collapse;border-style:hidden;font-size:.9rem}\
 th,td{border:1px solid var(--edge);padding:.2rem .6rem;text-align:left;vertical-align:top;white-space:pre-wrap}\
@@ -62,7 +63,7 @@ fn select(part: &Part, page: &mut Markup) -> Written {
     let Span { start, end } = part.span;
     let class = format!(in page.alloc(); ".s{start}-{end}")?;
     let selector = format!(in page.alloc();
-        "main:has({class}:is(:hover,:focus,:target)):not(:has({class} .m:not({class}):is(:hover,:focus,:target))) {class},"
+        "main:has({class}:is(:hover,:focus-within,:target)):not(:has({class} .m:not({class}):is(:hover,:focus-within,:target))) {class},"
     )?;
     page.text(&selector)?;
     select_all(&part.parts, page)

@@ -8,6 +8,19 @@ use std::alloc::{AllocError, Global};
 /// The maximum number of groups that a sentence names.
 const NAMED: usize = 8;
 
+/// What has parts of these names, or of those that are not empty. The first that fits counts.
+const KINDS: [(&str, [&str; 3]); 9] = [
+    ("a date and time", ["year", "month", "hour"]),
+    ("a date", ["year", "month", ""]),
+    ("a time", ["hour", "minute", ""]),
+    ("a version", ["major", "minor", ""]),
+    ("a URL", ["scheme", "host", ""]),
+    ("a URL", ["scheme", "domain", ""]),
+    ("a URL", ["protocol", "host", ""]),
+    ("a URL", ["protocol", "domain", ""]),
+    ("a color", ["red", "green", "blue"]),
+];
+
 /// The named groups of a pattern that are in no other one, and what is between them.
 #[derive(Drop)]
 struct Named<'a> {
@@ -102,24 +115,25 @@ impl<'a> Named<'a> {
         self.names.iter().any(|other| *other == name)
     }
 
+    fn has_all(&self, names: &[&str]) -> bool {
+        for name in names {
+            if !name.is_empty() && !self.has(name) {
+                return false;
+            }
+        }
+        true
+    }
+
     /// Returns what has parts of these names.
     fn kind(&self) -> &'static str {
-        let has_host = self.has("host") || self.has("domain");
+        for (kind, names) in &KINDS {
+            if self.has_all(names) {
+                return *kind;
+            }
+        }
         let is_at = matches!(self.separator, Separator::Same { c: 0x40, .. });
-        if self.has("year") && self.has("month") && self.has("hour") {
-            "a date and time"
-        } else if self.has("year") && self.has("month") {
-            "a date"
-        } else if self.has("hour") && self.has("minute") {
-            "a time"
-        } else if self.has("major") && self.has("minor") {
-            "a version"
-        } else if has_host && is_at {
+        if is_at && (self.has("host") || self.has("domain")) {
             "an e-mail address"
-        } else if has_host && (self.has("scheme") || self.has("protocol")) {
-            "a URL"
-        } else if self.has("red") && self.has("green") && self.has("blue") {
-            "a color"
         } else {
             "a text"
         }

@@ -1,6 +1,7 @@
 //! An explanation as lines of text.
 
-use crate::outline::{Kind, Part, outline};
+use crate::lines::{Line, lines_of};
+use crate::outline::outline;
 use crate::shown::written;
 use crate::summary::summary;
 use regress_parse::SpannedRegex;
@@ -9,7 +10,7 @@ use std::fmt::Write;
 
 /// The form of the lines.
 #[derive(Clone, Copy)]
-struct Lines<'a> {
+struct Form<'a> {
     alloc: Global,
     pattern: &'a [u32],
     /// The width of the column of spans.
@@ -50,65 +51,36 @@ pub fn explain(
 ) -> Result<String, AllocError> {
     let parts = outline(alloc, pattern, parsed)?;
     let last = pattern.len();
-    let lines = Lines {
+    let form = Form {
         alloc,
         pattern,
         width: format!(in alloc; "{last}..{last}")?.len(),
     };
     let mut text = summary(alloc, &parsed.regex.node)?;
     text.push('\n')?;
-    write_parts(&parts, 0, lines, &mut text)?;
+    let lines = lines_of(alloc, &parts)?;
+    for line in &lines {
+        write_line(*line, form, &mut text)?;
+    }
     Ok(text)
 }
 
-#[cycle(write_parts)]
-fn write_parts(
-    parts: &[Part],
-    depth: usize,
-    lines: Lines<'_>,
-    text: &mut String,
-) -> Result<(), AllocError> {
-    for part in parts {
-        write_part(part, depth, lines, text)?;
-    }
-    Ok(())
-}
-
-/// Writes the line of a part, and those of the parts inside.
-#[cycle(write_parts)]
-fn write_part(
-    part: &Part,
-    depth: usize,
-    lines: Lines<'_>,
-    text: &mut String,
-) -> Result<(), AllocError> {
-    write_line(part, depth, lines, text)?;
-    if let Kind::Inline = part.kind {
-        return Ok(());
-    }
-    write_parts(&part.parts, depth.saturating_add(1), lines, text)
-}
-
-fn write_line(
-    part: &Part,
-    depth: usize,
-    lines: Lines<'_>,
-    text: &mut String,
-) -> Result<(), AllocError> {
-    let alloc = lines.alloc;
-    let (start, end) = (part.span.start, part.span.end);
-    let span = format!(in alloc; "{start}..{end}")?;
-    text.push_str(&span)?;
-    for _column in span.len()..lines.width {
+fn write_line(line: Line<'_>, form: Form<'_>, text: &mut String) -> Result<(), AllocError> {
+    let alloc = form.alloc;
+    let span = line.part.span;
+    let (start, end) = (span.start, span.end);
+    let place = format!(in alloc; "{start}..{end}")?;
+    text.push_str(&place)?;
+    for _column in place.len()..form.width {
         text.push(' ')?;
     }
-    for _outer in 0..depth {
+    for _outer in 0..line.depth {
         text.push_str("  ")?;
     }
-    let written = written(alloc, lines.pattern, part.span)?;
+    let written = written(alloc, form.pattern, span)?;
     if !written.is_empty() {
         write!(text, "  {written}")?;
     }
-    let words = &part.words;
+    let words = &line.part.words;
     writeln!(text, "  {words}")
 }

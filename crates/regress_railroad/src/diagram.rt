@@ -96,6 +96,15 @@ pub(crate) struct Iterations {
     pub(crate) label: String,
 }
 
+/// What a page knows a part by.
+#[derive(Drop)]
+pub(crate) struct Marks {
+    /// The classes for its span.
+    pub(crate) class: String,
+    /// The number of the line that explains it, if there is one.
+    pub(crate) line: Option<usize>,
+}
+
 /// A part of a diagram.
 #[derive(Drop)]
 #[cycle(diagram)]
@@ -103,8 +112,8 @@ pub(crate) struct Diagram {
     pub(crate) shape: Shape,
     /// The source text of the part, if it is known.
     pub(crate) title: Option<String>,
-    /// The classes for the spans of the part, if it has them.
-    pub(crate) marks: Option<String>,
+    /// Its marks, if the picture is for a page.
+    pub(crate) marks: Option<Marks>,
     pub(crate) extent: Extent,
 }
 

@@ -2,28 +2,50 @@
 ghost use Rattle.std.specs.Prelude.{◌≡◌, OnOk};
 
 use crate::boxes::{frame_extent, track_step};
-use crate::diagram::{Diagram, Extent, Iterations, NO_EXTENT, Point, Shape, clear};
+use crate::diagram::{Diagram, Extent, Iterations, Marks, NO_EXTENT, Point, Shape, clear};
 use crate::parts::{draw_box, draw_end, draw_frame, draw_iterations, draw_sides, middle};
-use crate::row::row_step;
+use crate::row::{copied, row_step};
 use crate::style::{GAP, RADIUS};
 use crate::ways::{
     Drawn, draw_branch, draw_fork, draw_line, draw_thread, draw_way_back, draw_way_up,
 };
-use regress_svg::{Element, Sheet};
+use regress_svg::{Area, Element, Sheet};
 
-/// Draws a part whose connecting line enters at a point, in a group of its own if it has classes for its spans.
+/// Draws a part whose connecting line enters at a point, in a group of its own if it is marked.
 #[cycle(draw)]
 pub(crate) fn draw(diagram: &Diagram, at: Point, sheet: &mut Sheet) -> Drawn
     ensures { OnOk result (sheet.new.depth ≡ sheet.old.depth) }
 {
     match &diagram.marks {
         Some(marks) => {
-            sheet.open_group(marks)?;
+            add_area(diagram, marks, at, sheet)?;
+            sheet.open_group(&marks.class)?;
             draw_shape(diagram, at, sheet)?;
             sheet.close_group()
         }
         None => draw_shape(diagram, at, sheet),
     }
+}
+
+/// Adds the area of a part that a line explains.
+fn add_area(diagram: &Diagram, marks: &Marks, at: Point, sheet: &mut Sheet) -> Drawn
+    ensures { OnOk result (sheet.new.depth ≡ sheet.old.depth) }
+{
+    let Some(line) = marks.line else {
+        return Ok(());
+    };
+    let (alloc, extent) = (sheet.alloc(), diagram.extent);
+    let class = String::from_str(alloc, &marks.class)?;
+    let title = copied(alloc, diagram.title.as_ref())?.unwrap_or(String::new(alloc));
+    sheet.add_area(Area {
+        line,
+        class,
+        title,
+        x: at.x,
+        y: at.up(extent.above).y,
+        width: extent.width,
+        height: extent.height(),
+    })
 }
 
 #[cycle(draw)]

@@ -12,5 +12,5 @@ mod source;
 mod style;
 mod ways;
 
-pub use picture::{svg, svg_with_marks, svg_with_titles};
+pub use picture::{svg, svg_with_links, svg_with_titles};
 pub use source::excerpt;

@@ -1,5 +1,6 @@
 //! Diagrams of patterns as SVG documents.
-ghost use Rattle.std.specs.Prelude.{◌≡◌, IfOk, OnOk, string_bytes};
+ghost use Rattle.std.specs.Prelude.{◌≡◌, ◌<◌, All, IfOk, OnOk, length, string_bytes};
+ghost use Rattle.regress_svg.specs.Links.{IsLinkedDocument};
 ghost use Rattle.regress_svg.specs.Markup.{IsDocument};
 
 use crate::diagram::{Diagram, Point};
@@ -11,7 +12,7 @@ use crate::style::{MARGIN, STYLE, text_width};
 use crate::ways::{Drawn, draw_line};
 use regress_labels::{columns, flags_text, group_names};
 use regress_parse::Span;
-use regress_svg::{Element, Sheet};
+use regress_svg::{Element, Linked, Sheet};
 use regress_tree::ir::Regex;
 use regress_words::scanned;
 use std::alloc::{AllocError, Global};
@@ -63,39 +64,45 @@ pub fn svg_with_titles(
 ) -> Result<String, AllocError>
     ensures { IfOk result (λ text. IsDocument (string_bytes text)) }
 {
-    picture(alloc, regex, pattern, spans, false)
+    drawn(alloc, regex, pattern, spans, None)?.finish()
 }
 
-/// Returns the diagram of [`svg_with_titles`] with a class for each span, so that a page's style sheet can mark what
-/// has it: a box, a frame, a loop or alternatives are in a group of the class `m`, and `s0-4` for a node with the span
-/// 0..4. The boxes of characters one after the other have the class of the span of all.
+/// Returns the diagram of [`svg_with_titles`] for a page that explains the parts in a list of lines: `lines` are the spans
+/// of what the lines explain, in the order of their starts, outer ones first. A page's style sheet can mark a box, a
+/// frame, a loop or alternatives: they are in a group of the class `m`, and `s0-4` for a node with the span 0..4. The boxes
+/// of characters one after the other have the class of the span of all. Above each of them is a link to the line that
+/// explains it, or else the innermost part around it, with the same classes; the line with the number `n` is to have the id
+/// `l` with its number.
 ///
 /// # Errors
 /// Returns [`AllocError`] if an allocation fails. The arguments are only read.
 ///
 /// # Complexity
-/// As [`svg`].
-pub fn svg_with_marks(
+/// As [`svg`], and a binary search in `lines` for each part.
+pub fn svg_with_links(
     alloc: Global,
     regex: &Regex,
     pattern: &[u32],
     spans: &[Span],
-) -> Result<String, AllocError>
-    ensures { IfOk result (λ text. IsDocument (string_bytes text)) }
+    lines: &[Span],
+) -> Result<Linked, AllocError>
+    ensures document { IfOk result (λ picture. IsLinkedDocument picture.lines.items (string_bytes picture.text)) }
+    ensures lines { IfOk result (λ picture. All (λ line. line < length lines.now) picture.lines.items) }
 {
-    picture(alloc, regex, pattern, spans, true)
+    drawn(alloc, regex, pattern, spans, Some(lines))?.finish_with_links(lines.len())
 }
 
-fn picture(
+/// Draws the diagram of a pattern.
+fn drawn(
     alloc: Global,
     regex: &Regex,
     pattern: &[u32],
     spans: &[Span],
-    marked: bool,
-) -> Result<String, AllocError>
-    ensures { IfOk result (λ text. IsDocument (string_bytes text)) }
+    lines: Option<&[Span]>,
+) -> Result<Sheet, AllocError>
+    ensures { IfOk result (λ sheet. sheet.depth ≡ 0) }
 {
-    let diagram = laid_out(alloc, regex, pattern, spans, marked)?;
+    let diagram = laid_out(alloc, regex, pattern, spans, lines)?;
     let extent = diagram.extent;
     let flags = flags_text(alloc, regex.flags)?;
     let top = if flags.is_empty() { MARGIN / 2 } else { MARGIN };
@@ -112,7 +119,7 @@ fn picture(
         y: extent.above.saturating_add(top),
     };
     draw_whole(&diagram, start, &mut sheet)?;
-    sheet.finish()
+    Ok(sheet)
 }
 
 /// Returns the diagram of a pattern.
@@ -121,7 +128,7 @@ fn laid_out(
     regex: &Regex,
     pattern: &[u32],
     spans: &[Span],
-    marked: bool,
+    lines: Option<&[Span]>,
 ) -> Result<Diagram, AllocError> {
     let names = group_names(alloc, &regex.node)?;
     let scan = scanned(alloc, pattern, regex.flags)?;
@@ -131,7 +138,7 @@ fn laid_out(
         names: &names,
         scan: &scan,
     };
-    layout(alloc, &regex.node, Source { written, marked }, spans)
+    layout(alloc, &regex.node, Source { written, lines }, spans)
 }
 
 /// Draws the background, and the title and description of the whole.

@@ -1,8 +1,8 @@
 //! Assembles sequences of parts.
 
 use crate::boxes::literal;
-use crate::diagram::{Diagram, Extent, NO_EXTENT, Shape, clear};
-use crate::source::{Source, joined};
+use crate::diagram::{Diagram, Extent, Marks, NO_EXTENT, Shape, clear};
+use crate::source::{Source, joined, line_of};
 use crate::style::{GAP, LIST_WIDTH, RADIUS};
 use regress_labels::{Character, columns_of, joins_emoji, push_symbol_after};
 use regress_parse::Span;
@@ -74,21 +74,25 @@ impl<'a> Row<'a> {
         }
     }
 
-    /// Adds a part, with the class of its span.
+    /// Adds a part, with its marks.
     fn push_part(&mut self, mut part: Diagram, span: Option<Span>) -> Result<(), AllocError> {
         part.marks = self.marks(span)?;
         Ok(self.parts.push(part)?)
     }
 
-    /// Returns the classes of a span.
-    fn marks(&self, span: Option<Span>) -> Result<Option<String>, AllocError> {
-        let Some(Span { start, end }) = span else {
+    /// Returns the marks of a part with this span; none if it is empty.
+    fn marks(&self, span: Option<Span>) -> Result<Option<Marks>, AllocError> {
+        let (Some(span), Some(lines)) = (span, self.source.lines) else {
             return Ok(None);
         };
-        if !self.source.marked || start == end {
+        let Span { start, end } = span;
+        if start == end {
             return Ok(None);
         }
-        Ok(Some(format!(in self.alloc; "m s{start}-{end}")?))
+        Ok(Some(Marks {
+            class: format!(in self.alloc; "m s{start}-{end}")?,
+            line: line_of(span, lines),
+        }))
     }
 
     /// Adds a character, to the text at the end if it continues it.
@@ -128,17 +132,20 @@ impl<'a> Row<'a> {
         Ok(self.parts.push(literal(text, either_case))?)
     }
 
-    /// Ends the text: each of its boxes has its title and the class of its span.
+    /// Ends the text: each of its boxes has its title and its marks.
     fn end_text(&mut self) -> Result<(), AllocError> {
         self.box_text()?;
         let span = self.span.take();
         let text = mem::replace(&mut self.text, Vec::new(self.alloc));
         if !text.is_empty() {
             let title = self.source.title(self.alloc, span, &text)?;
-            let marks = self.marks(span)?;
-            for part in self.parts.iter_mut().skip(self.first) {
-                part.title = copied(self.alloc, title.as_ref())?;
-                part.marks = copied(self.alloc, marks.as_ref())?;
+            for index in self.first..self.parts.len() {
+                let marks = self.marks(span)?;
+                let title = copied(self.alloc, title.as_ref())?;
+                if let Some(part) = self.parts.get_mut(index) {
+                    part.title = title;
+                    part.marks = marks;
+                }
             }
         }
         self.end = TextEnd::new();
@@ -154,7 +161,7 @@ impl<'a> Row<'a> {
     }
 }
 
-fn copied(alloc: Global, text: Option<&String>) -> Result<Option<String>, AllocError> {
+pub(crate) fn copied(alloc: Global, text: Option<&String>) -> Result<Option<String>, AllocError> {
     match text {
         Some(text) => Ok(Some(String::from_str(alloc, text)?)),
         None => Ok(None),

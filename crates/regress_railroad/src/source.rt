@@ -13,8 +13,8 @@ const TITLE_LENGTH: usize = 60;
 #[derive(Clone, Copy)]
 pub(crate) struct Source<'a> {
     pub(crate) written: regress_words::Source<'a>,
-    /// Whether the parts of the diagram have classes for their spans.
-    pub(crate) marked: bool,
+    /// The spans of the lines that explain the parts, if the parts are marked.
+    pub(crate) lines: Option<&'a [Span]>,
 }
 
 impl Source<'_> {
@@ -87,4 +87,19 @@ pub(crate) fn joined(first: Option<Span>, last: Option<Span>) -> Option<Span> {
     let (first, last) = (first.or(last)?, last?);
     let (start, end) = (first.start, last.end);
     Some(Span { start, end })
+}
+
+/// Returns the number of the line that explains the part with this span: its own, or else that of the innermost part around
+/// it. Lines are in the order of their starts, outer ones first.
+pub(crate) fn line_of(span: Span, lines: &[Span]) -> Option<usize> {
+    let count = lines.partition_point(|line| {
+        line.start < span.start || line.start == span.start && line.end >= span.end
+    });
+    let number = count.checked_sub(1)?;
+    let line = lines.get(number)?;
+    if line.start <= span.start && line.end >= span.end {
+        Some(number)
+    } else {
+        None
+    }
 }

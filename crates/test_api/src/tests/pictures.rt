@@ -2,11 +2,11 @@
 
 use super::parsed;
 use regress_explain::{Matched, explain, page};
-use regress_front::parse::try_parse_with_spans;
+use regress_front::parse::{Span, try_parse_with_spans};
 use regress_front::types::Flags;
 use regress_front::unicode::Tables;
 use regress_front::util::code_points;
-use regress_railroad::{svg, svg_with_marks};
+use regress_railroad::{svg, svg_with_links};
 use std::alloc::Global;
 use std::test::Fail;
 
@@ -36,24 +36,31 @@ fn a_picture_has_the_characters_and_the_names_of_its_pattern(rt: HostRuntime) ->
 
 #[test]
 fn a_pattern_is_explained_and_drawn_part_by_part(rt: HostRuntime) -> Result<(), Fail> {
-    let (text, picture) = explained(rt.alloc(), "\\d{4}-")?;
+    let spans = [Span { start: 0, end: 5 }, Span { start: 5, end: 6 }];
+    let (text, picture, links) = explained(rt.alloc(), "\\d{4}-", &spans)?;
     let lines =
         "Matches 5 characters, with \"-\" in them.\n0..5  \\d{4}  exactly 4 times: a digit (0-9)\n5..6  -  a hyphen (-)\n";
     expect_eq!(rt; text.as_str(), lines);
     for class in ["s0-2", "s0-5", "s5-6"] {
         assert!(rt; picture.contains(class));
     }
+    expect_eq!(rt; links.as_slice(), [0, 0, 1]);
     Ok(())
 }
 
-/// Returns the explanation and the picture of a pattern without flags.
-fn explained(alloc: Global, pattern: &str) -> Result<(String, String), Fail> {
+/// Returns the explanation of a pattern without flags, its picture with links to lines with these spans, and the lines that
+/// the links lead to.
+fn explained(
+    alloc: Global,
+    pattern: &str,
+    lines: &[Span],
+) -> Result<(String, String, Vec<usize>), Fail> {
     let tables = Tables::small(alloc)?;
     let points = code_points(alloc, pattern)?;
     let parsed = try_parse_with_spans(alloc, &points, Flags::default(), &tables)?;
     let text = explain(alloc, &points, &parsed)?;
-    let picture = svg_with_marks(alloc, &parsed.regex, &points, &parsed.spans)?;
-    Ok((text, picture))
+    let picture = svg_with_links(alloc, &parsed.regex, &points, &parsed.spans, lines)?;
+    Ok((text, picture.text, picture.lines))
 }
 
 #[test]

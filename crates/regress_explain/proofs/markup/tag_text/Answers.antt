@@ -13,3 +13,7 @@ returns-in-Line c = rw c.in-Line.is
 pub returns-in-To : goal.returns-in-To
 returns-in-To c = rw c.in-To.is
     (IfOk-weaker c.format-in-To.result _ _ (λ text is. is ∙ simp append_assoc) c.format-in-To.ensures.ok)
+
+pub returns-in-ToPicture : goal.returns-in-ToPicture
+returns-in-ToPicture c = rw c.in-ToPicture.is
+    (IfOk-weaker c.format-in-ToPicture.result _ _ (λ text is. is ∙ simp append_assoc) c.format-in-ToPicture.ensures.ok)

@@ -1,0 +1,5 @@
+use Rattle.regress_explain.proofs.PageLemmas.{line_before}
+use Rattle.regress_explain.proofs.html.explanation.Goals as goal
+
+pub returns : goal.returns
+returns c = λ n below. line_before n _ _ _ (c.in_ok-write_lines.ensures n below) c.in_ok-tag.ensures

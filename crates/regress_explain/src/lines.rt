@@ -1,0 +1,54 @@
+//! The lines of an explanation.
+ghost use Rattle.std.specs.Prelude.{◌≡◌, IfOk, length};
+
+use crate::outline::{Kind, Part};
+use regress_parse::Span;
+use std::alloc::{AllocError, Global};
+
+/// A part that has a line of its own.
+#[derive(Clone, Copy)]
+pub(crate) struct Line<'a> {
+    pub(crate) part: &'a Part,
+    /// How many parts are around it.
+    pub(crate) depth: usize,
+}
+
+/// Returns the lines of parts and of those inside, in the order of the pattern, outer ones first.
+pub(crate) fn lines_of(alloc: Global, parts: &[Part]) -> Result<Vec<Line<'_>>, AllocError> {
+    let mut lines = Vec::new(alloc);
+    add_lines(parts, 0, &mut lines)?;
+    Ok(lines)
+}
+
+#[cycle(add_lines)]
+fn add_lines<'a>(
+    parts: &'a [Part],
+    depth: usize,
+    lines: &mut Vec<Line<'a>>,
+) -> Result<(), AllocError> {
+    for part in parts {
+        add_line(part, depth, lines)?;
+    }
+    Ok(())
+}
+
+/// Adds the line of a part, and those of the parts inside.
+#[cycle(add_lines)]
+fn add_line<'a>(part: &'a Part, depth: usize, lines: &mut Vec<Line<'a>>) -> Result<(), AllocError> {
+    lines.push(Line { part, depth })?;
+    if let Kind::Inline = part.kind {
+        return Ok(());
+    }
+    add_lines(&part.parts, depth.saturating_add(1), lines)
+}
+
+/// Returns the spans of lines.
+pub(crate) fn spans_of(alloc: Global, lines: &[Line<'_>]) -> Result<Vec<Span>, AllocError>
+    ensures { IfOk result (λ spans. length spans.items ≡ length lines.now) }
+{
+    let mut spans = Vec::new(alloc);
+    for line in lines {
+        spans.push(line.part.span)?;
+    }
+    Ok(spans)
+}
