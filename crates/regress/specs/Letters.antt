@@ -1,5 +1,5 @@
 -- Flags by their letters, as JavaScript writes them.
-use Rattle.std.specs.Prelude.{◌≡◌, ℕ, ◌≤◌, Bool, true, ◌||◌, ◌==◌, List, All, codes, count_by, nat_lt}
+use Rattle.std.specs.Prelude.{◌≡◌, ℕ, ◌≤◌, Bool, true, false, ◌||◌, ◌==◌, List, All, codes, count_by, nat_lt}
 use Rattle.std.specs.List.{list_any}
 use Rattle.regress_front.specs.Source.{char}
 use Rattle.regress_front.specs.declared.types.Flags.{Flags}
