@@ -7,6 +7,7 @@ use Rattle.std.specs.Char.{encode_utf8}
 use Rattle.std.specs.Str.{chars}
 use Rattle.std.proofs.Math.ListN.{replicate}
 use Rattle.regress_base.specs.declared.types.Flags.{Flags}
+pub use Rattle.regress_base.specs.NoFlags.{no_flags}
 use Rattle.regress_base.specs.Intervals.{Bounds, is_member, is_within}
 use Rattle.regress_unicode.specs.FoldEntries.{mapped}
 use Rattle.regress_tree.specs.Lookaround.{lookaround_matcher}
