@@ -150,13 +150,16 @@ line_before number old more new found is = record {
 pub line_kept : (P : List Piece → Type 0) (number : ℕ) (old new : List ℕ) → HasLine number old → Adds P old new → HasLine number new
 line_kept P number old new found added = line_before number old (pieces_bytes added.pieces) new found added.added
 
+front_bytes : (a b c d : List ℕ) → a ++ (b ++ c ++ d) ≡ (a ++ b) ++ c ++ d
+front_bytes a b c d = simp append_assoc
+
 -- and after something else,
 pub line_after : (number : ℕ) (front other new : List ℕ) → HasLine number other → new ≡ front ++ other → HasLine number new
 line_after number front other new found is = record {
   span = found.span;
   before = front ++ found.before;
   after = found.after;
-  is = is ∙ ap (λ all. front ++ all) found.is ∙ sym (append_assoc front found.before (tag_bytes (Line found.span number) ++ found.after));
+  is = is ∙ ap (λ all. front ++ all) found.is ∙ front_bytes front found.before (tag_bytes (Line found.span number)) found.after;
 }
 
 -- and where it is written.
@@ -165,7 +168,7 @@ line_written number span old new is = record {
   span = span;
   before = old;
   after = [];
-  is = is ∙ ap (λ all. old ++ all) (sym (append-nil (tag_bytes (Line span number))));
+  is = is ∙ sym (append-nil (old ++ tag_bytes (Line span number)));
 }
 
 -- one more line, with anything around it

@@ -1,4 +1,4 @@
-use Rattle.std.proofs.Common.{◌≡◌, ℕ, List, [], subst}
+use Rattle.std.proofs.Common.{ℕ, List, [], subst}
 use Rattle.regress_explain.specs.Written.{Adds, IsAnything}
 use Rattle.regress_explain.proofs.PageLemmas.{line_after, whole_page}
 use Rattle.regress_explain.proofs.html.page.Goals as goal

@@ -1,4 +1,4 @@
-use Rattle.std.proofs.Common.{◌<◌, arith}
+use Rattle.std.proofs.Common.{arith}
 use Rattle.std.proofs.lemmas.Result.{on_ok_weaker}
 use Rattle.regress_explain.specs.Written.{IsAnything}
 use Rattle.regress_explain.proofs.PageLemmas.{line_kept, one_line}
