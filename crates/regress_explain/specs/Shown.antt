@@ -1,5 +1,5 @@
 -- A text as a page shows it.
-use Rattle.std.specs.Prelude.{ℕ, Bool, List, chars, encode_utf8, flat_map, if◌then◌else◌, nat_le, ◌==◌, ◌||◌, ◌&&◌, not}
+use Rattle.std.specs.Prelude.{ℕ, Bool, List, chars, encode_utf8, flat_map, if◌then◌else◌, ◌==◌, ◌||◌, ◌&&◌, not}
 use Rattle.std.specs.Int.{is_in_range}
 use Rattle.regress_tree.specs.Display.{code_point}
 

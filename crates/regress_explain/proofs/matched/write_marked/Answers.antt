@@ -1,7 +1,7 @@
-use Rattle.std.proofs.Common.{◌≡◌, true, false, refl, rules}
+use Rattle.std.proofs.Common.{◌≡◌, true, refl, rules}
 use Rattle.std.proofs.lemmas.Result.{on_ok_weaker}
 use Rattle.std.proofs.lemmas.Str.{IsCharBoundary-start}
-use Rattle.regress_explain.proofs.MarkedLemmas.{all_marked, marked, none_so_far, unmarked}
+use Rattle.regress_explain.proofs.MarkedLemmas.{all_marked, marked, none_so_far}
 use Rattle.regress_explain.proofs.matched.write_marked.Goals as goal
 
 pub loop-range-init : goal.loop-range-init

@@ -1,6 +1,5 @@
 use Rattle.std.proofs.lemmas.Result.{on_ok_weaker}
-use Rattle.std.proofs.Common.{string_bytes, ◌++◌, ap}
-use Rattle.regress_svg.specs.Escape.{escaped_text}
+use Rattle.std.proofs.Common.{string_bytes}
 use Rattle.regress_explain.specs.Page.{ShowsSource, text}
 use Rattle.regress_explain.proofs.PageLemmas.{adds_one}
 use Rattle.regress_explain.proofs.SourceLemmas.{shows_characters}

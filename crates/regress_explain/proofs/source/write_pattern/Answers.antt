@@ -4,7 +4,6 @@ use Rattle.std.proofs.lemmas.Result.{on_ok_weaker}
 use Rattle.regress_explain.specs.declared.markup.Element.TheVariants.{Section}
 use Rattle.regress_explain.specs.declared.markup.Tag.TheVariants.{Close}
 use Rattle.regress_explain.specs.Page.{IsParagraph, ShowsSource}
-use Rattle.regress_explain.specs.Written.{Adds}
 use Rattle.regress_explain.proofs.PageLemmas.{adds_after, adds_tag, shows_paragraph}
 use Rattle.regress_explain.proofs.source.write_pattern.Goals as goal
 
