@@ -44,7 +44,7 @@ fn a_pattern_is_explained_and_drawn_part_by_part(rt: HostRuntime) -> Result<(), 
     for class in ["s0-2", "s0-5", "s5-6"] {
         assert!(rt; picture.contains(class));
     }
-    expect_eq!(rt; links.as_slice(), [0, 0, 1]);
+    expect_eq!(rt; links.as_slice(), [0, 0, 1].as_slice());
     Ok(())
 }
 
