@@ -303,7 +303,7 @@ pub const OPTIONS: [OptionEntry; 24] = [
         long: Some("text"),
         sets: Sets::Switch(Switch::Binary),
         scope: OF_LINES,
-        line: "  -a, --text                no effect: lines that are not UTF-8 are searched, and\n                            their bytes that are not match nowhere\n",
+        line: "  -a, --text                no effect: lines that are not UTF-8 are searched,\n                            and their bytes that are not match nowhere\n",
     },
     OptionEntry {
         short: None,
