@@ -374,6 +374,39 @@ static PyObject *failed(const searcher_object *searcher, uint32_t status) {
     return NULL;
 }
 
+/* Lets other threads run, if a text of this length is searched. */
+static PyThreadState *drop_gil(Py_ssize_t length) {
+    return length < LONG_TEXT ? NULL : PyEval_SaveThread();
+}
+
+static void take_gil(PyThreadState *state) {
+    if (state) {
+        PyEval_RestoreThread(state);
+    }
+}
+
+/* Returns a text of the type that the pattern has, which may be another object; NULL with an exception. */
+static PyObject *typed(const searcher_object *searcher, PyObject *string) {
+    if (searcher->is_bytes ? PyBytes_CheckExact(string) : PyUnicode_CheckExact(string)) {
+        Py_INCREF(string);
+        return string;
+    }
+    return PyObject_CallFunctionObjArgs(same_type, searcher->pattern, string, NULL);
+}
+
+/* Returns a str or bytes in UTF-8; NULL with an exception. */
+static PyObject *in_utf8(PyObject *string) {
+    if (PyUnicode_CheckExact(string)) {
+        PyObject *data = PyUnicode_AsUTF8String(string);
+        if (data) {
+            return data;
+        }
+        PyErr_Clear();
+    }
+    /* The function raises the exception of this module. */
+    return PyObject_CallFunctionObjArgs(utf8, string, NULL);
+}
+
 /* Sets the bytes of a str. */
 static int encode(struct text *text) {
     Py_ssize_t length = PyUnicode_GetLength(text->own);
@@ -385,14 +418,9 @@ static int encode(struct text *text) {
             return 0;
         }
     }
-    text->data = PyUnicode_AsUTF8String(text->own);
+    text->data = in_utf8(text->own);
     if (!text->data) {
-        /* The function raises the exception of this module. */
-        PyErr_Clear();
-        text->data = PyObject_CallFunctionObjArgs(utf8, text->own, NULL);
-        if (!text->data) {
-            return 0;
-        }
+        return 0;
     }
     text->bytes = PyBytes_AsString(text->data);
     text->length = PyBytes_Size(text->data);
@@ -422,14 +450,9 @@ static int reads(const searcher_object *searcher, PyObject *arguments, PyObject 
     }
     text->string = string;
     Py_INCREF(string);
-    if (searcher->is_bytes ? PyBytes_CheckExact(string) : PyUnicode_CheckExact(string)) {
-        text->own = string;
-        Py_INCREF(string);
-    } else {
-        text->own = PyObject_CallFunctionObjArgs(same_type, searcher->pattern, string, NULL);
-        if (!text->own) {
-            return 0;
-        }
+    text->own = typed(searcher, string);
+    if (!text->own) {
+        return 0;
     }
     Py_ssize_t length = searcher->is_bytes ? PyBytes_Size(text->own) : PyUnicode_GetLength(text->own);
     text->pos = text->pos < 0 ? 0 : text->pos > length ? length : text->pos;
@@ -469,13 +492,9 @@ static PyObject *found(PyObject *self, PyObject *arguments, PyObject *keywords, 
     }
     uint32_t status = REGRESS_NO_MATCH;
     if (text.start <= text.length) {
-        if (text.length < LONG_TEXT) {
-            status = find(searcher, &text, (size_t *)spans);
-        } else {
-            Py_BEGIN_ALLOW_THREADS
-            status = find(searcher, &text, (size_t *)spans);
-            Py_END_ALLOW_THREADS
-        }
+        PyThreadState *state = drop_gil(text.length);
+        status = find(searcher, &text, (size_t *)spans);
+        take_gil(state);
     }
     if (status == REGRESS_NO_MATCH || (status == REGRESS_OK && is_at_pos && spans[0] != text.start)) {
         Py_INCREF(Py_None);
@@ -515,17 +534,12 @@ static uint32_t find_all(const searcher_object *searcher, const struct text *tex
 
 /* Finds all matches. Returns 0 with an exception. */
 static int finds(const searcher_object *searcher, const struct text *text, regress_matches *matches) {
-    uint32_t status;
     if (text->start > text->length) {
         return 1;
     }
-    if (text->length < LONG_TEXT) {
-        status = find_all(searcher, text, matches);
-    } else {
-        Py_BEGIN_ALLOW_THREADS
-        status = find_all(searcher, text, matches);
-        Py_END_ALLOW_THREADS
-    }
+    PyThreadState *state = drop_gil(text->length);
+    uint32_t status = find_all(searcher, text, matches);
+    take_gil(state);
     return status == REGRESS_OK || failed(searcher, status);
 }
 
@@ -664,15 +678,8 @@ static PyType_Spec iterator_spec = {
 
 /* Returns a text or a template in UTF-8. */
 static PyObject *encoded(const searcher_object *searcher, PyObject *string) {
-    if (!searcher->is_bytes && PyUnicode_CheckExact(string)) {
-        PyObject *data = PyUnicode_AsUTF8String(string);
-        if (data) {
-            return data;
-        }
-        PyErr_Clear();
-    }
-    PyObject *own = PyObject_CallFunctionObjArgs(same_type, searcher->pattern, string, NULL);
-    PyObject *data = own ? PyObject_CallFunctionObjArgs(utf8, own, NULL) : NULL;
+    PyObject *own = typed(searcher, string);
+    PyObject *data = own ? in_utf8(own) : NULL;
     Py_XDECREF(own);
     return data;
 }
@@ -703,15 +710,10 @@ static PyObject *searcher_replaced(PyObject *self, PyObject *arguments) {
         if (!out) {
             break;
         }
-        if (length < LONG_TEXT) {
-            status = (all ? regress_replace_all : regress_replace)(&searcher->regex, bytes, (size_t)length, by_bytes,
-                                                                   (size_t)by_length, out, room, &needed);
-            continue;
-        }
-        Py_BEGIN_ALLOW_THREADS
+        PyThreadState *state = drop_gil(length);
         status = (all ? regress_replace_all : regress_replace)(&searcher->regex, bytes, (size_t)length, by_bytes,
                                                                (size_t)by_length, out, room, &needed);
-        Py_END_ALLOW_THREADS
+        take_gil(state);
     }
     if (!out) {
         PyErr_NoMemory();
