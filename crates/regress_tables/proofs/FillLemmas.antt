@@ -43,7 +43,7 @@ same-column w pc pc' true false lt lt' e = absurd (omega (arith, e, lt, lt'))
 same-column w pc pc' false true lt lt' e = absurd (omega (arith, e, lt, lt'))
 same-column w pc pc' false false lt lt' e = (e, refl)
 
-same-row : (d : Direction) (n p q : ℕ) → p ≤ n → q ≤ n → row_of d n p ≡ row_of d n q → p ≡ q
+pub same-row : (d : Direction) (n p q : ℕ) → p ≤ n → q ≤ n → row_of d n p ≡ row_of d n q → p ≡ q
 same-row backwards n p q le le' e = e
 same-row forwards n p q le le' e = omega (arith, e, le, le')
 
@@ -117,23 +117,9 @@ row-twice backwards n row le = refl
 row-twice forwards n row le = omega (arith, le)
 
 module _ (t : Table) (b : Bool) (n row position : ℕ) (is : position ≡ row_of (direction_if b) n row) (eb : t.backwards ≡ b) (en : t.length ≡ n) (le : row ≤ n) where
-  row-is : row_of (direction_if t.backwards) t.length position ≡ row
+  -- the row of the position
+  pub row-is : row_of (direction_if t.backwards) t.length position ≡ row
   row-is = ap₂ (λ x m. row_of (direction_if x) m position) eb en ∙ ap (row_of (direction_if b) n) is ∙ row-twice (direction_if b) n row le
-
-  -- the two halves of a row
-  pub index-first : index t 0 false position ≡ row * (2 * t.width)
-  unfolding place
-  index-first = ap (λ k. k * (2 * t.width) + 0) row-is ∙ omega arith
-
-  pub index-second : index t 0 true position ≡ row * (2 * t.width) + t.width
-  unfolding place
-  index-second = ap (λ k. k * (2 * t.width) + (t.width + 0)) row-is ∙ omega arith
-
--- one more row is full
-pub more_rows : (row w w1 w2 l l1 l2 : ℕ) → w1 ≡ w → w2 ≡ w → l ≡ row * (2 * w) → l1 ≡ l + w → l2 ≡ l1 + w1 → l2 ≡ (row + 1) * (2 * w2)
-more_rows row w w1 w2 l l1 l2 e1 e2 is is1 is2 =
-    let two : l2 ≡ (row + 1) * (2 * w) = omega (arith, e1, is, is1, is2) in
-    two ∙ ap (λ x. (row + 1) * (2 * x)) (sym e2)
 
 -- ---- the tables of a program
 

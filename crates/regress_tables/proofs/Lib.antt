@@ -1,10 +1,14 @@
 mod BitLemmas
 mod CleanLemmas
+mod CopyLemmas
 mod EvaluateLemmas
 mod FillLemmas
 mod FirstLemmas
 mod FollowLemmas
+mod MemoLemmas
+mod ProbeLemmas
 mod ResolveLemmas
+mod RowLemmas
 mod SearchLemmas
 mod SlotLemmas
 mod StepLemmas

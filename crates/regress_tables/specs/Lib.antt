@@ -1,6 +1,8 @@
 pub mod Bits
 pub mod Evaluated
 pub mod Filled
+pub mod Memo
+pub mod Probes
 pub mod Search
 pub mod Searchable
 pub mod Slots

@@ -138,7 +138,7 @@ fn reached(table: &Table, next: usize, moved: bool, position: usize, to: Option<
 }
 
 /// Returns whether another routine has an outcome from a position.
-fn looks(input: Input<'_, '_>, routine: usize, position: usize) -> bool
+pub(crate) fn looks(input: Input<'_, '_>, routine: usize, position: usize) -> bool
     requires tables { AreTables input.text.now (code_routines input.code.now) input.tables.now }
     requires earlier { routine < length input.tables.now }
     requires position { position ≤ length input.text.now }

@@ -1,29 +1,22 @@
-use Rattle.std.proofs.Common.{sym, ap, ◌∙◌, arith}
+use Rattle.std.proofs.Common.{◌≡◌, ◌+◌, ◌*◌, length, sym, ap, ◌∙◌, arith}
+use Rattle.std.proofs.lemmas.List.{length-map}
 use Rattle.regress_tree.specs.Reading.{direction_if}
-use Rattle.regress_tables.proofs.FillLemmas.{same-index, SameShape-trans, index-first, index-second, more_rows}
+use Rattle.regress_program.specs.Views.{op_in}
+use Rattle.regress_tables.proofs.FillLemmas.{row-is}
+use Rattle.regress_tables.proofs.MemoLemmas.{known-start}
 use Rattle.regress_tables.proofs.fill.fill.Goals as goal
 
-pub fill_half-requires-clause-at : goal.fill_half-requires-clause-at
-fill_half-requires-clause-at c =
+pub fill_row-requires-clause-at : goal.fill_row-requires-clause-at
+fill_row-requires-clause-at c =
     let so_far = c.loop-row.invariant in
-    index-first c.loop-row.table _ _ c.loop-row.row c.row_of-position.result c.row_of-position.ensures.value so_far.backwards
-    (omega (arith, so_far.of.text, c.len.ensures)) (omega arith)
-    ∙ sym so_far.bits
-
-pub fill_half-requires-in-loop-row-clause-at : goal.fill_half-requires-in-loop-row-clause-at
-fill_half-requires-in-loop-row-clause-at c =
-    let so_far = c.loop-row.invariant in
-    let second = index-second c.loop-row.table _ _ c.loop-row.row c.row_of-position.result c.row_of-position.ensures.value so_far.backwards
-    (omega (arith, so_far.of.text, c.len.ensures)) (omega arith) in
-    same-index c.loop-row.table c.fill_half.new.table 0 _ c.row_of-position.result c.fill_half.ensures.shape
-    ∙ second ∙ omega (arith, so_far.bits, c.fill_half.ensures.more)
+    row-is c.loop-row.table _ _ c.loop-row.row c.row_of-position.result c.row_of-position.ensures.value so_far.backwards
+    (omega (arith, so_far.of.text)) (omega arith)
+    ∙ sym so_far.rows
 
 pub loop-row-preserved : goal.loop-row-preserved
 loop-row-preserved c =
     let so_far = c.loop-row.invariant in
-    let first = c.fill_half.ensures in
-    let second = c.fill_half-in-loop-row.ensures in
-    let same = SameShape-trans c.loop-row.table c.fill_half.new.table c.fill_half-in-loop-row.new.table first.shape second.shape in
+    let same = c.in_ok-fill_row.ensures.shape in
     record {
       of = record {
         width = same.width ∙ so_far.of.width;
@@ -31,7 +24,31 @@ loop-row-preserved c =
         direction = ap direction_if same.backwards ∙ so_far.of.direction;
       };
       backwards = same.backwards ∙ so_far.backwards;
-      bits = more_rows c.loop-row.row c.loop-row.table.width c.fill_half.new.table.width c.fill_half-in-loop-row.new.table.width _ _ _
-          first.shape.width same.width so_far.bits first.more second.more;
-      filled = second.filled (first.filled so_far.filled);
+      rows = omega (arith, c.in_ok-fill_row.ensures.rows, so_far.rows);
+      known = c.in_ok-fill_row.ensures.known;
     }
+
+pub loop-row-init : goal.loop-row-init
+loop-row-init c = record {
+  of = record {
+    width =
+        let items = c.args.routine.now.instructions.items in
+        omega (arith, c.in_ok-table.ensures.width, c.len.ensures, length-map items (op_in c.args.input.code.now.program.leaves.items));
+    text = c.in_ok-table.ensures.length;
+    direction = ap direction_if c.in_ok-table.ensures.backwards;
+  };
+  backwards = c.in_ok-table.ensures.backwards;
+  rows = ap length c.in_ok-memo.ensures.rows;
+  known = known-start _ _ c.in_ok-table.table c.in_ok-memo.memo c.in_ok-table.ensures.empty c.in_ok-memo.ensures.covers c.in_ok-memo.ensures.rows c.in_ok-memo.ensures.slots;
+}
+
+pub returns-clause-full : goal.returns-clause-full
+returns-clause-full c =
+    let so_far = c.loop-row.invariant in
+    let t = c.loop-row.table in
+    let count : length c.loop-row.memo.rows.items ≡ t.length + 1 =
+    omega (arith, so_far.rows, so_far.of.text, c.loop-row-test.false, c.loop-row.auto.row-end) in
+    so_far.known.filled ∙ ap (λ k. k * (2 * t.width)) count
+
+pub returns-clause-filled : goal.returns-clause-filled
+returns-clause-filled c = λ outs solution right. (c.loop-row.invariant.known.knows outs solution right).right

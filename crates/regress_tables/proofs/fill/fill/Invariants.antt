@@ -1,7 +1,6 @@
-use Rattle.std.proofs.Common.{◌≡◌, ◌*◌, length}
+use Rattle.std.proofs.Common.{◌≡◌, length}
 use Rattle.regress_program.specs.Views.{routine_in}
-use Rattle.regress_tables.specs.Bits.{bits_of}
-use Rattle.regress_tables.specs.Evaluated.{IsFilled}
+use Rattle.regress_tables.specs.Memo.{IsKnown}
 use Rattle.regress_tables.specs.Table.{IsTableOf}
 use Rattle.regress_tables.proofs.fill.fill.Given as goal
 
@@ -9,6 +8,6 @@ abbrev pub invariant-loop-row : goal.invariant-loop-row
 invariant-loop-row l = record {
   of : IsTableOf l.input.text.now (routine_in l.input.code.now.program.leaves.items l.routine) l.table;
   backwards : l.table.backwards ≡ l.routine.backwards;
-  bits : length (bits_of l.table.bits) ≡ l.row * (2 * l.table.width);
-  filled : IsFilled l.input l.table;
+  rows : length l.memo.rows.items ≡ l.row;
+  known : IsKnown l.input (routine_in l.input.code.now.program.leaves.items l.routine) l.table l.memo;
 }

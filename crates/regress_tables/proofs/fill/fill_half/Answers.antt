@@ -1,5 +1,5 @@
-use Rattle.std.proofs.Common.{◌≡◌, ◌<◌, [], ◌∷◌, length, slice_get, Some, option_map, refl, sym, ap, ◌∙◌, subst, arith, length-append}
-use Rattle.std.proofs.lemmas.List.{length-map}
+use Rattle.std.proofs.Common.{◌≡◌, ◌<◌, ◌++◌, [], ◌∷◌, length, slice_get, Some, option_map, refl, sym, ap, ◌∙◌, subst, arith, length-append}
+use Rattle.std.proofs.lemmas.List.{append_assoc, append-nil, length-map}
 use Rattle.std.proofs.lemmas.Option.{slice_get-map, slice_get_read}
 use Rattle.regress_leaves.specs.Subject.{subject}
 use Rattle.regress_tree.specs.Reading.{direction_if}
@@ -46,6 +46,11 @@ loop-pc-preserved c =
     let next = is_next c.args.input r c.args.table.now c.loop-pc.table pc c.args.moved c.args.position can c.requires.position c.requires.at so_far.shape so_far.more lt in
     record {
       more = ap length c.push.ensures.bits ∙ omega (arith, so_far.more, length-append (bits_of c.loop-pc.table.bits) (c.evaluate-bit.result ∷ []));
+      kept = (
+        so_far.kept.0 ++ c.evaluate-bit.result ∷ [],
+        c.push.ensures.bits ∙ ap (λ xs. xs ++ c.evaluate-bit.result ∷ []) so_far.kept.1
+            ∙ append_assoc (bits_of c.args.table.now.bits) so_far.kept.0 (c.evaluate-bit.result ∷ []),
+      );
       shape = SameShape-trans c.args.table.now c.loop-pc.table c.push.new.self so_far.shape c.push.ensures.shape;
       filled = λ old outs solution tables.
           let right = so_far.filled old outs solution tables in
@@ -55,3 +60,11 @@ loop-pc-preserved c =
           (c.evaluate-bit.ensures outs tables right))
           c.push.ensures.bits c.push.ensures.shape;
     }
+
+pub loop-pc-init : goal.loop-pc-init
+loop-pc-init c = record {
+  more = omega arith;
+  kept = ([], sym (append-nil (bits_of c.args.table.now.bits)));
+  shape = record { width = refl; length = refl; backwards = refl };
+  filled = λ filled. filled;
+}

@@ -1,0 +1,480 @@
+-- A row that was computed from the same is right.
+use Rattle.std.proofs.Common.{zero, suc, ◌≡◌, ◌≢◌, ℕ, ◌+◌, ◌-◌, ◌*◌, ◌≤◌, ◌<◌, ◌⊎◌, Bool, true, false, List, [], ◌∷◌, ◌++◌, length, slice_get, get_or, take, drop, Option, Some, None, IfSome, refl, sym, ap, ap₂, ◌∙◌, subst, inl, inr, arith, if◌then◌else◌, length-append}
+use Rattle.std.proofs.Math.ListN.{get_or-append}
+use Rattle.std.proofs.lemmas.Bool.{cases_eq, cases_lt}
+use Rattle.std.proofs.lemmas.List.{drop_more, get_or-append-add, get_or-take, get_or-drop, get_or_push, length-drop, length-take-le}
+use Rattle.std.proofs.lemmas.Option.{none-some, same_Some, slice_get_within}
+use Rattle.std.proofs.Math.Nat.{mul-le-mul_right}
+use Rattle.regress_prefilter.specs.OneCharacter.{takes_one, test_of}
+use Rattle.regress_prefilter.proofs.lemmas.OneCharacter.{takes_one-steps}
+use Rattle.regress_tree.specs.Reading.{Direction, Read, direction_if, next_character, of_bytes}
+use Rattle.regress_tree.specs.Setting.{Setting}
+use Rattle.regress_tree.specs.Steps.{Matcher}
+use Rattle.regress_tree.specs.Tree.{Tree}
+use Rattle.regress_leaves.specs.Subject.{subject}
+use Rattle.regress_leaves.proofs.lemmas.Leaves.{one_none, one_no, one_yes}
+use Rattle.regress_program.specs.Below.{column, place, row_of}
+use Rattle.regress_program.specs.Program.{Op, Out, Routine, accept, fail, part, split, begin_loop, repeat, end_loop, unsets, begin_group, end_group, look, matcher_of, IsSolution}
+use Rattle.regress_program.specs.Shape.{Fits}
+use Rattle.regress_program.proofs.lemmas.Places.{column-less, rows-less}
+use Rattle.regress_code.specs.Code.{code_routines}
+use Rattle.regress_tables.specs.Bits.{bits_of}
+use Rattle.regress_tables.specs.Evaluated.{CanFill, IsFilled}
+use Rattle.regress_tables.specs.declared.evaluate.Input.{Input}
+use Rattle.regress_tables.specs.declared.memo.Entry.{Entry}
+use Rattle.regress_tables.specs.declared.memo.Key.{Key}
+use Rattle.regress_tables.specs.declared.memo.Memo.{Memo}
+use Rattle.regress_tables.specs.declared.probe.Probe.{Probe}
+use Rattle.regress_tables.specs.declared.probe.Probe.TheVariants as probes
+use Rattle.regress_tables.specs.declared.table.Table.{Table}
+use Rattle.regress_tables.specs.Memo.{Covers, HasKey, IsEntry, IsKept, IsKnown, IsNear, IsSymbol, Knows, Represents, row_bit}
+use Rattle.regress_tables.specs.Probes.{CanProbe, Coded, IsProbe, Leads, digit, jumps_if}
+use Rattle.regress_program.specs.Tidy.{has_no_back_reference}
+use Rattle.regress_program.proofs.lemmas.Instructions.{no_reference-at}
+use Rattle.regress_tables.specs.Table.{AreRight, IsRight, SameShape, Tells, cell, index}
+use Rattle.regress_tables.proofs.FillLemmas.{same-index, same-row}
+use Rattle.regress_tables.proofs.ProbeLemmas.{equal_rows, part_fails, part_jumps}
+use Rattle.regress_tables.proofs.RowLemmas.{row-filled}
+
+-- ---- digits
+
+digits_apart : (a b : ℕ) (p q : Probe) → a * 4 + digit p ≡ b * 4 + digit q → (a ≡ b) × (p ≡ q)
+digits_apart a b probes.Fails probes.Fails e = (omega (arith, e), refl)
+digits_apart a b probes.Fails probes.Stays e = absurd (omega (arith, e))
+digits_apart a b probes.Fails probes.Jumps e = absurd (omega (arith, e))
+digits_apart a b probes.Stays probes.Fails e = absurd (omega (arith, e))
+digits_apart a b probes.Stays probes.Stays e = (omega (arith, e), refl)
+digits_apart a b probes.Stays probes.Jumps e = absurd (omega (arith, e))
+digits_apart a b probes.Jumps probes.Fails e = absurd (omega (arith, e))
+digits_apart a b probes.Jumps probes.Stays e = absurd (omega (arith, e))
+digits_apart a b probes.Jumps probes.Jumps e = (omega (arith, e), refl)
+
+module _ (setting : Setting) (bytes : List ℕ) (d : Direction) (body_of : ℕ → Matcher) (out : Out) where
+  -- what an instruction leads to that has a digit
+  coded-same : (ops : List Op) (pcs : List ℕ) (x y code code' : ℕ) → Coded setting bytes d body_of out ops pcs y code →
+      Coded setting bytes d body_of out ops pcs x code' → code ≡ code' → (k pc : ℕ) (op : Op) → slice_get pcs k ≡ Some pc → slice_get ops pc ≡ Some op →
+      (p : Probe) × IsProbe setting bytes d body_of out op y p × IsProbe setting bytes d body_of out op x p
+  coded-same ops [] x y code code' there here e k pc op is is_op = absurd (none-some pc is)
+  coded-same ops (q ∷ pcs) x y code code' there here e zero pc op is is_op =
+      let apart = digits_apart there.0 here.0 there.1 here.1 (sym there.2 ∙ e ∙ here.2) in
+      let at : slice_get ops q ≡ Some op = ap (slice_get ops) (same_Some q pc is) ∙ is_op in
+      (here.1, subst (λ p. IsProbe setting bytes d body_of out op y p) apart.1 (there.3 op at), here.3 op at)
+  coded-same ops (q ∷ pcs) x y code code' there here e (suc k) pc op is is_op =
+      let apart = digits_apart there.0 here.0 there.1 here.1 (sym there.2 ∙ e ∙ here.2) in
+      coded-same ops pcs x y there.0 here.0 there.4 here.4 apart.0 k pc op is is_op
+
+  -- what an instruction leads to that matches one character, by its symbol and the row after it
+  abbrev pub near_probe : (test : ℕ → Bool) (bit : Bool) (symbol : ℕ) → Probe
+  near_probe test bit zero = probes.Fails
+  near_probe test bit (suc c) = if test c then jumps_if bit else probes.Fails
+
+  near_leads : (t : Tree) (next x : ℕ) (table : Table) (from symbol : ℕ) (read : Option Read) → takes_one t ≡ true → next < table.width →
+      next_character d (of_bytes bytes) x ≡ read → IsSymbol out table x from symbol read →
+      Leads setting bytes d body_of out (part t next) next x (near_probe (test_of t) (row_bit table from next true) symbol)
+  near_leads t next x table from symbol None one lt is sym_is =
+      subst (λ s. Leads setting bytes d body_of out (part t next) next x (near_probe (test_of t) (row_bit table from next true) s)) (sym sym_is)
+      (part_fails setting bytes d body_of out t next x
+      (λ s at. takes_one-steps setting bytes d t s one ∙ one_none d (of_bytes bytes) (test_of t) s (ap (next_character d (of_bytes bytes)) at ∙ is)))
+  near_leads t next x table from symbol (Some read) one lt is sym_is =
+      subst (λ s. Leads setting bytes d body_of out (part t next) next x (near_probe (test_of t) (row_bit table from next true) s))
+      (let e : suc read.character ≡ symbol = omega (arith, sym_is.0) in e) (by (test_of t read.character) refl)
+    where
+      by : (b : Bool) → test_of t read.character ≡ b →
+          Leads setting bytes d body_of out (part t next) next x (if test_of t read.character then jumps_if (row_bit table from next true) else probes.Fails)
+      by true tested =
+          subst (λ (b : Bool). Leads setting bytes d body_of out (part t next) next x (if b then jumps_if (row_bit table from next true) else probes.Fails)) (sym tested)
+          (part_jumps setting bytes d body_of out t next x read.position (row_bit table from next true) sym_is.1
+          (sym_is.2.tells next true lt)
+          (λ s at. takes_one-steps setting bytes d t s one
+          ∙ one_yes d (of_bytes bytes) (test_of t) s read (ap (next_character d (of_bytes bytes)) at ∙ is) tested))
+      by false tested =
+          subst (λ (b : Bool). Leads setting bytes d body_of out (part t next) next x (if b then jumps_if (row_bit table from next true) else probes.Fails)) (sym tested)
+          (part_fails setting bytes d body_of out t next x
+          (λ s at. takes_one-steps setting bytes d t s one
+          ∙ one_no d (of_bytes bytes) (test_of t) s read (ap (next_character d (of_bytes bytes)) at ∙ is) tested))
+
+  near-same : (op : Op) (earlier : List Routine) (x y pc : ℕ) (table : Table) (from symbol : ℕ) → IsNear op → Fits earlier table.width pc op → pc < table.width →
+      IsSymbol out table x from symbol (next_character d (of_bytes bytes) x) → IsSymbol out table y from symbol (next_character d (of_bytes bytes) y) →
+      (p : Probe) × IsProbe setting bytes d body_of out op y p × IsProbe setting bytes d body_of out op x p
+  near-same accept earlier x y pc table from symbol near fits lt at_x at_y = (probes.Fails, tt, tt)
+  near-same fail earlier x y pc table from symbol near fits lt at_x at_y = (probes.Fails, tt, tt)
+  near-same (part t next) earlier x y pc table from symbol near fits lt at_x at_y = (
+    near_probe (test_of t) (row_bit table from next true) symbol,
+    near_leads t next y table from symbol _ near (omega (arith, fits.1, lt)) refl at_y,
+    near_leads t next x table from symbol _ near (omega (arith, fits.1, lt)) refl at_x,
+  )
+  near-same (split first second) earlier x y pc table from symbol near fits lt at_x at_y = (probes.Fails, tt, tt)
+  near-same (begin_loop greedy body next) earlier x y pc table from symbol near fits lt at_x at_y = (probes.Fails, tt, tt)
+  near-same (repeat greedy body next) earlier x y pc table from symbol near fits lt at_x at_y = (probes.Fails, tt, tt)
+  near-same (end_loop next) earlier x y pc table from symbol near fits lt at_x at_y = (probes.Fails, tt, tt)
+  near-same (unsets start end next) earlier x y pc table from symbol near fits lt at_x at_y = (probes.Fails, tt, tt)
+  near-same (begin_group next) earlier x y pc table from symbol near fits lt at_x at_y = (probes.Fails, tt, tt)
+  near-same (end_group id next) earlier x y pc table from symbol near fits lt at_x at_y = (probes.Fails, tt, tt)
+  near-same (look negate routine next) earlier x y pc table from symbol near fits lt at_x at_y = absurd near
+
+-- A row represents each position that has the key of its own.
+pub represents-same : (input : Input) (outs : ℕ → Out) (r : Routine) (t : Table) (far : List ℕ) (x y row : ℕ) (key : Key) →
+    IsSolution (subject input.rules input.text.now).setting input.text.now (code_routines input.code.now) outs → CanFill input r t → Covers r.ops far →
+    HasKey input outs r.ops t far y key → HasKey input outs r.ops t far x key → Represents (outs (length input.tables.now)) t row y →
+    Represents (outs (length input.tables.now)) t row x
+represents-same input outs r t far x y row key solution can covers there here is =
+    let u = subject input.rules input.text.now in
+    let program = code_routines input.code.now in
+    let i = length input.tables.now in
+    let body_of = matcher_of u.setting u.bytes program outs in
+    record {
+      filled = is.filled;
+      tells = λ pc moved lt.
+          equal_rows u.setting u.bytes program outs i r u.direction (take i program) solution can.is
+          (sym can.of.direction ∙ ap direction_if can.backwards) (input.code.now.program.is_program i r can.is).fit x y here.inside there.inside (row_bit t row)
+          (λ pc' m lt'. is.tells pc' m (omega (arith, can.of.width, lt')))
+          (λ pc' op is_op.
+          elim (covers pc' op is_op) [
+            | inl near ↦
+                let lt' : pc' < length r.ops = slice_get_within r.ops pc' op is_op in
+                near-same u.setting u.bytes u.direction body_of (outs i) op (take i program) x y pc' t key.from key.symbol near
+                (subst (λ w. Fits (take i program) w pc' op) (sym can.of.width) ((input.code.now.program.is_program i r can.is).fit pc' op (omega arith) lt' is_op))
+                (omega (arith, lt', can.of.width)) here.symbol there.symbol
+            | inr listed ↦
+                coded-same u.setting u.bytes u.direction body_of (outs i) r.ops far x y key.probes key.probes there.probes here.probes refl listed.0 pc' op listed.1 is_op
+          ])
+          pc moved (omega (arith, can.of.width, lt));
+    }
+
+-- ---- more rows
+
+module _ (t t' : Table) (extra : List Bool) (bits : bits_of t'.bits ≡ bits_of t.bits ++ extra) (same : SameShape t t') where
+  more : length (bits_of t'.bits) ≡ length (bits_of t.bits) + length extra
+  more = ap length bits ∙ length-append (bits_of t.bits) extra
+
+  row_bit-more : (row pc : ℕ) (moved : Bool) → (row + 1) * (2 * t.width) ≤ length (bits_of t.bits) → pc < t.width → row_bit t' row pc moved ≡ row_bit t row pc moved
+  row_bit-more row pc moved filled lt =
+      ap₂ (λ xs w. get_or xs (row * (2 * w) + column w moved pc) false) bits same.width
+      ∙ get_or-append (bits_of t.bits) extra false _ (omega (arith, filled, column-less t.width pc moved lt))
+
+  pub represents-more : (out : Out) (row x : ℕ) → Represents out t row x → Represents out t' row x
+  represents-more out row x is = record {
+    filled = subst (λ w. (row + 1) * (2 * w) ≤ length (bits_of t'.bits)) (sym same.width) (omega (arith, is.filled, more));
+    tells = λ pc moved lt a e m p.
+        let lt' : pc < t.width = omega (arith, lt, same.width) in
+        is.tells pc moved lt' a e m p ∙ sym (row_bit-more row pc moved is.filled lt');
+  }
+
+  symbol-more : (out : Out) (x from symbol : ℕ) (read : Option Read) → IsSymbol out t x from symbol read → IsSymbol out t' x from symbol read
+  symbol-more out x from symbol None is = is
+  symbol-more out x from symbol (Some read) is = (is.0, is.1, represents-more out from read.position is.2)
+
+  pub has-more : (input : Input) (outs : ℕ → Out) (ops : List Op) (far : List ℕ) (x : ℕ) (key : Key) → HasKey input outs ops t far x key → HasKey input outs ops t' far x key
+  has-more input outs ops far x key has = record {
+    inside = has.inside;
+    symbol = symbol-more (outs (length input.tables.now)) x key.from key.symbol _ has.symbol;
+    probes = has.probes;
+  }
+
+  pub entry-more : (input : Input) (outs : ℕ → Out) (ops : List Op) (far : List ℕ) (entry : Entry) → IsEntry input outs ops t far entry → IsEntry input outs ops t' far entry
+  entry-more input outs ops far entry is = record {
+    position = is.position;
+    has = has-more input outs ops far is.position entry.key is.has;
+    row = represents-more (outs (length input.tables.now)) entry.row is.position is.row;
+  }
+
+-- the cells of a position are the bits of its row
+pub cell-row : (t : Table) (row x pc : ℕ) (moved : Bool) → row_of (direction_if t.backwards) t.length x ≡ row → cell t pc moved x ≡ row_bit t row pc moved
+unfolding cell place
+cell-row t row x pc moved is = ap (λ k. get_or (bits_of t.bits) (k * (2 * t.width) + column t.width moved pc) false) is
+
+index-row : (t : Table) (row x pc : ℕ) (moved : Bool) → row_of (direction_if t.backwards) t.length x ≡ row → index t pc moved x ≡ row * (2 * t.width) + column t.width moved pc
+unfolding place
+index-row t row x pc moved is = ap (λ k. k * (2 * t.width) + column t.width moved pc) is
+
+-- The row that was filled last represents its position.
+pub last-represents : (out : Out) (t : Table) (row x : ℕ) → IsRight out t → row_of (direction_if t.backwards) t.length x ≡ row → x ≤ t.length →
+    (row + 1) * (2 * t.width) ≤ length (bits_of t.bits) → Represents out t row x
+last-represents out t row x right is within filled = record {
+  filled = filled;
+  tells = λ pc moved lt a e m p.
+      right.tells pc moved x lt within (omega (arith, index-row t row x pc moved is, column-less t.width pc moved lt, filled)) a e m p
+      ∙ cell-row t row x pc moved is;
+}
+
+-- an equal row represents the same position
+pub represents-equal : (out : Out) (t : Table) (row row' x : ℕ) → Represents out t row x → row' ≤ row →
+    ((pc : ℕ) (moved : Bool) → pc < t.width → row_bit t row' pc moved ≡ row_bit t row pc moved) → Represents out t row' x
+represents-equal out t row row' x is le same = record {
+  filled = let h : (row' + 1) * (2 * t.width) ≤ (row + 1) * (2 * t.width) = mul-le-mul_right (2 * t.width) (let k : row' + 1 ≤ row + 1 = omega (arith, le) in k) in omega (arith, h, is.filled);
+  tells = λ pc moved lt a e m p. is.tells pc moved lt a e m p ∙ sym (same pc moved lt);
+}
+
+same-row_of : (t t' : Table) (x : ℕ) → SameShape t t' → row_of (direction_if t'.backwards) t'.length x ≡ row_of (direction_if t.backwards) t.length x
+same-row_of t t' x same = ap₂ (λ b n. row_of (direction_if b) n x) same.backwards same.length
+
+cell-kept : (t t' : Table) (extra : List Bool) (pc : ℕ) (moved : Bool) (q : ℕ) → bits_of t'.bits ≡ bits_of t.bits ++ extra → SameShape t t' →
+    index t pc moved q < length (bits_of t.bits) → cell t' pc moved q ≡ cell t pc moved q
+unfolding cell
+cell-kept t t' extra pc moved q bits same lower =
+    ap₂ (λ xs k. get_or xs k false) bits (same-index t t' pc moved q same) ∙ get_or-append (bits_of t.bits) extra false _ lower
+
+module _ (t t' : Table) (extra : List Bool) (bits : bits_of t'.bits ≡ bits_of t.bits ++ extra) (same : SameShape t t') (row x : ℕ)
+    (at : row_of (direction_if t.backwards) t.length x ≡ row) (within : x ≤ t.length) where
+  -- The table stays right where a row is added that represents the next position.
+  pub right-next : (out : Out) → length (bits_of t.bits) ≡ row * (2 * t.width) → length (bits_of t'.bits) ≡ (row + 1) * (2 * t'.width) →
+      IsRight out t → Represents out t' row x → IsRight out t'
+  right-next out before after right is = record { tells = tells }
+    where
+      earlier : (a b w c : ℕ) → a * w + c < (b + 1) * w → c < w → a ≢ b → a < b
+      earlier a b w c lt small apart =
+          elim (cases_lt b a) [
+            | inl over ↦ absurd (omega (arith, lt, mul-le-mul_right w (let h : b + 1 ≤ a = omega (arith, over) in h)))
+            | inr less ↦ omega (arith, less, apart)
+          ]
+
+      tells : (pc : ℕ) (moved : Bool) (q : ℕ) → pc < t'.width → q ≤ t'.length → index t' pc moved q < length (bits_of t'.bits) →
+          Tells out pc moved q (cell t' pc moved q)
+      tells pc moved q lt le in_bits = elim (cases_eq (row_of (direction_if t'.backwards) t'.length q) row) [
+        | inl here ↦
+            let q-is : q ≡ x = same-row (direction_if t'.backwards) t'.length q x le (omega (arith, within, same.length)) (here ∙ sym at ∙ sym (same-row_of t t' x same)) in
+            λ a e m p. is.tells pc moved lt a e m (p ∙ q-is) ∙ sym (cell-row t' row q pc moved here)
+        | inr apart ↦
+            let lt' : pc < t.width = omega (arith, lt, same.width) in
+            let le' : q ≤ t.length = omega (arith, le, same.length) in
+            let r = row_of (direction_if t'.backwards) t'.length q in
+            let less : r < row = earlier r row (2 * t'.width) (column t'.width moved pc)
+            (omega (arith, in_bits, after, index-row t' r q pc moved refl)) (column-less t'.width pc moved lt) apart in
+            let lower : index t pc moved q < length (bits_of t.bits) =
+            omega (arith, before, index-row t r q pc moved (sym (same-row_of t t' q same)), rows-less r row (2 * t.width) (column t.width moved pc) 0 less (column-less t.width pc moved lt')) in
+            λ a e m p. right.tells pc moved q lt' le' lower a e m p ∙ sym (cell-kept t t' extra pc moved q bits same lower)
+      ]
+
+  -- What is known, after one more row.
+  pub knows-next : (input : Input) (outs : ℕ → Out) (ops : List Op) (memo memo' : Memo) (n : ℕ) → row ≡ length memo.rows.items →
+      Knows input outs ops t memo → IsRight (outs (length input.tables.now)) t' → Represents (outs (length input.tables.now)) t' n x →
+      memo'.rows.items ≡ memo.rows.items ++ n ∷ [] → memo'.far.items ≡ memo.far.items →
+      ((k : ℕ) (e : Entry) → slice_get memo'.slots.items k ≡ Some (Some e) →
+      (slice_get memo.slots.items k ≡ Some (Some e)) ⊎ ((e.row ≡ n) × HasKey input outs ops t memo.far.items x e.key)) →
+      Knows input outs ops t' memo'
+  knows-next input outs ops memo memo' n count knows right is rows_is far_is slots_is = record { right = right; rows = rows; entries = entries }
+    where
+      out : Out
+      out = outs (length input.tables.now)
+
+      rows : (q : ℕ) → q ≤ t'.length → row_of (direction_if t'.backwards) t'.length q < length memo'.rows.items →
+          Represents out t' (get_or memo'.rows.items (row_of (direction_if t'.backwards) t'.length q) 0) q
+      rows q le before = elim (cases_eq (row_of (direction_if t'.backwards) t'.length q) row) [
+        | inl here ↦
+            let q-is : q ≡ x = same-row (direction_if t'.backwards) t'.length q x le (omega (arith, within, same.length)) (here ∙ sym at ∙ sym (same-row_of t t' x same)) in
+            let reads : get_or memo'.rows.items (row_of (direction_if t'.backwards) t'.length q) 0 ≡ n =
+            ap₂ (λ xs k. get_or xs k 0) rows_is (here ∙ count) ∙ get_or_push memo.rows.items n 0 _ refl in
+            subst (λ y. Represents out t' (get_or memo'.rows.items (row_of (direction_if t'.backwards) t'.length q) 0) y) (sym q-is)
+            (subst (λ k. Represents out t' k x) (sym reads) is)
+        | inr apart ↦
+            let r = row_of (direction_if t'.backwards) t'.length q in
+            let less : r < length memo.rows.items = omega (arith, before, ap length rows_is, length-append memo.rows.items (n ∷ []), apart, count) in
+            let reads : get_or memo'.rows.items r 0 ≡ get_or memo.rows.items (row_of (direction_if t.backwards) t.length q) 0 =
+            ap (λ xs. get_or xs r 0) rows_is ∙ get_or-append memo.rows.items (n ∷ []) 0 r less
+            ∙ ap (λ k. get_or memo.rows.items k 0) (same-row_of t t' q same) in
+            subst (λ k. Represents out t' k q) (sym reads)
+            (represents-more t t' extra bits same out _ q
+            (knows.rows q (omega (arith, le, same.length)) (omega (arith, less, same-row_of t t' q same))))
+      ]
+
+      entries : (k : ℕ) (e : Entry) → slice_get memo'.slots.items k ≡ Some (Some e) → IsEntry input outs ops t' memo'.far.items e
+      entries k e is_e = subst (λ f. IsEntry input outs ops t' f e) (sym far_is) (elim (slots_is k e is_e) [
+        | inl old ↦ entry-more t t' extra bits same input outs ops memo.far.items e (knows.entries k e old)
+        | inr new ↦ record {
+          position = x;
+          has = has-more t t' extra bits same input outs ops memo.far.items x e.key new.1;
+          row = subst (λ m. Represents out t' m x) (sym new.0) is;
+        }
+      ])
+
+-- A copied row has the bits of the other.
+row_bit-copied : (t t' : Table) (n row : ℕ) → bits_of t'.bits ≡ bits_of t.bits ++ take (2 * t.width) (drop (n * (2 * t.width)) (bits_of t.bits)) → SameShape t t' →
+    length (bits_of t.bits) ≡ row * (2 * t.width) → (pc : ℕ) (moved : Bool) → pc < t.width → row_bit t' row pc moved ≡ row_bit t n pc moved
+row_bit-copied t t' n row bits same before pc moved lt =
+    let xs = bits_of t.bits in
+    let k = column t.width moved pc in
+    let start = n * (2 * t.width) in
+    ap₂ (λ ys w. get_or ys (row * (2 * w) + column w moved pc) false) bits same.width
+    ∙ ap (λ j. get_or (xs ++ take (2 * t.width) (drop start xs)) (j + k) false) (sym before)
+    ∙ get_or-append-add xs (take (2 * t.width) (drop start xs)) k false
+    ∙ get_or-take (2 * t.width) (drop start xs) k false (column-less t.width pc moved lt)
+    ∙ get_or-drop start xs k false
+
+pub copied-represents : (out : Out) (t t' : Table) (n row x : ℕ) →
+    bits_of t'.bits ≡ bits_of t.bits ++ take (2 * t.width) (drop (n * (2 * t.width)) (bits_of t.bits)) → SameShape t t' →
+    length (bits_of t.bits) ≡ row * (2 * t.width) → length (bits_of t'.bits) ≡ (row + 1) * (2 * t'.width) → Represents out t n x → Represents out t' row x
+copied-represents out t t' n row x bits same before after is = record {
+  filled = omega (arith, after);
+  tells = λ pc moved lt a e m p.
+      let lt' : pc < t.width = omega (arith, lt, same.width) in
+      is.tells pc moved lt' a e m p ∙ sym (row_bit-copied t t' n row bits same before pc moved lt');
+}
+
+module _ (input : Input) (r : Routine) (t t' : Table) (memo memo' : Memo) (extra : List Bool) (bits : bits_of t'.bits ≡ bits_of t.bits ++ extra)
+    (same : SameShape t t') (x n : ℕ) (at : row_of (direction_if t.backwards) t.length x ≡ length memo.rows.items) (within : x ≤ t.length)
+    (known : IsKnown input r t memo) (after : length (bits_of t'.bits) ≡ (length memo.rows.items + 1) * (2 * t'.width))
+    (rows_is : memo'.rows.items ≡ memo.rows.items ++ n ∷ []) (far_is : memo'.far.items ≡ memo.far.items)
+    (each : (outs : ℕ → Out) → IsSolution (subject input.rules input.text.now).setting input.text.now (code_routines input.code.now) outs →
+    AreRight outs input.tables.now → Knows input outs r.ops t memo →
+    IsRight (outs (length input.tables.now)) t' × Represents (outs (length input.tables.now)) t' n x
+    × ((k : ℕ) (e : Entry) → slice_get memo'.slots.items k ≡ Some (Some e) →
+    (slice_get memo.slots.items k ≡ Some (Some e)) ⊎ ((e.row ≡ n) × HasKey input outs r.ops t memo.far.items x e.key))) where
+  -- What is known, after one more row.
+  pub known-next : IsKnown input r t' memo'
+  known-next = record {
+    covers = subst (Covers r.ops) (sym far_is) known.covers;
+    filled = after ∙ ap (λ k. k * (2 * t'.width)) (sym (ap length rows_is ∙ length-append memo.rows.items (n ∷ [])));
+    knows = λ outs solution right.
+        let knows = known.knows outs solution right in
+        let more = each outs solution right knows in
+        knows-next t t' extra bits same (length memo.rows.items) x at within input outs r.ops memo memo' n refl knows more.0 more.1 rows_is far_is more.2;
+  }
+
+-- Nothing is known of a table without a row.
+pub known-start : (input : Input) (r : Routine) (t : Table) (memo : Memo) → bits_of t.bits ≡ [] → Covers r.ops memo.far.items → memo.rows.items ≡ [] →
+    ((k : ℕ) (entry : Entry) → slice_get memo.slots.items k ≡ Some (Some entry) → ⊥) → IsKnown input r t memo
+known-start input r t memo empty covers no_rows no_entries = record {
+  covers = covers;
+  filled = let none : length memo.rows.items ≡ 0 = ap length no_rows in omega (arith, ap length empty, ap (λ n. n * (2 * t.width)) none);
+  knows = λ outs solution right. record {
+    right = record { tells = λ pc moved q lt le before. absurd (omega (arith, before, ap length empty)) };
+    rows = λ q le before. absurd (omega (arith, before, ap length no_rows));
+    entries = λ k entry is. absurd (no_entries k entry is);
+  };
+}
+
+-- what the row at a position is computed from, without and with a next character
+module _ (input : Input) (outs : ℕ → Out) (ops : List Op) (t : Table) (far : List ℕ) (x : ℕ) (key : Key) (inside : x ≤ length input.text.now)
+    (probes : Coded (subject input.rules input.text.now).setting input.text.now (subject input.rules input.text.now).direction
+    (matcher_of (subject input.rules input.text.now).setting input.text.now (code_routines input.code.now) outs)
+    (outs (length input.tables.now)) ops far x key.probes) where
+  pub key-none : next_character (subject input.rules input.text.now).direction (of_bytes input.text.now) x ≡ None → key.symbol ≡ 0 → HasKey input outs ops t far x key
+  key-none none symbol = record {
+    inside = inside;
+    symbol = subst (IsSymbol (outs (length input.tables.now)) t x key.from key.symbol) (sym none) symbol;
+    probes = probes;
+  }
+
+  pub key-some : (read : Read) → next_character (subject input.rules input.text.now).direction (of_bytes input.text.now) x ≡ Some read →
+      key.symbol ≡ read.character + 1 → read.position ≢ x → Represents (outs (length input.tables.now)) t key.from read.position → HasKey input outs ops t far x key
+  key-some read some symbol apart behind = record {
+    inside = inside;
+    symbol = subst (IsSymbol (outs (length input.tables.now)) t x key.from key.symbol) (sym some) (symbol, apart, behind);
+    probes = probes;
+  }
+
+-- what it takes to find what an instruction leads to
+pub can-probe : (input : Input) (r : Routine) (t : Table) (pc x : ℕ) (op : Op) → CanFill input r t → x ≤ t.length →
+    index t 0 false x ≡ length (bits_of t.bits) → pc < length r.ops → has_no_back_reference (code_routines input.code.now) ≡ true →
+    slice_get r.ops pc ≡ Some op → CanProbe input t op x
+can-probe input r t pc x op can within at lt none is = record {
+  pc = pc;
+  pc_in = omega (arith, can.of.width, lt);
+  position_in = within;
+  at = at;
+  fits = subst (λ w. Fits (take (length input.tables.now) (code_routines input.code.now)) w pc op) (sym can.of.width)
+      ((input.code.now.program.is_program _ r can.is).fit pc op (omega arith) lt is);
+  no_reference = no_reference-at (code_routines input.code.now) _ r pc op none can.is is;
+  length = can.of.text;
+  backwards = can.backwards;
+}
+
+-- one more digit
+pub coded-more : (setting : Setting) (bytes : List ℕ) (d : Direction) (body_of : ℕ → Matcher) (out : Out) (ops : List Op) (far : List ℕ) (x k code : ℕ) (op : Op) (p : Probe) →
+    0 < k → k ≤ length far → slice_get ops (get_or far (k - 1) 0) ≡ Some op → IsProbe setting bytes d body_of out op x p →
+    Coded setting bytes d body_of out ops (drop k far) x code → Coded setting bytes d body_of out ops (drop (k - 1) far) x (code * 4 + digit p)
+coded-more setting bytes d body_of out ops far x k code op p some within is_op is coded =
+    subst (λ pcs. Coded setting bytes d body_of out ops pcs x (code * 4 + digit p))
+    (sym (drop_more far (k - 1) 0 (omega (arith, some, within)) ∙ ap (λ j. get_or far (k - 1) 0 ∷ drop j far) (let h : (k - 1) + 1 ≡ k = omega (arith, some) in h)))
+    (code, p, refl, (λ op' is'. subst (λ o. IsProbe setting bytes d body_of out o x p) (same_Some op op' (sym is_op ∙ is')) is), coded)
+
+-- ---- one more row
+
+-- a copied row
+pub known-hit : (input : Input) (r : Routine) (t t' : Table) (memo memo' : Memo) (key : Option Key) (x n : ℕ) → CanFill input r t →
+    row_of (direction_if t.backwards) t.length x ≡ length memo.rows.items → x ≤ t.length → IsKnown input r t memo →
+    bits_of t'.bits ≡ bits_of t.bits ++ take (2 * t.width) (drop (n * (2 * t.width)) (bits_of t.bits)) → SameShape t t' → n < length memo.rows.items →
+    IsKept memo.slots.items key n →
+    IfSome key (λ k. (outs : ℕ → Out) → AreRight outs input.tables.now → Knows input outs r.ops t memo → HasKey input outs r.ops t memo.far.items x k) →
+    memo'.rows.items ≡ memo.rows.items ++ n ∷ [] → memo'.far.items ≡ memo.far.items → memo'.slots.items ≡ memo.slots.items →
+    IsKnown input r t' memo'
+known-hit input r t t' memo memo' None x n can at within known bits same less kept has rows_is far_is slots_is = absurd kept
+known-hit input r t t' memo memo' (Some key) x n can at within known bits same less kept has rows_is far_is slots_is =
+    let fits : n * (2 * t.width) + 2 * t.width ≤ length (bits_of t.bits) = row-filled t (length memo.rows.items) n known.filled less in
+    let long : length (take (2 * t.width) (drop (n * (2 * t.width)) (bits_of t.bits))) ≡ 2 * t.width =
+    length-take-le (2 * t.width) (drop (n * (2 * t.width)) (bits_of t.bits))
+    (omega (arith, fits, length-drop (n * (2 * t.width)) (bits_of t.bits))) in
+    let sum : length (bits_of t'.bits) ≡ length (bits_of t.bits) + 2 * t.width =
+    ap length bits ∙ length-append (bits_of t.bits) (take (2 * t.width) (drop (n * (2 * t.width)) (bits_of t.bits))) ∙ ap (λ k. length (bits_of t.bits) + k) long in
+    let more : length (bits_of t'.bits) ≡ (length memo.rows.items + 1) * (2 * t.width) = omega (arith, sum, known.filled) in
+    let after : length (bits_of t'.bits) ≡ (length memo.rows.items + 1) * (2 * t'.width) =
+    more ∙ ap (λ w. (length memo.rows.items + 1) * (2 * w)) (sym same.width) in
+    known-next input r t t' memo memo' (take (2 * t.width) (drop (n * (2 * t.width)) (bits_of t.bits))) bits same x n at within known after rows_is far_is
+    (λ outs solution right knows.
+    let out = outs (length input.tables.now) in
+    let entry = knows.entries kept.0 (record { key = key; row = n }) kept.1 in
+    let is : Represents out t n x =
+    represents-same input outs r t memo.far.items x entry.position n key solution can known.covers entry.has (has outs right knows) entry.row in (
+      right-next t t' (take (2 * t.width) (drop (n * (2 * t.width)) (bits_of t.bits))) bits same (length memo.rows.items) x at within out known.filled after knows.right
+          (copied-represents out t t' n (length memo.rows.items) x bits same known.filled after is),
+      represents-more t t' (take (2 * t.width) (drop (n * (2 * t.width)) (bits_of t.bits))) bits same out n x is,
+      λ k e is_e. inl (subst (λ (xs : List (Option Entry)). slice_get xs k ≡ Some (Some e)) slots_is is_e),
+    ))
+
+-- a row that was computed
+pub known-miss : (input : Input) (r : Routine) (t t' : Table) (memo memo' : Memo) (key : Option Key) (x n : ℕ) (extra : List Bool) → CanFill input r t →
+    row_of (direction_if t.backwards) t.length x ≡ length memo.rows.items → x ≤ t.length → IsKnown input r t memo →
+    bits_of t'.bits ≡ bits_of t.bits ++ extra → SameShape t t' → length (bits_of t'.bits) ≡ (length memo.rows.items + 1) * (2 * t'.width) →
+    (IsFilled input t → IsFilled input t') → n ≤ length memo.rows.items →
+    ((pc : ℕ) (moved : Bool) → pc < t'.width → row_bit t' n pc moved ≡ row_bit t' (length memo.rows.items) pc moved) →
+    IfSome key (λ k. (outs : ℕ → Out) → AreRight outs input.tables.now → Knows input outs r.ops t memo → HasKey input outs r.ops t memo.far.items x k) →
+    memo'.rows.items ≡ memo.rows.items ++ n ∷ [] → memo'.far.items ≡ memo.far.items →
+    ((k : ℕ) (e : Entry) → slice_get memo'.slots.items k ≡ Some (Some e) → (slice_get memo.slots.items k ≡ Some (Some e)) ⊎ ((key ≡ Some e.key) × (e.row ≡ n))) →
+    IsKnown input r t' memo'
+known-miss input r t t' memo memo' key x n extra can at within known bits same after filled le equal has rows_is far_is slots_is =
+    known-next input r t t' memo memo' extra bits same x n at within known after rows_is far_is
+    (λ outs solution right knows.
+    let out = outs (length input.tables.now) in
+    let right' : IsRight out t' = filled (λ outs' solution' right'. (known.knows outs' solution' right').right) outs solution right in
+    let at' : row_of (direction_if t'.backwards) t'.length x ≡ length memo.rows.items = same-row_of t t' x same ∙ at in
+    let is = last-represents out t' (length memo.rows.items) x right' at' (omega (arith, within, same.length)) (omega (arith, after)) in (
+      right',
+      represents-equal out t' (length memo.rows.items) n x is le equal,
+      λ k e is_e. elim (slots_is k e is_e) [
+        | inl old ↦ inl old
+        | inr new ↦ inr (
+          new.1,
+          (subst (λ o. IfSome o (λ k'. (outs : ℕ → Out) → AreRight outs input.tables.now → Knows input outs r.ops t memo →
+              HasKey input outs r.ops t memo.far.items x k')) new.0 has) outs right knows,
+        )
+      ],
+    ))
+
+-- ---- the instructions that are listed
+
+pub far-pushed : (ops : List Op) (far : List ℕ) (n : ℕ) → ((pc : ℕ) (op : Op) → pc < n → slice_get ops pc ≡ Some op → IsNear op ⊎ ((k : ℕ) × (slice_get far k ≡ Some pc))) →
+    (pc : ℕ) (op : Op) → pc < n + 1 → slice_get ops pc ≡ Some op → IsNear op ⊎ ((k : ℕ) × (slice_get (far ++ n ∷ []) k ≡ Some pc))
+far-pushed ops far n so_far pc op lt is = elim (cases_eq pc n) [
+  | inl last ↦ inr (length far, slice_get-last far n ∙ ap Some (sym last))
+  | inr before ↦ elim (so_far pc op (omega (arith, lt, before)) is) [
+    | inl near ↦ inl near
+    | inr listed ↦ inr (listed.0, slice_get-kept far n listed.0 pc listed.1)
+  ]
+]
+  where
+    slice_get-last : (xs : List ℕ) (y : ℕ) → slice_get (xs ++ y ∷ []) (length xs) ≡ Some y
+    slice_get-last [] y = refl
+    slice_get-last (x ∷ xs) y = slice_get-last xs y
+
+    slice_get-kept : (xs : List ℕ) (y k z : ℕ) → slice_get xs k ≡ Some z → slice_get (xs ++ y ∷ []) k ≡ Some z
+    slice_get-kept [] y k z is = absurd (none-some z is)
+    slice_get-kept (x ∷ xs) y zero z is = is
+    slice_get-kept (x ∷ xs) y (suc k) z is = slice_get-kept xs y k z is
+
+pub far-next : (ops : List Op) (far : List ℕ) (n : ℕ) → ((pc : ℕ) (op : Op) → pc < n → slice_get ops pc ≡ Some op → IsNear op ⊎ ((k : ℕ) × (slice_get far k ≡ Some pc))) →
+    ((op : Op) → slice_get ops n ≡ Some op → IsNear op) →
+    (pc : ℕ) (op : Op) → pc < n + 1 → slice_get ops pc ≡ Some op → IsNear op ⊎ ((k : ℕ) × (slice_get far k ≡ Some pc))
+far-next ops far n so_far near pc op lt is = elim (cases_eq pc n) [
+  | inl last ↦ inl (near op (ap (slice_get ops) (sym last) ∙ is))
+  | inr before ↦ so_far pc op (omega (arith, lt, before)) is
+]

@@ -1,0 +1,104 @@
+//! What rows are computed from.
+ghost use Rattle.std.specs.Prelude.{◌≡◌, ◌≤◌, ◌+◌, ◌*◌, ℕ, IfSome, false, length, true};
+ghost use Rattle.regress_leaves.specs.Subject.{subject};
+ghost use Rattle.regress_program.specs.Program.{Out, matcher_of};
+ghost use Rattle.regress_program.specs.Tidy.{has_no_back_reference};
+ghost use Rattle.regress_program.specs.Views.{routine_in};
+ghost use Rattle.regress_code.specs.Code.{code_routines};
+ghost use Rattle.regress_tables.specs.Bits.{bits_of};
+ghost use Rattle.regress_tables.specs.Evaluated.{CanFill};
+ghost use Rattle.regress_tables.specs.Memo.{HasKey, Knows};
+ghost use Rattle.regress_tables.specs.Probes.{Coded, digit};
+ghost use Rattle.regress_tables.specs.Table.{AreRight, AreTables, IsRight, index};
+
+use crate::cells::row_of;
+use crate::evaluate::Input;
+use crate::memo::{Key, Memo};
+use crate::probe::{Probe, digit, probe_at};
+use crate::table::Table;
+use regress_leaves::reading::next_read;
+use regress_program::instruction::Routine;
+
+/// Returns what the next row is computed from, or `None` if that is not known or does not fit.
+pub(crate) fn key_at(
+    input: Input<'_, '_>,
+    routine: &Routine,
+    table: &Table,
+    memo: &Memo,
+    position: usize,
+) -> Option<Key>
+    requires no_reference { has_no_back_reference (code_routines input.code.now) ≡ true }
+    requires tables { AreTables input.text.now (code_routines input.code.now) input.tables.now }
+    requires can { CanFill input (routine_in input.code.now.program.leaves.items routine.now) table.now }
+    requires position { position ≤ table.now.length }
+    requires at { index table.now 0 false position ≡ length (bits_of table.now.bits) }
+    ensures { IfSome result (λ key. (outs : ℕ → Out) → AreRight outs input.entry.tables.now →
+        (let ops = (routine_in input.entry.code.now.program.leaves.items routine.now).ops in
+        Knows input.entry outs ops table.now memo.now → HasKey input.entry outs ops table.now memo.now.far.items position key)) }
+{
+    let probes = probes_at(input, routine, table, &memo.far, position)?;
+    match next_read(input.text, input.rules.backwards, position) {
+        None => Some(Key {
+            symbol: 0,
+            from: 0,
+            probes,
+        }),
+        Some((c, to)) => {
+            if to > table.length {
+                return None;
+            }
+            if to == position {
+                return None;
+            }
+            let row = row_of(table.backwards, table.length, to);
+            if row >= memo.rows.len() {
+                return None;
+            }
+            let from = memo.rows[row];
+            Some(Key {
+                symbol: u64::from(c) + 1,
+                from,
+                probes,
+            })
+        }
+    }
+}
+
+/// Returns what these instructions lead to from a position, as digits, or `None` if there are too many.
+fn probes_at(
+    input: Input<'_, '_>,
+    routine: &Routine,
+    table: &Table,
+    far: &[usize],
+    position: usize,
+) -> Option<u64>
+    requires no_reference { has_no_back_reference (code_routines input.code.now) ≡ true }
+    requires tables { AreTables input.text.now (code_routines input.code.now) input.tables.now }
+    requires can { CanFill input (routine_in input.code.now.program.leaves.items routine.now) table.now }
+    requires position { position ≤ table.now.length }
+    requires at { index table.now 0 false position ≡ length (bits_of table.now.bits) }
+    ensures { IfSome result (λ code. (outs : ℕ → Out) → AreRight outs input.entry.tables.now → IsRight (outs (length input.entry.tables.now)) table.now →
+        (let u = subject input.entry.rules input.entry.text.now in
+        Coded u.setting u.bytes u.direction (matcher_of u.setting u.bytes (code_routines input.entry.code.now) outs) (outs (length input.entry.tables.now))
+        (routine_in input.entry.code.now.program.leaves.items routine.now).ops far.now position code)) }
+{
+    let mut code: u64 = 0;
+    for k in (0..far.len()).rev() {
+        let pc = far[k];
+        if pc >= routine.instructions.len() {
+            return None;
+        }
+        let probe = probe_at(input, table, routine.instructions[pc], position);
+        let next = with_digit(code, probe)?;
+        code = next;
+    }
+    Some(code)
+}
+
+/// Returns a code with one more digit, or `None` if it does not fit.
+fn with_digit(code: u64, probe: Probe) -> Option<u64>
+    ensures { IfSome result (λ next. next ≡ code * 4 + digit probe) }
+{
+    let shifted = code.checked_mul(4)?;
+    shifted.checked_add(digit(probe))
+}

@@ -1,0 +1,168 @@
+//! Rows that were filled, by what they were computed from.
+ghost use Rattle.std.specs.Prelude.{◌≡◌, ◌<◌, ◌++◌, ◌∷◌, ℕ, ◌⊎◌, [], IfOk, IfSome, Some, false, length, slice_get, true};
+ghost use Rattle.regress_program.specs.Views.{op_in, ops_in};
+ghost use Rattle.regress_tables.specs.Memo.{Covers, IsKept, IsNear};
+
+use crate::evaluate::Input;
+use regress_leaves::leaves::takes_one;
+use regress_program::instruction::{Instruction, Routine};
+use std::alloc::{AllocError, Global};
+
+/// What the row at a position is computed from.
+#[derive(Clone, Copy)]
+pub struct Key {
+    /// The next character, plus 1; 0 if there is none.
+    pub symbol: u64,
+    /// The row at the position after that character, in the direction of matching.
+    pub from: usize,
+    /// What the other instructions lead to that look at the text, as digits.
+    pub probes: u64,
+}
+
+/// A row, and what it was computed from.
+#[derive(Clone, Copy)]
+pub struct Entry {
+    /// What it was computed from.
+    pub key: Key,
+    /// The number of rows before it.
+    pub row: usize,
+}
+
+/// The rows that were filled so far.
+#[derive(Drop)]
+pub(crate) struct Memo {
+    /// The instructions that look at the text, but for those that match one character.
+    pub(crate) far: Vec<usize>,
+    /// For each row one that is equal: the first one, if that is known.
+    pub(crate) rows: Vec<usize>,
+    /// Rows by the hash of what they were computed from.
+    pub(crate) slots: Vec<Option<Entry>>,
+    /// Rows by the hash of their bits.
+    pub(crate) heads: Vec<usize>,
+}
+
+/// The number of slots.
+const SLOTS: usize = 1024;
+
+impl Memo {
+    /// Returns a memo for a routine, without a row.
+    ///
+    /// # Errors
+    /// Returns [`AllocError`] if an allocation fails.
+    pub(crate) fn new(
+        alloc: Global,
+        input: Input<'_, '_>,
+        routine: &Routine,
+    ) -> Result<Memo, AllocError>
+        ensures covers { IfOk result (λ memo. Covers (ops_in input.entry.code.now.program.leaves.items routine.now.instructions.items) memo.far.items) }
+        ensures rows { IfOk result (λ memo. memo.rows.items ≡ []) }
+        ensures slots { IfOk result (λ memo. (k : ℕ) (entry : Entry) → slice_get memo.slots.items k ≡ Some (Some entry) → ⊥) }
+    {
+        Ok(Memo {
+            far: far_of(alloc, input, routine)?,
+            rows: Vec::with_capacity(alloc, input.text.len() + 1)?,
+            slots: empty_slots(alloc)?,
+            heads: vec![in alloc; 0; SLOTS]?,
+        })
+    }
+
+    /// Returns a row that was computed from this, or `None` if none is found.
+    pub(crate) fn find(&self, key: Option<Key>) -> Option<usize>
+        ensures row { IfSome result (λ row. row < length self.now.rows.items) }
+        ensures found { IfSome result (λ row. IsKept self.now.slots.items key row) }
+    {
+        let key = key?;
+        let slot = slot_of(key);
+        if slot >= self.slots.len() {
+            return None;
+        }
+        let entry = self.slots[slot]?;
+        if !is_same(entry.key, key) || entry.row >= self.rows.len() {
+            return None;
+        }
+        Some(entry.row)
+    }
+
+    /// Adds that a row is equal to the next one, and keeps it by what it was computed from, if that is known.
+    ///
+    /// # Errors
+    /// Returns [`AllocError`] if an allocation fails.
+    pub(crate) fn add(&mut self, key: Option<Key>, row: usize) -> Result<(), AllocError>
+        ensures far { IfOk result (λ _. self.new.far.items ≡ self.old.far.items) }
+        ensures rows { IfOk result (λ _. self.new.rows.items ≡ self.old.rows.items ++ row ∷ []) }
+        ensures slots { IfOk result (λ _. (k : ℕ) (entry : Entry) → slice_get self.new.slots.items k ≡ Some (Some entry) →
+            (slice_get self.old.slots.items k ≡ Some (Some entry)) ⊎ ((key ≡ Some entry.key) × (entry.row ≡ row))) }
+    {
+        self.rows.push(row)?;
+        let Some(key) = key else {
+            return Ok(());
+        };
+        let slot = slot_of(key);
+        if slot >= self.slots.len() {
+            return Ok(());
+        }
+        self.slots[slot] = Some(Entry { key, row });
+        Ok(())
+    }
+}
+
+/// Returns the slot for a key.
+fn slot_of(key: Key) -> usize {
+    let mixed = key
+        .symbol
+        .wrapping_mul(0x9E37_79B9_7F4A_7C15)
+        .wrapping_add((key.from as u64).wrapping_mul(0xC2B2_AE3D_27D4_EB4F))
+        .wrapping_add(key.probes.wrapping_mul(0x1656_67B1_9E37_79F9));
+    (mixed >> 54) as usize
+}
+
+/// Returns whether two keys are equal.
+fn is_same(a: Key, b: Key) -> bool
+    ensures { result ≡ true → a ≡ b }
+{
+    a.symbol == b.symbol && a.from == b.from && a.probes == b.probes
+}
+
+/// Returns the instructions that look at the text, but for those that match one character.
+///
+/// # Errors
+/// Returns [`AllocError`] if an allocation fails.
+fn far_of(alloc: Global, input: Input<'_, '_>, routine: &Routine) -> Result<Vec<usize>, AllocError>
+    ensures { IfOk result (λ far. Covers (ops_in input.entry.code.now.program.leaves.items routine.now.instructions.items) far.items) }
+{
+    let mut far = Vec::new(alloc);
+    for pc in 0..routine.instructions.len() {
+        if is_far(input, routine.instructions[pc]) {
+            far.push(pc)?;
+        }
+    }
+    Ok(far)
+}
+
+/// Returns whether an instruction looks at the text, and does not match one character.
+fn is_far(input: Input<'_, '_>, instruction: Instruction) -> bool
+    ensures { result ≡ false → IsNear (op_in input.entry.code.now.program.leaves.items instruction) }
+{
+    match instruction {
+        Instruction::Leaf { leaf, .. } => match input.test(leaf) {
+            Some(test) => !takes_one(&test.node),
+            None => true,
+        },
+        Instruction::Characters { .. } | Instruction::Look { .. } => true,
+        _ => false,
+    }
+}
+
+/// Returns slots without entries.
+///
+/// # Errors
+/// Returns [`AllocError`] if an allocation fails.
+fn empty_slots(alloc: Global) -> Result<Vec<Option<Entry>>, AllocError>
+    ensures { IfOk result (λ slots. (k : ℕ) (entry : Entry) → slice_get slots.items k ≡ Some (Some entry) → ⊥) }
+{
+    let mut slots = Vec::with_capacity(alloc, SLOTS)?;
+    for _i in 0..SLOTS {
+        slots.push(None)?;
+    }
+    Ok(slots)
+}
