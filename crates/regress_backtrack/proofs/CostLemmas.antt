@@ -10,7 +10,7 @@ use Rattle.regress_leaves.specs.Leaves.{exactly, put}
 use Rattle.regress_leaves.specs.Subject.{subject}
 use Rattle.regress_leaves.proofs.ReadingLemmas.{ascii_after}
 use Rattle.regress_found.specs.Found.{state}
-use Rattle.regress_program.specs.Cost.{Cost, blocks, compared, cost_after, cost_at, cost_of}
+use Rattle.regress_program.specs.Cost.{Cost, blocks, bytes_ahead, compared, cost_after, cost_at, cost_of}
 use Rattle.regress_program.specs.Program.{matcher_of, Out}
 use Rattle.regress_tree.specs.Matching.{steps}
 use Rattle.regress_tree.specs.Reading.{direction_if, forwards}
@@ -62,7 +62,7 @@ module _ (input : Input) (outs : ℕ → Out) (costs : ℕ → Cost) (m : Machin
   pub leaf_cost : (o : Option Test) (t : Test) (to : Option ℕ) → o ≡ Some t →
       (let u = subject input.rules input.text.now in
       steps u.setting u.bytes u.direction (tree t.node) (state m.captures.items p.position) ≡ put (state m.captures.items p.position) to) →
-      Reaches next p n to → remaining ≤ remaining1 + compared (tree t.node) (state m.captures.items p.position) →
+      Reaches next p n to → remaining ≤ remaining1 + compared (bytes_ahead (subject input.rules input.text.now).direction (length input.text.now) p.position) (tree t.node) (state m.captures.items p.position) →
       MatchOption to (remaining2 ≡ remaining1) (λ (q : ℕ). remaining1 ≤ remaining2 + blocks (abs_diff p.position q)) →
       remaining + cost_ahead (costs input.index) m n
       ≤ remaining2 + (op_cost input outs costs (part_of o next) (at p (groups_of m)) + points_cost (costs input.index) m)

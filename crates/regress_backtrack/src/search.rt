@@ -67,8 +67,8 @@ impl Backtracker<'_, '_> {
     ///
     /// # Complexity
     /// A step is an instruction. It counts 1, and 1 more for each 64 bytes by which it moves the position, for each 64
-    /// bytes of the capture that a back reference is compared with (with `icase` for each byte), and for each 64 groups
-    /// that it unsets. A loop over ASCII characters whose iterations are run at once counts 1 for each of them. A search
+    /// bytes of the capture that a back reference is compared with (with `icase` for each byte), but no more of them than
+    /// the text has from there on, and for each 64 groups that it unsets. A loop over ASCII characters whose iterations are run at once counts 1 for each of them. A search
     /// counts 1 for each 64 groups of the pattern, and 1 for each byte offset up to the match, also where the first byte
     /// shows that no match begins. The result is [`Outcome::OutOfSteps`] as soon as `remaining` is used up, and with 0 for
     /// each `from` in the text. A step that is begun is completed, even if it counts more than remains. If the first bytes

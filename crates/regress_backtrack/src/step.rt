@@ -9,7 +9,7 @@ ghost use Rattle.regress_tree.specs.Steps.{Matcher};
 ghost use Rattle.regress_tree.specs.Tree.{tree};
 ghost use Rattle.regress_found.specs.Found.{state};
 ghost use Rattle.regress_program.specs.Cost as cost;
-ghost use Rattle.regress_program.specs.Cost.{Cost, compared};
+ghost use Rattle.regress_program.specs.Cost.{Cost, bytes_ahead, compared};
 ghost use Rattle.regress_program.specs.Program.{Out, goto, matcher_of, outcomes_by};
 ghost use Rattle.regress_program.specs.Shape.{IsPart};
 ghost use Rattle.regress_code.specs.Code.{code_routines};
@@ -185,7 +185,7 @@ fn test_end(
     ensures to { let u = subject input.now.rules input.now.text.now in
         steps u.setting u.bytes u.direction (tree test.now.node) (state captures.now position) ≡ put (state captures.now position) result }
     ensures remaining { remaining.new ≤ remaining.old }
-    ensures costs { remaining.old ≤ remaining.new + compared (tree test.now.node) (state captures.now position) }
+    ensures costs { remaining.old ≤ remaining.new + compared (bytes_ahead (subject input.now.rules input.now.text.now).direction (length input.now.text.now) position) (tree test.now.node) (state captures.now position) }
 {
     match test
         .start

@@ -9,7 +9,7 @@ use Rattle.regress_tree.specs.Reading.{Direction}
 use Rattle.regress_tree.specs.Setting.{Setting}
 use Rattle.regress_tree.specs.Steps.{MatchState, Matcher}
 use Rattle.regress_program.specs.Below.{Below}
-use Rattle.regress_program.specs.Cost.{Cost, blocks, compared, cost_after, cost_by, unset_cost}
+use Rattle.regress_program.specs.Cost.{Cost, blocks, bytes_ahead, compared, cost_after, cost_by, unset_cost}
 use Rattle.regress_program.specs.Program.{At, Routine, Op, accept, fail, part, split, begin_loop, repeat, end_loop, unsets, begin_group, end_group, look, goto, enter, reach, ended}
 use Rattle.regress_program.specs.Shape.{Fits}
 use Rattle.regress_program.specs.Stays.{IsReached}
@@ -47,7 +47,7 @@ module _ (setting : Setting) (bytes : List ℕ) (d : Direction) (width : ℕ) (e
   cost-same accept fits = refl
   cost-same fail fits = refl
   cost-same (part t next) fits =
-      ap (λ n. compared t a.state + n)
+      ap (λ n. compared (bytes_ahead d (length bytes) a.state.position) t a.state + n)
       (after-same (IsReached bytes d a.state) next (steps setting bytes d t a.state) ((Stays-tree setting bytes d t).reached a.state within)
       (λ to is. agree (reach next a to) (below-reach width (length bytes) d a pc_in within next to fits.1 is.inside is.onward)))
   cost-same (split first second) fits = ap₂ ◌+◌ (here (goto first a) fits.0 refl refl) (here (goto second a) fits.1 refl refl)

@@ -3,7 +3,7 @@ use Rattle.std.specs.Prelude.{◌≡◌, ℕ, ◌+◌, ◌-◌, ◌/◌, ◌≤�
 use Rattle.std.specs.Int.{abs_diff}
 use Rattle.regress_tree.specs.Lookaround.{lookaround_matcher}
 use Rattle.regress_tree.specs.Matching.{steps}
-use Rattle.regress_tree.specs.Reading.{Direction}
+use Rattle.regress_tree.specs.Reading.{Direction, forwards, backwards}
 use Rattle.regress_tree.specs.Repetition.{unset}
 use Rattle.regress_tree.specs.Setting.{Setting}
 use Rattle.regress_tree.specs.Steps.{CaptureSpan, MatchState, Matcher}
@@ -18,15 +18,21 @@ Cost = At → ℕ
 unfoldable pub blocks : (count : ℕ) → ℕ
 blocks count = count / 64
 
--- the steps for a comparison with a capture: with `icase` its characters are compared one by one, and else all bytes at once
-abbrev pub copy_cost : (icase : Bool) → Option CaptureSpan → ℕ
-copy_cost icase None = 0
-copy_cost icase (Some span) = if icase then abs_diff span.0 span.1 else blocks (abs_diff span.0 span.1)
+-- the number of bytes from a position to where the text ends in a direction
+abbrev pub bytes_ahead : Direction → (length position : ℕ) → ℕ
+bytes_ahead forwards length position = length - position
+bytes_ahead backwards length position = position
+
+-- the steps for a comparison with a capture, which ends where the text ends, `ahead` bytes further: with `icase` characters
+-- are compared one by one, and else all bytes at once
+abbrev pub copy_cost : (icase : Bool) → (ahead : ℕ) → Option CaptureSpan → ℕ
+copy_cost icase ahead None = 0
+copy_cost icase ahead (Some span) = if icase then min (abs_diff span.0 span.1) ahead else blocks (min (abs_diff span.0 span.1) ahead)
 
 -- the steps for the comparison that a leaf makes, if it is a back reference
-abbrev pub compared : Tree → MatchState → ℕ
-compared (leaf (back_ref group icase)) s = copy_cost icase (get_or s.captures (group - 1) None)
-compared t s = 0
+abbrev pub compared : (ahead : ℕ) → Tree → MatchState → ℕ
+compared ahead (leaf (back_ref group icase)) s = copy_cost icase ahead (get_or s.captures (group - 1) None)
+compared ahead t s = 0
 
 -- the steps for unsetting the groups start to end - 1 of this number
 abbrev pub unset_cost : (start end groups : ℕ) → ℕ
@@ -43,7 +49,7 @@ module _ (setting : Setting) (bytes : List ℕ) where
     abbrev pub cost_by : Op → Cost
     cost_by accept a = 0
     cost_by fail a = 0
-    cost_by (part t next) a = compared t a.state + cost_after cost next a (steps setting bytes d t a.state)
+    cost_by (part t next) a = compared (bytes_ahead d (length bytes) a.state.position) t a.state + cost_after cost next a (steps setting bytes d t a.state)
     cost_by (split first second) a = cost (goto first a) + cost (goto second a)
     cost_by (begin_loop greedy body next) a = cost (enter body a) + cost (goto next a)
     cost_by (repeat greedy body next) a = if a.moved then cost (enter body a) + cost (goto next a) else 0

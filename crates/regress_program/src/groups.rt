@@ -49,7 +49,7 @@ pub fn unset_groups(alloc: Global, count: usize) -> Result<Vec<Option<(usize, us
     ensures items { IfOk result (λ spans. spans.items ≡ replicate count None) }
     ensures room { IfOk result (λ _. count < 2 ^ 63) }
 {
-    let mut spans = Vec::new(alloc);
+    let mut spans = Vec::with_capacity(alloc, count)?;
     while spans.len() < count {
         spans.push(None)?;
     }

@@ -1,13 +1,13 @@
 //! What leaves match, back references among them.
-ghost use Rattle.std.specs.Prelude.{◌≡◌, ◌-◌, if◌then◌else◌, None, get_or};
+ghost use Rattle.std.specs.Prelude.{◌≡◌, ◌-◌, if◌then◌else◌, None, get_or, length};
 ghost use Rattle.regress_base.specs.Table.{denotes};
 ghost use Rattle.regress_leaves.specs.Leaves.{put};
 ghost use Rattle.regress_leaves.specs.Subject.{subject};
-ghost use Rattle.regress_program.specs.Cost.{blocks, compared, copy_cost};
+ghost use Rattle.regress_program.specs.Cost.{blocks, bytes_ahead, compared, copy_cost};
 ghost use Rattle.regress_found.specs.Found.{state};
 ghost use Rattle.regress_program.specs.Shape.{IsPart};
 ghost use Rattle.regress_tree.specs.Matching.{steps};
-ghost use Rattle.regress_tree.specs.Reading.{of_bytes};
+ghost use Rattle.regress_tree.specs.Reading.{direction_if, of_bytes};
 ghost use Rattle.regress_tree.specs.References.{match_again};
 ghost use Rattle.regress_tree.specs.Steps.{MatchState};
 ghost use Rattle.regress_tree.specs.Tree.{tree};
@@ -20,7 +20,7 @@ use regress_tree::ir::Node;
 
 /// Returns the position at which a leaf, or a fixed number of characters, ends, or `None` if it fails. The comparison of a
 /// back reference with its capture is subtracted from the remaining steps: one for each 64 bytes, or with `icase` for
-/// each byte.
+/// each byte. What is longer than the rest of the text counts as that.
 ///
 /// # Preconditions
 /// The node is a leaf, and no set of strings unless it has exactly one string; or a loop over one character whose minimum
@@ -37,7 +37,7 @@ pub fn leaf_end(
     requires { IsPart (tree node.now) }
     ensures to { let u = subject rules.entry text.now in
         steps u.setting u.bytes u.direction (tree node.now) (state captures.now position) ≡ put (state captures.now position) result }
-    ensures costs { left.new ≡ left.old - compared (tree node.now) (state captures.now position) }
+    ensures costs { left.new ≡ left.old - compared (bytes_ahead (subject rules.entry text.now).direction (length text.now) position) (tree node.now) (state captures.now position) }
 {
     match node {
         Node::BackRef { group, icase } => {
@@ -79,13 +79,28 @@ fn match_again(
 ) -> Option<usize>
     ensures to { (s : MatchState) → s.position ≡ position → (let u = subject rules.entry text.now in
         put s result ≡ match_again u.direction (of_bytes u.bytes) (denotes u.setting.table icase u.setting.flags.unicode) span s) }
-    ensures costs { left.new ≡ left.old - copy_cost icase span }
+    ensures costs { left.new ≡ left.old - copy_cost icase (bytes_ahead (subject rules.entry text.now).direction (length text.now) position) span }
 {
     let Some(span) = span else {
         return Some(position);
     };
-    *left = left.saturating_sub(copy_steps(icase, span.1.abs_diff(span.0)));
+    let bytes = span
+        .1
+        .abs_diff(span.0)
+        .min(bytes_ahead(text, rules.backwards, position));
+    *left = left.saturating_sub(copy_steps(icase, bytes));
     references::match_again(text, rules, icase, span, position)
+}
+
+/// Returns the number of bytes from a position to where the text ends in the direction of matching.
+fn bytes_ahead(text: &str, backwards: bool, position: usize) -> usize
+    ensures { result ≡ bytes_ahead (direction_if backwards) (length text.now) position }
+{
+    if backwards {
+        position
+    } else {
+        text.len().saturating_sub(position)
+    }
 }
 
 /// Returns the number of steps for a comparison with `bytes` bytes.

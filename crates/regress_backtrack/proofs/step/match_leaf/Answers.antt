@@ -1,8 +1,8 @@
-use Rattle.std.proofs.Common.{◌≡◌, ◌+◌, ◌≤◌, slice_get, subst}
+use Rattle.std.proofs.Common.{◌≡◌, ◌+◌, ◌≤◌, length, slice_get, subst}
 use Rattle.regress_leaves.specs.Leaves.{put}
 use Rattle.regress_leaves.specs.Subject.{subject}
 use Rattle.regress_found.specs.Found.{state}
-use Rattle.regress_program.specs.Cost.{compared}
+use Rattle.regress_program.specs.Cost.{bytes_ahead, compared}
 use Rattle.regress_tree.specs.Matching.{steps}
 use Rattle.regress_tree.specs.Tree.{tree}
 use Rattle.regress_backtrack.proofs.CostLemmas.{leaf_cost}
@@ -38,5 +38,5 @@ returns-clause-costs c = λ outs costs.
     (slice_get input.code.now.program.leaves.items c.args.leaf) t c.test_end-to.result c.in-Some.ensures
     (subst (λ cs. steps u.setting u.bytes u.direction (tree t.node) (state cs p.position) ≡ put (state cs p.position) c.test_end-to.result)
     c.deref.ensures.value c.test_end-to.ensures.to) c.reach.ensures.next
-    (subst (λ cs. c.args.remaining.now ≤ c.test_end-to.new.remaining + compared (tree t.node) (state cs p.position)) c.deref.ensures.value c.test_end-to.ensures.costs)
+    (subst (λ cs. c.args.remaining.now ≤ c.test_end-to.new.remaining + compared (bytes_ahead u.direction (length input.text.now) p.position) (tree t.node) (state cs p.position)) c.deref.ensures.value c.test_end-to.ensures.costs)
     c.reach.ensures.costs

@@ -1,4 +1,4 @@
-use Rattle.std.proofs.Common.{rules, ◌≡◌, ◌-◌, [], ◌∷◌, true, map, subst, sym, ap, ◌∙◌, refl, arith}
+use Rattle.std.proofs.Common.{rules, ◌≡◌, ◌-◌, [], ◌∷◌, true, length, map, subst, sym, ap, ◌∙◌, refl, arith}
 use Rattle.regress_base.specs.Table.{denotes}
 use Rattle.std.specs.Box.{boxed_slice_items}
 use Rattle.regress_leaves.specs.Leaves.{is_simple}
@@ -7,7 +7,7 @@ use Rattle.regress_tree.specs.declared.ir.node.Node.{the_lemmas}
 use Rattle.regress_tree.proofs.lemmas.Nodes.{tree-Loop1CharBody}
 use Rattle.regress_tree.specs.Matching.{steps}
 use Rattle.regress_tree.specs.Tree.{back_ref, tree, leaf, string_set}
-use Rattle.regress_program.specs.Cost.{compared, copy_cost}
+use Rattle.regress_program.specs.Cost.{bytes_ahead, compared, copy_cost}
 use Rattle.regress_program.specs.Shape.{IsPart}
 use Rattle.regress_program.proofs.LeafLemmas.{back_again, sole_of, one_string}
 use Rattle.regress_found.specs.Found.{state}
@@ -54,9 +54,10 @@ returns-in-BackRef-clause-costs c =
     let s = state c.args.captures.now c.args.position in
     let is : tree c.args.node.now ≡ leaf (back_ref c.in-BackRef.group c.in-BackRef.icase) = search (rules, the_lemmas) in
     let taken = c.match_again.ensures.costs in
-    let length = ap (copy_cost c.in-BackRef.icase) c.capture_of-span.ensures in
-    let total = ap (λ t. compared t s) is in
-    omega (arith, taken, length, total)
+    let ahead = bytes_ahead (subject c.args.rules c.args.text.now).direction (length c.args.text.now) c.args.position in
+    let span = ap (copy_cost c.in-BackRef.icase ahead) c.capture_of-span.ensures in
+    let total = ap (λ t. compared ahead t s) is in
+    omega (arith, taken, span, total)
 
 pub returns-in-Loop1CharBody-clause-to : goal.returns-in-Loop1CharBody-clause-to
 returns-in-Loop1CharBody-clause-to c =
