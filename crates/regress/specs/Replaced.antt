@@ -4,13 +4,13 @@ use Rattle.std.specs.Borrow.{Bor}
 use Rattle.std.specs.declared.alloc.Global.{Global}
 use Rattle.std.specs.Fn.{CalledAt, Mut}
 use Rattle.std.specs.List.{FoldsTo}
-use Rattle.regress_front.specs.Steps.{MatchState}
+use Rattle.regress_front.specs.Steps.{CaptureSpan, MatchState}
 use Rattle.regress_found.specs.declared.found.Match as matcher
 use Rattle.regress_found.specs.Repeated.{AreAllMatches, AreMatches}
 use Rattle.regress_found.specs.Found.{Finds}
 use Rattle.regress_replace.specs.Expansion.{matched_text}
 use Rattle.regress_replace.specs.Replaced.{joined, replaced, split_pieces}
-use Rattle.regress_replace.specs.Split.{all_parts, limited}
+use Rattle.regress_replace.specs.Split.{all_parts, limited, part_spans}
 use Rattle.regress.specs.Found.{match_of}
 use Rattle.regress.specs.declared.failure.SearchError.{SearchError}
 use Rattle.regress.specs.declared.found.Match.{Match}
@@ -77,6 +77,13 @@ module _ (text : List ℕ) (at : ℕ → List MatchState) where
     pub few : length ms ≤ n
     pub all : length ms < n → Finds text at to None
 
+  -- The text with its first n matches replaced, or all if there are fewer, and how many there are.
+  pub record ReplacesFirstN (n : ℕ) (replacement : matcher.Match → List ℕ) (out : List ℕ) (count : ℕ) : Type 0 where
+    pub matches : List matcher.Match
+    pub first : AreFirstMatches n matches
+    pub is : out ≡ replaced text replacement 0 matches
+    pub counted : count ≡ length matches
+
   -- The pieces of the text between its first n matches, which with the matches between them are the text.
   pub record IsSplitAtFirst (n : ℕ) (pieces : List (List ℕ)) : Type 0 where
     pub matches : List matcher.Match
@@ -94,3 +101,9 @@ module _ (text : List ℕ) (at : ℕ → List MatchState) where
     pub matches : List matcher.Match
     pub all : AreAllMatches text at matches
     pub between : parts ≡ limited limit (all_parts text matches)
+
+  -- the spans of these parts
+  pub record ArePartSpans (limit : Option ℕ) (spans : List (Option CaptureSpan)) : Type 0 where
+    pub matches : List matcher.Match
+    pub all : AreAllMatches text at matches
+    pub between : spans ≡ limited limit (part_spans (length text) matches)

@@ -6,7 +6,7 @@ ghost use Rattle.regress_replace.specs.Order.{AreInOrder};
 ghost use Rattle.regress.specs.Compiled.{groups_of, outcomes_of};
 ghost use Rattle.regress.specs.Costs.{AllAreTooCostly, AllCostLimit, CostsLimit, IsTooCostly, factor_of, find_factor_of};
 ghost use Rattle.regress.specs.Found.{match_of};
-ghost use Rattle.regress.specs.Replaced.{HasReturned, IsReplacedBy, ReplacesAll, ReplacesAllWith, ReplacesFirst, ReplacesFirstWith};
+ghost use Rattle.regress.specs.Replaced.{HasReturned, IsReplacedBy, ReplacesAll, ReplacesAllWith, ReplacesFirst, ReplacesFirstN, ReplacesFirstWith};
 ghost use Rattle.regress.specs.declared.failure.SearchError.TheVariants.{OutOfSteps};
 
 use crate::failure::SearchError;
@@ -74,6 +74,36 @@ impl Regex {
     {
         let matches = self.all_matches(alloc, text)?;
         Ok(replace_matches(alloc, text, &matches, template, &self.groups)?)
+    }
+
+    /// Returns `text` with its first `limit` non-overlapping matches replaced by the expansion of `template`, as
+    /// [`Regex::replace`] states, or all if there are fewer; and how many were replaced.
+    ///
+    /// # Errors
+    /// As for [`Regex::find_all`]. No further match is searched for than those that are replaced.
+    ///
+    /// # Examples
+    /// ```
+    /// let regex = Regex::new(alloc, "[a-z]")?;
+    /// let (replaced, count) = regex.replacen(alloc, "a-b-c", "<$&>", 2)?;
+    /// assert_eq!(rt; replaced.as_str(), "<a>-<b>-c");
+    /// assert_eq!(rt; count, 2);
+    /// ```
+    pub fn replacen(
+        &self,
+        alloc: Global,
+        text: &str,
+        template: &str,
+        limit: usize,
+    ) -> Result<(String, usize), SearchError>
+        ensures replaced { IfOk result (λ out. ReplacesFirstN text.now (outcomes_of self.now text.now) limit
+            (λ m. expansion text.now m (groups_of self.now) template.now) (string_bytes out.0) out.1) }
+        ensures linear { IfErr result (λ error. error ≡ OutOfSteps → factor_of self.now ≡ None) }
+        ensures costs { IfErr result (λ error. error ≡ OutOfSteps → AllCostLimit self.now text.now 0) }
+    {
+        let matches = self.first_matches(alloc, text, limit)?;
+        let replaced = replace_matches(alloc, text, &matches, template, &self.groups)?;
+        Ok((replaced, matches.len()))
     }
 
     /// Returns `text` with its leftmost match replaced by what `replacer` returns for it, and `text` if there is none.

@@ -7,13 +7,13 @@ ghost use Rattle.regress_replace.specs.Order.{AreInOrder};
 ghost use Rattle.regress_replace.specs.Split.{part_texts};
 ghost use Rattle.regress.specs.Compiled.{outcomes_of};
 ghost use Rattle.regress.specs.Costs.{AllCostLimit, factor_of};
-ghost use Rattle.regress.specs.Replaced.{AreFirstMatches, IsSplit, IsSplitWithCaptures, IsSplitWithin};
+ghost use Rattle.regress.specs.Replaced.{AreFirstMatches, ArePartSpans, IsSplit, IsSplitWithCaptures, IsSplitWithin};
 ghost use Rattle.regress.specs.declared.failure.SearchError.TheVariants.{OutOfSteps};
 
 use crate::failure::SearchError;
 use crate::pattern::Regex;
 use regress_match::Match as Found;
-use regress_replace::{split_at_matches, split_with_captures};
+use regress_replace::{split_at_matches, split_spans, split_with_captures};
 use std::alloc::Global;
 
 impl Regex {
@@ -97,8 +97,27 @@ impl Regex {
         Ok(split_with_captures(alloc, text, &matches, limit)?)
     }
 
+    /// Returns the spans of the parts that [`Regex::split_with_captures`] returns, each as its start and its end, `None` for
+    /// a group that is unset.
+    ///
+    /// # Errors
+    /// As for [`Regex::find_all`].
+    pub fn split_spans(
+        &self,
+        alloc: Global,
+        text: &str,
+        limit: Option<usize>,
+    ) -> Result<Vec<Option<(usize, usize)>>, SearchError>
+        ensures split { IfOk result (λ spans. ArePartSpans text.now (outcomes_of self.now text.now) limit spans.items) }
+        ensures linear { IfErr result (λ error. error ≡ OutOfSteps → factor_of self.now ≡ None) }
+        ensures costs { IfErr result (λ error. error ≡ OutOfSteps → AllCostLimit self.now text.now 0) }
+    {
+        let matches = self.all_matches(alloc, text)?;
+        Ok(split_spans(alloc, text.len(), &matches, limit)?)
+    }
+
     /// Returns the first `count` matches in `text`, or all if there are fewer.
-    fn first_matches(
+    pub(crate) fn first_matches(
         &self,
         alloc: Global,
         text: &str,

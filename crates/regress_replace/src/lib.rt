@@ -9,4 +9,4 @@ mod split;
 
 pub use names::named_capture;
 pub use replace::{expand, replace_matches};
-pub use split::{split_at_matches, split_with_captures};
+pub use split::{split_at_matches, split_spans, split_with_captures};

@@ -6,7 +6,7 @@ ghost use Rattle.regress_found.specs.Found.{state_of, IsInside};
 ghost use Rattle.regress_replace.specs.Expansion.{matched_text};
 ghost use Rattle.regress_replace.specs.Order.{AreInOrder};
 ghost use Rattle.regress_replace.specs.Replaced.{joined, split_pieces};
-ghost use Rattle.regress_replace.specs.Split.{all_parts, capture_texts, limited, part_texts, splits};
+ghost use Rattle.regress_replace.specs.Split.{all_parts, limited, part_spans, part_texts, span_texts, splits};
 
 use regress_match::Match;
 use std::alloc::{AllocError, Global};
@@ -64,44 +64,71 @@ pub fn split_with_captures<'a>(
     requires order { AreInOrder 0 matches.now }
     ensures { IfOk result (λ parts. part_texts parts.items ≡ limited limit (all_parts text.now matches.now)) }
 {
-    let mut parts = Vec::new(alloc);
-    if text.is_empty() && !matches.is_empty() {
-        return Ok(parts);
+    let spans = split_spans(alloc, text.len(), matches, limit)?;
+    slices(alloc, text, &spans)
+}
+
+/// Returns what spans of a text contain.
+fn slices<'a>(
+    alloc: Global,
+    text: &'a str,
+    spans: &[Option<(usize, usize)>],
+) -> Result<Vec<Option<&'a str>>, AllocError>
+    requires { All (IsCaptureInside text.now) spans.now }
+    ensures { IfOk result (λ parts. part_texts parts.items ≡ span_texts text.now spans.now) }
+{
+    let mut parts = Vec::with_capacity(alloc, spans.len())?;
+    for span in spans {
+        parts.push(capture(text, *span))?;
+    }
+    Ok(parts)
+}
+
+/// Returns the spans of the parts of a text of `length` bytes, the parts that [`split_with_captures`] returns.
+///
+/// # Errors
+/// Returns [`AllocError`] if an allocation fails.
+pub fn split_spans(
+    alloc: Global,
+    length: usize,
+    matches: &[Match],
+    limit: Option<usize>,
+) -> Result<Vec<Option<(usize, usize)>>, AllocError>
+    ensures { IfOk result (λ spans. spans.items ≡ limited limit (part_spans length matches.now)) }
+{
+    let mut spans = Vec::new(alloc);
+    if length == 0 && !matches.is_empty() {
+        return Ok(spans);
     }
     let mut from = 0;
     for found in matches {
-        if is_full(&parts, limit) {
-            return Ok(limit_to(parts, limit));
+        if is_full(&spans, limit) {
+            return Ok(limit_to(spans, limit));
         }
-        if !splits(text, from, found) {
+        if !splits(length, from, found) {
             continue;
         }
-        parts.push(Some(&text[from..found.start()]))?;
-        push_captures(text, found, &mut parts)?;
+        spans.push(Some((from, found.start())))?;
+        push_captures(found, &mut spans)?;
         from = found.end();
     }
-    parts.push(Some(&text[from..]))?;
-    Ok(limit_to(parts, limit))
+    spans.push(Some((from, length)))?;
+    Ok(limit_to(spans, limit))
 }
 
-/// Returns whether a match splits the text, if the part before it starts at `from`.
-fn splits(text: &str, from: usize, found: &Match) -> bool
-    ensures { result ≡ splits text.now from found.now }
+/// Returns whether a match splits a text of this length, if the part before it starts at `from`.
+fn splits(length: usize, from: usize, found: &Match) -> bool
+    ensures { result ≡ splits length from found.now }
 {
-    found.start() < text.len() && found.end() != from
+    found.start() < length && found.end() != from
 }
 
 /// Appends the captures of a match.
-fn push_captures<'a>(
-    text: &'a str,
-    found: &Match,
-    parts: &mut Vec<Option<&'a str>>,
-) -> Result<(), AllocError>
-    requires { IsInside text.now found.now }
-    ensures { IfOk result (λ _. part_texts parts.new.items ≡ part_texts parts.old.items ++ capture_texts text.now (state_of found.now).captures) }
+fn push_captures(found: &Match, spans: &mut Vec<Option<(usize, usize)>>) -> Result<(), AllocError>
+    ensures { IfOk result (λ _. spans.new.items ≡ spans.old.items ++ (state_of found.now).captures) }
 {
     for id in 0..found.group_count() {
-        parts.push(capture(text, found.group(id)))?;
+        spans.push(found.group(id))?;
     }
     Ok(())
 }
@@ -116,21 +143,24 @@ fn capture(text: &str, span: Option<(usize, usize)>) -> Option<&str>
 }
 
 /// Returns whether no further part is within the limit.
-fn is_full(parts: &[Option<&str>], limit: Option<usize>) -> bool
-    ensures { result ≡ true → IsSomeAnd limit (λ limit. limit ≤ length parts.now) }
+fn is_full(spans: &[Option<(usize, usize)>], limit: Option<usize>) -> bool
+    ensures { result ≡ true → IsSomeAnd limit (λ limit. limit ≤ length spans.now) }
 {
     match limit {
-        Some(limit) => limit <= parts.len(),
+        Some(limit) => limit <= spans.len(),
         None => false,
     }
 }
 
-/// Returns the parts within the limit.
-fn limit_to<'a>(mut parts: Vec<Option<&'a str>>, limit: Option<usize>) -> Vec<Option<&'a str>>
-    ensures { result.items ≡ limited limit parts.entry.items }
+/// Returns the spans within the limit.
+fn limit_to(
+    mut spans: Vec<Option<(usize, usize)>>,
+    limit: Option<usize>,
+) -> Vec<Option<(usize, usize)>>
+    ensures { result.items ≡ limited limit spans.items }
 {
     if let Some(limit) = limit {
-        parts.truncate(limit);
+        spans.truncate(limit);
     }
-    parts
+    spans
 }
