@@ -4,15 +4,16 @@ use Rattle.std.proofs.Common.{◌≡◌, ◌∙◌, ℕ, ◌+◌, ◌<◌, All, 
 use Rattle.std.specs.declared.ops.Range.{Range}
 use Rattle.std.proofs.lemmas.List.{flat_map_more}
 use Rattle.std.proofs.lemmas.List.Concat.{flat_map-append}
+use Rattle.std.proofs.lemmas.List.Elements.{All-nil, All-push}
 use Rattle.regress_svg.specs.Escape.{escaped_text}
 use Rattle.regress_parse.specs.declared.span.Span.{Span}
 use Rattle.regress_svg.specs.Links.{IsLinkedDocument}
 use Rattle.regress_explain.specs.declared.markup.Element.{Element}
-use Rattle.regress_explain.specs.declared.markup.Element.TheVariants.{Figure, Paragraph}
+use Rattle.regress_explain.specs.declared.markup.Element.TheVariants.{Division, Figure, Paragraph}
 use Rattle.regress_explain.specs.declared.markup.Tag.{Tag}
-use Rattle.regress_explain.specs.declared.markup.Tag.TheVariants.{Open, Close, Line}
-use Rattle.regress_explain.specs.Page.{Contains, ContainsMatches, HasLine, IsPage, IsPageOf, IsParagraph, IsPicture, Piece, tag, text, picture, ShowsSource, element_bytes, piece_bytes, pieces_bytes, tag_bytes}
-use Rattle.regress_explain.specs.Written.{Adds, IsAnything}
+use Rattle.regress_explain.specs.declared.markup.Tag.TheVariants.{Diagram, Open, Close, Line}
+use Rattle.regress_explain.specs.Page.{Contains, ContainsMatches, HasLine, IsPage, LeadsBack, TagLeadsBack, IsPageOf, IsParagraph, IsPicture, Piece, tag, text, picture, ShowsSource, element_bytes, piece_bytes, pieces_bytes, tag_bytes}
+use Rattle.regress_explain.specs.Written.{Adds, AreLeadingBack, IsAnything}
 
 adds : (old new : List ℕ) (p : Piece) → new ≡ old ++ piece_bytes p → IsPage old → IsPage new
 adds old new p is (pieces, made) =
@@ -68,6 +69,9 @@ adds_framed P Q first last a b c d framed opened inside closed = record {
       ∙ framed_bytes a (piece_bytes first) (pieces_bytes inside.pieces) (piece_bytes last)
       ∙ ap (λ all. a ++ (piece_bytes first ++ all)) (sym (flat_map-append piece_bytes inside.pieces (last ∷ [])));
 }
+
+element_tail : (a b c d : List ℕ) → a ++ (b ++ c ++ d) ≡ (a ++ b ++ c) ++ d
+element_tail a b c d = simp append_assoc
 
 element_grouped : (a b c d : List ℕ) → a ++ (b ++ c ++ d) ≡ a ++ (b ++ (c ++ (d ++ [])))
 element_grouped a b c d = simp (append_assoc, append-nil)
@@ -127,57 +131,102 @@ shows_paragraph P a b c d e heading opened inside closed =
 
 -- a picture after a heading
 pub shows_picture : (lines bytes : List ℕ) (is : IsLinkedDocument lines bytes) (a b c d e : List ℕ) → Adds IsAnything a b →
-    c ≡ b ++ tag_bytes (Open Figure) → d ≡ c ++ bytes → e ≡ d ++ tag_bytes (Close Figure) → Adds (Contains (IsPicture lines)) a e
+    c ≡ b ++ tag_bytes Diagram → d ≡ c ++ bytes → e ≡ d ++ tag_bytes (Close Figure) → Adds (Contains (IsPicture lines)) a e
 shows_picture lines bytes is a b c d e heading opened drawn closed =
     let P : List Piece → Type 0 = λ ps. ps ≡ picture lines bytes is ∷ [] in
     adds_contained (IsPicture lines) a b e heading
-    (adds_framed P (IsPicture lines) (tag (Open Figure)) (tag (Close Figure)) b c d e
-    (λ ps one. record { bytes = bytes; document = is; is = ap (λ all. tag (Open Figure) ∷ (all ++ tag (Close Figure) ∷ [])) one })
+    (adds_framed P (IsPicture lines) (tag Diagram) (tag (Close Figure)) b c d e
+    (λ ps one. record { bytes = bytes; document = is; is = ap (λ all. tag Diagram ∷ (all ++ tag (Close Figure) ∷ [])) one })
     opened (adds_one P (picture lines bytes is) c d refl drawn) closed)
 
-kept_bytes : (a b c d : List ℕ) → (a ++ b ++ c) ++ d ≡ a ++ b ++ (c ++ d)
-kept_bytes a b c d = simp append_assoc
+kept_bytes : (a b c d e f : List ℕ) → (a ++ b ++ c ++ d ++ e) ++ f ≡ a ++ b ++ c ++ d ++ (e ++ f)
+kept_bytes a b c d e f = simp append_assoc
 
--- A line is there also after more is written,
-pub line_before : (number : ℕ) (old more new : List ℕ) → HasLine number old → new ≡ old ++ more → HasLine number new
-line_before number old more new found is = record {
-  span = found.span;
-  before = found.before;
-  after = found.after ++ more;
-  is = is ∙ ap (λ all. all ++ more) found.is ∙ kept_bytes found.before (tag_bytes (Line found.span number)) found.after more;
-}
+front_bytes : (a b c d e f : List ℕ) → a ++ (b ++ c ++ d ++ e ++ f) ≡ (a ++ b) ++ c ++ d ++ e ++ f
+front_bytes a b c d e f = simp append_assoc
 
-pub line_kept : (P : List Piece → Type 0) (number : ℕ) (old new : List ℕ) → HasLine number old → Adds P old new → HasLine number new
-line_kept P number old new found added = line_before number old (pieces_bytes added.pieces) new found added.added
+line_bytes : (a b c d : List ℕ) → ((a ++ b) ++ c) ++ d ≡ a ++ b ++ c ++ d ++ []
+line_bytes a b c d = simp (append_assoc, append-nil)
 
-front_bytes : (a b c d : List ℕ) → a ++ (b ++ c ++ d) ≡ (a ++ b) ++ c ++ d
-front_bytes a b c d = simp append_assoc
+-- the lines to which the links of the picture lead
+module _ (lines : List ℕ) (number : ℕ) where
+  -- A line is there also after more is written,
+  pub line_before : (old more new : List ℕ) → HasLine lines number old → new ≡ old ++ more → HasLine lines number new
+  line_before old more new found is = record {
+    span = found.span;
+    content = found.content;
+    lead_back = found.lead_back;
+    before = found.before;
+    after = found.after ++ more;
+    is = is ∙ ap (λ all. all ++ more) found.is
+        ∙ kept_bytes found.before (tag_bytes (Line found.span number)) (pieces_bytes found.content) (tag_bytes (Close Division)) found.after more;
+  }
 
--- and after something else,
-pub line_after : (number : ℕ) (front other new : List ℕ) → HasLine number other → new ≡ front ++ other → HasLine number new
-line_after number front other new found is = record {
-  span = found.span;
-  before = front ++ found.before;
-  after = found.after;
-  is = is ∙ ap (λ all. front ++ all) found.is ∙ front_bytes front found.before (tag_bytes (Line found.span number)) found.after;
-}
+  pub line_kept : (P : List Piece → Type 0) (old new : List ℕ) → HasLine lines number old → Adds P old new → HasLine lines number new
+  line_kept P old new found added = line_before old (pieces_bytes added.pieces) new found added.added
 
--- and where it is written.
-line_written : (number : ℕ) (span : Span) (old new : List ℕ) → new ≡ old ++ tag_bytes (Line span number) → HasLine number new
-line_written number span old new is = record {
-  span = span;
-  before = old;
-  after = [];
-  is = is ∙ sym (append-nil (old ++ tag_bytes (Line span number)));
-}
+  -- and after something else,
+  pub line_after : (front other new : List ℕ) → HasLine lines number other → new ≡ front ++ other → HasLine lines number new
+  line_after front other new found is = record {
+    span = found.span;
+    content = found.content;
+    lead_back = found.lead_back;
+    before = front ++ found.before;
+    after = found.after;
+    is = is ∙ ap (λ all. front ++ all) found.is
+        ∙ front_bytes front found.before (tag_bytes (Line found.span number)) (pieces_bytes found.content) (tag_bytes (Close Division)) found.after;
+  }
 
--- one more line, with anything around it
-pub one_line : (count : ℕ) (span : Span) (a b c d : List ℕ) → ((n : ℕ) → n < count → HasLine n a) → Adds IsAnything a b →
-    c ≡ b ++ tag_bytes (Line span count) → Adds IsAnything c d → (n : ℕ) → n < count + 1 → HasLine n d
-one_line count span a b c d lines between written content =
-    below_more (λ n. HasLine n d) count
-    (λ n below. line_kept IsAnything n c d (line_before n b (tag_bytes (Line span count)) c (line_kept IsAnything n a b (lines n below) between) written) content)
-    (line_kept IsAnything count c d (line_written count span b c written) content)
+  -- and where it is written.
+  line_written : (span : Span) (content old begun filled new : List ℕ) → AreLeadingBack lines number content →
+      begun ≡ old ++ tag_bytes (Line span number) → filled ≡ begun ++ content → new ≡ filled ++ tag_bytes (Close Division) → HasLine lines number new
+  line_written span content old begun filled new inside opened written closed = record {
+    span = span;
+    content = inside.pieces;
+    lead_back = inside.lead_back;
+    before = old;
+    after = [];
+    is = closed ∙ ap (λ all. all ++ tag_bytes (Close Division)) (written ∙ ap (λ all. begun ++ all) inside.are ∙ ap (λ all. all ++ pieces_bytes inside.pieces) opened)
+        ∙ line_bytes old (tag_bytes (Line span number)) (pieces_bytes inside.pieces) (tag_bytes (Close Division));
+  }
+
+  -- nothing
+  pub leads_nothing : (page : List ℕ) → page ≡ [] → AreLeadingBack lines number page
+  leads_nothing page is = record { pieces = []; lead_back = All-nil (LeadsBack lines number); are = is }
+
+  -- one more piece
+  leads_piece : (p : Piece) (old new : List ℕ) → LeadsBack lines number p → AreLeadingBack lines number old → new ≡ old ++ piece_bytes p →
+      AreLeadingBack lines number new
+  leads_piece p old new leads before is = record {
+    pieces = before.pieces ++ p ∷ [];
+    lead_back = All-push (LeadsBack lines number) before.pieces p before.lead_back leads;
+    are = is ∙ ap (λ all. all ++ piece_bytes p) before.are ∙ flat_map_more piece_bytes [] before.pieces p;
+  }
+
+  pub leads_tag : (t : Tag) (old new : List ℕ) → TagLeadsBack lines number t → AreLeadingBack lines number old → new ≡ old ++ tag_bytes t →
+      AreLeadingBack lines number new
+  leads_tag t old new leads before is = leads_piece (tag t) old new leads before is
+
+  pub leads_text : (content old new : List ℕ) → AreLeadingBack lines number old → new ≡ old ++ escaped_text content → AreLeadingBack lines number new
+  leads_text content old new before is = leads_piece (text content) old new tt before is
+
+  pub leads_element : (element : Element) (content old new : List ℕ) → AreLeadingBack lines number old → new ≡ old ++ element_bytes element content →
+      AreLeadingBack lines number new
+  leads_element element content old new before is =
+      leads_tag (Close element) (old ++ tag_bytes (Open element) ++ escaped_text content) new tt
+      (leads_text content (old ++ tag_bytes (Open element)) _
+      (leads_tag (Open element) old (old ++ tag_bytes (Open element)) tt before refl) refl)
+      (is ∙ element_tail old (tag_bytes (Open element)) (escaped_text content) (tag_bytes (Close element)))
+
+-- one more line, with anything before it
+pub one_line : (lines : List ℕ) (count : ℕ) (span : Span) (content a b c d e : List ℕ) → ((n : ℕ) → n < count → HasLine lines n a) → Adds IsAnything a b →
+    c ≡ b ++ tag_bytes (Line span count) → AreLeadingBack lines count content → d ≡ c ++ content → e ≡ d ++ tag_bytes (Close Division) →
+    (n : ℕ) → n < count + 1 → HasLine lines n e
+one_line lines count span content a b c d e before between opened inside written closed =
+    below_more (λ n. HasLine lines n e) count
+    (λ n below. line_before lines n d (tag_bytes (Close Division)) e (line_before lines n c content d
+    (line_before lines n b (tag_bytes (Line span count)) c (line_kept lines n IsAnything a b (before n below) between) opened) written) closed)
+    (line_written lines count span content b c d e inside opened written closed)
 
 matches_within : (matched : Option (List ℕ × List (Range ℕ))) (before pieces after : List Piece) → ContainsMatches matched pieces →
     ContainsMatches matched ((before ++ pieces) ++ after)
@@ -200,9 +249,9 @@ module _ (pattern : List ℕ) (matched : Option (List ℕ × List (Range ℕ))) 
   matches_before ps qs found = matches_within matched [] ps qs found
 
   pub whole_page : (a b c d e f : List ℕ) → Adds IsAnything [] a → Adds (Contains (IsParagraph (ShowsSource 0 pattern))) a b →
-      Adds (Contains (IsPicture lines)) b c → Adds IsAnything c d → All (λ line. HasLine line d) lines → Adds (ContainsMatches matched) d e →
-      Adds IsAnything e f → IsPageOf pattern matched f
-  whole_page a b c d e f head source diagram explanation linked matches foot =
+      Adds (Contains (IsPicture lines)) b c → Adds IsAnything c d → (count : ℕ) → All (λ line. line < count) lines →
+      ((n : ℕ) → n < count → HasLine lines n d) → Adds (ContainsMatches matched) d e → Adds IsAnything e f → IsPageOf pattern matched f
+  whole_page a b c d e f head source diagram explanation count linked explained matches foot =
       let P : List Piece → Type 0 = Contains (IsParagraph (ShowsSource 0 pattern)) in
       let one : Adds P [] b =
       adds_both IsAnything P P [] a b (λ ps qs any found. contains_after (IsParagraph (ShowsSource 0 pattern)) ps qs found) head source in
@@ -220,8 +269,10 @@ module _ (pattern : List ℕ) (matched : Option (List ℕ × List (Range ℕ))) 
         pieces = all.pieces;
         written = all.added;
         source = all.has.0.0;
+        count = count;
         lines = lines;
         diagram = all.has.0.1;
-        linked = λ k none below. line_kept IsAnything _ e f (line_kept (ContainsMatches matched) _ d e (linked k none below) matches) foot;
+        linked = linked;
+        explanation = λ n below. line_kept lines n IsAnything e f (line_kept lines n (ContainsMatches matched) d e (explained n below) matches) foot;
         matches = all.has.1;
       }

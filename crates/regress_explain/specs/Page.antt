@@ -1,5 +1,5 @@
 -- A page (HTML): tags of a fixed list, escaped texts, and pictures; and what it contains.
-use Rattle.std.specs.Prelude.{◌≡◌, ◌⊎◌, ⊤, ℕ, ◌+◌, ◌≤◌, List, [], ◌∷◌, ◌++◌, All, codes, drop, flat_map, length, Option, Some, None, slice_range}
+use Rattle.std.specs.Prelude.{◌≡◌, ◌⊎◌, ⊤, ℕ, ◌+◌, ◌<◌, ◌≤◌, List, [], ◌∷◌, ◌++◌, All, codes, drop, flat_map, length, Option, Some, None, slice_get, slice_range}
 use Rattle.std.specs.Fmt.{decimal}
 use Rattle.std.specs.Str.{IsCharBoundary}
 use Rattle.std.specs.declared.ops.Range.{Range}
@@ -11,7 +11,7 @@ use Rattle.regress_explain.specs.Shown.{shown_text}
 use Rattle.regress_explain.specs.declared.markup.Element.{Element}
 use Rattle.regress_explain.specs.declared.markup.Element.TheVariants.{Section, Heading, Paragraph, Figure, Items, Item, Code, Small, Mark, Division, Inline, Footer, Link, Table, Row, ColumnHead, Cell}
 use Rattle.regress_explain.specs.declared.markup.Tag.{Tag}
-use Rattle.regress_explain.specs.declared.markup.Tag.TheVariants.{Head, Style, Body, End, Open, Close, Part, Line, To, ToPicture}
+use Rattle.regress_explain.specs.declared.markup.Tag.TheVariants.{Head, Style, Body, End, Diagram, Matches, Open, Close, Part, Line, To, ToPicture}
 
 -- the name of an element
 abbrev pub name_of : Element → List ℕ
@@ -40,6 +40,8 @@ tag_bytes Head =
 tag_bytes Style = codes "</title><style>"
 tag_bytes Body = codes "</style></head><body><main>"
 tag_bytes End = codes "</main></body></html>"
+tag_bytes Diagram = codes "<figure tabindex=\"0\" aria-label=\"Railroad diagram\">"
+tag_bytes Matches = codes "<figure tabindex=\"0\" aria-label=\"Matches\">"
 tag_bytes (Open element) = codes "<" ++ name_of element ++ codes ">"
 tag_bytes (Close element) = codes "</" ++ name_of element ++ codes ">"
 tag_bytes (Part span) = codes "<span class=\"m s" ++ decimal span.start ++ codes "-" ++ decimal span.end
@@ -131,14 +133,26 @@ pub record IsParagraph (P : List Piece → Type 0) (pieces : List Piece) : Type 
 pub record IsPicture (lines : List ℕ) (pieces : List Piece) : Type 0 where
   pub bytes : List ℕ
   pub document : IsLinkedDocument lines bytes
-  pub is : pieces ≡ tag (Open Figure) ∷ picture lines bytes document ∷ tag (Close Figure) ∷ []
+  pub is : pieces ≡ tag Diagram ∷ picture lines bytes document ∷ tag (Close Figure) ∷ []
 
--- Among the bytes is the start of the line with that number.
-pub record HasLine (number : ℕ) (bytes : List ℕ) : Type 0 where
+-- If the tag begins a link to the picture, it leads to a link there that leads back to the line with that number; `lines` are
+-- the lines to which the links of the picture lead, in order.
+abbrev pub TagLeadsBack : (lines : List ℕ) → (number : ℕ) → Tag → Type 0
+TagLeadsBack lines number (ToPicture link) = slice_get lines link ≡ Some number
+TagLeadsBack lines number t = ⊤
+
+abbrev pub LeadsBack : (lines : List ℕ) → (number : ℕ) → Piece → Type 0
+LeadsBack lines number (tag t) = TagLeadsBack lines number t
+LeadsBack lines number p = ⊤
+
+-- Among the bytes is the line with that number, and its links to the picture lead back to it.
+pub record HasLine (lines : List ℕ) (number : ℕ) (bytes : List ℕ) : Type 0 where
   pub span : Span
+  pub content : List Piece
+  pub lead_back : All (LeadsBack lines number) content
   pub before : List ℕ
   pub after : List ℕ
-  pub is : bytes ≡ before ++ tag_bytes (Line span number) ++ after
+  pub is : bytes ≡ before ++ tag_bytes (Line span number) ++ pieces_bytes content ++ tag_bytes (Close Division) ++ after
 
 -- Among the pieces are some, one after the other, of which P holds.
 pub record Contains (P : List Piece → Type 0) (pieces : List Piece) : Type 0 where
@@ -158,8 +172,10 @@ pub record IsPageOf (pattern : List ℕ) (matched : Option (List ℕ × List (Ra
   pub pieces : List Piece
   pub written : bytes ≡ pieces_bytes pieces
   pub source : Contains (IsParagraph (ShowsSource 0 pattern)) pieces
-  -- Each link in the picture leads to a line that is there.
+  -- Each link in the picture leads to one of these lines, and each link from them to the picture leads back.
+  pub count : ℕ
   pub lines : List ℕ
   pub diagram : Contains (IsPicture lines) pieces
-  pub linked : All (λ line. HasLine line bytes) lines
+  pub linked : All (λ line. line < count) lines
+  pub explanation : (n : ℕ) → n < count → HasLine lines n bytes
   pub matches : ContainsMatches matched pieces

@@ -45,8 +45,9 @@ pub fn page(
     matched: Option<Matched<'_>>,
 ) -> Result<String, AllocError>
     // Nothing of the pattern or of the text is markup: each text is escaped, and the tags are fixed. The whole pattern is
-    // there, each part of it at the span that its element names, and a picture, each link of which leads to a line that is
-    // there. The whole text is there, and the ranges in it are marked, and nothing else.
+    // there, each part of it at the span that its element names, a picture, and lines that explain it: each link in the
+    // picture leads to a line, and each link from a line to the picture leads to a link there that leads back. The whole text
+    // is there, and the ranges in it are marked, and nothing else.
     ensures { IfOk result (λ page. IsPageOf pattern.now (option_map (λ matched. (matched.text.now, matched.ranges.now)) matched.entry) (string_bytes page)) }
 {
     let parts = outline(alloc, pattern, parsed)?;
@@ -99,7 +100,7 @@ fn write_diagram(picture: &Linked, page: &mut Markup) -> Written
     ensures { OnOk result (Adds (Contains (IsPicture picture.now.lines.items)) page.old page.new) }
 {
     page.begin_section("Diagram")?;
-    page.tag(Tag::Open(Element::Figure))?;
+    page.tag(Tag::Diagram)?;
     page.picture(picture)?;
     page.tag(Tag::Close(Element::Figure))?;
     page.tag(Tag::Close(Element::Section))
@@ -107,7 +108,7 @@ fn write_diagram(picture: &Linked, page: &mut Markup) -> Written
 
 /// Returns the sentence about the pattern, and its parts.
 fn explanation(lines: &[Line<'_>], root: &Node, listing: Listing<'_>) -> Result<Markup, AllocError>
-    ensures { IfOk result (λ page. (n : ℕ) → n < length lines.now → HasLine n page) }
+    ensures { IfOk result (λ page. (n : ℕ) → n < length lines.now → HasLine listing.entry.leads.now n page) }
 {
     let alloc = listing.alloc;
     let mut page = Markup::new(alloc);

@@ -18,7 +18,7 @@ pub(crate) enum Element {
     Heading,
     /// A text in which white space is kept.
     Paragraph,
-    /// A picture or a table, which may be wider than the page.
+    /// A picture or a table.
     Figure,
     Items,
     Item,
@@ -80,6 +80,10 @@ pub(crate) enum Tag {
     Body,
     /// The end of the page.
     End,
+    /// The start of a figure with the picture. It scrolls, also by keys, if it is wider than the page; so does the next.
+    Diagram,
+    /// The start of a figure with the table of matches.
+    Matches,
     Open(Element),
     Close(Element),
     /// The start of a part of the pattern with this span.
@@ -105,6 +109,11 @@ fn tag_text(alloc: Global, tag: Tag) -> Result<String, AllocError>
         Tag::Style => String::from_str(alloc, "</title><style>"),
         Tag::Body => String::from_str(alloc, "</style></head><body><main>"),
         Tag::End => String::from_str(alloc, "</main></body></html>"),
+        Tag::Diagram => String::from_str(
+            alloc,
+            "<figure tabindex=\"0\" aria-label=\"Railroad diagram\">",
+        ),
+        Tag::Matches => String::from_str(alloc, "<figure tabindex=\"0\" aria-label=\"Matches\">"),
         Tag::Open(element) => {
             let name = element.name();
             format!(in alloc; "<{name}>")

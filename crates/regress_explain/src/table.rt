@@ -33,7 +33,7 @@ fn write_table(matched: Matched<'_>, names: &[Option<String>], page: &mut Markup
         Some(count) if count > 0 => count,
         _ => return Ok(()),
     };
-    page.tag(Tag::Open(Element::Figure))?;
+    page.tag(Tag::Matches)?;
     page.tag(Tag::Open(Element::Table))?;
     write_head(groups, names, page)?;
     for (range, captures) in matched

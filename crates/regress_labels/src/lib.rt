@@ -10,7 +10,7 @@ mod words;
 
 pub use labels::{Label, anchor_words, flags_text, group_text, iterations_text, lookaround_words};
 pub use names::{Names, group_names, name_of};
-pub use sets::{Character, only_character, set_label, strings_label};
+pub use sets::{Character, set_label, strings_label};
 pub use symbols::{
     columns, columns_of, is_seen, joins_emoji, push_number, push_symbol, push_symbol_after, quoted,
 };

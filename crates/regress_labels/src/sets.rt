@@ -61,7 +61,7 @@ impl Character {
 }
 
 /// Returns the only character of a set, or the ASCII letter that the set contains in both cases.
-pub fn only_character(intervals: &[Interval]) -> Option<Character> {
+pub(crate) fn only_character(intervals: &[Interval]) -> Option<Character> {
     match intervals {
         [only] if only.first() == only.last() => Some(Character::plain(only.first())),
         [upper, lower] => letter(*upper, *lower),

@@ -4,11 +4,10 @@ use crate::boxes::{boxed, framed, hung, loop_around, set_box, tracks};
 use crate::diagram::{BoxKind, Diagram, FrameKind, Iterations};
 use crate::row::{Piece, Row};
 use crate::source::{Source, excerpt};
-use regress_base::codepointset::CodePointSet;
 use regress_base::types::Quantifier;
 use regress_labels::{
     Character, Label, anchor_words, columns, group_text, iterations_text, lookaround_words,
-    name_of, only_character, set_label, set_of, strings_label,
+    name_of, set_label, set_of, strings_label,
 };
 use regress_parse::Span;
 use regress_tree::ir::Node;
@@ -372,24 +371,18 @@ fn either_case(setting: &Setting<'_>) -> &'static str {
     }
 }
 
-/// Returns the piece of a set.
+/// The span of a node for which none is known.
+const NO_SPAN: Span = Span { start: 0, end: 0 };
+
+/// Returns the piece of a set: the character that it is written as, or a box.
 fn set(node: &Node, setting: &Setting<'_>) -> Result<Option<Piece>, AllocError> {
-    if let Some(span) = next_span(setting)
-        && let Some(character) = literal(node, span, setting.source.written)?
-    {
+    let span = next_span(setting).unwrap_or(NO_SPAN);
+    if let Some(character) = literal(node, span, setting.source.written)? {
         return Ok(Some(Piece::Character(character)));
     }
-    Ok(match set_of(setting.alloc, node)? {
-        Some((negated, set)) => Some(set_piece(negated, set, setting)?),
-        None => None,
-    })
-}
-
-/// Returns the piece of a set or, if `negated`, of its complement. A set of one character is that character.
-fn set_piece(negated: bool, set: CodePointSet, setting: &Setting<'_>) -> Result<Piece, AllocError> {
-    if !negated && let Some(character) = only_character(set.intervals()) {
-        return Ok(Piece::Character(character));
-    }
+    let Some((negated, set)) = set_of(setting.alloc, node)? else {
+        return Ok(None);
+    };
     let label = set_label(setting.alloc, negated, set)?;
-    Ok(Piece::Part(set_or_source(label, setting)?))
+    Ok(Some(Piece::Part(set_or_source(label, setting)?)))
 }

@@ -111,7 +111,7 @@ fn drawn(
         .max(text_width(columns(&flags)))
         .saturating_add(2 * MARGIN);
     let height = extent.height().saturating_add(top + MARGIN / 2);
-    let mut sheet = Sheet::new(alloc, width, height)?;
+    let mut sheet = Sheet::new(alloc, width, height);
     draw_paper(width, height, &mut sheet)?;
     draw_text("small", &flags, FLAGS_AT, &mut sheet)?;
     let start = Point {

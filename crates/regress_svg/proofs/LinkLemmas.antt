@@ -3,7 +3,7 @@ use Rattle.std.proofs.Common.{◌≡◌, ◌∙◌, ℕ, ◌+◌, ◌<◌, List,
 use Rattle.std.proofs.lemmas.List.{length-map, map-append}
 use Rattle.std.proofs.lemmas.List.Elements.{All-push}
 use Rattle.regress_svg.specs.declared.link.Area.{Area}
-use Rattle.regress_svg.specs.Links.{IsLinkedDocument, WritesLinks, area_bytes, line_of, links_bytes}
+use Rattle.regress_svg.specs.Links.{IsLinkedDocument, WritesLinks, area_bytes, document, line_of, links_bytes}
 use Rattle.regress_svg.specs.Markup.{Content, content_bytes, root_tag, IsUnfinished}
 
 links_bytes-push : (number next : ℕ) (areas : List Area) (area : Area) → next ≡ number + length areas →
@@ -40,7 +40,7 @@ regrouped : (a b c d : List ℕ) → ((a ++ b) ++ c) ++ d ≡ a ++ b ++ c ++ d
 regrouped a b c d = simp append_assoc
 
 -- a picture with links
-linked : (count width height : ℕ) (content : Content) (lines before after text : List ℕ) → before ≡ root_tag width height ++ content_bytes content →
+linked : (count width height : ℕ) (content : Content) (lines before after text : List ℕ) → before ≡ root_tag document width height ++ content_bytes content →
     WritesLinks count lines before after → text ≡ after ++ codes "</svg>" → IsLinkedDocument lines text
 linked count width height content lines before after text drawn links closed = record {
   width = width;
@@ -49,11 +49,11 @@ linked count width height content lines before after text drawn links closed = r
   areas = links.areas;
   leads = links.leads;
   is = closed ∙ ap (λ xs. xs ++ codes "</svg>") (links.added ∙ ap (λ xs. xs ++ links_bytes 0 links.areas) drawn)
-      ∙ regrouped (root_tag width height) (content_bytes content) (links_bytes 0 links.areas) (codes "</svg>");
+      ∙ regrouped (root_tag document width height) (content_bytes content) (links_bytes 0 links.areas) (codes "</svg>");
 }
 
-pub finished : (depth count : ℕ) (lines before after text : List ℕ) → depth ≡ 0 → IsUnfinished depth before → WritesLinks count lines before after →
-    text ≡ after ++ codes "</svg>" → IsLinkedDocument lines text
-finished zero count lines before after text none (width, height, content, drawn) links closed =
-    linked count width height content lines before after text drawn links closed
-finished (suc depth) count lines before after text none front links closed = absurd (omega arith)
+pub finished : (depth count width height : ℕ) (inside lines before after text : List ℕ) → depth ≡ 0 → IsUnfinished depth inside →
+    before ≡ root_tag document width height ++ inside → WritesLinks count lines before after → text ≡ after ++ codes "</svg>" → IsLinkedDocument lines text
+finished zero count width height inside lines before after text none (content, drawn) begun links closed =
+    linked count width height content lines before after text (begun ∙ ap (λ all. root_tag document width height ++ all) drawn) links closed
+finished (suc depth) count width height inside lines before after text none front begun links closed = absurd (omega arith)

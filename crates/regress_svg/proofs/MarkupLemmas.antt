@@ -1,6 +1,6 @@
 -- An unfinished picture, with more content after it.
 use Rattle.std.proofs.Common.{◌≡◌, ◌∙◌, ℕ, zero, suc, ◌+◌, ◌-◌, ◌<◌, ◌≤◌, List, [], ◌∷◌, ◌++◌, length, ap, sym, refl, subst, append_assoc, append-nil, codes, arith, add-one, length-append}
-use Rattle.regress_svg.specs.Markup.{Content, nothing, element, group, content_bytes, element_bytes, group_tag, root_tag, IsUnfinished}
+use Rattle.regress_svg.specs.Markup.{Content, nothing, element, group, content_bytes, element_bytes, group_tag, image, root_tag, IsDocument, IsUnfinished}
 use Rattle.regress_svg.specs.declared.element.Element.{Element}
 
 -- the two contents joined
@@ -29,8 +29,7 @@ further bytes front content more is =
 
 -- more content in the innermost open group
 pub front_more : (depth : ℕ) (bytes : List ℕ) (more : Content) → IsUnfinished depth bytes → IsUnfinished depth (bytes ++ content_bytes more)
-front_more zero bytes more (width, height, content, is) =
-    (width, height, joined content more, further bytes (root_tag width height) content more is)
+front_more zero bytes more (content, is) = (joined content more, further bytes [] content more is)
 front_more (suc depth) bytes more (before, class, content, front, is) =
     (before, class, joined content more, front, further bytes (before ++ group_tag class) content more is)
 
@@ -50,8 +49,15 @@ closed depth bytes (before, class, content, front, is) =
     (front_more depth before (group class content nothing) front)
 
 -- an empty picture
-pub begins : (width height : ℕ) (bytes : List ℕ) → bytes ≡ root_tag width height → IsUnfinished 0 bytes
-begins width height bytes is = (width, height, nothing, is ∙ sym (append-nil (root_tag width height)))
+pub begins : (bytes : List ℕ) → bytes ≡ [] → IsUnfinished 0 bytes
+begins bytes is = (nothing, is)
+
+-- a picture without an open group
+pub whole : (depth width height : ℕ) (inside text : List ℕ) → depth ≡ 0 → IsUnfinished depth inside →
+    text ≡ (root_tag image width height ++ inside) ++ codes "</svg>" → IsDocument text
+whole zero width height inside text none (content, holds) is =
+    (width, height, content, is ∙ ap (λ all. (root_tag image width height ++ all) ++ codes "</svg>") holds)
+whole (suc depth) width height inside text none front is = absurd (omega arith)
 
 -- one more element
 pub draws : (depth : ℕ) (old new : List ℕ) (e : Element) → new ≡ old ++ element_bytes e → IsUnfinished depth old → IsUnfinished depth new
@@ -82,3 +88,8 @@ depth_within zero bytes front = omega arith
 depth_within (suc depth) bytes (before, class, content, front, is) =
     let P : List ℕ → Type 0 = λ all. suc depth ≤ length all in
     subst P (sym is) (longer depth before _ (content_bytes content) _ (depth_within depth before front))
+
+-- what is drawn of a picture, and more
+pub drawn_more : (root inside new more written : List ℕ) → written ≡ root ++ inside → new ≡ inside ++ more → root ++ new ≡ written ++ more
+drawn_more root inside new more written view is =
+    ap (λ all. root ++ all) is ∙ sym (append_assoc root inside more) ∙ ap (λ all. all ++ more) (sym view)

@@ -21,6 +21,10 @@ abbrev pub links_bytes : (number : ℕ) → List Area → List ℕ
 links_bytes number [] = []
 links_bytes number (area ∷ areas) = area_bytes number area ++ links_bytes (number + 1) areas
 
+-- the attributes of a picture with links: a document, in which assistive technologies reach them (WAI-ARIA Graphics Module)
+abbrev pub document : List ℕ
+document = codes "role=\"graphics-document\" aria-roledescription=\"diagram\""
+
 abbrev pub line_of : Area → ℕ
 line_of area = area.line
 
@@ -31,7 +35,7 @@ pub record IsLinkedDocument (lines : List ℕ) (bytes : List ℕ) : Type 0 where
   pub content : Content
   pub areas : List Area
   pub leads : map line_of areas ≡ lines
-  pub is : bytes ≡ root_tag width height ++ content_bytes content ++ links_bytes 0 areas ++ codes "</svg>"
+  pub is : bytes ≡ root_tag document width height ++ content_bytes content ++ links_bytes 0 areas ++ codes "</svg>"
 
 -- Links to these lines, each one of the first `count`, are written, numbered from 0.
 pub record WritesLinks (count : ℕ) (lines before after : List ℕ) : Type 0 where

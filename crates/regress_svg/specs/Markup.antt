@@ -60,11 +60,15 @@ element_bytes (Style text) = codes "<style>" ++ escaped_text text.now ++ codes "
 abbrev pub group_tag : List ℕ → List ℕ
 group_tag class = codes "<g class=\"" ++ escaped_text class ++ codes "\">"
 
--- the start tag of the picture; its end tag is `</svg>`
-abbrev pub root_tag : ℕ → ℕ → List ℕ
-root_tag width height =
+-- the start tag of the picture with these further attributes; its end tag is `</svg>`
+abbrev pub root_tag : (attributes : List ℕ) → (width height : ℕ) → List ℕ
+root_tag attributes width height =
     codes "<svg xmlns=\"http://www.w3.org/2000/svg\" viewBox=\"0 0 " ++ decimal width ++ codes " " ++ decimal height
-    ++ codes "\" width=\"" ++ decimal width ++ codes "\" height=\"" ++ decimal height ++ codes "\" role=\"img\">"
+    ++ codes "\" width=\"" ++ decimal width ++ codes "\" height=\"" ++ decimal height ++ codes "\" " ++ attributes ++ codes ">"
+
+-- the attributes of a picture without links: it is one image (WAI-ARIA 1.2)
+abbrev pub image : List ℕ
+image = codes "role=\"img\""
 
 -- content: a list of elements and of groups with content
 pub data Content : Type 0 where
@@ -81,18 +85,18 @@ content_bytes (group class inside more) = group_tag class ++ content_bytes insid
 -- the bytes of a whole picture
 abbrev pub IsDocument : List ℕ → Type 0
 IsDocument bytes =
-    (width : ℕ) × (height : ℕ) × (content : Content) × (bytes ≡ root_tag width height ++ content_bytes content ++ codes "</svg>")
+    (width : ℕ) × (height : ℕ) × (content : Content) × (bytes ≡ root_tag image width height ++ content_bytes content ++ codes "</svg>")
 
 -- an unfinished picture
 pub record Drawn : Type 0 where
   -- the number of open groups
   pub depth : ℕ
-  -- its bytes
+  -- its bytes, as a picture without links
   pub written : List ℕ
 
--- The bytes of an unfinished picture with that number of open groups: each open group contains content, and then the
+-- The bytes in an unfinished picture with that number of open groups: each open group contains content, and then the
 -- next open group.
 abbrev pub IsUnfinished : ℕ → List ℕ → Type 0
-IsUnfinished zero bytes = (width : ℕ) × (height : ℕ) × (content : Content) × (bytes ≡ root_tag width height ++ content_bytes content)
+IsUnfinished zero bytes = (content : Content) × (bytes ≡ content_bytes content)
 IsUnfinished (suc depth) bytes =
     (before class : List ℕ) × (content : Content) × IsUnfinished depth before × (bytes ≡ before ++ group_tag class ++ content_bytes content)

@@ -1,13 +1,19 @@
 //! The canvas on which a picture is drawn.
 ghost use Rattle.std.specs.Prelude.{◌≡◌, ◌<◌, ◌+◌, ◌++◌, All, IfOk, OnOk, OnErr, codes, string_bytes};
 ghost use Rattle.regress_svg.specs.Links.{IsLinkedDocument};
-ghost use Rattle.regress_svg.specs.Markup.{IsDocument, element_bytes, group_tag, root_tag};
+ghost use Rattle.regress_svg.specs.Markup.{IsDocument, element_bytes, group_tag, image, root_tag};
 
 use crate::element::Element;
 use crate::escape::Escaped;
 use crate::link::{Area, write_links};
 use std::alloc::{AllocError, Global};
 use std::marker::Model;
+
+/// The attributes of a picture without links.
+const IMAGE: &str = "role=\"img\"";
+
+/// The attributes of a picture with links. A reader of the screen would not reach links in an image.
+const DOCUMENT: &str = "role=\"graphics-document\" aria-roledescription=\"diagram\"";
 
 /// A picture with links.
 #[derive(Drop)]
@@ -23,6 +29,9 @@ pub struct Linked {
 #[derive(Drop)]
 pub struct Sheet {
     alloc: Global,
+    width: u32,
+    height: u32,
+    /// What is drawn.
     text: String,
     /// The number of open groups.
     depth: usize,
@@ -31,34 +40,30 @@ pub struct Sheet {
 }
 
 impl Model for Sheet {
-    ghost use Rattle.std.specs.Prelude.{string_bytes};
-    ghost use Rattle.regress_svg.specs.Markup.{Drawn, IsUnfinished};
+    ghost use Rattle.std.specs.Prelude.{◌++◌, string_bytes};
+    ghost use Rattle.regress_svg.specs.Markup.{Drawn, IsUnfinished, image, root_tag};
 
     ghost Value = { Drawn };
 
-    ghost view = { λ sheet. record { depth = sheet.depth; written = string_bytes sheet.text } };
+    ghost view = { λ sheet. record { depth = sheet.depth; written = root_tag image sheet.width sheet.height ++ string_bytes sheet.text } };
 
     ghost invariant = { λ sheet. IsUnfinished sheet.depth (string_bytes sheet.text) };
 }
 
 impl Sheet {
     /// Returns an empty picture of this width and height, in user units.
-    ///
-    /// # Errors
-    /// Returns [`AllocError`] if an allocation fails.
-    pub fn new(alloc: Global, width: u32, height: u32) -> Result<Sheet, AllocError>
-        ensures depth { IfOk result (λ sheet. sheet.depth ≡ 0) }
-        ensures written { IfOk result (λ sheet. sheet.written ≡ root_tag width height) }
+    pub fn new(alloc: Global, width: u32, height: u32) -> Sheet
+        ensures depth { result.depth ≡ 0 }
+        ensures written { result.written ≡ root_tag image width height }
     {
-        let text = format!(in alloc;
-            "<svg xmlns=\"http://www.w3.org/2000/svg\" viewBox=\"0 0 {width} {height}\" width=\"{width}\" height=\"{height}\" role=\"img\">"
-        )?;
-        Ok(Sheet {
+        Sheet {
             alloc,
-            text,
+            width,
+            height,
+            text: String::new(alloc),
             depth: 0,
             areas: Vec::new(alloc),
-        })
+        }
     }
 
     /// Returns the number of open groups.
@@ -145,7 +150,8 @@ impl Sheet {
         ensures document { IfOk result (λ text. IsDocument (string_bytes text)) }
         ensures written { IfOk result (λ text. string_bytes text ≡ self.written ++ codes "</svg>") }
     {
-        let mut text = self.text;
+        let mut text = root_tag(self.alloc, IMAGE, self.width, self.height)?;
+        text.push_str(&self.text)?;
         text.push_str("</svg>")?;
         Ok(text)
     }
@@ -162,9 +168,19 @@ impl Sheet {
         ensures document { IfOk result (λ picture. IsLinkedDocument picture.lines.items (string_bytes picture.text)) }
         ensures lines { IfOk result (λ picture. All (λ line. line < count) picture.lines.items) }
     {
-        let mut text = self.text;
+        let mut text = root_tag(self.alloc, DOCUMENT, self.width, self.height)?;
+        text.push_str(&self.text)?;
         let lines = write_links(self.alloc, &self.areas, count, &mut text)?;
         text.push_str("</svg>")?;
         Ok(Linked { text, lines })
     }
+}
+
+/// Returns the start tag of a picture.
+fn root_tag(alloc: Global, attributes: &str, width: u32, height: u32) -> Result<String, AllocError>
+    ensures { IfOk result (λ tag. string_bytes tag ≡ root_tag attributes.now width height) }
+{
+    format!(in alloc;
+        "<svg xmlns=\"http://www.w3.org/2000/svg\" viewBox=\"0 0 {width} {height}\" width=\"{width}\" height=\"{height}\" {attributes}>"
+    )
 }

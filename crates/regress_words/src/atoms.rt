@@ -10,7 +10,8 @@ use regress_parse::Span;
 use regress_tree::ir::Node;
 use std::alloc::AllocError;
 
-/// Returns the character that a node is written as, if it is written as one.
+/// Returns the character that a node is written as, if it is written as one, also by an escape such as `\u` that stands
+/// for its letter. If the source text is not known, it is the only character that the node matches.
 ///
 /// # Errors
 /// Returns [`AllocError`] if an allocation fails.
@@ -28,16 +29,29 @@ pub fn literal(
                 [0x5B, inner @ .., 0x5D] => inner,
                 text => text,
             };
-            let whole = character_at(text, 0).filter(|found| found.end == text.len());
-            Ok(whole.map(|found| Character {
-                c: found.c,
-                either_case: is_cased(found.c) && source.scan.ignores_case(span.start),
-            }))
+            match character_at(text, 0).filter(|found| found.end == text.len()) {
+                Some(found) => Ok(Some(Character {
+                    c: found.c,
+                    either_case: is_cased(found.c) && source.scan.ignores_case(span.start),
+                })),
+                None if is_escape_of_one(source.text(span)) => single_character(source.alloc, node),
+                None => Ok(None),
+            }
         }
         (Node::CharSet(_) | Node::ByteSet(_) | Node::Bracket(_), []) => {
             single_character(source.alloc, node)
         }
         _ => Ok(None),
+    }
+}
+
+/// Returns whether a text is an escape that is no class escape and no property.
+fn is_escape_of_one(text: &[u32]) -> bool {
+    match text {
+        [0x5C, 0x70 | 0x50, 0x7B, ..] => false,
+        [0x5C, letter] => escape_words(*letter).is_none(),
+        [0x5C, ..] => true,
+        _ => false,
     }
 }
 
