@@ -1,6 +1,6 @@
 -- An unfinished picture, with more content after it.
 use Rattle.std.proofs.Common.{◌≡◌, ◌∙◌, ℕ, zero, suc, ◌+◌, ◌-◌, ◌<◌, ◌≤◌, List, [], ◌∷◌, ◌++◌, length, ap, sym, refl, subst, append_assoc, append-nil, codes, arith, add-one, length-append}
-use Rattle.regress_svg.specs.Markup.{Content, nothing, element, group, content_bytes, element_bytes, group_tag, image, root_tag, IsDocument, IsUnfinished}
+use Rattle.regress_svg.specs.Markup.{Content, nothing, element, group, content_bytes, element_bytes, group_tag, unlinked, root_tag, IsDocument, IsUnfinished}
 use Rattle.regress_svg.specs.declared.element.Element.{Element}
 
 -- the two contents joined
@@ -54,9 +54,9 @@ begins bytes is = (nothing, is)
 
 -- a picture without an open group
 pub whole : (depth width height : ℕ) (inside text : List ℕ) → depth ≡ 0 → IsUnfinished depth inside →
-    text ≡ (root_tag image width height ++ inside) ++ codes "</svg>" → IsDocument text
+    text ≡ (root_tag unlinked width height ++ inside) ++ codes "</svg>" → IsDocument text
 whole zero width height inside text none (content, holds) is =
-    (width, height, content, is ∙ ap (λ all. (root_tag image width height ++ all) ++ codes "</svg>") holds)
+    (width, height, content, is ∙ ap (λ all. (root_tag unlinked width height ++ all) ++ codes "</svg>") holds)
 whole (suc depth) width height inside text none front is = absurd (omega arith)
 
 -- one more element

@@ -66,9 +66,9 @@ root_tag attributes width height =
     codes "<svg xmlns=\"http://www.w3.org/2000/svg\" viewBox=\"0 0 " ++ decimal width ++ codes " " ++ decimal height
     ++ codes "\" width=\"" ++ decimal width ++ codes "\" height=\"" ++ decimal height ++ codes "\" " ++ attributes ++ codes ">"
 
--- the attributes of a picture without links: it is one image (WAI-ARIA 1.2)
-abbrev pub image : List ℕ
-image = codes "role=\"img\""
+-- the attributes of a picture without links: to assistive technologies it is one graphic (WAI-ARIA 1.2)
+abbrev pub unlinked : List ℕ
+unlinked = codes "role=\"img\""
 
 -- content: a list of elements and of groups with content
 pub data Content : Type 0 where
@@ -85,7 +85,7 @@ content_bytes (group class inside more) = group_tag class ++ content_bytes insid
 -- the bytes of a whole picture
 abbrev pub IsDocument : List ℕ → Type 0
 IsDocument bytes =
-    (width : ℕ) × (height : ℕ) × (content : Content) × (bytes ≡ root_tag image width height ++ content_bytes content ++ codes "</svg>")
+    (width : ℕ) × (height : ℕ) × (content : Content) × (bytes ≡ root_tag unlinked width height ++ content_bytes content ++ codes "</svg>")
 
 -- an unfinished picture
 pub record Drawn : Type 0 where

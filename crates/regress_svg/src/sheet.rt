@@ -1,7 +1,7 @@
 //! The canvas on which a picture is drawn.
 ghost use Rattle.std.specs.Prelude.{◌≡◌, ◌<◌, ◌+◌, ◌++◌, All, IfOk, OnOk, OnErr, codes, string_bytes};
 ghost use Rattle.regress_svg.specs.Links.{IsLinkedDocument};
-ghost use Rattle.regress_svg.specs.Markup.{IsDocument, element_bytes, group_tag, image, root_tag};
+ghost use Rattle.regress_svg.specs.Markup.{IsDocument, element_bytes, group_tag, unlinked, root_tag};
 
 use crate::element::Element;
 use crate::escape::Escaped;
@@ -10,9 +10,9 @@ use std::alloc::{AllocError, Global};
 use std::marker::Model;
 
 /// The attributes of a picture without links.
-const IMAGE: &str = "role=\"img\"";
+const UNLINKED: &str = "role=\"img\"";
 
-/// The attributes of a picture with links. A reader of the screen would not reach links in an image.
+/// The attributes of a picture with links. In a graphic of the role `img` assistive technologies do not reach links.
 const DOCUMENT: &str = "role=\"graphics-document\" aria-roledescription=\"diagram\"";
 
 /// A picture with links.
@@ -41,11 +41,11 @@ pub struct Sheet {
 
 impl Model for Sheet {
     ghost use Rattle.std.specs.Prelude.{◌++◌, string_bytes};
-    ghost use Rattle.regress_svg.specs.Markup.{Drawn, IsUnfinished, image, root_tag};
+    ghost use Rattle.regress_svg.specs.Markup.{Drawn, IsUnfinished, unlinked, root_tag};
 
     ghost Value = { Drawn };
 
-    ghost view = { λ sheet. record { depth = sheet.depth; written = root_tag image sheet.width sheet.height ++ string_bytes sheet.text } };
+    ghost view = { λ sheet. record { depth = sheet.depth; written = root_tag unlinked sheet.width sheet.height ++ string_bytes sheet.text } };
 
     ghost invariant = { λ sheet. IsUnfinished sheet.depth (string_bytes sheet.text) };
 }
@@ -54,7 +54,7 @@ impl Sheet {
     /// Returns an empty picture of this width and height, in user units.
     pub fn new(alloc: Global, width: u32, height: u32) -> Sheet
         ensures depth { result.depth ≡ 0 }
-        ensures written { result.written ≡ root_tag image width height }
+        ensures written { result.written ≡ root_tag unlinked width height }
     {
         Sheet {
             alloc,
@@ -150,7 +150,7 @@ impl Sheet {
         ensures document { IfOk result (λ text. IsDocument (string_bytes text)) }
         ensures written { IfOk result (λ text. string_bytes text ≡ self.written ++ codes "</svg>") }
     {
-        let mut text = root_tag(self.alloc, IMAGE, self.width, self.height)?;
+        let mut text = root_tag(self.alloc, UNLINKED, self.width, self.height)?;
         text.push_str(&self.text)?;
         text.push_str("</svg>")?;
         Ok(text)

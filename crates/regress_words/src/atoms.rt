@@ -10,8 +10,8 @@ use regress_parse::Span;
 use regress_tree::ir::Node;
 use std::alloc::AllocError;
 
-/// Returns the character that a node is written as, if it is written as one, also by an escape such as `\u` that stands
-/// for its letter. If the source text is not known, it is the only character that the node matches.
+/// Returns the character that a node is written as, if it is written as one, also by an escape such as `\u` that means
+/// its letter. If the source text is not known, it is the only character that the node matches.
 ///
 /// # Errors
 /// Returns [`AllocError`] if an allocation fails.

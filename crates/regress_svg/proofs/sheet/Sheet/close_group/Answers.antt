@@ -1,5 +1,5 @@
 use Rattle.std.proofs.Common.{◌≡◌, ◌<◌, ◌++◌, codes, string_bytes, rules}
-use Rattle.regress_svg.specs.Markup.{image, root_tag}
+use Rattle.regress_svg.specs.Markup.{unlinked, root_tag}
 use Rattle.regress_svg.proofs.MarkupLemmas.{closes, drawn_more}
 use Rattle.regress_svg.proofs.sheet.Sheet.close_group.Goals as goal
 
@@ -11,6 +11,6 @@ invariant_of-self-2 c =
 pub returns-clause-written : goal.returns-clause-written
 returns-clause-written c =
     let old = string_bytes c.self.inside.text in
-    let root = root_tag image c.self.inside.width c.self.inside.height in
+    let root = root_tag unlinked c.self.inside.width c.self.inside.height in
     let view : c.args.self.now.written ≡ root ++ old = search rules in
     drawn_more root old _ (codes "</g>") _ view c.in_ok-push_str.ensures.bytes

@@ -1,5 +1,5 @@
 use Rattle.std.proofs.Common.{◌≡◌, ◌∙◌, ◌++◌, ap, rules, string_bytes}
-use Rattle.regress_svg.specs.Markup.{element_bytes, image, root_tag}
+use Rattle.regress_svg.specs.Markup.{element_bytes, unlinked, root_tag}
 use Rattle.regress_svg.proofs.MarkupLemmas.{drawn_more, draws}
 use Rattle.regress_svg.proofs.sheet.Sheet.draw.Goals as goal
 
@@ -12,7 +12,7 @@ invariant_of-self-2 c =
 pub returns-clause-written : goal.returns-clause-written
 returns-clause-written c =
     let old = string_bytes c.self.inside.text in
-    let root = root_tag image c.self.inside.width c.self.inside.height in
+    let root = root_tag unlinked c.self.inside.width c.self.inside.height in
     let view : c.args.self.now.written ≡ root ++ old = search rules in
     drawn_more root old _ (element_bytes c.args.element) _ view
     (c.in_ok-push_str.ensures.bytes ∙ ap (λ markup. old ++ markup) (c.deref.ensures ∙ c.in_ok-markup.ensures.ok))
