@@ -2,16 +2,17 @@
 use Rattle.std.proofs.Common.{ℕ, Bool, true, false, not, ◌&&◌, ◌||◌, List, [], ◌∷◌, ◌++◌}
 use Rattle.std.specs.List.{All, zip, list_any}
 use Rattle.std.proofs.lemmas.List.Elements.{All-nil, All-cons, All-head, All-tail}
-use Rattle.regress_tree.specs.Tree.{empty, goal, char, byte_sequence, byte_set, char_set, match_any, match_any_except_line_terminator, anchor, word_boundary, bracket, back_ref, string_set, Tree, leaf, cat, alt, wrapped}
+use Rattle.regress_program.specs.Linear.{changes_some}
+use Rattle.regress_tree.specs.Tree.{empty, goal, char, byte_sequence, byte_set, char_set, match_any, match_any_except_line_terminator, anchor, word_boundary, bracket, back_ref, string_set, capture_group, loop, loop_one, lookaround, Tree, leaf, cat, alt, wrapped}
 use Rattle.regress_lexer.specs.Source.{Source}
 use Rattle.regress_parse.specs.declared.span.Span.{Span}
 use Rattle.regress_warnings.specs.declared.kind.Warning.{Warning}
 use Rattle.regress_warnings.specs.declared.kind.WarningKind.{WarningKind}
-use Rattle.regress_warnings.specs.declared.kind.WarningKind.TheVariants.{EmptyAlternative, HiddenAlternative, SplitAnchors, EmptyIteration, UnsetReference, LetterRange, DotBetweenDigits, RepeatedMember, BackReference}
+use Rattle.regress_warnings.specs.declared.kind.WarningKind.TheVariants.{EmptyAlternative, HiddenAlternative, SplitAnchors, EmptyIteration, UnsetReference, LetterRange, DotBetweenDigits, RepeatedMember, BackReference, CapturingLookaround}
 use Rattle.regress_warnings.specs.Alternatives.{has_empty_alternative, hides_next, splits_anchors}
 use Rattle.regress_warnings.specs.Classes.{has_letter_range, repeats_member, writes_letter_range}
 use Rattle.regress_warnings.specs.Digits.{has_dot_between_digits}
-use Rattle.regress_warnings.specs.Empty.{can_be_empty, is_loop}
+use Rattle.regress_warnings.specs.Empty.{can_be_empty}
 use Rattle.regress_warnings.specs.Warned.{closes, ends_with_span, warn_if, is_unset_reference, warned_at, warned}
 
 module _ (P : Span → Type 0) where
@@ -56,7 +57,10 @@ module _ (P : Span → Type 0) where
           both (warn_if empty EmptyAlternative s ++ warn_if hides HiddenAlternative s) (warn_if splits SplitAnchors s)
           (both (warn_if empty EmptyAlternative s) (warn_if hides HiddenAlternative s) (one empty EmptyAlternative s here) (one hides HiddenAlternative s here))
           (one splits SplitAnchors s here)
-      at_node (wrapped w body) = one (is_loop w && can_be_empty body) EmptyIteration s here
+      at_node (wrapped (capture_group id name) body) = All-nil OfSpan
+      at_node (wrapped (loop q start end) body) = one (can_be_empty body) EmptyIteration s here
+      at_node (wrapped (loop_one q) body) = one (can_be_empty body) EmptyIteration s here
+      at_node (wrapped (lookaround negate backwards start end) body) = one (not negate && changes_some body) CapturingLookaround s here
 
     -- What holds of all spans holds of those of the warnings.
     pub warned-spans : (before : List (Tree × Span)) (ts : List Tree) (ss : List Span) → All P ss → All OfSpan (warned sets source before (zip ts ss))

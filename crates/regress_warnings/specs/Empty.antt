@@ -35,10 +35,3 @@ abbrev mutual
   pub all_can_be_empty : Trees → Bool
   all_can_be_empty no_trees = true
   all_can_be_empty (more_trees t ts) = can_be_empty t && all_can_be_empty ts
-
--- the wrapper is a loop
-abbrev pub is_loop : Wrapper → Bool
-is_loop (capture_group id name) = false
-is_loop (loop q start end) = true
-is_loop (loop_one q) = true
-is_loop (lookaround negate backwards start end) = false

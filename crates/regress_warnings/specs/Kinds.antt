@@ -1,7 +1,7 @@
 -- The names, numbers and texts of the kinds of warnings. Names and numbers never change.
 use Rattle.std.specs.Prelude.{ℕ, List, codes}
 use Rattle.regress_warnings.specs.declared.kind.WarningKind.{WarningKind}
-use Rattle.regress_warnings.specs.declared.kind.WarningKind.TheVariants.{EmptyAlternative, HiddenAlternative, SplitAnchors, EmptyIteration, UnsetReference, LetterRange, DotBetweenDigits, RepeatedMember, BackReference}
+use Rattle.regress_warnings.specs.declared.kind.WarningKind.TheVariants.{EmptyAlternative, HiddenAlternative, SplitAnchors, EmptyIteration, UnsetReference, LetterRange, DotBetweenDigits, RepeatedMember, BackReference, CapturingLookaround}
 
 -- the name of a kind
 abbrev pub name_of : WarningKind → List ℕ
@@ -14,8 +14,9 @@ name_of LetterRange = codes "letter-range"
 name_of DotBetweenDigits = codes "dot-between-digits"
 name_of RepeatedMember = codes "repeated-member"
 name_of BackReference = codes "back-reference"
+name_of CapturingLookaround = codes "capturing-lookaround"
 
--- the number of a kind, from 1 to 9
+-- the number of a kind, from 1 to 10
 abbrev pub number_of : WarningKind → ℕ
 number_of EmptyAlternative = 1
 number_of HiddenAlternative = 2
@@ -26,6 +27,7 @@ number_of LetterRange = 6
 number_of DotBetweenDigits = 7
 number_of RepeatedMember = 8
 number_of BackReference = 9
+number_of CapturingLookaround = 10
 
 -- the text of a kind
 abbrev pub text_of : WarningKind → List ℕ
@@ -38,3 +40,4 @@ text_of LetterRange = codes "the class has all characters from an upper-case to 
 text_of DotBetweenDigits = codes ". between digits matches any character, and may be meant as the character itself: 1.5 matches 1x5, 1\\.5 does not"
 text_of RepeatedMember = codes "a character is in a class twice, where another one may be meant: [aab] matches what [ab] matches"
 text_of BackReference = codes "with a back reference a search may take more than linear time, and stop at a step limit: (a*)*\\1b in a long text of a"
+text_of CapturingLookaround = codes "with a group in a lookaround a search for all matches may take more than linear time: (?=(a*b)?)a in a long text of a"

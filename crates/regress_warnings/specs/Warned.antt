@@ -1,17 +1,18 @@
 -- What is warned of in a pattern: in which nodes, and why.
 use Rattle.std.specs.Prelude.{ℕ, ◌+◌, Bool, false, not, ◌&&◌, ◌||◌, ◌==◌, List, [], ◌∷◌, ◌++◌, map, if◌then◌else◌}
 use Rattle.std.specs.List.{list_any}
-use Rattle.regress_tree.specs.Tree.{Leaf, bracket, back_ref, Wrapper, capture_group, Tree, leaf, cat, alt, wrapped}
+use Rattle.regress_program.specs.Linear.{changes_some}
+use Rattle.regress_tree.specs.Tree.{Leaf, bracket, back_ref, Wrapper, capture_group, loop, loop_one, lookaround, Tree, leaf, cat, alt, wrapped}
 use Rattle.regress_lexer.specs.Source.{Source}
 use Rattle.regress_parse.specs.declared.span.Span.{Span}
 use Rattle.regress_spans.specs.Remarks.{Said}
 use Rattle.regress_warnings.specs.declared.kind.Warning.{Warning}
 use Rattle.regress_warnings.specs.declared.kind.WarningKind.{WarningKind}
-use Rattle.regress_warnings.specs.declared.kind.WarningKind.TheVariants.{EmptyAlternative, HiddenAlternative, SplitAnchors, EmptyIteration, UnsetReference, LetterRange, DotBetweenDigits, RepeatedMember, BackReference}
+use Rattle.regress_warnings.specs.declared.kind.WarningKind.TheVariants.{EmptyAlternative, HiddenAlternative, SplitAnchors, EmptyIteration, UnsetReference, LetterRange, DotBetweenDigits, RepeatedMember, BackReference, CapturingLookaround}
 use Rattle.regress_warnings.specs.Alternatives.{has_empty_alternative, hides_next, splits_anchors}
 use Rattle.regress_warnings.specs.Classes.{has_letter_range, repeats_member, writes_letter_range}
 use Rattle.regress_warnings.specs.Digits.{has_dot_between_digits}
-use Rattle.regress_warnings.specs.Empty.{can_be_empty, is_loop}
+use Rattle.regress_warnings.specs.Empty.{can_be_empty}
 use Rattle.regress_warnings.specs.Kinds.{name_of, text_of}
 
 -- the warning, if it holds
@@ -63,6 +64,12 @@ module _ (sets : Bool) (source : Source) where
         ++ warn_if (not sets && repeats_member source span) RepeatedMember span
     warned_at_leaf l = []
 
+    abbrev pub warned_at_wrapper : Wrapper → (body : Tree) → List Warning
+    warned_at_wrapper (capture_group id name) body = []
+    warned_at_wrapper (loop q start end) body = warn_if (can_be_empty body) EmptyIteration span
+    warned_at_wrapper (loop_one q) body = warn_if (can_be_empty body) EmptyIteration span
+    warned_at_wrapper (lookaround negate backwards start end) body = warn_if (not negate && changes_some body) CapturingLookaround span
+
     -- what is warned of in a node
     abbrev pub warned_at : Tree → List Warning
     warned_at (leaf l) = warned_at_leaf l
@@ -71,7 +78,7 @@ module _ (sets : Bool) (source : Source) where
         warn_if (has_empty_alternative source span right) EmptyAlternative span
         ++ warn_if (hides_next left right) HiddenAlternative span
         ++ warn_if (splits_anchors left right) SplitAnchors span
-    warned_at (wrapped w body) = warn_if (is_loop w && can_be_empty body) EmptyIteration span
+    warned_at (wrapped w body) = warned_at_wrapper w body
 
   -- What is warned of in these nodes, each beside its span, after the nodes before them. In postorder a group is after
   -- what is inside it, and so it is before a node if and only if it ends before it.

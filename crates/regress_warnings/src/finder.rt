@@ -7,6 +7,7 @@ ghost use Rattle.regress_warnings.specs.Warned.{is_same_span, warn_if, warned_at
 ghost use Rattle.regress_warnings.specs.Walked.{Adds, Closes, is_recorded, is_span};
 
 use crate::alternatives::{has_empty_alternative, hides_next, splits_anchors};
+use crate::captures::captures;
 use crate::classes::has_letter_range;
 use crate::digits::has_dot_between_digits;
 use crate::empty::can_be_empty;
@@ -103,6 +104,14 @@ impl Finder<'_> {
             Node::Loop { loopee, .. } | Node::Loop1CharBody { loopee, .. } => {
                 let holds = can_be_empty(loopee);
                 self.add_if(holds, WarningKind::EmptyIteration, span)
+            }
+            Node::LookaroundAssertion {
+                negate,
+                contents,
+                ..
+            } => {
+                let holds = !*negate && captures(contents);
+                self.add_if(holds, WarningKind::CapturingLookaround, span)
             }
             _ => Ok(()),
         }

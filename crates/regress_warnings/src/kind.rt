@@ -25,6 +25,8 @@ pub enum WarningKind {
     RepeatedMember,
     /// A back reference.
     BackReference,
+    /// A lookaround that is not negated and contains a capture group.
+    CapturingLookaround,
 }
 
 impl WarningKind {
@@ -42,10 +44,11 @@ impl WarningKind {
             WarningKind::DotBetweenDigits => "dot-between-digits",
             WarningKind::RepeatedMember => "repeated-member",
             WarningKind::BackReference => "back-reference",
+            WarningKind::CapturingLookaround => "capturing-lookaround",
         }
     }
 
-    /// Returns the number of the kind, which never changes: from 1 to 9, in the order of the variants.
+    /// Returns the number of the kind, which never changes: from 1 to 10, in the order of the variants.
     pub fn number(&self) -> u32
         ensures { result ≡ number_of self.now }
     {
@@ -59,6 +62,7 @@ impl WarningKind {
             WarningKind::DotBetweenDigits => 7,
             WarningKind::RepeatedMember => 8,
             WarningKind::BackReference => 9,
+            WarningKind::CapturingLookaround => 10,
         }
     }
 
@@ -91,6 +95,9 @@ impl WarningKind {
                 "a character is in a class twice, where another one may be meant: [aab] matches what [ab] matches",
             WarningKind::BackReference =>
                 "with a back reference a search may take more than linear time, and stop at a step limit: (a*)*\\1b in a \
+                 long text of a",
+            WarningKind::CapturingLookaround =>
+                "with a group in a lookaround a search for all matches may take more than linear time: (?=(a*b)?)a in a \
                  long text of a",
         }
     }

@@ -2,6 +2,7 @@
 #![tactic(auto)]
 
 mod alternatives;
+mod captures;
 mod classes;
 mod digits;
 mod empty;

@@ -81,7 +81,8 @@ fn remarks(alloc: Global, found: &[Warning]) -> Result<Vec<Remark>, AllocError>
 /// - Each alternative is compared with the next one only.
 /// - A back reference is listed if its group, or the first one of its name, ends after it, or contains it; in a
 ///   lookbehind, where matching runs backwards, if it ends before it. A reference to a group in another alternative is
-///   not listed. Each back reference is listed once more, as a search with it may not be linear.
+///   not listed. Each back reference is listed once more, as a search with it may not be linear; so is each lookaround
+///   that captures, other than in a lookaround or in a loop without iterations inside it.
 /// - A class is listed if an interval of its set runs from an upper-case to a lower-case letter, also where it has a
 ///   range such as `[-\x60` beside `A-Z` and `a-z`; without v and escapes also if such a range is written in it.
 /// - A class with the flag v, or with an escape, is not searched for repeated members.

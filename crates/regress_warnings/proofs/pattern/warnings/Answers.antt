@@ -1,5 +1,5 @@
 use Rattle.std.proofs.Common.{List, [], length, sym, subst, ap, ap₂, Bool, ◌∙◌}
-use Rattle.std.specs.List.{All, zip}
+use Rattle.std.specs.List.{All}
 use Rattle.regress_base.specs.declared.types.Flags.{Flags}
 use Rattle.regress_tree.specs.Tree.{Tree, tree}
 use Rattle.regress_parse.specs.declared.span.Span.{Span}
