@@ -132,6 +132,14 @@ uint32_t regress_replace_raw(regress_regex *handle, const uint8_t *text, size_t 
 uint32_t regress_replace_all_raw(regress_regex *handle, const uint8_t *text, size_t length,
                                  const uint8_t *replacement, size_t replacement_length, uint8_t *out, size_t room,
                                  size_t *needed);
+uint32_t regress_replace_n_raw(regress_regex *handle, const uint8_t *text, size_t length, const uint8_t *replacement,
+                               size_t replacement_length, size_t limit, uint8_t *out, size_t room, size_t *needed,
+                               size_t *count);
+uint32_t regress_expand_raw(regress_regex *handle, const uint8_t *text, size_t length, const size_t *spans,
+                            size_t span_count, const uint8_t *replacement, size_t replacement_length, uint8_t *out,
+                            size_t room, size_t *needed);
+uint32_t regress_split_raw(regress_regex *handle, const uint8_t *text, size_t length, size_t limit,
+                           regress_matches *parts);
 uint32_t regress_escape_raw(const uint8_t *text, size_t length, uint8_t *out, size_t room, size_t *needed);
 size_t regress_group_count_raw(regress_regex *handle);
 uint32_t regress_group_name_raw(regress_regex *handle, size_t group, uint8_t *out, size_t room, size_t *needed);
@@ -321,7 +329,8 @@ REGRESS_INLINE uint32_t regress_matches_next(regress_matches *matches, size_t *s
     return regress_matches_next_raw(matches, REGRESS_OR(spans, no_span), room, REGRESS_OR(needed, no_needed));
 }
 
-/* Returns how many numbers the matches that are left have together: 2 * (regress_group_count + 1) each. */
+/* Returns how many numbers the matches that are left have together: 2 * (regress_group_count + 1) each, and 2 for each
+   part of regress_split. */
 REGRESS_INLINE size_t regress_matches_left(const regress_matches *matches) {
     regress_matches own;
     if (!matches || !matches->inside) {
@@ -388,6 +397,69 @@ REGRESS_INLINE uint32_t regress_replace_all(const regress_regex *handle, const u
     own = *handle;
     return regress_replace_all_raw(&own, REGRESS_OR(text, no_byte), length, REGRESS_OR(replacement, no_template),
                                    replacement_length, REGRESS_OR(out, no_out), room, REGRESS_OR(needed, no_needed));
+}
+
+/* Writes the text with its first `limit` matches replaced, or all if there are fewer, as regress_replace does with one.
+   `count` is the number of those that are replaced with OK and ROOM, else 0; the pointer may be NULL. */
+REGRESS_INLINE uint32_t regress_replace_n(const regress_regex *handle, const uint8_t *text, size_t length,
+                                          const uint8_t *replacement, size_t replacement_length, size_t limit,
+                                          uint8_t *out, size_t room, size_t *needed, size_t *count) {
+    regress_regex own;
+    size_t no_needed = 0, no_count = 0;
+    uint8_t no_byte = 0, no_template = 0, no_out = 0;
+    count = REGRESS_OR(count, no_count);
+    if (regress_is_zero(handle) || REGRESS_IS_MISSING(text, length)
+        || REGRESS_IS_MISSING(replacement, replacement_length) || REGRESS_IS_MISSING(out, room)) {
+        *count = 0;
+        return regress_bad_input(needed);
+    }
+    own = *handle;
+    return regress_replace_n_raw(&own, REGRESS_OR(text, no_byte), length, REGRESS_OR(replacement, no_template),
+                                 replacement_length, limit, REGRESS_OR(out, no_out), room,
+                                 REGRESS_OR(needed, no_needed), count);
+}
+
+/* Writes what a template expands to at a match, as regress_replace expands it, to `out`, a buffer of `room` bytes.
+
+   `spans` are the numbers of a match in the text, as regress_find and regress_matches_next write them. Of the text
+   outside these spans only $` and $' need something: a caller with many matches of a long text may pass the part with
+   the spans, with numbers counted from its start, since each call decodes all that it gets.
+
+   Returns OK, ROOM, MEMORY or BAD_INPUT: the last if the text or the template is not UTF-8, or if the numbers are none
+   of a match in the text: if there are too few or too many, or a span does not lie on character boundaries of the text.
+   `needed` is the length of the result in bytes with OK and ROOM, else 0. */
+REGRESS_INLINE uint32_t regress_expand(const regress_regex *handle, const uint8_t *text, size_t length,
+                                       const size_t *spans, size_t span_count, const uint8_t *replacement,
+                                       size_t replacement_length, uint8_t *out, size_t room, size_t *needed) {
+    regress_regex own;
+    size_t no_span = 0, no_needed = 0;
+    uint8_t no_byte = 0, no_template = 0, no_out = 0;
+    if (regress_is_zero(handle) || REGRESS_IS_MISSING(text, length) || REGRESS_IS_MISSING(spans, span_count)
+        || REGRESS_IS_MISSING(replacement, replacement_length) || REGRESS_IS_MISSING(out, room)) {
+        return regress_bad_input(needed);
+    }
+    own = *handle;
+    return regress_expand_raw(&own, REGRESS_OR(text, no_byte), length, REGRESS_OR(spans, no_span), span_count,
+                              REGRESS_OR(replacement, no_template), replacement_length, REGRESS_OR(out, no_out), room,
+                              REGRESS_OR(needed, no_needed));
+}
+
+/* Splits a text as split of JavaScript, into at most `limit` parts, and writes `parts`, which regress_matches_next takes
+   one part after the other from: its start and its end, or REGRESS_UNSET twice for a group that is unset. All else is
+   as for regress_matches_new.
+
+   A match splits the text unless it is empty and at the start of the text, at its end, or at the end of the match before
+   it. The part before a match is followed by the captures of its groups. An empty text has no parts if it has a match,
+   and else one. */
+REGRESS_INLINE uint32_t regress_split(const regress_regex *handle, const uint8_t *text, size_t length, size_t limit,
+                                      regress_matches *parts) {
+    regress_regex own;
+    uint8_t no_byte = 0;
+    if (regress_is_zero(handle) || REGRESS_IS_MISSING(text, length) || !parts) {
+        return REGRESS_BAD_INPUT;
+    }
+    own = *handle;
+    return regress_split_raw(&own, REGRESS_OR(text, no_byte), length, limit, parts);
 }
 
 /* Writes the pattern that matches exactly a text, as RegExp.escape of JavaScript, to `out`, a buffer of `room` bytes.

@@ -28,6 +28,39 @@ static void replace(regress_regex *regex, const uint8_t *text, size_t most, cons
     }
 }
 
+/* Expands the pattern as a template at the first match, which is what replaces that match. */
+static void expand(regress_regex *regex, const uint8_t *text, size_t most, const uint8_t *pattern, size_t length,
+                   const size_t *spans, size_t count) {
+    size_t whole, expanded, changes;
+    uint32_t status = regress_replace_n(regex, text, most, pattern, length, 1, out, sizeof out, &whole, &changes);
+    uint32_t status_of_one = regress_expand(regex, text, most, spans, count, pattern, length, out, sizeof out, &expanded);
+    if (status == REGRESS_OUT_OF_STEPS ? changes != 0 : (status != REGRESS_BAD_INPUT) != (changes == 1)) {
+        abort();
+    }
+    if (status == REGRESS_OK && (status_of_one != REGRESS_OK || whole + spans[1] != most + spans[0] + expanded)) {
+        abort();
+    }
+}
+
+/* Splits a text: all parts are inside it. */
+static void split(regress_regex *regex, const uint8_t *text, size_t most, size_t limit) {
+    regress_matches parts = {NULL};
+    size_t span[2], count = 0, needed;
+    if (regress_split(regex, text, most, limit, &parts) != REGRESS_OK) {
+        return;
+    }
+    for (; regress_matches_next(&parts, span, 2, &needed) == REGRESS_OK; count++) {
+        int is_unset = span[0] == REGRESS_UNSET && span[1] == REGRESS_UNSET;
+        if (!is_unset && (span[0] > span[1] || span[1] > most)) {
+            abort();
+        }
+    }
+    if (count > limit) {
+        abort();
+    }
+    regress_matches_free(&parts);
+}
+
 /* Searches in a text for the pattern that escapes it. */
 static void escape(const uint8_t *text, size_t most, uint32_t flags) {
     size_t needed, position, spans[2];
@@ -169,6 +202,10 @@ int LLVMFuzzerTestOneInput(const uint8_t *data, size_t size) {
         abort();
     }
     replace(&regex, text, most, pattern, length, status == REGRESS_NO_MATCH);
+    if (status == REGRESS_OK) {
+        expand(&regex, text, most, pattern, length, spans, needed);
+    }
+    split(&regex, text, most, flags);
     find_all(&regex, text, most, flags, count);
     regress_free(&regex);
     escape(text, most, flags);

@@ -301,6 +301,120 @@ static void replaces(void) {
     regress_free(&regex);
 }
 
+static size_t changes;
+
+static uint32_t first_replaced(const regress_regex *regex, const char *text, const char *replacement, size_t limit,
+                               size_t room) {
+    memset(bytes, 0xA5, sizeof bytes);
+    changes = MARK;
+    return regress_replace_n(regex, (const uint8_t *)text, strlen(text), (const uint8_t *)replacement,
+                             strlen(replacement), limit, bytes, room, &needed, &changes);
+}
+
+static void replaces_some(void) {
+    regress_regex regex;
+    CHECK(compiled("x|(y)", SMALL, &regex) == REGRESS_OK);
+    CHECK(first_replaced(&regex, "axbyx", "<$1>", 2, ROOM) == REGRESS_OK && are_bytes("a<>b<y>x") && changes == 2);
+    CHECK(first_replaced(&regex, "axbyx", "<$1>", 1, ROOM) == REGRESS_OK && are_bytes("a<>byx") && changes == 1);
+    CHECK(first_replaced(&regex, "axbyx", "<$1>", 0, ROOM) == REGRESS_OK && are_bytes("axbyx") && changes == 0);
+    CHECK(first_replaced(&regex, "axbyx", "<$1>", SIZE_MAX, ROOM) == REGRESS_OK && are_bytes("a<>b<y><>") && changes == 3);
+    CHECK(first_replaced(&regex, "ab", "-", 2, ROOM) == REGRESS_OK && are_bytes("ab") && changes == 0);
+    CHECK(first_replaced(&regex, "axbyx", "<$1>", 2, 7) == REGRESS_ROOM && needed == 8 && bytes[0] == 0xA5 && changes == 2);
+    CHECK(first_replaced(&regex, "\xFF", "-", 2, ROOM) == REGRESS_BAD_INPUT && are_none() && changes == 0);
+    CHECK(first_replaced(&regex, "x", "\xFF", 2, ROOM) == REGRESS_BAD_INPUT && are_none() && changes == 0);
+    CHECK(regress_replace_n(&regex, NULL, 0, NULL, 0, 1, NULL, 0, NULL, NULL) == REGRESS_OK);
+    changes = needed = 1;
+    CHECK(regress_replace_n(&regex, NULL, 1, NULL, 0, 1, NULL, 0, &needed, &changes) == REGRESS_BAD_INPUT);
+    CHECK(needed == 0 && changes == 0);
+    regress_free(&regex);
+    CHECK(compiled_within(&one_step, "(a*)*\\1b", &regex) == REGRESS_OK);
+    CHECK(first_replaced(&regex, "aaaaaaaaaaaaaaaa", "c", 1, ROOM) == REGRESS_OUT_OF_STEPS && are_none() && changes == 0);
+    CHECK(first_replaced(&regex, "aaaaaaaaaaaaaaaa", "c", 0, ROOM) == REGRESS_OK && changes == 0);
+    regress_free(&regex);
+}
+
+static uint32_t expanded_at(const regress_regex *regex, const char *text, const size_t *numbers, size_t length,
+                            const char *replacement, size_t room) {
+    memset(bytes, 0xA5, sizeof bytes);
+    return regress_expand(regex, (const uint8_t *)text, strlen(text), numbers, length, (const uint8_t *)replacement,
+                          strlen(replacement), bytes, room, &needed);
+}
+
+#define NUMBERS(...) (const size_t[]){__VA_ARGS__}, sizeof((const size_t[]){__VA_ARGS__}) / sizeof(size_t)
+
+/* The expected texts are those of V8 11.3, as parts of what it replaces. */
+static void expands(void) {
+    const char *template = "[$&$`$'$1$2$<a>$$]";
+    regress_regex regex;
+    CHECK(compiled("(?<a>x)|(y)", SMALL, &regex) == REGRESS_OK);
+    CHECK(found_all(&regex, "axby", ROOM) == REGRESS_OK && needed == 12);
+    CHECK(expanded_at(&regex, "axby", spans, 6, template, ROOM) == REGRESS_OK && are_bytes("[xabyxx$]"));
+    CHECK(expanded_at(&regex, "axby", spans + 6, 6, template, ROOM) == REGRESS_OK && are_bytes("[yaxby$]"));
+    CHECK(expanded_at(&regex, "axby", spans + 6, 6, template, 7) == REGRESS_ROOM && needed == 8 && bytes[0] == 0xA5);
+    CHECK(expanded_at(&regex, "axby", spans + 6, 6, template, 8) == REGRESS_OK && are_bytes("[yaxby$]"));
+    CHECK(expanded_at(&regex, "axby", spans, 6, "", 0) == REGRESS_OK && are_bytes(""));
+    /* Not one number for each end. */
+    CHECK(expanded_at(&regex, "axby", spans, 5, "", ROOM) == REGRESS_BAD_INPUT && are_none());
+    CHECK(expanded_at(&regex, "axby", spans, 4, "", ROOM) == REGRESS_BAD_INPUT && are_none());
+    CHECK(expanded_at(&regex, "axby", spans, 8, "", ROOM) == REGRESS_BAD_INPUT && are_none());
+    CHECK(expanded_at(&regex, "axby", spans, 1, "", ROOM) == REGRESS_BAD_INPUT && are_none());
+    CHECK(expanded_at(&regex, "axby", NULL, 0, "", ROOM) == REGRESS_BAD_INPUT && are_none());
+    CHECK(expanded_at(&regex, "axby", NULL, 6, "", ROOM) == REGRESS_BAD_INPUT && are_none());
+    CHECK(expanded_at(&regex, "\xFF", spans, 6, "", ROOM) == REGRESS_BAD_INPUT && are_none());
+    CHECK(expanded_at(&regex, "axby", spans, 6, "\xFF", ROOM) == REGRESS_BAD_INPUT && are_none());
+    regress_free(&regex);
+    /* A match need not be one that a search finds, but its spans have to be inside the text. U+20AC takes three bytes. */
+    CHECK(compiled("(a)", SMALL, &regex) == REGRESS_OK);
+    const char *euro = "\xE2\x82\xAC";
+    CHECK(expanded_at(&regex, euro, NUMBERS(0, 3, 3, 3), "<$&$1>", ROOM) == REGRESS_OK && are_bytes("<\xE2\x82\xAC>"));
+    CHECK(expanded_at(&regex, euro, NUMBERS(3, 3, SIZE_MAX, SIZE_MAX), "<$1>", ROOM) == REGRESS_OK && are_bytes("<>"));
+    CHECK(expanded_at(&regex, euro, NUMBERS(0, 4, 0, 3), "", ROOM) == REGRESS_BAD_INPUT && are_none());
+    CHECK(expanded_at(&regex, euro, NUMBERS(0, 1, 0, 3), "", ROOM) == REGRESS_BAD_INPUT && are_none());
+    CHECK(expanded_at(&regex, euro, NUMBERS(0, 3, 2, 3), "", ROOM) == REGRESS_BAD_INPUT && are_none());
+    CHECK(expanded_at(&regex, euro, NUMBERS(0, 3, 3, 0), "", ROOM) == REGRESS_BAD_INPUT && are_none());
+    CHECK(expanded_at(&regex, euro, NUMBERS(3, 0, 0, 3), "", ROOM) == REGRESS_BAD_INPUT && are_none());
+    CHECK(expanded_at(&regex, euro, NUMBERS(0, 3, SIZE_MAX, 3), "", ROOM) == REGRESS_BAD_INPUT && are_none());
+    CHECK(expanded_at(&regex, euro, NUMBERS(0, 3, 0, SIZE_MAX), "", ROOM) == REGRESS_BAD_INPUT && are_none());
+    CHECK(expanded_at(&regex, euro, NUMBERS(SIZE_MAX, SIZE_MAX, 0, 3), "", ROOM) == REGRESS_BAD_INPUT && are_none());
+    regress_free(&regex);
+}
+
+/* Splits a text, and writes the ends of all parts. */
+static uint32_t split(const regress_regex *regex, const char *text, size_t limit) {
+    regress_matches parts = {NULL};
+    size_t written = 0;
+    mark();
+    uint32_t status = regress_split(regex, (const uint8_t *)text, strlen(text), limit, &parts);
+    while (regress_matches_next(&parts, spans + written, ROOM - written, &needed) == REGRESS_OK) {
+        written += needed;
+    }
+    regress_matches_free(&parts);
+    needed = written;
+    return status;
+}
+
+/* The expected parts are those of V8 11.3. */
+static void splits(void) {
+    regress_regex regex;
+    CHECK(compiled("(\\d)|(x)", SMALL, &regex) == REGRESS_OK);
+    CHECK(split(&regex, "a1b2c", SIZE_MAX) == REGRESS_OK
+          && ARE(0, 1, 1, 2, SIZE_MAX, SIZE_MAX, 2, 3, 3, 4, SIZE_MAX, SIZE_MAX, 4, 5));
+    CHECK(split(&regex, "a1b2c", 2) == REGRESS_OK && ARE(0, 1, 1, 2));
+    CHECK(split(&regex, "a1b2c", 0) == REGRESS_OK && needed == 0);
+    CHECK(split(&regex, "", 9) == REGRESS_OK && ARE(0, 0));
+    CHECK(split(&regex, "\xFF", 9) == REGRESS_BAD_INPUT && needed == 0);
+    CHECK(regress_split(&regex, NULL, 1, 9, NULL) == REGRESS_BAD_INPUT);
+    CHECK(regress_split(&regex, NULL, 0, 9, NULL) == REGRESS_BAD_INPUT);
+    regress_free(&regex);
+    CHECK(compiled("b|", SMALL, &regex) == REGRESS_OK);
+    CHECK(split(&regex, "\xE2\x82\xAC" "ab", SIZE_MAX) == REGRESS_OK && ARE(0, 3, 3, 4, 5, 5));
+    CHECK(split(&regex, "", SIZE_MAX) == REGRESS_OK && needed == 0);
+    regress_free(&regex);
+    CHECK(compiled_within(&one_step, "(a*)*\\1b", &regex) == REGRESS_OK);
+    CHECK(split(&regex, "aaaaaaaaaaaaaaaa", 9) == REGRESS_OUT_OF_STEPS && needed == 0);
+    regress_free(&regex);
+}
+
 /* The expected patterns are by ECMA-262, EncodeForRegExpEscape. */
 static void escapes(void) {
     CHECK(escaped("1+1 = 2?", ROOM) == REGRESS_OK && are_bytes("\\x31\\+1\\x20\\x3d\\x202\\?"));
@@ -549,7 +663,7 @@ static void refuse(const char *pattern, const char *text) {
 }
 
 /* A call that searches. Those for all matches begin at an offset, and have no status for no match there. */
-enum searching { FINDING, FINDING_ALL, LISTING, TESTING };
+enum searching { FINDING, FINDING_ALL, LISTING, SPLITTING, TESTING };
 
 /* Lists the matches, and writes all of them. */
 static uint32_t listed(const regress_regex *regex, const char *text) {
@@ -575,6 +689,11 @@ static uint32_t searched(enum searching how, const regress_regex *regex, const c
     }
     if (how == LISTING) {
         return listed(regex, text);
+    }
+    if (how == SPLITTING) {
+        uint32_t status = split(regex, text, SIZE_MAX);
+        needed = 0;
+        return status == REGRESS_OK && spans[1] == strlen(text) ? REGRESS_NO_MATCH : status;
     }
     mark();
     needed = 0;
@@ -607,7 +726,7 @@ static void refuse_search(enum searching how, const char *pattern, const char *t
 }
 
 /* A call that writes a text, and what it writes. */
-enum writing { REPLACING, REPLACING_ALL, ESCAPING };
+enum writing { REPLACING, REPLACING_ALL, REPLACING_ONE, EXPANDING, ESCAPING };
 
 static uint32_t written(enum writing how, regress_regex *regex) {
     switch (how) {
@@ -615,6 +734,10 @@ static uint32_t written(enum writing how, regress_regex *regex) {
         return replaced(regex, "-xyyxyy", "<$<a>$'>", ROOM);
     case REPLACING_ALL:
         return all_replaced(regex, "-xyyxyy", "<$<a>$'>", ROOM);
+    case REPLACING_ONE:
+        return first_replaced(regex, "-xyyxyy", "<$<a>$'>", 1, ROOM);
+    case EXPANDING:
+        return expanded_at(regex, "-xyyxyy", NUMBERS(1, 4, 2, 4), "<$<a>$'>", ROOM);
     default:
         return escaped("1 + 1 = 2", ROOM);
     }
@@ -675,6 +798,9 @@ int main(void) {
     names();
     messages();
     replaces();
+    replaces_some();
+    expands();
+    splits();
     escapes();
     lists_of_differences();
     null_pointers();
@@ -692,6 +818,8 @@ int main(void) {
     }
     refuse_text(REPLACING, "-<yyxyy>xyy");
     refuse_text(REPLACING_ALL, "-<yyxyy><yy>");
+    refuse_text(REPLACING_ONE, "-<yyxyy>xyy");
+    refuse_text(EXPANDING, "<yyxyy>");
     refuse_text(ESCAPING, "\\x31\\x20\\+\\x201\\x20\\x3d\\x202");
     refuse_differences("[k](?<a>x)|\\W(?<a>[s])\\k<a>", REGRESS_OK, 4);
     refuse_differences("[k])", REGRESS_SYNTAX, 0);

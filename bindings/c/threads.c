@@ -33,6 +33,14 @@ static int calls(void) {
     wrong += regress_replace_all(&shared, bytes, length, (const uint8_t *)"$3.$2.$1", 8, out, 64, &needed) != REGRESS_OK
              || needed != strlen(replaced) || memcmp(out, replaced, needed) != 0;
     wrong += regress_replace(&shared, bytes, length, NULL, 0, out, 64, &needed) != REGRESS_OK || needed != length - 10;
+    size_t count;
+    wrong += regress_replace_n(&shared, bytes, length, NULL, 0, 1, out, 64, &needed, &count) != REGRESS_OK || count != 1;
+    wrong += regress_find(&shared, bytes, length, 0, spans, 16, &needed) != REGRESS_OK
+             || regress_expand(&shared, bytes, length, spans, needed, (const uint8_t *)"$1", 2, out, 64, &needed)
+                    != REGRESS_OK || needed != 4 || memcmp(out, "2024", 4) != 0;
+    wrong += regress_split(&shared, bytes, length, 1, &matches) != REGRESS_OK
+             || regress_matches_next(&matches, spans, 2, &needed) != REGRESS_OK || spans[1] != 3;
+    regress_matches_free(&matches);
     wrong += regress_group_count(&shared) != 3;
     wrong += regress_group_name(&shared, 1, out, 64, &needed) != REGRESS_OK || memcmp(out, "year", 5) != 0;
     wrong += regress_is_linear(&shared) != 1 || regress_nonlinear(&shared) != 0;

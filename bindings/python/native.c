@@ -684,23 +684,53 @@ static PyObject *encoded(const searcher_object *searcher, PyObject *string) {
     return data;
 }
 
-/* replaced(template, string, all): the text with the first match replaced, or all */
+/* A text in which the first matches are replaced by a template. */
+struct replacement {
+    const uint8_t *text, *template;
+    size_t length, template_length, limit;
+    int is_counted;
+    size_t count; /* how many are replaced */
+};
+
+/* One match is searched for in linear time with more patterns than several are. */
+static uint32_t replace(const searcher_object *searcher, struct replacement *by, uint8_t *out, size_t room,
+                        size_t *needed) {
+    if (!by->is_counted && by->limit == 1) {
+        return regress_replace(&searcher->regex, by->text, by->length, by->template, by->template_length, out, room,
+                               needed);
+    }
+    return regress_replace_n(&searcher->regex, by->text, by->length, by->template, by->template_length, by->limit, out,
+                             room, needed, &by->count);
+}
+
+/* Returns bytes that are UTF-8 in the type of the pattern. */
+static PyObject *decoded(const searcher_object *searcher, const char *bytes, size_t length) {
+    return searcher->is_bytes ? PyBytes_FromStringAndSize(bytes, (Py_ssize_t)length)
+                              : PyUnicode_FromStringAndSize(bytes, (Py_ssize_t)length);
+}
+
+/* replaced(template, string, limit, is_counted): the text with its first matches replaced; with is_counted the tuple of
+   that and of their number */
 static PyObject *searcher_replaced(PyObject *self, PyObject *arguments) {
     const searcher_object *searcher = (searcher_object *)self;
     PyObject *template, *string, *result = NULL;
-    int all;
-    if (!PyArg_ParseTuple(arguments, "OOp", &template, &string, &all)) {
+    Py_ssize_t limit;
+    struct replacement by = {0};
+    if (!PyArg_ParseTuple(arguments, "OOnp", &template, &string, &limit, &by.is_counted)) {
         return NULL;
     }
-    PyObject *text = encoded(searcher, string), *by = text ? encoded(searcher, template) : NULL;
-    if (!by) {
+    PyObject *text = encoded(searcher, string), *template_bytes = text ? encoded(searcher, template) : NULL;
+    if (!template_bytes) {
         Py_XDECREF(text);
         return NULL;
     }
-    Py_ssize_t length = PyBytes_Size(text), by_length = PyBytes_Size(by);
-    const uint8_t *bytes = (const uint8_t *)PyBytes_AsString(text), *by_bytes = (const uint8_t *)PyBytes_AsString(by);
+    by.text = (const uint8_t *)PyBytes_AsString(text);
+    by.length = (size_t)PyBytes_Size(text);
+    by.template = (const uint8_t *)PyBytes_AsString(template_bytes);
+    by.template_length = (size_t)PyBytes_Size(template_bytes);
+    by.limit = (size_t)limit;
     uint8_t *out = NULL;
-    size_t needed = (size_t)(2 * length + by_length + 64);
+    size_t needed = 2 * by.length + by.template_length + 64;
     uint32_t status = REGRESS_ROOM;
     /* If more room is needed, the search is made again. */
     for (int call = 0; call < 2 && status == REGRESS_ROOM; call++) {
@@ -710,23 +740,74 @@ static PyObject *searcher_replaced(PyObject *self, PyObject *arguments) {
         if (!out) {
             break;
         }
-        PyThreadState *state = drop_gil(length);
-        status = (all ? regress_replace_all : regress_replace)(&searcher->regex, bytes, (size_t)length, by_bytes,
-                                                               (size_t)by_length, out, room, &needed);
+        PyThreadState *state = drop_gil((Py_ssize_t)by.length);
+        status = replace(searcher, &by, out, room, &needed);
         take_gil(state);
     }
     if (!out) {
         PyErr_NoMemory();
     } else if (status != REGRESS_OK) {
         failed(searcher, status);
-    } else if (searcher->is_bytes) {
-        result = PyBytes_FromStringAndSize((const char *)out, (Py_ssize_t)needed);
     } else {
-        result = PyUnicode_FromStringAndSize((const char *)out, (Py_ssize_t)needed);
+        result = decoded(searcher, (const char *)out, needed);
+        if (result && by.is_counted) {
+            result = Py_BuildValue("Nn", result, (Py_ssize_t)by.count);
+        }
     }
     PyMem_Free(out);
     Py_DECREF(text);
-    Py_DECREF(by);
+    Py_DECREF(template_bytes);
+    return result;
+}
+
+/* Returns the list of the parts of a text, of which the last of as many as the limit is the rest of the text. */
+static PyObject *listed_parts(const searcher_object *searcher, const char *bytes, size_t length, size_t limit,
+                              regress_matches *parts) {
+    size_t count = regress_matches_left(parts) / 2, span[2], needed;
+    PyObject *list = PyList_New((Py_ssize_t)count);
+    for (size_t i = 0; list && i < count; i++) {
+        PyObject *item = Py_None;
+        if (regress_matches_next(parts, span, 2, &needed) == REGRESS_OK && span[0] != REGRESS_UNSET) {
+            size_t end = i + 1 == limit ? length : span[1];
+            item = decoded(searcher, bytes + span[0], end - span[0]);
+        } else {
+            Py_INCREF(item);
+        }
+        if (!item || PyList_SetItem(list, (Py_ssize_t)i, item)) {
+            Py_CLEAR(list);
+        }
+    }
+    return list;
+}
+
+static PyObject *searcher_split(PyObject *self, PyObject *arguments, PyObject *keywords) {
+    static char *names[] = {"string", "maxsplit", NULL};
+    const searcher_object *searcher = (searcher_object *)self;
+    PyObject *string, *result = NULL;
+    Py_ssize_t most = 0;
+    if (!PyArg_ParseTupleAndKeywords(arguments, keywords, "O|n", names, &string, &most)) {
+        return NULL;
+    }
+    PyObject *text = encoded(searcher, string);
+    if (!text) {
+        return NULL;
+    }
+    const uint8_t *bytes = (const uint8_t *)PyBytes_AsString(text);
+    size_t length = (size_t)PyBytes_Size(text), limit = SIZE_MAX, each = (size_t)searcher->count / 2;
+    if (most != 0 && most < PY_SSIZE_T_MAX / searcher->count) {
+        limit = (most > 0 ? (size_t)most * each : 0) + 1;
+    }
+    regress_matches parts = {NULL};
+    PyThreadState *state = drop_gil((Py_ssize_t)length);
+    uint32_t status = regress_split(&searcher->regex, bytes, length, limit, &parts);
+    take_gil(state);
+    if (status == REGRESS_OK) {
+        result = listed_parts(searcher, (const char *)bytes, length, limit, &parts);
+    } else {
+        failed(searcher, status);
+    }
+    regress_matches_free(&parts);
+    Py_DECREF(text);
     return result;
 }
 
@@ -736,6 +817,7 @@ static PyMethodDef searcher_methods[] = {
     {"findall", WITH_KEYWORDS(searcher_findall), NULL},
     {"finditer", WITH_KEYWORDS(searcher_finditer), NULL},
     {"replaced", searcher_replaced, METH_VARARGS, NULL},
+    {"split", WITH_KEYWORDS(searcher_split), NULL},
     {NULL, NULL, 0, NULL},
 };
 

@@ -237,6 +237,7 @@ class Calls(unittest.TestCase):
         self.assertEqual(found.span('month'), (7, 9))
         self.assertEqual(found.span(3), (-1, -1))
         self.assertEqual(found.expand('$<month>/$1$3$4$$'), '05/2024$4$')
+        self.assertEqual(found.expand("$`|$'|$&"), 'é ||2024-05')
         self.assertEqual(repr(found), "<regress.Match object; span=(2, 9), match='2024-05'>")
         for group in (4, -1, 'day', 'x'):
             with self.assertRaises(IndexError):
@@ -312,6 +313,19 @@ class Calls(unittest.TestCase):
         self.assertEqual(regress.sub('a', 'x', 'aba', 1), 'xba')
         self.assertEqual(regress.subn('a', 'x', 'aba'), ('xbx', 2))
         self.assertEqual(regress.split(',', 'a,b,c', 1), ['a', 'b,c'])
+        self.assertEqual(regress.split('(,)|é', 'aéb,c,d', 2), ['a', None, 'b', ',', 'c,d'])
+        self.assertEqual(regress.split(b',', bytearray(b'a,b,c'), -1), [b'a,b,c'])
+        self.assertEqual(regress.subn('[ab]', '<$&>', 'éabab', 3), ('é<a><b><a>b', 3))
+        self.assertEqual(regress.subn('[ab]', '<$&>', 'abab', -1), ('abab', 0))
+        self.assertEqual(regress.sub('a', '-', 'aaa', 2), '--a')
+        # Captures that are not in the match, in a text that is not ASCII and in bytes.
+        for pattern, text in ('(?<=(é)|(z))b(?=.*(d))', 'aéb-cd'), ('(?<=(é)|(z))b(?=.*(d))'.encode(), 'aéb-cd'.encode()):
+            template = '$1$2$3$&'
+            found = regress.search(pattern, text)
+            expanded = found.expand(template if isinstance(text, str) else template.encode())
+            self.assertEqual(expanded, 'édb' if isinstance(text, str) else 'édb'.encode())
+        many = '1-' * 20000
+        self.assertEqual({found.expand('<$1>') for found in regress.finditer('(1)', many)}, {'<1>'})
         pattern = regress.compile('a', 'i')
         self.assertTrue(regress.search(pattern, 'A'))
         self.assertRaises(ValueError, regress.search, pattern, 'A', 'i')
@@ -588,6 +602,7 @@ class Memory(unittest.TestCase):
         for pattern, text in self.SEARCHES:
             pattern = regress.compile(pattern)
             pattern.fullmatch(text)
+            found = pattern.search(text)
             for name, call in (
                 ('search', lambda: pattern.search(text).span()),
                 ('match', lambda: pattern.match(text) is None),
@@ -597,7 +612,10 @@ class Memory(unittest.TestCase):
                 ('sub', lambda: pattern.sub('<$1>', text)),
                 ('sub of the first match', lambda: pattern.sub('<$1>', text, 1)),
                 ('subn', lambda: pattern.subn('<$1>', text)),
+                ('sub of two matches', lambda: pattern.sub('<$1>', text, 2)),
                 ('split', lambda: pattern.split(text)),
+                ('split once', lambda: pattern.split(text, 1)),
+                ('expand', lambda: found.expand('<$1>')),
             ):
                 self.each_refused(name, call)
 

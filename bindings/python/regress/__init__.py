@@ -50,7 +50,6 @@ import functools
 import itertools
 import operator
 import os
-import re as _re
 import sys
 
 __all__ = ['compile', 'search', 'match', 'fullmatch', 'finditer', 'findall', 'sub', 'subn', 'split', 'escape', 'purge',
@@ -313,7 +312,7 @@ class Pattern:
             # The calls of the extension module do what the methods with these names do.
             native = self._searcher(program)
             self.search, self.match, self.findall = native.search, native.match, native.findall
-            self.finditer, self._replaced = native.finditer, native.replaced
+            self.finditer, self.split, self._replaced = native.finditer, native.split, native.replaced
 
     def search(self, string, pos=0, endpos=_END):
         """Returns the leftmost Match that starts at pos or later, or None.
@@ -371,26 +370,20 @@ class Pattern:
         for a Match. A backslash in a template is an ordinary character: write $2 and $<name> for what is \2 and \g<name>
         in re.
         """
-        if callable(repl) or count not in (0, 1):
+        if callable(repl):
             return self.subn(repl, string, count)[0]
-        return self._replaced(repl, string, count == 0)
+        return self._replaced(repl, string, _limit(count), False)
 
     def subn(self, repl, string, count=0):
         """Returns a tuple of the string as by sub(), and the number of matches that were replaced."""
+        if not callable(repl):
+            return self._replaced(repl, string, _limit(count), True)
         text = _same_type(self, string)
-        matches = self.finditer(text)
-        if count:
-            matches = itertools.islice(matches, max(count, 0))
-        if callable(repl):
-            def replaced(found):
-                return _valid(_same_type(self, repl(found)))
-        else:
-            replaced = _expander(self, _valid(_same_type(self, repl)))
         parts, at = [], 0
-        for found in matches:
+        for found in itertools.islice(self.finditer(text), _limit(count)):
             start, end = found.span()
             parts.append(text[at:start])
-            parts.append(replaced(found))
+            parts.append(_valid(_same_type(self, repl(found))))
             at = end
         parts.append(text[at:])
         return text[:0].join(parts), len(parts) // 2
@@ -402,23 +395,16 @@ class Pattern:
         As in JavaScript, an empty match does not split at the ends of the string or at the end of the match before it,
         and an empty string that matches has no parts.
         """
-        text = _same_type(self, string)
-        matches = self.finditer(text)
-        if not text:
-            return [text] if next(matches, None) is None else []
-        parts, at, splits = [], 0, 0
-        for found in matches:
-            start, end = found.span()
-            if start == len(text) or end == at:
-                continue
-            if maxsplit < 0 or splits == maxsplit > 0:
-                break
-            parts.append(text[at:start])
-            parts.extend(found.groups())
-            at = end
-            splits += 1
-        parts.append(text[at:])
-        return parts
+        data = _utf8(_same_type(self, string))
+        limit = _part_limit(self.groups, maxsplit)
+        spans = _split(self._program.address, data, limit)
+        if type(spans) is int:
+            raise self._program.failure(spans)
+        if len(spans) == limit:
+            # The last part is the rest of the text.
+            spans[-1] = spans[-1][0], len(data)
+        parts = [None if start < 0 else data[start:end] for start, end in spans]
+        return parts if self._type is bytes else [part if part is None else part.decode() for part in parts]
 
     def _searcher(self, program):
         """Returns what searches for a program of this pattern, in the extension module."""
@@ -445,13 +431,16 @@ class Pattern:
             raise self._program.failure(matches)
         return matches
 
-    def _replaced(self, template, string, replace_all):
-        """Returns a text with its first match replaced by a template, or all."""
+    def _replaced(self, template, string, limit, is_counted):
+        """Returns a text with its first matches replaced by a template; with is_counted the tuple of that and of their
+        number."""
         data = _utf8(_same_type(self, string))
-        out = _replace(self._program.address, data, _utf8(_same_type(self, template)), replace_all)
+        out = _replace(self._program.address, data, _utf8(_same_type(self, template)), limit, is_counted)
         if type(out) is int:
             raise self._program.failure(out)
-        return out if self._type is bytes else out.decode()
+        replaced, count = out
+        replaced = replaced if self._type is bytes else replaced.decode()
+        return (replaced, count) if is_counted else replaced
 
     def __repr__(self):
         return 'regress.compile(%r%s)' % (self.pattern, self.flags and ', %r' % self.flags)
@@ -540,7 +529,7 @@ class Match:
 
     def expand(self, template):
         """Returns what a template expands to, as by sub()."""
-        return _expander(self.re, _valid(_same_type(self.re, template)))(self)
+        return _expanded(self, _same_type(self.re, template))
 
     def _named(self, name):
         if name not in self.re.groupindex:
@@ -683,10 +672,21 @@ def _find(address, width, data, start):
 
 def _find_all(address, width, data, start):
     """Returns the list of the tuples of the spans of all matches, or the status of a failure."""
-    matches, spans, needed = _Regex(), (ctypes.c_ssize_t * width)(), ctypes.c_size_t()
+    matches = _Regex()
     status = _library.regress_matches_new_raw(_Regex(address), data, len(data), start, ctypes.byref(matches))
-    if status != _OK:
-        return status
+    return _listed(matches, width) if status == _OK else status
+
+
+def _split(address, data, limit):
+    """Returns the list of the spans of the parts of a text, or the status of a failure."""
+    parts = _Regex()
+    status = _library.regress_split_raw(_Regex(address), data, len(data), limit, ctypes.byref(parts))
+    return _listed(parts, 2) if status == _OK else status
+
+
+def _listed(matches, width):
+    """Returns the list of the tuples of the spans of matches, or of the parts of a text, and frees them."""
+    spans, needed = (ctypes.c_ssize_t * width)(), ctypes.c_size_t()
     found = []
     while _library.regress_matches_next_raw(ctypes.byref(matches), spans, width, ctypes.byref(needed)) == _OK:
         found.append(tuple(spans))
@@ -694,12 +694,27 @@ def _find_all(address, width, data, start):
     return found
 
 
-def _replace(address, data, template, replace_all):
-    """Returns the bytes of a text with its first match replaced by a template, or all matches, or the status of a
-    failure. If more room is needed than usually, the search is made again."""
-    function = _library.regress_replace_all_raw if replace_all else _library.regress_replace_raw
-    status, out = _call(ctypes.c_char, 2 * len(data) + len(template) + 64, _OK, lambda *buffer: function(
-        _Regex(address), data, len(data), template, len(template), *buffer))
+def _replace(address, data, template, limit, is_counted):
+    """Returns the bytes of a text with its first matches replaced by a template, and their number if it is asked for, or
+    the status of a failure. If more room is needed than usually, the search is made again."""
+    count = ctypes.c_size_t()
+    texts = _Regex(address), data, len(data), template, len(template)
+
+    def replace(*buffer):
+        # One match is searched for in linear time with more patterns than several are.
+        if not is_counted and limit == 1:
+            return _library.regress_replace_raw(*texts, *buffer)
+        return _library.regress_replace_n_raw(*texts, limit, *buffer, ctypes.byref(count))
+
+    status, out = _call(ctypes.c_char, 2 * len(data) + len(template) + 64, _OK, replace)
+    return (out, count.value) if status == _OK else status
+
+
+def _expand(address, data, spans, template):
+    """Returns the bytes that a template expands to at the match with these spans, or the status of a failure."""
+    numbers = (ctypes.c_ssize_t * len(spans))(*spans)
+    status, out = _call(ctypes.c_char, 2 * len(template) + 64, _OK, lambda *buffer: _library.regress_expand_raw(
+        _Regex(address), data, len(data), numbers, len(spans), template, len(template), *buffer))
     return out if status == _OK else status
 
 
@@ -835,51 +850,35 @@ def _characters(data):
     return len(data.translate(None, _CONTINUING))
 
 
-# The references of templates: a letter, a number, and a name, if the pattern has names.
-_REFERENCES = r"\$(?:([$&`'])|([0-9][0-9]?))"
-_NAMED_REFERENCES = _REFERENCES + r'|\$<([^>]*)>'
+def _limit(count):
+    """Returns how many matches are replaced: all for 0."""
+    return max(count, 0) if count else _END
 
 
-@functools.lru_cache(maxsize=None)
-def _references(kind, has_names):
-    """Returns the pattern of the references of a template that is a str or bytes."""
-    source = _NAMED_REFERENCES if has_names else _REFERENCES
-    return _re.compile(source if kind is str else source.encode(), _re.ASCII)
+def _part_limit(groups, maxsplit):
+    """Returns how many parts a text is split into, at most: all for 0."""
+    return min(max(maxsplit, 0) * (groups + 1) + 1, _END) if maxsplit else _END
 
 
-def _expander(pattern, template):
-    """Returns the function that returns what a template expands to at a match (ECMA-262, GetSubstitution)."""
-    pieces = []
-    at = 0
-    for reference in _references(pattern._type, bool(pattern.groupindex)).finditer(template):
-        pieces.append(template[at:reference.start()])
-        pieces.extend(_pieces(pattern, reference))
-        at = reference.end()
-    pieces.append(template[at:])
-    return lambda found: template[:0].join([piece(found) if callable(piece) else piece for piece in pieces])
-
-
-def _pieces(pattern, reference):
-    """Returns the list of texts, and of functions from a match to texts, that a reference expands to."""
-    letter, digits = reference[1], reference[2]
-    if letter:
-        return [{'$': letter, '&': lambda found: found[0], '`': lambda found: found._own[:found.start()],
-                 "'": lambda found: found._own[found.end():]}[_name(letter)]]
-    empty = reference[0][:0]
-    if digits is None:
-        name = _name(reference[3])
-        return [lambda found: found[name] or empty] if name in pattern.groupindex else []
-    # A second digit is taken only if the pattern has as many groups.
-    for length in (len(digits), 1):
-        number = int(digits[:length])
-        if 1 <= number <= pattern.groups:
-            return [lambda found: found[number] or empty, digits[length:]]
-    return [reference[0]]
-
-
-def _name(text):
-    """Returns a part of a template as a str."""
-    return text if isinstance(text, str) else text.decode()
+def _expanded(found, template):
+    """Returns what a template expands to at a match."""
+    pattern, text = found.re, found._own
+    spans = [position for group in range(pattern.groups + 1) for position in found.span(group)]
+    data = _utf8(template)
+    # The library reads all of the text that it gets: if the template needs only the groups, the part with these.
+    first, last = 0, len(text)
+    if b'$`' not in data and b"$'" not in data:
+        first, last = min(position for position in spans if position >= 0), max(spans)
+    part = text[first:last]
+    if type(part) is bytes or part.isascii():
+        offsets = [position - first for position in spans]
+    else:
+        offsets = [len(part[:position - first].encode()) for position in spans]
+    offsets = [-1 if position < 0 else offset for position, offset in zip(spans, offsets)]
+    out = _expand(pattern._program.address, _utf8(part), offsets, data)
+    if type(out) is int:
+        raise pattern._program.failure(out)
+    return out if pattern._type is bytes else out.decode()
 
 
 def _load():
@@ -914,7 +913,9 @@ def _load():
         'regress_matches_next_raw': (number, handle, signed, size, sizes),
         'regress_matches_free_raw': (None, handle),
         'regress_replace_raw': replacing,
-        'regress_replace_all_raw': replacing,
+        'regress_replace_n_raw': (number, handle, data, size, data, size, size, octets, size, sizes, sizes),
+        'regress_expand_raw': (number, handle, data, size, signed, size, data, size, octets, size, sizes),
+        'regress_split_raw': (number, handle, data, size, size, handle),
         'regress_group_count_raw': (size, handle),
         'regress_group_name_raw': (number, handle, size, octets, size, sizes),
         'regress_steps_per_byte_raw': (wide, handle),

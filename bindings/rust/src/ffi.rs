@@ -123,6 +123,27 @@ extern "C" {
         needed: *mut usize,
     ) -> u32;
 
+    fn regress_expand_raw(
+        handle: *mut RegressRegex,
+        text: *const u8,
+        length: usize,
+        spans: *const usize,
+        span_count: usize,
+        replacement: *const u8,
+        replacement_length: usize,
+        out: *mut u8,
+        room: usize,
+        needed: *mut usize,
+    ) -> u32;
+
+    fn regress_split_raw(
+        handle: *mut RegressRegex,
+        text: *const u8,
+        length: usize,
+        limit: usize,
+        parts: *mut RegressMatches,
+    ) -> u32;
+
     fn regress_group_count_raw(handle: *mut RegressRegex) -> usize;
 
     fn regress_group_name_raw(
@@ -243,7 +264,7 @@ impl Drop for Handle {
     }
 }
 
-/// The matches that a search has found.
+/// The matches that a search has found, or the parts of a text.
 pub(crate) struct MatchList {
     matches: RegressMatches,
 }
@@ -256,7 +277,7 @@ unsafe impl Sync for MatchList {}
 
 impl Drop for MatchList {
     fn drop(&mut self) {
-        // SAFETY: regress_matches_new_raw has written it, and it is not used afterwards.
+        // SAFETY: regress_matches_new_raw or regress_split_raw has written it, and it is not used afterwards.
         unsafe { regress_matches_free_raw(&mut self.matches) }
     }
 }
@@ -362,6 +383,27 @@ impl Handle {
         }
     }
 
+    /// Splits a text into at most `limit` parts. Returns the status if that fails.
+    pub(crate) fn split(&self, text: &str, limit: usize) -> Result<MatchList, u32> {
+        let mut matches = RegressMatches {
+            inside: ptr::null_mut(),
+        };
+        // SAFETY: as for `find`.
+        let status = unsafe {
+            regress_split_raw(
+                &mut self.copy(),
+                start_of(text),
+                text.len(),
+                limit,
+                &mut matches,
+            )
+        };
+        match status {
+            OK => Ok(MatchList { matches }),
+            status => Err(status),
+        }
+    }
+
     /// Returns the status of a search: OK if there is a match.
     pub(crate) fn is_match(&self, text: &str) -> u32 {
         // SAFETY: as for `find`.
@@ -388,6 +430,28 @@ impl Handle {
                     &mut self.copy(),
                     start_of(text),
                     text.len(),
+                    start_of(template),
+                    template.len(),
+                    out.as_mut_ptr(),
+                    out.len(),
+                    needed,
+                )
+            }
+        })
+    }
+
+    /// Writes what a template expands to at a match in a text, with these spans.
+    pub(crate) fn expand(&self, template: &str, text: &str, spans: &[usize]) -> Output<u8> {
+        // If more is needed, the call is made a second time.
+        with_room(2 * template.len() + 64, |out: &mut [u8], needed| {
+            // SAFETY: as for `find`.
+            unsafe {
+                regress_expand_raw(
+                    &mut self.copy(),
+                    start_of(text),
+                    text.len(),
+                    spans.as_ptr(),
+                    spans.len(),
                     start_of(template),
                     template.len(),
                     out.as_mut_ptr(),

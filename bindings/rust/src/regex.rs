@@ -298,6 +298,27 @@ impl Regex {
         self.replace_all(text, replacement)
     }
 
+    /// Returns what a template expands to at a match of this regular expression, as by [`Regex::replace`].
+    ///
+    /// ```
+    /// use regress_front::Regex;
+    ///
+    /// let date = Regex::new(r"(?<year>\d{4})-(\d\d)")?;
+    /// for found in date.find_iter("2024-05, 2025-01") {
+    ///     println!("{}", date.expand("$2/$<year>", &found?)?);
+    /// }
+    /// # Ok::<(), Box<dyn std::error::Error>>(())
+    /// ```
+    ///
+    /// # Errors
+    /// Returns [`SearchError::Memory`] if the library is out of memory. No template is rejected.
+    ///
+    /// # Panics
+    /// Panics if the match has another number of groups than the pattern.
+    pub fn expand(&self, template: &str, found: &Match<'_>) -> Result<String, SearchError> {
+        replace::expand(self, template, found)
+    }
+
     /// Returns an iterator over the parts of `text` before, between and after the matches, one more than there are
     /// matches. All matches are found by this call.
     ///
@@ -329,7 +350,10 @@ impl Regex {
         text: &'t str,
         limit: Option<usize>,
     ) -> Result<Vec<Option<&'t str>>, SearchError> {
-        Ok(split::with_captures(text, &self.find_all(text)?, limit))
+        match self.handle().split(text, limit.unwrap_or(usize::MAX)) {
+            Ok(list) => split::listed(text, list),
+            Err(status) => Err(search_error(status)),
+        }
     }
 
     /// Returns the text of the pattern.

@@ -183,5 +183,10 @@ fn searches_report_that_they_are_out_of_memory() {
         each_refused("split", Err(memory), || {
             Ok(regex.split(text)?.collect::<Vec<_>>())
         });
+        each_refused("split_with_captures", Err(memory), || {
+            regex.split_with_captures(text, None)
+        });
+        let found = regex.find(text).unwrap().unwrap();
+        each_refused("expand", Err(memory), || regex.expand("<$&$1>", &found));
     }
 }

@@ -300,6 +300,32 @@ fn texts_are_replaced_by_closures_and_strings() {
 }
 
 #[test]
+fn templates_are_expanded_at_matches() {
+    let regex = Regex::new(r"(\d)(x)?").unwrap();
+    let found = regex.find("é1-2x").unwrap().unwrap();
+    assert_eq!(regex.expand("[$1$2|$&]", &found).unwrap(), "[1|1]");
+    assert_eq!(regex.expand("$`$1$'", &found).unwrap(), "é1-2x");
+    assert_eq!(regex.expand("", &found).unwrap(), "");
+    let long = "$&".repeat(1000);
+    assert_eq!(regex.expand(&long, &found).unwrap(), "1".repeat(1000));
+    // Captures that are not in the match.
+    let around = Regex::new(r"(?<=(?<a>é)|(z))b(?=.*(?<c>d))").unwrap();
+    let found = around.find("aéb-cd").unwrap().unwrap();
+    assert_eq!(around.expand("$<a>$2$<c>$&", &found).unwrap(), "édb");
+    let many = "1-".repeat(20_000);
+    for found in regex.find_iter(&many) {
+        assert_eq!(regex.expand("<$1>", &found.unwrap()).unwrap(), "<1>");
+    }
+}
+
+#[test]
+#[should_panic(expected = "the match has other groups than the pattern")]
+fn a_match_of_another_pattern_is_not_expanded() {
+    let found = Regex::new("(a)").unwrap().find("a").unwrap().unwrap();
+    let _ = Regex::new("a").unwrap().expand("", &found);
+}
+
+#[test]
 fn linear_searches_return_no_result() {
     let regex = LinearRegex::new(r"(?<a>\w)(\d)?").unwrap();
     assert!(regex.is_match("-a") && !regex.is_match("-"));
@@ -317,6 +343,8 @@ fn linear_searches_return_no_result() {
         regex.replace_all("a1-b", |found: &Match| found[0].to_uppercase()),
         "A1-B"
     );
+    let found = regex.find("-a1").unwrap();
+    assert_eq!(regex.expand("<$<a>>", &found), "<a>");
     assert_eq!(regex.split("a1-b").collect::<Vec<_>>(), ["", "-", ""]);
     assert_eq!(regex.splitn("a1-b", 2).collect::<Vec<_>>(), ["", "-b"]);
     assert_eq!(regex.as_regex().group_count(), 2);

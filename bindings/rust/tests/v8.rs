@@ -135,14 +135,15 @@ fn replaced_and_split_texts_are_those_of_v8() {
         let regex = compile(flags, pattern);
         let results = match call.as_str() {
             "replace" => {
-                let expanded = regex.replace_with(text, |found| found.expand(last));
+                let expanded = regex.replace_with(text, |found| regex.expand(last, found).unwrap());
                 vec![
                     regex.replace(text, last).expect(&case.name).into_owned(),
                     expanded.expect(&case.name).into_owned(),
                 ]
             }
             "replace_all" => {
-                let expanded = regex.replace_all_with(text, |found| found.expand(last));
+                let expanded =
+                    regex.replace_all_with(text, |found| regex.expand(last, found).unwrap());
                 vec![
                     regex
                         .replace_all(text, last)

@@ -1,14 +1,16 @@
-//! The functions that C calls for one match after the other. include/regress.h documents them.
+//! The functions that C calls for one match, or one part of a text, after the other. include/regress.h documents them.
 ghost use Rattle.std.specs.Prelude.{◌≡◌, IfSome, IsUtf8, None, length};
 ghost use Rattle.regress.specs.Compiled.{groups_of, outcomes_of};
 ghost use Rattle.regress.specs.Costs.{AllAreTooCostly};
 ghost use Rattle.regress_capi.specs.ListResults.{ListResult, Returns, left, width_of};
+ghost use Rattle.regress_capi.specs.PartResults.{AreEndsOfParts};
 ghost use Rattle.regress_capi.specs.Spans.{AreEndsOfAll};
 
 use regress_capi::handle::Handle;
 use regress_capi::list_handle::ListHandle;
 use regress_capi::listing::write_list;
 use regress_capi::searches::Searched;
+use regress_capi::splitting::{Split, write_parts};
 use std::alloc::Global;
 
 /// Searches for all non-overlapping matches from the byte offset `from` on, and writes the handle to the list of them. A
@@ -36,6 +38,33 @@ pub extern "C" fn regress_matches_new_raw(
 {
     let regex = handle.take(alloc);
     let status = write_list(alloc, &regex, Searched { text, from }, matches);
+    *handle = Handle::of(regex);
+    status
+}
+
+/// Splits a text as `split` of ECMA-262, and writes the handle to the list of at most `limit` parts: `regress_matches_next_raw`
+/// writes the start and the end of each. A handle that was there before is not freed.
+///
+/// # Errors
+/// As `regress_matches_new_raw`.
+///
+/// # Preconditions
+/// The handle is one of a compiled pattern.
+#[unsafe(no_mangle)]
+pub extern "C" fn regress_split_raw(
+    alloc: Global,
+    handle: &mut Handle,
+    text: &[u8],
+    limit: usize,
+    parts: &mut ListHandle,
+) -> u32
+    requires { handle.old.value ≡ None → ⊥ }
+    ensures same { handle.new.value ≡ handle.old.value }
+    ensures status { IfSome handle.old.value (λ regex. ListResult (IsUtf8 text.now) (AreEndsOfParts regex text.now limit) 2
+        (AllAreTooCostly regex text.now 0) parts.old.value result parts.new.value) }
+{
+    let regex = handle.take(alloc);
+    let status = write_parts(alloc, &regex, Split { text, limit }, parts);
     *handle = Handle::of(regex);
     status
 }

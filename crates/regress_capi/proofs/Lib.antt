@@ -1,5 +1,6 @@
 mod CompileLemmas
 mod DifferencesLemmas
+mod ExpandLemmas
 mod HandleValues
 mod ListHandleValues
 mod ListLemmas

@@ -1,10 +1,10 @@
 -- The result of a search, from what it computed.
-use Rattle.std.proofs.Common.{◌≡◌, ◌++◌, ◌<◌, ℕ, false, IfNone, List, [], ◌∷◌, Option, drop, flat_map, length, append_assoc, append-nil, refl, sym, ap, ◌∙◌, subst}
+use Rattle.std.proofs.Common.{◌≡◌, ◌+◌, ◌++◌, ◌<◌, ℕ, add-one, drop-cons, false, get_or, IfNone, List, [], ◌∷◌, Option, drop, flat_map, length, append_assoc, append-nil, refl, sym, ap, ◌∙◌, subst}
 use Rattle.std.proofs.lemmas.Grind.{flat_map-append}
 use Rattle.std.specs.Prelude.{IfErr, IfOk, MatchOption, MatchResult, None, Some, Result, Ok, Err}
 use Rattle.regress.specs.declared.failure.SearchError.{SearchError}
 use Rattle.regress.specs.declared.failure.SearchError.TheVariants.{Memory, OutOfSteps}
-use Rattle.regress_front.specs.Steps.{CaptureSpan, MatchState}
+use Rattle.regress_front.specs.Steps.{CaptureSpan}
 use Rattle.regress_found.specs.Found as one
 use Rattle.regress_found.specs.declared.found.Match as found
 use Rattle.regress_found.specs.Repeated.{AreMatches}
@@ -36,6 +36,14 @@ pub span_more : (span : Option CaptureSpan) (rest : List (Option CaptureSpan)) (
 span_more span rest a b done whole is so_far =
     ap (λ xs. xs ++ flat_map ends_of rest) (append_assoc done (a ∷ []) (b ∷ [])) ∙ append_assoc done (a ∷ b ∷ []) (flat_map ends_of rest)
     ∙ ap (λ xs. done ++ (xs ++ flat_map ends_of rest)) (sym is) ∙ so_far
+
+-- the same of the next span of a list
+pub ends_next : (spans : List (Option CaptureSpan)) (i : ℕ) (d : Option CaptureSpan) (a b : ℕ) (done whole : List ℕ) → i < length spans →
+    ends_of (get_or spans i d) ≡ a ∷ b ∷ [] → done ++ flat_map ends_of (drop i spans) ≡ whole →
+    ((done ++ a ∷ []) ++ b ∷ []) ++ flat_map ends_of (drop (i + 1) spans) ≡ whole
+ends_next spans i d a b done whole below is so_far =
+    let next : drop i spans ≡ get_or spans i d ∷ drop (i + 1) spans = rw add-one (drop-cons spans i d below) in
+    span_more (get_or spans i d) (drop (i + 1) spans) a b done whole is (subst (λ rest. done ++ flat_map ends_of rest ≡ whole) next so_far)
 
 -- -- of a search for all matches
 

@@ -10,10 +10,12 @@ pub mod Reasons
 pub mod CompileResults
 pub mod TextResults
 pub mod ReplaceResults
+pub mod ExpandResults
 pub mod EscapeResults
 pub mod BoundResults
 pub mod DifferencesResults
 pub mod SpannedResults
 pub mod ListResults
+pub mod PartResults
 -- The numbers and the texts of syntax errors.
 pub use Rattle.regress_parse.specs.Fault

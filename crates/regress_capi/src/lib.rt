@@ -7,6 +7,7 @@ mod buffer;
 pub mod compiling;
 pub mod differing;
 pub mod escaping;
+pub mod expanding;
 pub mod handle;
 pub mod limits;
 pub mod list_handle;
@@ -20,6 +21,7 @@ mod request;
 pub mod results;
 pub mod searches;
 pub mod spanning;
+pub mod splitting;
 pub mod texts;
 mod trees;
 

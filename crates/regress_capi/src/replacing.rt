@@ -1,7 +1,7 @@
 //! The results of replacing matches by a template.
-ghost use Rattle.std.specs.Prelude.{◌≡◌, IsUtf8, MatchOption, MatchResult, string_bytes};
+ghost use Rattle.std.specs.Prelude.{◌≡◌, ◌≢◌, IsUtf8, MatchOption, MatchResult, string_bytes};
 ghost use Rattle.regress.specs.Costs.{AllAreTooCostly, IsTooCostly};
-ghost use Rattle.regress_capi.specs.ReplaceResults.{HasAllReplaced, HasFirstReplaced};
+ghost use Rattle.regress_capi.specs.ReplaceResults.{HasAllReplaced, HasFirstReplaced, HasFirstsReplaced};
 ghost use Rattle.regress_capi.specs.SearchResults.{IsBare, SearchResult, status_of};
 ghost use Rattle.regress_capi.specs.TextResults.{PlainResult};
 
@@ -63,8 +63,80 @@ pub fn write_all_replaced(
     }
 }
 
+/// A text in which the first matches are replaced, at most `limit`, and the template for them.
+#[derive(Clone, Copy)]
+pub struct FirstReplaced<'a> {
+    pub text: &'a [u8],
+    pub template: &'a [u8],
+    pub limit: usize,
+}
+
+/// A status, the length of the whole result, and how many matches are replaced in it. Both are 0 if there is no result.
+#[derive(Clone, Copy)]
+pub struct Counted {
+    pub status: u32,
+    pub needed: usize,
+    pub count: usize,
+}
+
+/// Writes the text with its first matches replaced by the expansion of a template. Returns the status, with how many were
+/// replaced.
+///
+/// # Errors
+/// As `write_first_replaced`.
+pub fn write_replaced(
+    alloc: Global,
+    regex: &Regex,
+    replaced: FirstReplaced<'_>,
+    out: &mut [u8],
+) -> Counted
+    ensures status { SearchResult (IsUtf8 replaced.entry.text.now × IsUtf8 replaced.entry.template.now)
+        (HasFirstsReplaced regex.now replaced.entry.text.now replaced.entry.template.now replaced.entry.limit result.count) ⊥
+        (AllAreTooCostly regex.now replaced.entry.text.now 0) out.old result.status result.needed out.new }
+    ensures none { result.status ≢ 0 → result.status ≢ 3 → result.count ≡ 0 }
+{
+    match decode(replaced.text, replaced.template) {
+        Some((text, template)) => report_counted(
+            regex.replacen(alloc, text, template, replaced.limit),
+            out,
+        ),
+        None => Counted::none(BAD_INPUT),
+    }
+}
+
+/// Writes what replacing has returned.
+fn report_counted(replaced: Result<(String, usize), SearchError>, out: &mut [u8]) -> Counted
+    ensures { MatchResult replaced (λ r. PlainResult (λ bytes. bytes ≡ string_bytes r.0) out.old result.status result.needed out.new
+        × (result.count ≡ r.1)) (λ error. IsBare (status_of error) out.old result.status result.needed out.new × (result.count ≡ 0)) }
+{
+    match replaced {
+        Ok((text, count)) => {
+            let mut needed = 0;
+            let status = give_text(&text, out, &mut needed);
+            Counted {
+                status,
+                needed,
+                count,
+            }
+        }
+        Err(error) => Counted::none(error_status(error)),
+    }
+}
+
+impl Counted {
+    fn none(status: u32) -> Counted
+        ensures { result ≡ record { status = status; needed = 0; count = 0 } }
+    {
+        Counted {
+            status,
+            needed: 0,
+            count: 0,
+        }
+    }
+}
+
 /// Returns both as texts, `None` if one of them is not UTF-8.
-fn decode<'a>(text: &'a [u8], template: &'a [u8]) -> Option<(&'a str, &'a str)>
+pub(crate) fn decode<'a>(text: &'a [u8], template: &'a [u8]) -> Option<(&'a str, &'a str)>
     ensures { MatchOption result (IsUtf8 text.now × IsUtf8 template.now → ⊥) (λ both.
         (both.0.now ≡ text.now) × (both.1.now ≡ template.now) × IsUtf8 text.now × IsUtf8 template.now) }
 {

@@ -128,11 +128,6 @@ impl<'t> Match<'t> {
             .filter_map(|(name, number)| Some((name?, self.spans.get(number))))
     }
 
-    /// Returns what a template expands to at this match, as by [`Regex::replace`].
-    pub fn expand(&self, template: &str) -> String {
-        super::replace::expand(template, self)
-    }
-
     /// Returns the match of a part of the text.
     fn part(&self, range: Range<usize>) -> Match<'t> {
         let mut spans = Spans::unset(0);
@@ -152,9 +147,15 @@ impl<'t> Match<'t> {
         self.text
     }
 
-    /// Returns the number of groups, without the whole match.
-    pub(crate) fn group_count(&self) -> usize {
-        self.spans.groups()
+    pub(crate) fn spans(&self) -> &Spans {
+        &self.spans
+    }
+
+    /// Returns the part of the text with the spans of the match and of its groups, and the spans in it.
+    pub(crate) fn extent(&self) -> (&'t str, Spans) {
+        let extent = self.spans.extent();
+        let spans = self.spans.counted_from(extent.start);
+        (&self.text[extent], spans)
     }
 }
 

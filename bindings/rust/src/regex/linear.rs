@@ -95,6 +95,11 @@ impl LinearRegex {
         found(self.0.replace_all(text, replacement))
     }
 
+    /// Returns what a template expands to at a match of this regular expression, as [`Regex::expand`].
+    pub fn expand(&self, template: &str, found: &Match<'_>) -> String {
+        self::found(self.0.expand(template, found))
+    }
+
     /// Returns an iterator over the parts of `text` before, between and after the matches, as [`Regex::split`].
     pub fn split<'t>(&self, text: &'t str) -> Split<'t> {
         found(self.0.split(text))

@@ -1,7 +1,7 @@
-//! Replacing matches, by a function or by a template (ECMA-262, GetSubstitution).
+//! Replacing matches, by a function or by a template.
 
 use super::error::search_error;
-use super::{Match, SearchError};
+use super::{Match, Regex, SearchError};
 use crate::ffi::{self, Output};
 use std::borrow::Cow;
 
@@ -16,13 +16,13 @@ use std::borrow::Cow;
 /// # Ok::<(), Box<dyn std::error::Error>>(())
 /// ```
 pub trait Replacer {
-    /// Appends what a match is replaced by.
-    fn append(&mut self, found: &Match<'_>, out: &mut String);
-
     /// Returns the template, if it is one.
     fn template(&self) -> Option<&str> {
         None
     }
+
+    /// Appends what a match is replaced by, if it is no template.
+    fn append(&mut self, _found: &Match<'_>, _out: &mut String) {}
 }
 
 impl<F: FnMut(&Match<'_>) -> T, T: AsRef<str>> Replacer for F {
@@ -32,30 +32,18 @@ impl<F: FnMut(&Match<'_>) -> T, T: AsRef<str>> Replacer for F {
 }
 
 impl Replacer for &str {
-    fn append(&mut self, found: &Match<'_>, out: &mut String) {
-        out.push_str(&found.expand(self));
-    }
-
     fn template(&self) -> Option<&str> {
         Some(self)
     }
 }
 
 impl Replacer for &String {
-    fn append(&mut self, found: &Match<'_>, out: &mut String) {
-        self.as_str().append(found, out);
-    }
-
     fn template(&self) -> Option<&str> {
         Some(self)
     }
 }
 
 impl Replacer for String {
-    fn append(&mut self, found: &Match<'_>, out: &mut String) {
-        self.as_str().append(found, out);
-    }
-
     fn template(&self) -> Option<&str> {
         Some(self)
     }
@@ -93,70 +81,23 @@ pub(crate) fn replaced<'t>(
 }
 
 /// Returns what a template expands to at a match.
-pub(crate) fn expand(template: &str, found: &Match<'_>) -> String {
-    let mut out = String::new();
-    let mut has_names = found.named_groups().next().is_some();
-    let mut rest = template;
-    while let Some((plain, after)) = rest.split_once('$') {
-        out.push_str(plain);
-        match reference(after, found, has_names) {
-            Some((value, remaining)) => {
-                out.push_str(value);
-                rest = remaining;
-            }
-            None => {
-                // A `<` without a `>` after it: no later `<` has one either.
-                has_names &= !after.starts_with('<');
-                out.push('$');
-                rest = after;
-            }
-        }
+///
+/// The library reads all of the text that it gets. So if the template does not need the text before and after the match, it
+/// gets the part with the spans of the match.
+pub(crate) fn expand(
+    regex: &Regex,
+    template: &str,
+    found: &Match<'_>,
+) -> Result<String, SearchError> {
+    let needs_all = template.contains("$`") || template.contains("$'");
+    let (text, spans) = match needs_all {
+        true => (found.searched(), found.spans().clone()),
+        false => found.extent(),
+    };
+    let output = regex.handle().expand(template, text, spans.numbers());
+    match output.status {
+        ffi::OK => String::from_utf8(output.items).map_err(|_| SearchError::Library),
+        ffi::BAD_INPUT => panic!("the match has other groups than the pattern"),
+        status => Err(search_error(status)),
     }
-    out.push_str(rest);
-    out
-}
-
-/// Returns the value of the reference that follows a `$`, and the rest of the template; `None` if the `$` is no
-/// reference.
-fn reference<'a, 't: 'a>(
-    after: &'a str,
-    found: &Match<'t>,
-    has_names: bool,
-) -> Option<(&'a str, &'a str)> {
-    let first = after.chars().next()?;
-    let rest = &after[first.len_utf8()..];
-    let text = found.searched();
-    match first {
-        '$' => Some(("$", rest)),
-        '&' => Some((found.as_str(), rest)),
-        '`' => Some((&text[..found.start()], rest)),
-        '\'' => Some((&text[found.end()..], rest)),
-        '0'..='9' => {
-            let (number, rest) = number(after, found.group_count())?;
-            Some((captured(text, found.group(number)), rest))
-        }
-        '<' if has_names => {
-            let (name, rest) = rest.split_once('>')?;
-            Some((captured(text, found.named_group(name)), rest))
-        }
-        _ => None,
-    }
-}
-
-/// Returns the number of a group that a text begins with, and the rest of the text. A second digit is taken only if the
-/// pattern has as many groups.
-fn number(text: &str, groups: usize) -> Option<(usize, &str)> {
-    [2, 1].into_iter().find_map(|digits| {
-        let (number, rest) = (text.get(..digits)?, text.get(digits..)?);
-        if !number.bytes().all(|byte| byte.is_ascii_digit()) {
-            return None;
-        }
-        let number = number.parse().ok()?;
-        (1..=groups).contains(&number).then_some((number, rest))
-    })
-}
-
-/// Returns the text of a capture, which is empty if the group is unset.
-fn captured(text: &str, span: Option<std::ops::Range<usize>>) -> &str {
-    span.map_or("", |span| &text[span])
 }

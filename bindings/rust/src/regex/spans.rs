@@ -55,6 +55,24 @@ impl Spans {
             })
     }
 
+    /// Returns the range from the least start to the greatest end.
+    pub(crate) fn extent(&self) -> Range<usize> {
+        let set = self.numbers().iter().filter(|&&number| number != UNSET);
+        let (least, greatest) = (set.clone().min(), set.max());
+        least.copied().unwrap_or(0)..greatest.copied().unwrap_or(0)
+    }
+
+    /// Returns the same spans, counted from a position that is no later than their starts.
+    pub(crate) fn counted_from(&self, position: usize) -> Spans {
+        let mut spans = self.clone();
+        for number in spans.numbers_mut() {
+            if *number != UNSET {
+                *number -= position;
+            }
+        }
+        spans
+    }
+
     /// Returns the span with a number, 0 for the match; `None` for a group that is unset, or if there is none.
     pub(crate) fn get(&self, number: usize) -> Option<Range<usize>> {
         let at = number.checked_mul(2)?;

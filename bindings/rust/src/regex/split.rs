@@ -1,6 +1,8 @@
 //! Splitting a text at matches.
 
-use super::Match;
+use super::spans::Spans;
+use super::{Match, SearchError};
+use crate::ffi::{self, MatchList};
 use std::iter::FusedIterator;
 use std::vec;
 
@@ -46,34 +48,16 @@ impl ExactSizeIterator for Split<'_> {}
 
 impl FusedIterator for Split<'_> {}
 
-/// Returns the parts of a text as JavaScript's `split`.
-pub(crate) fn with_captures<'t>(
-    text: &'t str,
-    matches: &[Match<'t>],
-    limit: Option<usize>,
-) -> Vec<Option<&'t str>> {
-    let limit = limit.unwrap_or(usize::MAX);
-    let mut parts = Vec::new();
-    if text.is_empty() && !matches.is_empty() {
-        return parts;
+/// Returns the parts of a text that the library lists.
+pub(crate) fn listed(text: &str, mut list: MatchList) -> Result<Vec<Option<&str>>, SearchError> {
+    let mut span = Spans::unset(0);
+    let mut parts = Vec::with_capacity(list.left() / 2);
+    while list.next(span.numbers_mut()) == ffi::OK {
+        let range = span.get(0);
+        let part = range.map(|range| text.get(range).ok_or(SearchError::Library));
+        parts.push(part.transpose()?);
     }
-    let mut from = 0;
-    for found in matches {
-        if parts.len() >= limit {
-            break;
-        }
-        let splits = found.start() < text.len() && found.end() != from;
-        if !splits {
-            continue;
-        }
-        parts.push(Some(part(text, from, found.start())));
-        let captures = found.groups().skip(1);
-        parts.extend(captures.map(|span| span.map(|span| &text[span])));
-        from = found.end();
-    }
-    parts.push(Some(part(text, from, text.len())));
-    parts.truncate(limit);
-    parts
+    Ok(parts)
 }
 
 fn part(text: &str, start: usize, end: usize) -> &str {

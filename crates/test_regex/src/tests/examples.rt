@@ -15,6 +15,11 @@ fn the_leftmost_match_is_found_with_its_groups(rt: HostRuntime) -> Result<(), Fa
         }
         None => assert!(rt; false, "it matches"),
     }
+    let regex = Regex::new(alloc, "(?<month>\\d\\d)-(\\d\\d)")?;
+    if let Some(found) = regex.find(alloc, "on 12-31")? {
+        let date = regex.expand(alloc, "$2.$<month>.", "on 12-31", &found)?;
+        expect_eq!(rt; date.as_str(), "31.12.");
+    }
     Ok(())
 }
 
@@ -116,6 +121,10 @@ fn a_closure_counts(rt: HostRuntime) -> Result<(), Fail> {
         Ok(format!(in alloc; "{count}")?)
     })?;
     expect_eq!(rt; numbered.as_str(), "1-2");
+    let regex = Regex::new(alloc, "[a-z]")?;
+    let (replaced, count) = regex.replacen(alloc, "a-b-c", "<$&>", 2)?;
+    expect_eq!(rt; replaced.as_str(), "<a>-<b>-c");
+    expect_eq!(rt; count, 2);
     Ok(())
 }
 

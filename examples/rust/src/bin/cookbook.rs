@@ -111,7 +111,7 @@ fn rename_photos(folder: &Path) -> Result<(), Failure> {
         if let Some(found) = photo.find(&name)? {
             fs::rename(
                 folder.join(&*name),
-                folder.join(found.expand("$1-$2-$3 $4.jpg")),
+                folder.join(photo.expand("$1-$2-$3 $4.jpg", &found)?),
             )?;
         }
     }

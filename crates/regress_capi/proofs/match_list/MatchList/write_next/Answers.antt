@@ -1,4 +1,4 @@
-use Rattle.std.proofs.Common.{◌≡◌, ◌<◌, ◌-◌, ◌++◌, ℕ, List, drop, length, min, refl, sym, ap, ◌∙◌, subst}
+use Rattle.std.proofs.Common.{◌≡◌, ◌<◌, ◌-◌, ◌++◌, ℕ, drop, length, min, refl, sym, ap, ◌∙◌, subst}
 use Rattle.std.proofs.lemmas.List.{nil_from_length}
 use Rattle.regress_capi.specs.ListResults.{next_of, width, returned, none_left, next_little}
 use Rattle.regress_capi.proofs.ListLemmas.{next-length, next-rest, next-taken}
