@@ -283,6 +283,17 @@ impl Drop for MatchList {
 }
 
 impl MatchList {
+    /// Returns the list that a call writes, or the status of the call if it fails.
+    fn written_by(call: impl FnOnce(*mut RegressMatches) -> u32) -> Result<MatchList, u32> {
+        let mut matches = RegressMatches {
+            inside: ptr::null_mut(),
+        };
+        match call(&mut matches) {
+            OK => Ok(MatchList { matches }),
+            status => Err(status),
+        }
+    }
+
     /// Writes the spans of the next match, as `Handle::find`. Returns the status.
     pub(crate) fn next(&mut self, spans: &mut [usize]) -> u32 {
         let mut needed = 0;
@@ -364,44 +375,18 @@ impl Handle {
 
     /// Searches for all matches from an offset on. Returns the status if that fails.
     pub(crate) fn matches(&self, text: &str, from: usize) -> Result<MatchList, u32> {
-        let mut matches = RegressMatches {
-            inside: ptr::null_mut(),
-        };
         // SAFETY: as for `find`.
-        let status = unsafe {
-            regress_matches_new_raw(
-                &mut self.copy(),
-                start_of(text),
-                text.len(),
-                from,
-                &mut matches,
-            )
-        };
-        match status {
-            OK => Ok(MatchList { matches }),
-            status => Err(status),
-        }
+        MatchList::written_by(|matches| unsafe {
+            regress_matches_new_raw(&mut self.copy(), start_of(text), text.len(), from, matches)
+        })
     }
 
     /// Splits a text into at most `limit` parts. Returns the status if that fails.
     pub(crate) fn split(&self, text: &str, limit: usize) -> Result<MatchList, u32> {
-        let mut matches = RegressMatches {
-            inside: ptr::null_mut(),
-        };
         // SAFETY: as for `find`.
-        let status = unsafe {
-            regress_split_raw(
-                &mut self.copy(),
-                start_of(text),
-                text.len(),
-                limit,
-                &mut matches,
-            )
-        };
-        match status {
-            OK => Ok(MatchList { matches }),
-            status => Err(status),
-        }
+        MatchList::written_by(|matches| unsafe {
+            regress_split_raw(&mut self.copy(), start_of(text), text.len(), limit, matches)
+        })
     }
 
     /// Returns the status of a search: OK if there is a match.
