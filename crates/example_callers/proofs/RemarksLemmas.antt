@@ -1,7 +1,7 @@
 -- Remarks on what is reported.
 use Rattle.std.proofs.Common.{◌≡◌, ℕ, List, map, ap, subst, ◌∙◌}
 use Rattle.regress_front.specs.Accepted.{IsAccepted}
-use Rattle.regress_front.specs.Setting.{Setting}
+use Rattle.regress_front.specs.Steps.{Setting}
 use Rattle.regress_front.specs.Syntax.{Pattern}
 use Rattle.regress_differences.specs.CaseMode.{widest_flags}
 use Rattle.regress_differences.specs.Paired.{spanned_of}

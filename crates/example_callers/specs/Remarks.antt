@@ -1,7 +1,7 @@
 -- What a linter remarks on.
 use Rattle.std.specs.Prelude.{◌≡◌, ℕ, List, map}
 use Rattle.regress_front.specs.Accepted.{IsAccepted}
-use Rattle.regress_front.specs.Setting.{Setting}
+use Rattle.regress_front.specs.Steps.{Setting}
 use Rattle.regress_front.specs.Syntax.{Pattern}
 use Rattle.regress_differences.specs.CaseMode.{widest_flags}
 use Rattle.regress_differences.specs.Kinds.{name_of, text_of}

@@ -4,7 +4,7 @@ ghost use Rattle.regress_front.specs.SmallTable.{small_table};
 ghost use Rattle.regress_front.specs.Fault.{RejectedOnlyIf};
 ghost use Rattle.regress_front.specs.Syntax.{Pattern};
 ghost use Rattle.regress_front.specs.Accepted.{IsAccepted, NoneIsAccepted};
-ghost use Rattle.regress_front.specs.SettingOf.{setting_of};
+ghost use Rattle.regress_front.specs.Meaning.{setting_of};
 
 use regress_front::codepointset::{CodePointSet, Interval};
 use regress_front::optimizer::parse_and_optimize;

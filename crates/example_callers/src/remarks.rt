@@ -1,6 +1,6 @@
 //! A linter that explains where a pattern may match otherwise than in JavaScript.
 ghost use Rattle.std.specs.Prelude.{◌≡◌, false, [], IfOk, chars, map};
-ghost use Rattle.regress_front.specs.SettingOf.{setting_of};
+ghost use Rattle.regress_front.specs.Meaning.{setting_of};
 ghost use Rattle.regress_front.specs.Syntax.{Pattern, names};
 ghost use Rattle.regress_differences.specs.Accepted.{OfAccepted};
 ghost use Rattle.regress_differences.specs.Differences.{differs};

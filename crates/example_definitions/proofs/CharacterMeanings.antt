@@ -1,7 +1,7 @@
 -- Examples: what escapes, classes, and literals with the flag i match.
 use Rattle.std.proofs.Common.{[], ◌∷◌, refl, codes}
 use Rattle.regress_base.specs.Classes.{digits, word_characters}
-use Rattle.regress_tree.specs.Setting.{Setting}
+use Rattle.regress_tree.specs.Steps.{Setting}
 use Rattle.example_definitions.proofs.CharacterSets.{own_set, no_digits_set, spaces_set, no_spaces_set, hyphen_set, few_letters, k_in_two_cases, e_acute_in_two_cases, long_s_alone, k_with_u, s_with_u, theta_with_u, k_set, only_s, closed_words_set}
 use Rattle.example_definitions.proofs.Meanings.{run, plain, unicode, icase, icase_unicode, Gives, from, at}
 

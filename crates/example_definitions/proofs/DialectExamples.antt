@@ -1,7 +1,7 @@
 -- Examples: what the dialects accept. In the dialect `Ecma` the results are those of V8 11.3.
 use Rattle.std.proofs.Common.{◌≡◌, false, true, Some, None, refl, codes}
 use Rattle.regress_base.specs.declared.types.Flags.{Flags}
-use Rattle.regress_tree.specs.Setting.{Setting}
+use Rattle.regress_tree.specs.Steps.{Setting}
 use Rattle.regress_lexer.specs.declared.dialect.Dialect.TheVariants.{Regress, Ecma}
 use Rattle.regress_lexer.specs.Dialects.{flags_in_force}
 use Rattle.regress_syntax.specs.Syntax.{Pattern, one, no_terms, more_terms, atom, literal, boundary}

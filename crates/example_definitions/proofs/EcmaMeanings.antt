@@ -5,7 +5,7 @@ use Rattle.std.proofs.Common.{◌≡◌, ℕ, ◌+◌, List, [], ◌∷◌, ◌+
 use lib.Utf8.{encode}
 use Rattle.regress_base.specs.Intervals.{is_member, is_within}
 use Rattle.regress_tree.specs.Reading.{byte_position}
-use Rattle.regress_tree.specs.Setting.{Setting}
+use Rattle.regress_tree.specs.Steps.{Setting}
 use Rattle.regress_lexer.specs.Source.{Source}
 use Rattle.regress_ecma.specs.Notation.{CaptureRange, MatchResult}
 use Rattle.regress_ecma.specs.Repetition.{repeat_matcher}

@@ -12,14 +12,12 @@ use Rattle.regress_base.specs.Intervals.{Bounds, is_member, is_within}
 use Rattle.regress_unicode.specs.FoldEntries.{mapped}
 use Rattle.regress_tree.specs.Lookaround.{lookaround_matcher}
 use Rattle.regress_tree.specs.Reading.{forwards, byte_position, character_at, read_after, read_before}
-use Rattle.regress_tree.specs.References.{back_reference}
+use Rattle.regress_tree.specs.References.{back_reference, any_string}
 use Rattle.regress_tree.specs.Repetition.{repeat_matcher}
 use Rattle.regress_unicode.specs.SmallTable.{small_table}
-use Rattle.regress_tree.specs.Steps.{CaptureSpan, MatchState, byte_state, one_character, hold_at, capture as captures, same_state}
-use Rattle.regress_tree.specs.Strings.{any_string}
+use Rattle.regress_tree.specs.Steps.{CaptureSpan, MatchState, byte_state, one_character, hold_at, capture as captures, same_state, Setting}
 use Rattle.regress_base.specs.Table.{Table, named as value_named, is_in_closure}
 use Rattle.regress_tree.specs.Matching.{matches}
-use Rattle.regress_tree.specs.Setting.{Setting}
 use Rattle.regress_classes.specs.ClassProductions.{class_at, class_parts_by}
 use Rattle.regress_classes.specs.ClassSets.{class_set_by, parts_by, operands_by, operand_at, set_character_at, strings_by}
 use Rattle.regress_lexer.specs.declared.dialect.Dialect.{Dialect}

@@ -1,6 +1,6 @@
 -- Examples: the flags that the modifiers of a group switch, and where.
 use Rattle.std.proofs.Common.{[], ◌∷◌, refl, codes}
-use Rattle.regress_tree.specs.Setting.{Setting}
+use Rattle.regress_tree.specs.Steps.{Setting}
 use Rattle.example_definitions.proofs.CharacterSets.{few_letters, a_in_two_cases, b_in_two_cases}
 use Rattle.example_definitions.proofs.CharacterMeanings.{few_icase}
 use Rattle.example_definitions.proofs.Meanings.{plain, dot_all, icase_unicode, Gives, from, at, span}

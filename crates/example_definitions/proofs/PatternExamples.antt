@@ -1,10 +1,9 @@
 -- Examples: what patterns parse to, with their trees and meanings.
 use Rattle.std.proofs.Common.{◌≡◌, ℕ, ◌-◌, ◌^◌, false, true, List, [], ◌∷◌, Option, Some, None, refl, codes}
 use Rattle.regress_base.specs.declared.types.Quantifier.{Quantifier}
-use Rattle.regress_tree.specs.Setting.{Setting}
 use Rattle.regress_tree.specs.Reading.{forwards, backwards}
 use Rattle.regress_tree.specs.Shapes.{is_flattened_away}
-use Rattle.regress_tree.specs.Steps.{one_character, capture as captures, same_state}
+use Rattle.regress_tree.specs.Steps.{one_character, capture as captures, same_state, Setting}
 use Rattle.regress_tree.specs.Tree.{Tree, Trees, leaf, empty, goal, char, cat, alt, wrapped, capture_group, loop, no_trees, more_trees}
 use Rattle.regress_tree.specs.Units.{units}
 use Rattle.regress_lexer.specs.declared.dialect.Dialect.TheVariants.{Regress}

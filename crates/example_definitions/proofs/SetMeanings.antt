@@ -1,6 +1,6 @@
 -- Examples: what classes with the flag v and properties match: strings, operators, and nested classes.
 use Rattle.std.proofs.Common.{true, [], ◌∷◌, refl, codes}
-use Rattle.regress_tree.specs.Setting.{Setting}
+use Rattle.regress_tree.specs.Steps.{Setting}
 use Rattle.example_definitions.proofs.CharacterSets.{own_set, few_letters, k_set, closed_nothing, words_but_digits, words_but_digits_set, consonants, consonants_set}
 use Rattle.example_definitions.proofs.Meanings.{run, no_flags, plain, unicode, Gives, from, at, span}
 

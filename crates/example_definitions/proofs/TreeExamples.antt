@@ -7,16 +7,14 @@ use Rattle.regress_base.specs.Intervals.{is_member, is_within}
 use Rattle.regress_base.specs.declared.types.AnchorType.TheVariants.{StartOfLine, EndOfLine}
 use Rattle.regress_base.specs.declared.types.Quantifier.{Quantifier}
 use Rattle.regress_tree.specs.Reading.{forwards, backwards, of_characters, read_after, read_before, character_at}
-use Rattle.regress_tree.specs.Steps.{MatchState, CaptureSpan, same_state, one_character, these_bytes, hold_at, capture}
+use Rattle.regress_tree.specs.Steps.{MatchState, CaptureSpan, same_state, one_character, these_bytes, hold_at, capture, Setting}
 use Rattle.regress_tree.specs.Repetition.{unset, repeat_matcher}
 use Rattle.regress_tree.specs.Lookaround.{lookaround_matcher}
-use Rattle.regress_tree.specs.References.{back_reference}
-use Rattle.regress_tree.specs.Strings.{any_string}
+use Rattle.regress_tree.specs.References.{back_reference, any_string}
 use Rattle.regress_tree.specs.Assertions.{is_word_character, at_anchor, at_boundary}
 use Rattle.regress_unicode.specs.FoldEntries.{mapped}
 use Rattle.regress_base.specs.Table.{is_in_closure}
 use Rattle.regress_tree.specs.Matching.{matches}
-use Rattle.regress_tree.specs.Setting.{Setting}
 use Rattle.regress_unicode.specs.SmallTable.{small_table}
 use Rattle.regress_tree.specs.Tree.{Tree, leaf, empty, char, byte_sequence, anchor, bracket, back_ref, string_set, cat, alt, wrapped, no_trees, more_trees, capture_group, loop, loop_one, lookaround}
 use Rattle.regress_tree.specs.Units.{loops, account, weight}

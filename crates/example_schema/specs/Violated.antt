@@ -4,7 +4,7 @@ use Rattle.std.specs.Arc.{arc_value}
 use Rattle.serde_json.specs.Data.{Data, string}
 use Rattle.serde_json.specs.Find.{pointer}
 use Rattle.serde_json.specs.View.{view}
-use Rattle.regress_front.specs.SettingOf.{setting_of}
+use Rattle.regress_front.specs.Meaning.{setting_of}
 use Rattle.regress_front.specs.declared.types.Flags.{Flags}
 use Rattle.regress_front.specs.declared.unicode.Tables.{Tables}
 use Rattle.regress.specs.Compiled.{IsCompiled, outcomes_of}

@@ -5,7 +5,7 @@ use Rattle.regress.specs.Costs.{AllCostLimit, CostsLimit, factor_of}
 use Rattle.regress.specs.declared.failure.SearchError.{SearchError}
 use Rattle.regress.specs.declared.failure.SearchError.TheVariants as errors
 use Rattle.regress.specs.declared.pattern.Regex.{Regex}
-use Rattle.regress_tree.specs.Setting.{Setting}
+use Rattle.regress_tree.specs.Steps.{Setting}
 use Rattle.regex_command.specs.Ending.{IsCostly, IsOwn, IsSearchError, IsSearchFailure, search_failure}
 use Rattle.regex_command.specs.Patterns.{IsAcceptedPattern, MayFailToFind}
 use Rattle.regex_command.specs.Printed.{IsRejected}

@@ -8,8 +8,7 @@ use Rattle.regress_found.specs.Repeated.{AreAllMatches}
 use Rattle.regress_found.specs.declared.found.Match.{Match}
 use Rattle.regex_command.proofs.SomewhereLemmas.{none_nowhere, some_somewhere}
 use Rattle.regress_replace.proofs.lemmas.Found.{AreAllMatches-in_order}
-use Rattle.regress.specs.Compiled.{outcomes_of}
-use Rattle.regress.specs.Found.{match_of}
+use Rattle.regress.specs.Compiled.{outcomes_of, match_of}
 use Rattle.regress.specs.declared.pattern.Regex.{Regex}
 use Rattle.regex_options.specs.declared.task.Shown.{Shown}
 use Rattle.regex_options.specs.declared.task.Shown.TheVariants.{Lines, Matches, Json, Count, Names, Nothing}

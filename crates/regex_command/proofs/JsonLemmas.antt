@@ -3,8 +3,7 @@ use Rattle.std.proofs.Common.{◌≡◌, ◌∙◌, ℕ, ◌+◌, List, ◌++◌
 use Rattle.regress_found.specs.Found as one
 use Rattle.regress_found.specs.declared.found.Match as matcher
 use Rattle.regress_tree.specs.Steps.{CaptureSpan}
-use Rattle.regress.specs.Compiled.{groups_of}
-use Rattle.regress.specs.Found.{match_of}
+use Rattle.regress.specs.Compiled.{groups_of, match_of}
 use Rattle.regress.specs.declared.found.Match.{Match}
 use Rattle.regress.specs.declared.pattern.Regex.{Regex}
 use Rattle.std.specs.Fmt.{decimal}

@@ -6,7 +6,7 @@ use Rattle.regress_found.specs.Found.{IsInside, start_of}
 use Rattle.regress_replace.specs.Expansion.{end_of, matched_text}
 use Rattle.regress_replace.specs.Replaced.{replaced}
 use Rattle.regress_replace.proofs.lemmas.Order.{IsBefore, before_first, before_next, next_match}
-use Rattle.regress.specs.Found.{match_of}
+use Rattle.regress.specs.Compiled.{match_of}
 use Rattle.regress.specs.declared.found.Match.{Match}
 use Rattle.regex_command.specs.InLine.{AreInLine}
 use Rattle.regex_command.specs.Reply.{painted, painted_line, painted_text, Run, matches_of}

@@ -2,8 +2,7 @@
 use Rattle.std.proofs.Common.{◌≡◌, ◌∙◌, ℕ, ◌+◌, ◌-◌, ◌≤◌, ◌<◌, Bool, List, [], ◌∷◌, ◌++◌, add-one, append_assoc, arith, drop, drop-cons, flat_map, get_or, length, length-drop, map, slice_range, take, ap, refl, sym, subst}
 use Rattle.std.proofs.lemmas.List.{drop_all, take_all}
 use Rattle.std.specs.Prelude.{Result, Ok, Err, IfOk}
-use Rattle.regress.specs.Compiled.{groups_of, outcomes_of}
-use Rattle.regress.specs.Found.{match_of}
+use Rattle.regress.specs.Compiled.{groups_of, outcomes_of, match_of}
 use Rattle.regress.specs.Replaced.{ReplacesAll}
 use Rattle.regress.specs.declared.found.Match.{Match}
 use Rattle.regress.specs.declared.pattern.Regex.{Regex}

@@ -7,7 +7,7 @@ use Rattle.regress_parse.specs.Accepted.{NoneIsAccepted}
 use Rattle.regress_parse.specs.Settled.{IsFaultOf}
 use Rattle.regress_parse.specs.declared.fault.PlacedFault.{PlacedFault}
 use Rattle.regress_parse.specs.declared.fault.PlacedFault.TheVariants as placed
-use Rattle.regress_tree.specs.Setting.{Setting}
+use Rattle.regress_tree.specs.Steps.{Setting}
 use Rattle.regress_ucd.specs.UnicodeTable.{unicode_table}
 use Rattle.regress.specs.Unicode.{unicode_setting}
 

@@ -3,8 +3,7 @@ use Rattle.std.specs.Prelude.{ℕ, ◌+◌, ◌<◌, ◌≤◌, ◌^◌, Bool, t
 use Rattle.std.specs.List.{Any}
 use Rattle.regress_found.specs.Found.{IsInside}
 use Rattle.regress_replace.specs.Order.{AreInOrder}
-use Rattle.regress.specs.Compiled.{groups_of}
-use Rattle.regress.specs.Found.{match_of}
+use Rattle.regress.specs.Compiled.{groups_of, match_of}
 use Rattle.regress.specs.declared.pattern.Regex.{Regex}
 use Rattle.regex_options.specs.declared.task.Shown.{Shown}
 use Rattle.regex_options.specs.declared.task.Shown.TheVariants.{Lines, Matches, Json, Count, Names, Nothing}

@@ -25,7 +25,7 @@ use Rattle.regress_parse.specs.declared.span.Span.{Span}
 use Rattle.regress_spans.specs.Paired.{spanned_of}
 use Rattle.regress_spans.specs.Remarks.{Said}
 use Rattle.regress_syntax.specs.Syntax.{Pattern}
-use Rattle.regress_tree.specs.Setting.{Setting}
+use Rattle.regress_tree.specs.Steps.{Setting}
 use Rattle.regress_warnings.specs.Warned as warnings
 use Rattle.regex_command.specs.Ending.{IsCostlyPattern, IsLate}
 use Rattle.regex_command.specs.declared.failure.Failure.TheVariants.{Argument, Memory, Output, Closed, Syntax, TooLarge, OutOfSteps, Unreadable, PatternNotUtf8, TooLong}

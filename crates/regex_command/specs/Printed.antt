@@ -16,7 +16,7 @@ use Rattle.regress_display.specs.Request.{table_asked}
 use Rattle.regress_display.specs.Shown.{IsFirstOutput}
 use Rattle.regress_escape.specs.Escape.{escaped}
 use Rattle.regress_front.specs.Accepted.{NoneIsAccepted}
-use Rattle.regress_tree.specs.Setting.{Setting}
+use Rattle.regress_tree.specs.Steps.{Setting}
 use Rattle.regex_command.specs.Ending.{IsCostlyPattern, IsLate, IsSearchFailure}
 use Rattle.regex_command.specs.Patterns.{IsExplanationIn, MayFailToExplain, IsReport, IsTreeOutput, IsQuietFor, IsShowFailure}
 use Rattle.regex_command.specs.Searched.{WritesInputs, WritesSomeOf, inputs_of}

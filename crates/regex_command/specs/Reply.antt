@@ -8,8 +8,7 @@ use Rattle.regex_options.specs.Plain.{Job, matching, replacing}
 use Rattle.regex_options.specs.declared.task.Selection.{Selection}
 use Rattle.regex_options.specs.declared.task.Shown.TheVariants.{Lines, Matches, Json, Count, Names, Nothing}
 use Rattle.regex_options.specs.declared.task.Shown.{Shown}
-use Rattle.regress.specs.Compiled.{outcomes_of, groups_of}
-use Rattle.regress.specs.Found.{match_of}
+use Rattle.regress.specs.Compiled.{outcomes_of, groups_of, match_of}
 use Rattle.regress.specs.Groups.{group_span}
 use Rattle.regress.specs.Replaced.{ReplacesAll}
 use Rattle.regress.specs.Searched.{MatchesSomewhere}

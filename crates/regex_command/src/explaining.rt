@@ -2,7 +2,7 @@
 ghost use Rattle.std.specs.Prelude.{◌≡◌, ◌++◌, ℕ, List, true, Ok, IfOk, IfErr, chars, codes, map, option_map, string_bytes};
 ghost use Rattle.regress_arguments.specs.Output.{Took};
 ghost use Rattle.regress.specs.Unicode.{unicode_setting};
-ghost use Rattle.regress.specs.Found.{match_of};
+ghost use Rattle.regress.specs.Compiled.{match_of};
 ghost use Rattle.regex_command.specs.Ending.{OrOutput};
 ghost use Rattle.regress_explain.specs.Page.{IsPageOf};
 ghost use Rattle.regex_command.specs.Patterns.{AreMatchRanges, HasForm, IsAcceptedPattern, IsExplanationIn, MayFailToExplain, MayFailToFind, range_of};

@@ -2,8 +2,7 @@
 ghost use Rattle.std.specs.Prelude.{◌≡◌, ◌++◌, All, IfOk, IfSome, None, OnOk, drop, flat_map, map, option_map, slice_index_or, string_bytes};
 ghost use Rattle.regress_found.specs.Found.{IsInside};
 ghost use Rattle.regress_tree.specs.Inside.{IsSpanInside};
-ghost use Rattle.regress.specs.Compiled.{groups_of};
-ghost use Rattle.regress.specs.Found.{match_of};
+ghost use Rattle.regress.specs.Compiled.{groups_of, match_of};
 ghost use Rattle.regress.specs.Groups.{names_left, span_of};
 ghost use Rattle.regex_command.specs.Reply.{comma_before, group_json, groups_json, located_json, match_json, matches_json, name_json, part_json, matches_of, run_of};
 ghost use Rattle.regex_command.specs.InLine.{AreInText, HasOffsets};

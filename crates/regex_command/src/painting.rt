@@ -4,7 +4,7 @@ ghost use Rattle.regress_found.specs.Found.{IsInside};
 ghost use Rattle.regress_replace.specs.Expansion.{matched_text};
 ghost use Rattle.regress_replace.specs.Order.{AreInOrder};
 ghost use Rattle.regress_replace.specs.Replaced.{replaced};
-ghost use Rattle.regress.specs.Found.{match_of};
+ghost use Rattle.regress.specs.Compiled.{match_of};
 ghost use Rattle.regex_command.specs.InLine.{AreInLine, AreInText};
 ghost use Rattle.regex_command.specs.Reply.{painted, painted_if, painted_line, ended, matches_of};
 

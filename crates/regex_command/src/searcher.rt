@@ -21,8 +21,7 @@ impl<'r> Searcher<'r> {
     ghost use Rattle.regress_found.specs.Found.{IsInside};
     ghost use Rattle.regress.specs.Searched.{MatchesSomewhere};
     ghost use Rattle.regress_found.specs.Repeated.{AreAllMatches};
-    ghost use Rattle.regress.specs.Found.{match_of};
-    ghost use Rattle.regress.specs.Compiled.{outcomes_of};
+    ghost use Rattle.regress.specs.Compiled.{outcomes_of, match_of};
     ghost use Rattle.regex_command.specs.Ending.{IsCostly, IsSearchError};
 
     /// Returns a searcher for a regular expression.

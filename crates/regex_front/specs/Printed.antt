@@ -1,6 +1,6 @@
 -- The program's output for a pattern. Only this file cites the library's definitions.
 use Rattle.std.specs.Prelude.{◌≡◌, ℕ, List, ◌++◌, codes}
-use Rattle.regress_front.specs.Setting.{Setting}
+use Rattle.regress_front.specs.Steps.{Setting}
 use Rattle.regress_front.specs.SmallTable.{small_table}
 use Rattle.regress_front.specs.Tree.{Tree}
 use Rattle.regress_front.specs.Display.{printed}

@@ -8,9 +8,8 @@ use Rattle.std.specs.Str.{IsUtf8}
 use Rattle.regress_front.specs.Accepted.{Means}
 use Rattle.regress_front.specs.Reading.{forwards}
 use Rattle.regress_front.specs.Law.{MeansTheSame}
-use Rattle.regress_front.specs.Setting.{Setting}
 use Rattle.regress_front.specs.Source.{Source}
-use Rattle.regress_front.specs.Steps.{byte_state}
+use Rattle.regress_front.specs.Steps.{byte_state, Setting}
 use Rattle.regress_front.specs.Syntax.{Pattern}
 use Rattle.regress_front.specs.Tree.{Tree}
 use Rattle.regress_front.specs.WellFormed.{captures}

@@ -4,7 +4,7 @@ use Rattle.std.specs.Prelude.{chars}
 use Rattle.std.specs.Str.{IsUtf8}
 use Rattle.std.proofs.lemmas.Str.{encodes-chars}
 use Rattle.regress_front.specs.Reading.{IsText, byte_position}
-use Rattle.regress_front.specs.Setting.{Setting}
+use Rattle.regress_front.specs.Steps.{Setting}
 use Rattle.regress_front.specs.Source.{Source}
 use Rattle.regress_front.specs.Syntax.{Pattern}
 use Rattle.regress_front.specs.Tree.{Tree}

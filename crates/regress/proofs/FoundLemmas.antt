@@ -18,7 +18,7 @@ use Rattle.regress_match.proofs.lemmas.Searched.{AreMatches-more}
 use Rattle.regress_found.specs.Found as one
 use Rattle.regress_replace.specs.Order.{AreInOrder}
 use Rattle.regress_replace.proofs.lemmas.Found.{AreMatches-in_order}
-use Rattle.regress.specs.Found.{groups_in, match_of}
+use Rattle.regress.specs.Compiled.{groups_in, match_of}
 use Rattle.regress.specs.Searched.{Advances, MatchesSomewhere, has_failed, next_from, searched_factor, searched_groups, searched_outcomes, searched_text}
 use Rattle.regress.specs.Replaced.{AreFirstMatches}
 use Rattle.regress.specs.declared.found.Match.{Match}

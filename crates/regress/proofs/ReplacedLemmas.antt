@@ -12,7 +12,7 @@ use Rattle.regress_found.specs.Found.{start_of, IsInside}
 use Rattle.regress_replace.specs.Expansion.{end_of}
 use Rattle.regress_replace.specs.Replaced.{joined, split_pieces}
 use Rattle.regress_replace.proofs.lemmas.Order.{IsBefore, before_first, before_next, next_match}
-use Rattle.regress.specs.Found.{match_of}
+use Rattle.regress.specs.Compiled.{match_of}
 use Rattle.regress.specs.Replaced.{IsReplacedBy}
 use Rattle.regress.specs.declared.failure.SearchError.{SearchError}
 use Rattle.regress.specs.declared.found.Match.{Match}

@@ -2,7 +2,7 @@
 use Rattle.std.proofs.Common.{ℕ, List, length, Option, Some, None, arith}
 use Rattle.std.specs.Borrow.{Bor}
 use Rattle.std.specs.Prelude.{IfSome}
-use Rattle.regress_front.specs.Setting.{Setting}
+use Rattle.regress_front.specs.Steps.{Setting}
 use Rattle.regress_front.specs.Tree.{Tree}
 use Rattle.regress_front.specs.WellFormed.{captures}
 use Rattle.regress_found.specs.Found.{outcomes_at, initial_state}

@@ -1,17 +1,18 @@
--- A compiled regular expression.
+-- A compiled regular expression, and the match that a search has found.
 use Rattle.std.specs.Prelude.{◌≡◌, ℕ, List, map, string_bytes, chars}
 use Rattle.std.specs.List.Sorted.{IsNonDecreasingBy, IsPermutation}
 use Rattle.regress_front.specs.Accepted.{IsAccepted, Means}
 use Rattle.regress_front.specs.Groups.{pattern_groups}
-use Rattle.regress_front.specs.Setting.{Setting}
 use Rattle.regress_front.specs.Source.{Source}
-use Rattle.regress_front.specs.Steps.{MatchState}
+use Rattle.regress_front.specs.Steps.{MatchState, Setting}
 use Rattle.regress_front.specs.Syntax.{Pattern}
 use Rattle.regress_front.specs.Tree.{Tree}
 use Rattle.regress_front.specs.WellFormed.{Capture, IsWellFormed, captures}
 use Rattle.regress_found.specs.Found.{outcomes_at}
+use Rattle.regress_found.specs.declared.found.Match as matcher
 use Rattle.regress_match.specs.Pattern.{matcher_setting, matcher_tree}
 use Rattle.regress_match.specs.Names.{capture_of}
+use Rattle.regress.specs.declared.found.Match.{Match}
 use Rattle.regress.specs.declared.pattern.Regex.{Regex}
 
 -- the text of the pattern, in UTF-8
@@ -53,3 +54,11 @@ pub record IsCompiledFrom (s : Setting) (points : Source) (r : Regex) : Type 0 w
 pub record IsCompiled (s : Setting) (text : List ℕ) (r : Regex) : Type 0 where
   pub from : IsCompiledFrom s (chars text) r
   pub source : source_of r ≡ text
+
+-- the match that a search has found
+abbrev pub match_of : Match → matcher.Match
+match_of m = m.found
+
+-- the capture groups of the pattern that has matched
+abbrev pub groups_in : Match → List Capture
+groups_in m = map capture_of m.groups.now

@@ -1,7 +1,7 @@
 -- Why a pattern was not compiled.
 use Rattle.std.specs.Prelude.{◌⊎◌, ℕ, ◌<◌, List, string_bytes}
 use Rattle.regress_front.specs.Bound.{node_bound}
-use Rattle.regress_front.specs.Setting.{Setting}
+use Rattle.regress_front.specs.Steps.{Setting}
 use Rattle.regress_front.specs.Source.{Source}
 use Rattle.regress_front.specs.declared.parse.PlacedFault.{PlacedFault}
 use Rattle.regress_front.specs.declared.parse.PlacedFault.TheVariants as fault

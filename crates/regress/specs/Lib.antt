@@ -1,7 +1,6 @@
 pub mod Compiled
 pub mod Costs
 pub mod Failures
-pub mod Found
 pub mod Groups
 pub mod Inside
 pub mod Kept

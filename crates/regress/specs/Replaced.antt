@@ -11,7 +11,7 @@ use Rattle.regress_found.specs.Found.{Finds}
 use Rattle.regress_replace.specs.Expansion.{matched_text}
 use Rattle.regress_replace.specs.Replaced.{joined, replaced, split_pieces}
 use Rattle.regress_replace.specs.Split.{all_parts, limited, part_spans}
-use Rattle.regress.specs.Found.{match_of}
+use Rattle.regress.specs.Compiled.{match_of}
 use Rattle.regress.specs.declared.failure.SearchError.{SearchError}
 use Rattle.regress.specs.declared.found.Match.{Match}
 

@@ -11,7 +11,7 @@ use Rattle.regress_match.specs.Iterated.{HasCounted, iterated_from, iterated_mat
 use Rattle.regress_match.specs.Matcher.{factor_of}
 use Rattle.regress_match.specs.declared.matcher.Matcher.{Matcher}
 use Rattle.regress_found.specs.Repeated.{next_offset}
-use Rattle.regress.specs.Found.{groups_in, match_of}
+use Rattle.regress.specs.Compiled.{groups_in, match_of}
 use Rattle.regress.specs.declared.failure.SearchError.{SearchError}
 use Rattle.regress.specs.declared.failure.SearchError.TheVariants.{OutOfSteps}
 use Rattle.regress.specs.declared.found.Match.{Match}

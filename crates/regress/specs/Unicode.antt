@@ -1,5 +1,5 @@
 -- The setting of patterns over all of Unicode.
-use Rattle.regress_front.specs.Setting.{Setting}
+use Rattle.regress_front.specs.Steps.{Setting}
 use Rattle.regress_front.specs.declared.types.Flags.{Flags}
 use Rattle.regress_ucd.specs.UnicodeTable.{unicode_table}
 

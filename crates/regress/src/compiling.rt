@@ -1,6 +1,6 @@
 //! From a pattern to its tree in normal form.
 ghost use Rattle.std.specs.Prelude.{◌≡◌, All, IfOk, IfErr};
-ghost use Rattle.regress_front.specs.SettingOf.{setting_of};
+ghost use Rattle.regress_front.specs.Meaning.{setting_of};
 ghost use Rattle.regress_front.specs.Source.{IsCodePoint};
 ghost use Rattle.regress_front.specs.Tree.{tree};
 ghost use Rattle.regress.specs.Compiled.{IsTreeOf};

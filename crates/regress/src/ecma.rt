@@ -3,7 +3,7 @@ ghost use Rattle.std.specs.Prelude.{◌≡◌, ◌≤◌, ℕ, List, Option, cha
 ghost use Rattle.std.specs.Str.{IsUtf8};
 ghost use Rattle.regress_front.specs.Accepted.{own_context};
 ghost use Rattle.regress_front.specs.Reading.{byte_position};
-ghost use Rattle.regress_front.specs.Setting.{Setting};
+ghost use Rattle.regress_front.specs.Steps.{Setting};
 ghost use Rattle.regress_front.specs.Source.{Source};
 ghost use Rattle.regress_ecma.specs.Compared.{IsComparable};
 ghost use Rattle.regress_ecma.specs.CompiledClasses.{with_char_sets};

@@ -3,8 +3,7 @@ ghost use Rattle.std.specs.Prelude.{◌≡◌, ◌↔◌, ◌∷◌, All, IfNone
 ghost use Rattle.regress_tree.specs.Inside.{IsCaptureInside, IsSpanInside};
 ghost use Rattle.regress_found.specs.Found.{IsInside};
 ghost use Rattle.regress_replace.specs.Expansion.{expansion};
-ghost use Rattle.regress.specs.Compiled.{groups_of};
-ghost use Rattle.regress.specs.Found.{groups_in, match_of};
+ghost use Rattle.regress.specs.Compiled.{groups_of, groups_in, match_of};
 ghost use Rattle.regress.specs.Groups.{all_spans};
 
 use crate::found::Match;

@@ -3,7 +3,7 @@ ghost use Rattle.std.specs.Prelude.{◌≡◌};
 ghost use Rattle.regress_found.specs.Found.{start_of, state_of};
 ghost use Rattle.regress_match.specs.Names.{named_span};
 ghost use Rattle.regress.specs.Groups.{all_spans, group_span, named_left, named_spans, span_of, spans_left};
-ghost use Rattle.regress.specs.Found.{groups_in, match_of};
+ghost use Rattle.regress.specs.Compiled.{groups_in, match_of};
 
 use crate::groups::{Groups, NamedGroups};
 use regress_match::{Group, Match as Found};

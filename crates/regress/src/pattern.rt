@@ -55,7 +55,7 @@ impl Regex {
     ghost use Rattle.std.specs.Prelude.{◌≡◌, ◌<◌, ◌≤◌, ◌↔◌, false, All, IsTrue, IfOk, IfErr, IfNone, IfSome, None, chars, is_none, is_some, length, map, min, option_map, string_bytes};
     ghost use Rattle.std.specs.Arc.{arc_value};
     ghost use Rattle.regress_front.specs.Bound.{HasAtMost};
-    ghost use Rattle.regress_front.specs.SettingOf.{setting_of as setting_under};
+    ghost use Rattle.regress_front.specs.Meaning.{setting_of as setting_under};
     ghost use Rattle.regress_front.specs.Source.{IsCodePoint};
     ghost use Rattle.regress_found.specs.Found.{IsInside, Finds};
     ghost use Rattle.regress_match.specs.Matcher.{IsFactorOf, IsFindFactorOf, IsNonlinearOf, is_find_linear_tree};
@@ -65,11 +65,10 @@ impl Regex {
     ghost use Rattle.regress_replace.specs.Order.{AreInOrder};
     ghost use Rattle.regress.specs.Costs.{AllCostLimit, CostsLimit, factor_of, find_factor_of, limit_of, matcher_of, nonlinear_of};
     ghost use Rattle.regress.specs.Kept.{Keeps};
-    ghost use Rattle.regress.specs.Compiled.{IsCompiled, IsCompiledFrom, groups_of, outcomes_of, setting_of, source_of, tree_of};
+    ghost use Rattle.regress.specs.Compiled.{IsCompiled, IsCompiledFrom, groups_of, outcomes_of, setting_of, source_of, tree_of, groups_in, match_of};
     ghost use Rattle.regress.specs.Unicode.{unicode_setting};
     ghost use Rattle.regress.specs.Source.{text_of};
     ghost use Rattle.regress.specs.Failures.{IsDue, IsDueWithLetters};
-    ghost use Rattle.regress.specs.Found.{groups_in, match_of};
     ghost use Rattle.regress.specs.Searched.{MatchesSomewhere, has_failed, next_from, search_limit, search_remaining, search_taken, searched_factor, searched_groups, searched_matcher, searched_outcomes, searched_text};
     ghost use Rattle.regress.specs.Groups.{names_left};
     ghost use Rattle.regress.specs.Letters.{AreFlags, flags_of, no_flags};

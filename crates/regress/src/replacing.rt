@@ -3,9 +3,8 @@ ghost use Rattle.std.specs.Prelude.{◌≡◌, ◌⊎◌, All, IfErr, IfOk, None
 ghost use Rattle.regress_found.specs.Found.{IsInside};
 ghost use Rattle.regress_replace.specs.Expansion.{expansion};
 ghost use Rattle.regress_replace.specs.Order.{AreInOrder};
-ghost use Rattle.regress.specs.Compiled.{groups_of, outcomes_of};
+ghost use Rattle.regress.specs.Compiled.{groups_of, outcomes_of, match_of};
 ghost use Rattle.regress.specs.Costs.{AllAreTooCostly, AllCostLimit, CostsLimit, IsTooCostly, factor_of, find_factor_of};
-ghost use Rattle.regress.specs.Found.{match_of};
 ghost use Rattle.regress.specs.Replaced.{HasReturned, IsReplacedBy, ReplacesAll, ReplacesAllWith, ReplacesFirst, ReplacesFirstN, ReplacesFirstWith};
 ghost use Rattle.regress.specs.declared.failure.SearchError.TheVariants.{OutOfSteps};
 

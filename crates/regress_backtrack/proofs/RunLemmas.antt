@@ -6,8 +6,7 @@ use Rattle.std.proofs.lemmas.Option.{slice_get-map}
 use Rattle.regress_tree.specs.Lookaround.{looked, lookaround_matcher}
 use Rattle.regress_leaves.specs.Subject.{subject}
 use Rattle.regress_tree.specs.Reading.{Direction}
-use Rattle.regress_tree.specs.Setting.{Setting}
-use Rattle.regress_tree.specs.Steps.{MatchState, Matcher, CaptureSpan}
+use Rattle.regress_tree.specs.Steps.{MatchState, Matcher, CaptureSpan, Setting}
 use Rattle.regress_found.specs.Found.{state}
 use Rattle.regress_program.specs.declared.instruction.Instruction.{Instruction}
 use Rattle.regress_program.specs.Cost.{Cost, IsCost, cost_after, cost_of}

@@ -3,8 +3,7 @@ use Rattle.std.proofs.Common.{◌≡◌, ℕ, ◌≤◌, ◌<◌, ◌==◌, Bool
 use Rattle.std.proofs.lemmas.List.Elements.{All-head, All-cons}
 use Rattle.regress_tree.specs.Matching.{steps}
 use Rattle.regress_tree.specs.Reading.{Direction}
-use Rattle.regress_tree.specs.Setting.{Setting}
-use Rattle.regress_tree.specs.Steps.{MatchState}
+use Rattle.regress_tree.specs.Steps.{MatchState, Setting}
 use Rattle.regress_tree.specs.Tree.{Tree, tree}
 use Rattle.regress_leaves.specs.Leaves.{exactly, put}
 use Rattle.regress_program.specs.declared.instruction.Instruction.{Instruction}

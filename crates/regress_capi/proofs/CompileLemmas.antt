@@ -1,7 +1,7 @@
 -- The result of compiling a pattern, from what it computed.
 use Rattle.std.proofs.Common.{◌≡◌, ℕ, List, Option, chars, refl, sym, subst}
 use Rattle.std.specs.Prelude.{Some}
-use Rattle.regress_front.specs.Setting.{Setting}
+use Rattle.regress_front.specs.Steps.{Setting}
 use Rattle.regress_lexer.specs.FaultKinds.{number_of}
 use Rattle.regress_lexer.specs.declared.fault.FaultKind.{FaultKind}
 use Rattle.regress_parse.specs.Accepted.{NoneIsAccepted}

@@ -1,7 +1,7 @@
 -- The result of reporting differences, from what it computed.
 use Rattle.std.proofs.Common.{◌≡◌, ◌++◌, ◌<◌, ℕ, List, [], Bool, drop, length, true, false, refl, sym, ap, ◌∙◌, subst}
 use Rattle.std.specs.Prelude.{IfOk, MatchBool, Result, Ok, Err}
-use Rattle.regress_tree.specs.Setting.{Setting}
+use Rattle.regress_tree.specs.Steps.{Setting}
 use Rattle.regress_lexer.specs.Source.{Source}
 use Rattle.regress_syntax.specs.Syntax.{Pattern}
 use Rattle.regress_parse.specs.Accepted.{IsAccepted, OfAccepted}

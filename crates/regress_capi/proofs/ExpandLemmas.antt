@@ -9,7 +9,7 @@ use Rattle.regress_tree.specs.Inside.{IsCaptureInside, IsSpanInside}
 use Rattle.regress_found.specs.Found.{IsInside, start_of, state_of}
 use Rattle.regress_found.specs.declared.found.Match.{Match}
 use Rattle.std.specs.Prelude.{IfNone, IfSome, MatchOption}
-use Rattle.regress.specs.Found.{match_of}
+use Rattle.regress.specs.Compiled.{match_of}
 use Rattle.regress.specs.declared.found.Match as result
 use Rattle.regress.specs.Groups.{all_spans}
 use Rattle.regress_capi.specs.ExpandResults.{HasNumbers}

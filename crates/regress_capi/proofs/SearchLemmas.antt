@@ -10,9 +10,8 @@ use Rattle.regress_found.specs.declared.found.Match as found
 use Rattle.regress_found.specs.Repeated.{AreMatches}
 use Rattle.regress_match.proofs.lemmas.Searched.{AreMatches-more}
 use Rattle.regress.proofs.lemmas.Paid.{HasPaid, none_paid, one_more_paid, out_of_steps as too_costly}
-use Rattle.regress.specs.Compiled.{outcomes_of}
+use Rattle.regress.specs.Compiled.{outcomes_of, match_of}
 use Rattle.regress.specs.Costs.{AllAreTooCostly, factor_of, limit_of, matcher_of}
-use Rattle.regress.specs.Found.{match_of}
 use Rattle.regress.specs.Searched.{Advances, has_failed, next_from, search_limit, search_remaining, searched_matcher, searched_outcomes, searched_text}
 use Rattle.regress.specs.declared.pattern.Regex.{Regex}
 use Rattle.regress.specs.declared.found.Match.{Match}

@@ -1,7 +1,7 @@
 -- The result of parsing with spans, from what it computed.
 use Rattle.std.proofs.Common.{◌≡◌, ◌++◌, ◌<◌, ℕ, Bool, true, false, List, drop, length, refl, sym, ap, subst}
 use Rattle.std.specs.Prelude.{◌⊎◌, IfOk, MatchBool, Result, Ok, Err, zip}
-use Rattle.regress_tree.specs.Setting.{Setting}
+use Rattle.regress_tree.specs.Steps.{Setting}
 use Rattle.regress_tree.specs.Tree.{Tree}
 use Rattle.regress_tree.specs.Visits.{nodes}
 use Rattle.regress_tree.specs.WellFormed.{captures}

@@ -1,6 +1,6 @@
 -- The results of the calls for the differences of a pattern.
 use Rattle.std.specs.Prelude.{◌≡◌, ◌<◌, ◌≤◌, ℕ, List, [], map, true}
-use Rattle.regress_tree.specs.Setting.{Setting}
+use Rattle.regress_tree.specs.Steps.{Setting}
 use Rattle.regress_lexer.specs.Source.{Source}
 use Rattle.regress_syntax.specs.Syntax.{Pattern}
 use Rattle.regress_parse.specs.Accepted.{IsAccepted, NoneIsAccepted, OfAccepted}

@@ -1,6 +1,6 @@
 -- The result of a call for the encoding of a tree.
 use Rattle.std.specs.Prelude.{ℕ, Bool, List}
-use Rattle.regress_tree.specs.Setting.{Setting}
+use Rattle.regress_tree.specs.Steps.{Setting}
 use Rattle.regress_lexer.specs.Source.{Source}
 use Rattle.regress_parse.specs.Accepted.{NoneIsAccepted}
 use Rattle.regress_capi.specs.Results.{AreWords, IsError, Gives, IsTooSmall}

@@ -1,6 +1,6 @@
 -- The result of a call for the text of a syntax error.
 use Rattle.std.specs.Prelude.{ℕ, List}
-use Rattle.regress_tree.specs.Setting.{Setting}
+use Rattle.regress_tree.specs.Steps.{Setting}
 use Rattle.regress_lexer.specs.Source.{Source}
 use Rattle.regress_syntax.specs.Syntax.{Pattern}
 use Rattle.regress_parse.specs.Accepted.{IsAccepted, NoneIsAccepted}

@@ -5,7 +5,7 @@ use Rattle.regress_base.specs.Table.{Table}
 use Rattle.regress_base.specs.declared.types.Flags.{Flags}
 use Rattle.regress_unicode.specs.SmallTable.{small_table}
 use Rattle.regress_ucd.specs.UnicodeTable.{unicode_table}
-use Rattle.regress_tree.specs.Setting.{Setting}
+use Rattle.regress_tree.specs.Steps.{Setting}
 
 -- whether the bit is set
 abbrev pub has : ℕ → ℕ → Bool

@@ -1,6 +1,6 @@
 -- The result of a call for the encoding of a tree with the spans of its nodes.
 use Rattle.std.specs.Prelude.{◌≡◌, ◌<◌, ◌++◌, ◌⊎◌, ℕ, false, List, Option, None, Some, drop, length, map, slice_get, zip}
-use Rattle.regress_tree.specs.Setting.{Setting}
+use Rattle.regress_tree.specs.Steps.{Setting}
 use Rattle.regress_tree.specs.Tree.{Tree}
 use Rattle.regress_tree.specs.Visits.{nodes}
 use Rattle.regress_lexer.specs.Source.{Source}

@@ -1,7 +1,7 @@
 //! The differences of a pattern from ECMA-262, with their kinds as numbers.
 ghost use Rattle.std.specs.Prelude.{◌≡◌, ◌≤◌, All, IfOk, MatchOption, chars, map, IfErr};
 ghost use Rattle.regress_front.specs.Intervals.{code_point_max};
-ghost use Rattle.regress_front.specs.SettingOf.{setting_of};
+ghost use Rattle.regress_front.specs.Meaning.{setting_of};
 ghost use Rattle.regress_front.specs.Settled.{IsFaultOf};
 ghost use Rattle.regress_differences.specs.Kinds.{number_of};
 ghost use Rattle.regress_capi.specs.DifferencesResults.{AreDifferences, AreNumbered, DifferencesResult, HasDifferenceKind, IsDifferenceName, IsDifferenceText, numbered};

@@ -2,8 +2,7 @@
 ghost use Rattle.std.specs.Prelude.{◌≡◌, ◌≢◌, ◌∷◌, [], All, List, Option, IfOk, MatchOption, MatchResult, Some, flat_map, string_bytes};
 ghost use Rattle.regress_front.specs.Steps.{CaptureSpan};
 ghost use Rattle.regress_found.specs.declared.found.Match as found;
-ghost use Rattle.regress.specs.Compiled.{groups_of};
-ghost use Rattle.regress.specs.Found.{match_of};
+ghost use Rattle.regress.specs.Compiled.{groups_of, match_of};
 ghost use Rattle.regress_capi.specs.ExpandResults.{ExpandResult, HasNumbers, IsExpandedAt};
 ghost use Rattle.regress_capi.specs.SearchResults.{IsBare};
 ghost use Rattle.regress_capi.specs.Spans.{ends_of, unset};

@@ -1,8 +1,7 @@
 //! The results of searches.
 ghost use Rattle.std.specs.Prelude.{◌≡◌, ◌++◌, ◌∷◌, [], IfErr, IfOk, IsUtf8, MatchOption, MatchResult, None};
-ghost use Rattle.regress.specs.Compiled.{groups_of, outcomes_of};
+ghost use Rattle.regress.specs.Compiled.{groups_of, outcomes_of, match_of};
 ghost use Rattle.regress.specs.Costs.{AllAreTooCostly, IsTooCostly};
-ghost use Rattle.regress.specs.Found.{match_of};
 ghost use Rattle.regress.specs.Searched.{MatchesSomewhere};
 ghost use Rattle.regress.specs.Groups.{span_of};
 ghost use Rattle.regress.specs.declared.failure.SearchError.TheVariants.{OutOfSteps};

@@ -1,7 +1,7 @@
 //! The encoding of a pattern's tree, with the spans of its nodes.
 ghost use Rattle.std.specs.Prelude.{◌≡◌, ◌≤◌, ◌<◌, ◌⊎◌, ◌++◌, All, IfOk, MatchBool, chars, drop, length, map, IfErr};
 ghost use Rattle.regress_front.specs.Intervals.{code_point_max};
-ghost use Rattle.regress_front.specs.SettingOf.{setting_of};
+ghost use Rattle.regress_front.specs.Meaning.{setting_of};
 ghost use Rattle.regress_front.specs.Tree.{tree};
 ghost use Rattle.regress_front.specs.Settled.{IsFaultOf};
 ghost use Rattle.regress_capi.specs.Replies.{bare};

@@ -1,7 +1,7 @@
 //! The encoding of a pattern's tree.
 ghost use Rattle.std.specs.Prelude.{◌≤◌, All, IfOk, IfErr};
 ghost use Rattle.regress_front.specs.Intervals.{code_point_max};
-ghost use Rattle.regress_front.specs.SettingOf.{setting_of};
+ghost use Rattle.regress_front.specs.Meaning.{setting_of};
 ghost use Rattle.regress_front.specs.Tree.{tree};
 ghost use Rattle.regress_front.specs.Settled.{IsFaultOf};
 ghost use Rattle.regress_capi.specs.Request.{setting_by};

@@ -10,8 +10,7 @@ use Rattle.regress_tree.specs.Lookaround.{looked, lookaround_matcher}
 use Rattle.regress_tree.specs.Matching.{steps}
 use Rattle.regress_tree.specs.Reading.{Direction, forwards, backwards, of_bytes, read_before}
 use Rattle.regress_tree.specs.Repetition.{iterations}
-use Rattle.regress_tree.specs.Setting.{Setting}
-use Rattle.regress_tree.specs.Steps.{MatchState, Matcher, hold_at, ◌then_◌}
+use Rattle.regress_tree.specs.Steps.{MatchState, Matcher, hold_at, ◌then_◌, Setting}
 use Rattle.regress_tree.specs.Tree.{Tree, leaf, anchor}
 use Rattle.regress_tree.proofs.lemmas.Outcomes.{flat_map-then}
 use Rattle.regress_prefilter.specs.FirstSets.{BeginsWithByteOf}

@@ -3,8 +3,7 @@ use Rattle.std.specs.Prelude.{◌≡◌, ℕ, ◌≤◌, ◌-◌, List, [], leng
 use Rattle.std.proofs.Props.{props}
 use Rattle.regress_base.specs.ByteBitmap.{contains}
 use Rattle.regress_base.specs.Positions.{IsMemberAt}
-use Rattle.regress_tree.specs.Setting.{Setting}
-use Rattle.regress_tree.specs.Steps.{MatchState}
+use Rattle.regress_tree.specs.Steps.{MatchState, Setting}
 use Rattle.regress_prefilter.specs.declared.candidates.Candidates.{Candidates}
 use Rattle.regress_prefilter.specs.declared.candidates.Candidates.TheVariants as candidates
 use Rattle.regress_program.specs.Program.{IsSolution, Out, Routine, matcher_of}

@@ -5,8 +5,7 @@ use Rattle.std.proofs.Props.{props}
 use Rattle.regress_base.specs.ByteBitmap.{contains}
 use Rattle.regress_base.specs.declared.bytesearch.bitmap.ByteBitmap.{ByteBitmap}
 use Rattle.regress_tree.specs.Reading.{Direction, direction_if, forwards, backwards}
-use Rattle.regress_tree.specs.Setting.{Setting}
-use Rattle.regress_tree.specs.Steps.{MatchState, Matcher}
+use Rattle.regress_tree.specs.Steps.{MatchState, Matcher, Setting}
 use Rattle.regress_leaves.specs.Known.{HasAsciiCase}
 use Rattle.regress_program.specs.Program.{At, Op, Out, Solves}
 use Rattle.regress_code.specs.declared.analysis.Analysis.{Analysis}

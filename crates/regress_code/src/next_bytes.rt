@@ -3,8 +3,7 @@ ghost use Rattle.std.specs.Prelude.{◌≡◌, ◌<◌, ◌≤◌, ◌++◌, ℕ
 ghost use Rattle.regress_base.specs.ByteBitmap.{contains};
 ghost use Rattle.regress_tree.specs.Matching.{steps};
 ghost use Rattle.regress_tree.specs.Reading.{Direction, direction_if, forwards};
-ghost use Rattle.regress_tree.specs.Setting.{Setting};
-ghost use Rattle.regress_tree.specs.Steps.{MatchState, Matcher};
+ghost use Rattle.regress_tree.specs.Steps.{MatchState, Matcher, Setting};
 ghost use Rattle.regress_tree.specs.Tree.{tree};
 ghost use Rattle.regress_program.specs.Program.{At, Out, outcomes_by};
 ghost use Rattle.regress_code.specs.NextBytes.{AreNextBytes, AreNextBytesOf, Bounds, FoldsIf, AreNextBytesAt};

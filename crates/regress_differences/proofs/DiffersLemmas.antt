@@ -4,7 +4,7 @@ use Rattle.std.specs.List.{All}
 use Rattle.std.proofs.lemmas.Bool.{false≢true, or_left, or_right, lt-ltb}
 use Rattle.regress_base.specs.declared.types.Flags.{Flags}
 use Rattle.regress_tree.specs.Reading.{Direction, forwards}
-use Rattle.regress_tree.specs.Setting.{Setting}
+use Rattle.regress_tree.specs.Steps.{Setting}
 use Rattle.regress_lexer.specs.Modifiers.{Change, changed, switched as switched_to}
 use Rattle.regress_lexer.specs.Source.{Source, closing, bar}
 use Rattle.regress_lexer.proofs.lemmas.After.{IsSuffix, after_same, after_after, after_drop, after_shorter}

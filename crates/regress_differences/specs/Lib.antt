@@ -2,7 +2,7 @@ pub mod CaseMode
 pub mod Kinds
 pub mod Reported
 -- re-exports what the public contract cites from other crates, so that a caller names one library
-pub use Rattle.regress_syntax.specs.SettingOf
+pub use Rattle.regress_syntax.specs.Meaning
 pub use Rattle.regress_parse.specs.Accepted
 pub use Rattle.regress_parse.specs.Fault
 pub use Rattle.regress_parse.specs.Settled

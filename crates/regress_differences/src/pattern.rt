@@ -3,7 +3,7 @@ ghost use Rattle.std.specs.Prelude.{◌≡◌, true, false, [], length, zip, All
 ghost use Rattle.regress_unicode.specs.TableOf.{table_of};
 ghost use Rattle.regress_lexer.specs.Source.{IsCodePoint};
 ghost use Rattle.regress_syntax.specs.Syntax.{Pattern, names};
-ghost use Rattle.regress_syntax.specs.SettingOf.{setting_of};
+ghost use Rattle.regress_syntax.specs.Meaning.{setting_of};
 ghost use Rattle.regress_parse.specs.Accepted.{IsAccepted, OfAccepted};
 ghost use Rattle.regress_parse.specs.Spans.{IsWithin};
 ghost use Rattle.regress_parse.specs.Settled.{IsFaultOf};

@@ -16,7 +16,7 @@ use Rattle.regress_parse.specs.declared.span.Span.{Span}
 use Rattle.regress_parse.specs.declared.pattern.SpannedRegex.{SpannedRegex}
 use Rattle.regress_parse.specs.Settled.{IsFaultOf}
 use Rattle.regress_syntax.specs.Syntax.{Pattern}
-use Rattle.regress_tree.specs.Setting.{Setting}
+use Rattle.regress_tree.specs.Steps.{Setting}
 use Rattle.regress_tree.specs.Tree.{Tree, tree}
 use Rattle.regress_display.specs.Request.{setting_of_request, Request, table_asked}
 use Rattle.regress_display.specs.Ending.{Leaves}

@@ -4,7 +4,7 @@ use Rattle.regress_base.specs.Table.{Table}
 use Rattle.regress_base.specs.declared.types.Flags.{Flags}
 use Rattle.regress_parse.specs.Accepted as parse
 use Rattle.regress_syntax.specs.Syntax.{Pattern}
-use Rattle.regress_tree.specs.Setting.{Setting}
+use Rattle.regress_tree.specs.Steps.{Setting}
 use Rattle.regress_ucd.specs.UnicodeTable.{unicode_table}
 use Rattle.regress_unicode.specs.SmallTable.{small_table}
 use Rattle.regress_display.specs.declared.request.Format.{Format}

@@ -7,7 +7,7 @@ use Rattle.regress_tree.specs.Display.{printed}
 use Rattle.regress_tree.specs.NormalForm.{IsNormal}
 use Rattle.regress_tree.specs.Reading.{forwards}
 use Rattle.regress_tree.specs.WellFormed.{captures}
-use Rattle.regress_tree.specs.Setting.{Setting}
+use Rattle.regress_tree.specs.Steps.{Setting}
 use Rattle.regress_tree.specs.Tree.{Tree, tree}
 use Rattle.regress_syntax.specs.Syntax.{Pattern}
 use Rattle.regress_parse.specs.Accepted as parse

@@ -3,7 +3,7 @@ ghost use Rattle.std.specs.Prelude.{◌≡◌, ◌⊎◌, IfOk, IfErr, OnOk, All
 ghost use Rattle.regress_arguments.specs.Output.{Took};
 ghost use Rattle.regress_parse.specs.Source.{IsCodePoint};
 ghost use Rattle.regress_parse.specs.Settled.{IsFaultOf};
-ghost use Rattle.regress_syntax.specs.SettingOf.{setting_of};
+ghost use Rattle.regress_syntax.specs.Meaning.{setting_of};
 ghost use Rattle.regress_tree.specs.Tree.{tree};
 ghost use Rattle.regress_tree.specs.WellFormed.{IsWellFormed};
 ghost use Rattle.regress_unicode.specs.TableOf.{table_of};

@@ -6,10 +6,9 @@ use Rattle.std.proofs.lemmas.List.{reverse-append}
 use Rattle.regress_base.specs.Table.{Table}
 use Rattle.regress_base.specs.declared.types.Flags.{Flags}
 use Rattle.regress_tree.specs.Reading.{Direction, forwards, backwards, IsText, of_characters}
-use Rattle.regress_tree.specs.References.{all_of, in_order}
+use Rattle.regress_tree.specs.References.{all_of, in_order, any_string}
 use Rattle.regress_tree.specs.Steps as Steps
 use Rattle.regress_tree.specs.Steps.{IsStateOf, stay, fail, ◌then_◌, ◌or_◌}
-use Rattle.regress_tree.specs.Strings.{any_string}
 use Rattle.regress_tree.proofs.lemmas.Outcomes.{flat_map-stay}
 use Rattle.regress_tree.proofs.lemmas.Simulation.{IsReached}
 use Rattle.regress_syntax.specs.Meaning.{shorter_than, longest_first}

@@ -15,9 +15,8 @@ use Rattle.regress_base.specs.declared.types.Quantifier.{Quantifier}
 use Rattle.regress_tree.specs.Assertions.{differ, is_line_terminator, at_anchor, at_boundary}
 use Rattle.regress_tree.specs.Reading.{Direction, forwards, backwards, IsText, of_characters}
 use Rattle.regress_tree.specs.References.{back_reference as back_reference_steps}
-use Rattle.regress_tree.specs.Setting.{Setting}
 use Rattle.regress_tree.specs.Steps as Steps
-use Rattle.regress_tree.specs.Steps.{IsStateOf, IsCaptureOf, hold_at, dedup, ◌then_◌}
+use Rattle.regress_tree.specs.Steps.{IsStateOf, IsCaptureOf, hold_at, dedup, ◌then_◌, Setting}
 use Rattle.regress_base.proofs.lemmas.Literals.{scalar_in_range}
 use Rattle.regress_classes.specs.ClassProductions.{members_of}
 use Rattle.regress_classes.specs.ClassSets.{Value, has_strings}

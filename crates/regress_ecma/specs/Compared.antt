@@ -1,6 +1,6 @@
 -- How the two are compared.
 use Rattle.std.specs.Prelude.{◌≡◌, true, false, List, ℕ}
-use Rattle.regress_tree.specs.Setting.{Setting}
+use Rattle.regress_tree.specs.Steps.{Setting}
 use Rattle.regress_tree.specs.Steps as Steps
 use Rattle.regress_syntax.specs.Syntax.{Pattern, names}
 use Rattle.regress_ecma.specs.Notation.{MatchState}

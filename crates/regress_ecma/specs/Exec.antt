@@ -2,7 +2,7 @@
 -- steps.
 use Rattle.std.specs.Prelude.{ℕ, zero, suc, ◌+◌, ◌-◌, List, length, Option, Some, None}
 use Rattle.regress_tree.specs.Reading.{byte_position}
-use Rattle.regress_tree.specs.Setting.{Setting}
+use Rattle.regress_tree.specs.Steps.{Setting}
 use Rattle.regress_tree.specs.Steps as Steps
 use Rattle.regress_syntax.specs.Syntax.{Pattern}
 use Rattle.regress_ecma.specs.Notation.{MatchState, MatchResult}

@@ -1,8 +1,7 @@
 //! The theorem that the first outcome of a pattern is the match of ECMA-262.
 ghost use Rattle.std.specs.Prelude.{◌≡◌, ◌<◌, ◌≤◌, ℕ, true, List, Some, None, length, option_map, replicate, slice_get, [], ◌∷◌};
 ghost use Rattle.regress_tree.specs.Reading.{Direction, forwards, IsText};
-ghost use Rattle.regress_tree.specs.Setting.{Setting};
-ghost use Rattle.regress_tree.specs.Steps.{MatchState, IsStateOf};
+ghost use Rattle.regress_tree.specs.Steps.{MatchState, IsStateOf, Setting};
 ghost use Rattle.regress_lexer.specs.Source.{Source, char};
 ghost use Rattle.regress_syntax.specs.Grammar.{IsPattern};
 ghost use Rattle.regress_syntax.specs.Meaning.{meaning};

@@ -1,8 +1,7 @@
 //! The theorem that an escaped text matches the text.
 ghost use Rattle.std.specs.Prelude.{◌≡◌, ◌++◌, ℕ, List, false, nat_eq};
 ghost use Rattle.regress_tree.specs.Reading.{Direction};
-ghost use Rattle.regress_tree.specs.Setting.{Setting};
-ghost use Rattle.regress_tree.specs.Steps.{MatchState};
+ghost use Rattle.regress_tree.specs.Steps.{MatchState, Setting};
 ghost use Rattle.regress_lexer.specs.FirstCodePoint.{may_begin};
 ghost use Rattle.regress_lexer.specs.Source.{Source};
 ghost use Rattle.regress_syntax.specs.Grammar.{AreTerms};

@@ -4,8 +4,7 @@ use Rattle.std.specs.Str.{IsCharBoundary}
 use Rattle.regress_tree.specs.Inside.{IsCaptureInside, IsSpanInside}
 use Rattle.regress_tree.specs.Matching.{matches}
 use Rattle.regress_tree.specs.Reading.{forwards}
-use Rattle.regress_tree.specs.Setting.{Setting}
-use Rattle.regress_tree.specs.Steps.{CaptureSpan, MatchState}
+use Rattle.regress_tree.specs.Steps.{CaptureSpan, MatchState, Setting}
 use Rattle.regress_tree.specs.Tree.{Tree}
 use Rattle.regress_tree.specs.WellFormed.{captures}
 pub use Rattle.regress_found.specs.declared.found.Match.{Match}

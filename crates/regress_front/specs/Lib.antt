@@ -32,8 +32,6 @@ pub use Rattle.regress_tree.specs.Assertions
 pub use Rattle.regress_tree.specs.Repetition
 pub use Rattle.regress_tree.specs.Lookaround
 pub use Rattle.regress_tree.specs.References
-pub use Rattle.regress_tree.specs.Strings
-pub use Rattle.regress_tree.specs.Setting
 pub use Rattle.regress_tree.specs.Tree
 pub use Rattle.regress_tree.specs.Display
 pub use Rattle.regress_tree.specs.Matching
@@ -51,7 +49,6 @@ pub use Rattle.regress_literal.specs.Literal
 -- Patterns.
 pub use Rattle.regress_lexer.specs.Source
 pub use Rattle.regress_lexer.specs.FaultKinds
-pub use Rattle.regress_syntax.specs.SettingOf
 pub use Rattle.regress_syntax.specs.Syntax
 pub use Rattle.regress_syntax.specs.Grammar
 pub use Rattle.regress_syntax.specs.Meaning

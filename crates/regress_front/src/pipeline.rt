@@ -2,7 +2,7 @@
 ghost use Rattle.std.specs.Prelude.{◌≡◌, ◌⊎◌, true, ◌≤◌, ◌+◌, ◌*◌, All, IfOk, OnOk, IsOkAnd, MatchResult};
 ghost use Rattle.regress_base.specs.Intervals.{code_point_max};
 ghost use Rattle.regress_unicode.specs.TableOf.{table_of};
-ghost use Rattle.regress_syntax.specs.SettingOf.{setting_of};
+ghost use Rattle.regress_syntax.specs.Meaning.{setting_of};
 ghost use Rattle.regress_tree.specs.NodeTests.{match_always_fails};
 ghost use Rattle.regress_tree.specs.Shapes.{ends_in_goal};
 ghost use Rattle.regress_tree.specs.Tree.{tree};

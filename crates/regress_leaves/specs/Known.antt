@@ -3,7 +3,7 @@ use Rattle.std.specs.Prelude.{◌≡◌, ℕ, ◌<◌, true, false}
 use Rattle.std.specs.Char.{to_ascii_lowercase, to_ascii_uppercase}
 use Rattle.std.proofs.Props.{props}
 use Rattle.regress_base.specs.Table.{Table}
-use Rattle.regress_tree.specs.Setting.{Setting}
+use Rattle.regress_tree.specs.Steps.{Setting}
 use Rattle.regress_leaves.specs.declared.case_facts.CaseFacts.{CaseFacts}
 
 -- the simple case folding of an ASCII character is its small letter, if it is a capital letter, and else itself

@@ -6,8 +6,7 @@ use Rattle.regress_base.specs.ByteBitmap.{contains}
 use Rattle.regress_base.specs.declared.bytesearch.bitmap.ByteBitmap.{ByteBitmap}
 use Rattle.regress_tree.specs.Matching.{steps}
 use Rattle.regress_tree.specs.Reading.{forwards}
-use Rattle.regress_tree.specs.Setting.{Setting}
-use Rattle.regress_tree.specs.Steps.{MatchState}
+use Rattle.regress_tree.specs.Steps.{MatchState, Setting}
 use Rattle.regress_tree.specs.Tree.{Tree, leaf, string_set}
 use Rattle.regress_prefilter.specs.FirstSets.{BeginsWithByteOf}
 use Rattle.regress_prefilter.specs.OneCharacter.{takes_one, test_of}

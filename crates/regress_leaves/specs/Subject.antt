@@ -1,7 +1,7 @@
 -- The input of a match.
 use Rattle.std.specs.Prelude.{ℕ, List}
 use Rattle.regress_tree.specs.Reading.{Direction, direction_if}
-use Rattle.regress_tree.specs.Setting.{Setting}
+use Rattle.regress_tree.specs.Steps.{Setting}
 use Rattle.regress_unicode.specs.TableOf.{table_of}
 use Rattle.regress_leaves.specs.declared.rules.MatchContext.{MatchContext}
 

@@ -8,9 +8,8 @@ use Rattle.regress_base.specs.Intervals.{code_point_max}
 use Rattle.regress_base.specs.Listing.{lists, IsListing}
 use Rattle.regress_literal.specs.Literal.{piece_of, is_character, bytes_piece, lowered_after, lowered, literal_steps, NoAdjacentSequences, MatchLiterals}
 use Rattle.regress_tree.specs.Matching.{leaf_steps, steps_of_parts}
-use Rattle.regress_tree.specs.Setting.{Setting}
 use Rattle.regress_tree.specs.Reading.{forwards, IsText, of_bytes}
-use Rattle.regress_tree.specs.Steps.{MatchState, Matcher, stay, ◌then_◌, one_character, these_bytes}
+use Rattle.regress_tree.specs.Steps.{MatchState, Matcher, stay, ◌then_◌, one_character, these_bytes, Setting}
 use Rattle.regress_base.specs.Table.{Table, denotes, class_of}
 use Rattle.regress_tree.specs.SmallSets.{is_ascii}
 use Rattle.regress_tree.specs.Tree.{Leaf, byte_sequence, byte_set, char_set, leaf, list}

@@ -5,9 +5,8 @@ use Rattle.regress_base.specs.Table.{Table, denotes, class_of}
 use Rattle.regress_literal.specs.declared.literal.Piece.{Piece}
 use Rattle.regress_literal.specs.declared.literal.Piece.TheVariants.{Char, ByteSequence, ByteSet, CharSet}
 use Rattle.regress_tree.specs.Matching.{steps_of_parts}
-use Rattle.regress_tree.specs.Setting.{Setting}
 use Rattle.regress_tree.specs.Reading.{forwards, IsText, of_characters}
-use Rattle.regress_tree.specs.Steps.{MatchState, Matcher, IsStateOf, byte_state, stay, ◌then_◌, one_character}
+use Rattle.regress_tree.specs.Steps.{MatchState, Matcher, IsStateOf, byte_state, stay, ◌then_◌, one_character, Setting}
 use Rattle.regress_tree.specs.SmallSets.{set_of}
 use Rattle.regress_tree.specs.Tree.{Leaf, char, byte_sequence, byte_set, char_set, leaf, list}
 

@@ -3,8 +3,7 @@ use Rattle.std.specs.Prelude.{◌≡◌, ℕ, ◌≤◌, List, Option, IfSome, l
 use Rattle.std.proofs.Props.{props}
 use Rattle.regress_tree.specs.Matching.{steps}
 use Rattle.regress_tree.specs.Reading.{forwards}
-use Rattle.regress_tree.specs.Setting.{Setting}
-use Rattle.regress_tree.specs.Steps.{MatchState}
+use Rattle.regress_tree.specs.Steps.{MatchState, Setting}
 use Rattle.regress_tree.specs.Tree.{Tree}
 use Rattle.regress_tree.specs.WellFormed.{captures}
 use Rattle.regress_unicode.specs.declared.Tables.{Tables}

@@ -1,8 +1,7 @@
 -- The pattern of a matcher.
 use Rattle.std.specs.Prelude.{ℕ, List}
 use Rattle.std.specs.Arc.{arc_value}
-use Rattle.regress_tree.specs.Setting.{Setting}
-use Rattle.regress_tree.specs.Steps.{MatchState}
+use Rattle.regress_tree.specs.Steps.{MatchState, Setting}
 use Rattle.regress_tree.specs.Tree.{Tree, tree}
 use Rattle.regress_unicode.specs.TableOf.{table_of}
 use Rattle.regress_found.specs.Found.{outcomes_at}

@@ -4,7 +4,7 @@ use Rattle.std.proofs.lemmas.Bool.{eqb-true, and_parts, cases_lt}
 use Rattle.regress_base.specs.declared.types.Flags.{Flags}
 use Rattle.regress_tree.specs.Reading.{forwards}
 use Rattle.regress_tree.specs.Visits.{nodes}
-use Rattle.regress_tree.specs.Setting.{Setting}
+use Rattle.regress_tree.specs.Steps.{Setting}
 use Rattle.regress_lexer.specs.Source.{Source, bar, is_at}
 use Rattle.regress_syntax.specs.Syntax.{Name, Pattern, names, groups_named}
 use Rattle.regress_parse.specs.TreeOf.{tree_of}

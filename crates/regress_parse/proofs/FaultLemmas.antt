@@ -1,7 +1,7 @@
 -- Syntax errors: their numbers, and what is known of them.
 use Rattle.std.proofs.Common.{◌⊎◌, ◌<◌, ℕ, ◌-◌, inl, inr, length, Err, sym, subst, arith}
 use Rattle.regress_base.specs.Limits.{max_capture_groups}
-use Rattle.regress_tree.specs.Setting.{Setting}
+use Rattle.regress_tree.specs.Steps.{Setting}
 use Rattle.regress_lexer.specs.declared.dialect.Dialect.{Dialect}
 use Rattle.regress_lexer.specs.Fault.{OnKind}
 use Rattle.regress_lexer.specs.FaultKinds.{number_of}

@@ -4,12 +4,11 @@ use Rattle.std.proofs.lemmas.Bool.Decides.{nat_tests}
 use Rattle.regress_base.specs.Brackets.{is_accepted}
 use Rattle.regress_base.specs.Intervals.{Bounds, is_member, intervals_of}
 use Rattle.regress_tree.specs.Reading.{Direction, Read, next_character, forwards, backwards, IsText, of_characters, of_bytes}
-use Rattle.regress_tree.specs.Steps.{MatchState, Matcher, byte_state, dedup, stay, fail, moved, ◌or_◌, one_character}
+use Rattle.regress_tree.specs.Steps.{MatchState, Matcher, byte_state, dedup, stay, fail, moved, ◌or_◌, one_character, Setting}
 use Rattle.regress_base.specs.Listing.{lists}
 use Rattle.regress_tree.specs.References as References
 use Rattle.regress_tree.specs.Matching.{steps, steps_of_parts}
-use Rattle.regress_tree.specs.Setting.{Setting}
-use Rattle.regress_tree.specs.Strings.{any_string}
+use Rattle.regress_tree.specs.References.{any_string}
 use Rattle.regress_tree.specs.Assertions.{is_line_terminator, is_word_character, differ}
 use Rattle.regress_base.specs.declared.types.Quantifier.{Quantifier}
 use Rattle.regress_base.specs.Table.{class_of}

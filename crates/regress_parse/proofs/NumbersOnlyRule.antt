@@ -2,7 +2,7 @@
 -- rule compares only the numbers of the alternatives, depth by depth, whichever groups they belong to.
 use Rattle.std.proofs.Common.{◌≡◌, ap, IsTrue}
 use Rattle.regress_base.specs.Table.{IsValidTable}
-use Rattle.regress_tree.specs.Setting.{Setting}
+use Rattle.regress_tree.specs.Steps.{Setting}
 use Rattle.regress_lexer.specs.declared.dialect.Dialect.TheVariants.{Regress}
 use Rattle.regress_lexer.specs.Source.{Source}
 use Rattle.regress_syntax.specs.Syntax.{Pattern}

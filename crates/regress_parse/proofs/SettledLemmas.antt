@@ -1,7 +1,7 @@
 -- A source with an error that the scan finds is not accepted.
 use Rattle.std.proofs.Common.{◌≡◌, ℕ, suc, ◌+◌, ◌-◌, false, ◌++◌, take, drop, length, Some, refl, sym, ap, subst, arith}
 use Rattle.regress_base.specs.Table.{IsValidTable}
-use Rattle.regress_tree.specs.Setting.{Setting}
+use Rattle.regress_tree.specs.Steps.{Setting}
 use Rattle.regress_lexer.specs.declared.dialect.Dialect.{Dialect}
 use Rattle.regress_lexer.specs.declared.fault.FaultKind.{FaultKind}
 use Rattle.regress_lexer.specs.declared.fault.Fault.{Fault}

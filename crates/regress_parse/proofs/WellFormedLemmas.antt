@@ -12,7 +12,7 @@ use Rattle.regress_base.specs.Table.{class_of}
 use Rattle.regress_tree.specs.Reading.{Direction, forwards, backwards}
 use Rattle.regress_base.specs.Table.{Table, IsValidTable}
 use Rattle.regress_tree.specs.Tree.{Tree, Trees, no_trees, more_trees, char, match_any, match_any_except_line_terminator, bracket, back_ref, string_set}
-use Rattle.regress_tree.specs.Setting.{Setting}
+use Rattle.regress_tree.specs.Steps.{Setting}
 use Rattle.regress_tree.specs.WellFormed.{inside, LeafIsAllowed, IsQuantifier, HasGroups, IsAllowed, PartsAllowed, IsWellFormed, captures}
 use Rattle.regress_base.proofs.lemmas.Literals.{class_of-bounded, class_of-few}
 use Rattle.regress_tree.proofs.lemmas.ReversedParts.{PartsAllowed-reverse_trees}

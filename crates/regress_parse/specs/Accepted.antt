@@ -2,9 +2,8 @@
 use Rattle.std.specs.Prelude.{◌≡◌, ◌⊎◌, ℕ, ◌<◌, ◌≤◌, List, [], length, map, encode_utf8_all}
 use Rattle.regress_base.specs.Limits.{max_capture_groups, max_loops, max_nesting_depth}
 use Rattle.regress_tree.specs.Reading.{IsText, forwards}
-use Rattle.regress_tree.specs.Steps.{MatchState, IsStateOf, byte_state}
+use Rattle.regress_tree.specs.Steps.{MatchState, IsStateOf, byte_state, Setting}
 use Rattle.regress_tree.specs.Matching.{matches}
-use Rattle.regress_tree.specs.Setting.{Setting}
 use Rattle.regress_tree.specs.Tree.{Tree}
 use Rattle.regress_lexer.specs.declared.dialect.Dialect.{Dialect}
 use Rattle.regress_lexer.specs.declared.dialect.Dialect.TheVariants.{Regress}

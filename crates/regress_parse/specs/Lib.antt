@@ -12,7 +12,7 @@ pub mod Bound
 -- definitions of the crates below that the public contracts cite, exported again so that a caller names one library
 pub use Rattle.regress_base.specs.Table
 pub use Rattle.regress_unicode.specs.TableOf
-pub use Rattle.regress_tree.specs.Setting
+pub use Rattle.regress_tree.specs.Steps
 pub use Rattle.regress_tree.specs.Tree
 pub use Rattle.regress_tree.specs.WellFormed
 pub use Rattle.regress_lexer.specs.Source

@@ -1,7 +1,7 @@
 //! Parses a whole pattern into its tree.
 ghost use Rattle.std.specs.Prelude.{◌≡◌, ◌-◌, true, Bool, All, length, IfOk, IfErr};
 ghost use Rattle.regress_unicode.specs.TableOf.{table_of};
-ghost use Rattle.regress_syntax.specs.SettingOf.{setting_of};
+ghost use Rattle.regress_syntax.specs.Meaning.{setting_of};
 ghost use Rattle.regress_tree.specs.Tree.{tree};
 ghost use Rattle.regress_tree.specs.WellFormed.{IsWellFormed};
 ghost use Rattle.regress_lexer.specs.Dialects.{flags_in_force};

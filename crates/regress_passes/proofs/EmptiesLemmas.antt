@@ -5,9 +5,8 @@ use Rattle.std.proofs.lemmas.Bool.{cases_Bool, true≢false, false≢true, and_p
 use Rattle.std.proofs.lemmas.Str.{length-le-encodes}
 use Rattle.regress_base.specs.declared.types.Quantifier.{Quantifier}
 use Rattle.regress_tree.specs.Reading.{Direction}
-use Rattle.regress_tree.specs.Steps.{MatchState, stay}
+use Rattle.regress_tree.specs.Steps.{MatchState, stay, Setting}
 use Rattle.regress_tree.specs.Lookaround.{lookaround_matcher}
-use Rattle.regress_tree.specs.Setting.{Setting}
 use Rattle.regress_tree.specs.Matching.{steps}
 use Rattle.regress_tree.specs.Tree.{Leaf, empty, byte_sequence, Wrapper, capture_group, loop, loop_one, lookaround, Tree, Trees, leaf, cat, alt, wrapped, no_trees, tree}
 use Rattle.regress_tree.specs.WellFormed.{captures, Position, one_character, inside, last, root, NotAsOneCharacter, AreUtf8, IsQuantifier, IsAllowed}

@@ -10,9 +10,8 @@ use Rattle.regress_base.specs.Intervals.{code_point_max}
 use Rattle.regress_tree.specs.declared.ir.node.Node.{Node}
 use Rattle.regress_base.specs.declared.types.Quantifier.{Quantifier}
 use Rattle.regress_tree.specs.Reading.{Direction, Read, next_character, of_bytes}
-use Rattle.regress_tree.specs.Steps.{MatchState, Matcher, moved, one_character}
+use Rattle.regress_tree.specs.Steps.{MatchState, Matcher, moved, one_character, Setting}
 use Rattle.regress_tree.specs.Repetition.{unset, iteration, iterations, up_to, extra_iterations, repeat_matcher}
-use Rattle.regress_tree.specs.Setting.{Setting}
 use Rattle.regress_tree.specs.Matching.{steps, steps_of_parts}
 use Rattle.regress_tree.specs.Tree.{Leaf, byte_set, char_set, bracket, Wrapper, capture_group, loop, loop_one, lookaround, Tree, Trees, leaf, cat, alt, wrapped, no_trees, more_trees, tree}
 use Rattle.regress_tree.specs.WellFormed.{captures, Position, inside, last_of, NotAsOneCharacter, IsSmallSet, LeafIsAllowed, IsAllowed, PartsAllowed}

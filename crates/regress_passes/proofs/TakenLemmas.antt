@@ -7,9 +7,8 @@ use mathlib.Core.Path.{fun_ext}
 use Rattle.regress_tree.specs.Measures.{Measure, total_in_list}
 use Rattle.regress_tree.specs.Matching.{steps, steps_of_parts}
 use Rattle.regress_tree.specs.Reading.{Direction}
-use Rattle.regress_tree.specs.Setting.{Setting}
 use Rattle.regress_tree.specs.Shapes.{some_node, some_node_in_list, some_part, is_simplified_away, ListLacksShape}
-use Rattle.regress_tree.specs.Steps.{MatchState, stay}
+use Rattle.regress_tree.specs.Steps.{MatchState, stay, Setting}
 use Rattle.regress_tree.specs.Tree.{Tree, Trees, cat, no_trees, more_trees}
 use Rattle.regress_tree.specs.Units.{sizes, unrollables, weights, IsLess}
 use Rattle.regress_tree.specs.WellFormed.{Position, last_of, captures, captures_of_trees, PartsAllowed}

@@ -13,9 +13,8 @@ use Rattle.regress_tree.specs.Matching.{steps, steps_of_parts}
 use Rattle.regress_tree.specs.Measures.{total_in_list, nesting}
 use Rattle.regress_tree.specs.Reading.{Direction}
 use Rattle.regress_tree.specs.Repetition.{iterations, up_to, extra_iterations, repeat_matcher}
-use Rattle.regress_tree.specs.Setting.{Setting}
 use Rattle.regress_tree.specs.Shapes.{has_loop, has_string_set, is_simplified_away, max_body_charge, max_body_nesting, may_unroll, may_unroll_by, is_unrolled_away, is_zero, LacksShape, ListLacksShape}
-use Rattle.regress_tree.specs.Steps.{MatchState, Matcher, ◌then_◌}
+use Rattle.regress_tree.specs.Steps.{MatchState, Matcher, ◌then_◌, Setting}
 use Rattle.regress_tree.specs.Tree.{Tree, Trees, leaf, cat, alt, wrapped, capture_group, loop, loop_one, lookaround, no_trees, more_trees, append_trees, copies, tree, trees}
 use Rattle.regress_tree.specs.Units.{sizes, units, unrollables, loops, unrolling, charge, IsLess}
 use Rattle.regress_tree.specs.WellFormed.{captures, captures_of_trees, Position, inside, last_of, IsQuantifier, IsAllowed, PartsAllowed}

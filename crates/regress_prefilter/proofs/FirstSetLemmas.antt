@@ -20,8 +20,7 @@ use Rattle.regress_tree.specs.Lookaround.{lookaround_matcher, looked}
 use Rattle.regress_tree.specs.Matching.{steps, steps_of_parts, leaf_steps}
 use Rattle.regress_tree.specs.Reading.{forwards, backwards, Read, next_character, of_bytes}
 use Rattle.regress_tree.specs.Repetition.{unset, iteration, iterations, moving, up_to, extra_iterations, repeat_matcher}
-use Rattle.regress_tree.specs.Setting.{Setting}
-use Rattle.regress_tree.specs.Steps.{MatchState, Matcher, stay, ◌then_◌, ◌or_◌, one_character, moved, these_bytes, hold_at, capture, captured, dedup}
+use Rattle.regress_tree.specs.Steps.{MatchState, Matcher, stay, ◌then_◌, ◌or_◌, one_character, moved, these_bytes, hold_at, capture, captured, dedup, Setting}
 use Rattle.regress_tree.specs.Tree.{Leaf, empty, goal, char, byte_sequence, byte_set, char_set, match_any, match_any_except_line_terminator, anchor, word_boundary, bracket, back_ref, string_set, Tree, Trees, no_trees, more_trees, append_trees, leaf, cat, alt, wrapped, capture_group, lookaround}
 use Rattle.regress_tree.proofs.lemmas.Characters.{character_at_parts}
 use Rattle.regress_tree.proofs.lemmas.Lists.{steps-append}

@@ -7,8 +7,7 @@ use Rattle.regress_base.specs.Positions.{IsMemberAt}
 use Rattle.regress_base.specs.declared.bytesearch.bitmap.ByteBitmap.{ByteBitmap}
 use Rattle.regress_tree.specs.Matching.{steps, matches}
 use Rattle.regress_tree.specs.Reading.{forwards}
-use Rattle.regress_tree.specs.Setting.{Setting}
-use Rattle.regress_tree.specs.Steps.{MatchState, Matcher}
+use Rattle.regress_tree.specs.Steps.{MatchState, Matcher, Setting}
 use Rattle.regress_tree.specs.Tree.{Tree}
 use Rattle.regress_prefilter.specs.declared.first_sets.FirstSet.{FirstSet}
 

@@ -2,8 +2,7 @@
 use Rattle.std.proofs.Common.{◌≡◌, ℕ, ◌+◌, ◌≤◌, ◌<◌, List, length, All, sym, ap, subst, ◌∙◌, arith}
 use Rattle.regress_tree.specs.Reading.{Direction}
 use Rattle.regress_tree.specs.Repetition.{iteration}
-use Rattle.regress_tree.specs.Setting.{Setting}
-use Rattle.regress_tree.specs.Steps.{MatchState, Matcher, stay, fail, ◌then_◌, ◌or_◌, capture}
+use Rattle.regress_tree.specs.Steps.{MatchState, Matcher, stay, fail, ◌then_◌, ◌or_◌, capture, Setting}
 use Rattle.regress_tree.specs.Tree.{Tree}
 use Rattle.regress_tree.proofs.lemmas.Groups.{iteration-none}
 use Rattle.regress_program.specs.Compiled.{Matching, matching, Code, Grown, Compiled}

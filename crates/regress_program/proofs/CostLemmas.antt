@@ -6,8 +6,7 @@ use Rattle.std.specs.Int.{abs_diff}
 use Rattle.regress_tree.specs.Lookaround.{lookaround_matcher}
 use Rattle.regress_tree.specs.Matching.{steps}
 use Rattle.regress_tree.specs.Reading.{Direction}
-use Rattle.regress_tree.specs.Setting.{Setting}
-use Rattle.regress_tree.specs.Steps.{MatchState, Matcher}
+use Rattle.regress_tree.specs.Steps.{MatchState, Matcher, Setting}
 use Rattle.regress_program.specs.Below.{Below}
 use Rattle.regress_program.specs.Cost.{Cost, blocks, bytes_ahead, compared, cost_after, cost_by, unset_cost}
 use Rattle.regress_program.specs.Program.{At, Routine, Op, accept, fail, part, split, begin_loop, repeat, end_loop, unsets, begin_group, end_group, look, goto, enter, reach, ended}

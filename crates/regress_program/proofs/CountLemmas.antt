@@ -12,8 +12,7 @@ use Rattle.regress_prefilter.proofs.lemmas.OneCharacter.{takes_one-steps}
 use Rattle.regress_tree.specs.Matching.{steps}
 use Rattle.regress_tree.specs.Reading.{Direction, forwards, backwards, Read, next_character, of_bytes, character_at, read_after, read_before}
 use Rattle.regress_tree.specs.Repetition.{iterations, extra_iterations, repeat_matcher, up_to}
-use Rattle.regress_tree.specs.Setting.{Setting}
-use Rattle.regress_tree.specs.Steps.{MatchState, Matcher, ◌then_◌, ◌or_◌, moved, one_character}
+use Rattle.regress_tree.specs.Steps.{MatchState, Matcher, ◌then_◌, ◌or_◌, moved, one_character, Setting}
 use Rattle.regress_tree.specs.Tree.{loop_one, Tree, wrapped}
 use Rattle.regress_tree.proofs.lemmas.Groups.{iteration-none}
 use Rattle.regress_tree.proofs.lemmas.Outcomes.{flat_map-then, flat_map-stay}

@@ -4,11 +4,9 @@ use Rattle.std.proofs.lemmas.List.Elements.{All-nil, All-cons, All-head, All-tai
 use Rattle.regress_base.specs.Table.{denotes}
 use Rattle.regress_tree.specs.Matching.{steps}
 use Rattle.regress_tree.specs.Reading.{Direction, forwards, backwards, Reading, Read, next_character, of_bytes}
-use Rattle.regress_tree.specs.References.{all_of, back_reference, in_order, match_again}
+use Rattle.regress_tree.specs.References.{all_of, back_reference, in_order, match_again, any_string}
 use Rattle.regress_tree.specs.Repetition.{iterations}
-use Rattle.regress_tree.specs.Setting.{Setting}
-use Rattle.regress_tree.specs.Steps.{CaptureSpan, MatchState, Matcher, moved, one_character, these_bytes, hold_at}
-use Rattle.regress_tree.specs.Strings.{any_string}
+use Rattle.regress_tree.specs.Steps.{CaptureSpan, MatchState, Matcher, moved, one_character, these_bytes, hold_at, Setting}
 use Rattle.regress_tree.specs.Tree.{empty, goal, char, byte_sequence, byte_set, char_set, match_any, match_any_except_line_terminator, anchor, word_boundary, bracket, back_ref, string_set, capture_group, loop, loop_one, lookaround, Tree, leaf, cat, alt, wrapped}
 use Rattle.regress_leaves.proofs.lemmas.Leaves.{any-nil, any-cons, counted-steps}
 use Rattle.regress_program.specs.Shape.{IsPart}

@@ -6,8 +6,7 @@ use Rattle.std.proofs.lemmas.Option.{same_Some}
 use Rattle.regress_base.specs.declared.types.Quantifier.{Quantifier}
 use Rattle.regress_tree.specs.Reading.{Direction}
 use Rattle.regress_tree.specs.Repetition.{iteration, iterations, up_to, extra_iterations, repeat_matcher}
-use Rattle.regress_tree.specs.Setting.{Setting}
-use Rattle.regress_tree.specs.Steps.{◌then_◌}
+use Rattle.regress_tree.specs.Steps.{◌then_◌, Setting}
 use Rattle.regress_tree.proofs.lemmas.Outcomes.{flat_map-then}
 use Rattle.regress_program.specs.Compiled.{Extends, World, Solved, Goes, Matching, optional, any_number, extra, after_iterations, repeated, Code, total, Grown, Compiled}
 use Rattle.regress_program.specs.Iterates.{Continues, Iterates}

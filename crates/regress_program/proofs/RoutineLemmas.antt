@@ -7,9 +7,8 @@ use Rattle.std.proofs.lemmas.Option.{same_Some, slice_get_within}
 use Rattle.regress_base.specs.Table.{denotes}
 use Rattle.regress_tree.specs.Lookaround.{lookaround_matcher, looked}
 use Rattle.regress_tree.specs.Reading.{Direction, of_bytes}
-use Rattle.regress_tree.specs.Setting.{Setting}
-use Rattle.regress_tree.specs.Steps.{MatchState, Matcher, ◌or_◌}
-use Rattle.regress_tree.specs.Strings.{any_string}
+use Rattle.regress_tree.specs.Steps.{MatchState, Matcher, ◌or_◌, Setting}
+use Rattle.regress_tree.specs.References.{any_string}
 use Rattle.regress_tree.specs.Tree.{Tree, leaf, string_set}
 use Rattle.regress_tree.proofs.lemmas.Outcomes.{flat_map-stay}
 use Rattle.regress_program.specs.Compiled.{Extends, World, Solved, Matching, matching, looking, strings, Code, total, Grown, Compiled, HasRoutine}

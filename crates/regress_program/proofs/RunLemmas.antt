@@ -1,8 +1,7 @@
 -- Every program has outcomes.
 use Rattle.std.proofs.Common.{◌≡◌, ℕ, zero, suc, ◌≤◌, ◌<◌, List, [], length, take, slice_get, Option, Some, None, refl, sym, ap, subst, arith, not-suc-le-zero}
 use Rattle.std.proofs.lemmas.List.{length-take}
-use Rattle.regress_tree.specs.Setting.{Setting}
-use Rattle.regress_tree.specs.Steps.{MatchState, Matcher}
+use Rattle.regress_tree.specs.Steps.{MatchState, Matcher, Setting}
 use Rattle.regress_program.specs.Below.{Below, place_of}
 use Rattle.regress_program.specs.Program.{Out, At, Routine, Op, outcomes_at, start, matcher_of, Solves, IsSolution}
 use Rattle.regress_program.specs.Shape.{IsRoutine, IsProgram}

@@ -2,8 +2,7 @@
 use Rattle.std.proofs.Common.{◌≡◌, ℕ, zero, suc, ◌≤◌, ◌<◌, List, length, take, slice_get, Option, Some, None, refl, sym, ap, subst, arith, not-suc-le-zero}
 use Rattle.std.proofs.lemmas.List.{length-take}
 use Rattle.regress_tree.specs.Reading.{Direction}
-use Rattle.regress_tree.specs.Setting.{Setting}
-use Rattle.regress_tree.specs.Steps.{MatchState}
+use Rattle.regress_tree.specs.Steps.{MatchState, Setting}
 use Rattle.regress_program.specs.Below.{Below, place_of}
 use Rattle.regress_program.specs.Program.{At, Routine, Op, start}
 use Rattle.regress_program.specs.Shape.{Fits, IsRoutine, IsProgram}

@@ -5,8 +5,7 @@ use Rattle.regress_tree.specs.Lookaround.{lookaround_matcher}
 use Rattle.regress_tree.specs.Matching.{steps}
 use Rattle.regress_tree.specs.Reading.{Direction, forwards}
 use Rattle.regress_tree.specs.Repetition.{iterations, up_to, extra_iterations, repeat_matcher}
-use Rattle.regress_tree.specs.Setting.{Setting}
-use Rattle.regress_tree.specs.Steps.{MatchState, Matcher, ◌then_◌}
+use Rattle.regress_tree.specs.Steps.{MatchState, Matcher, ◌then_◌, Setting}
 use Rattle.regress_tree.specs.Tree.{Tree, leaf, string_set}
 use Rattle.regress_program.specs.Program.{Op, Routine, At, Out, goto, reach, Solves, IsSolution, matcher_of, MatchesTree}
 use Rattle.regress_program.specs.Shape.{AllFit, IsProgram}

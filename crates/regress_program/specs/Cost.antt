@@ -5,8 +5,7 @@ use Rattle.regress_tree.specs.Lookaround.{lookaround_matcher}
 use Rattle.regress_tree.specs.Matching.{steps}
 use Rattle.regress_tree.specs.Reading.{Direction, forwards, backwards}
 use Rattle.regress_tree.specs.Repetition.{unset}
-use Rattle.regress_tree.specs.Setting.{Setting}
-use Rattle.regress_tree.specs.Steps.{CaptureSpan, MatchState, Matcher}
+use Rattle.regress_tree.specs.Steps.{CaptureSpan, MatchState, Matcher, Setting}
 use Rattle.regress_tree.specs.Tree.{Tree, leaf, back_ref}
 use Rattle.regress_program.specs.Program.{Out, At, Routine, Op, accept, fail, part, split, begin_loop, repeat, end_loop, unsets, begin_group, end_group, look, goto, enter, reach, ended, start, matcher_of, IsSolution}
 

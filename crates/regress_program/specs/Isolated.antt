@@ -1,7 +1,6 @@
 -- Captures that a routine sets do not depend on those before it.
 use Rattle.std.specs.Prelude.{◌≡◌, ℕ, List, [], ◌∷◌, length, slice_index_or, Option, None}
-use Rattle.regress_tree.specs.Setting.{Setting}
-use Rattle.regress_tree.specs.Steps.{CaptureSpan, MatchState}
+use Rattle.regress_tree.specs.Steps.{CaptureSpan, MatchState, Setting}
 use Rattle.regress_program.specs.declared.ranges.GroupRange.{GroupRange}
 use Rattle.regress_found.specs.Found.{initial_state}
 use Rattle.regress_program.specs.Program.{Out, Routine, matcher_of}

@@ -2,8 +2,7 @@
 use Rattle.std.specs.Prelude.{◌≡◌, ℕ, ◌+◌, ◌-◌, ◌≤◌, ◌<◌, Bool, true, false, List, [], flat_map, length}
 use Rattle.regress_tree.specs.Reading.{Direction, forwards, backwards}
 use Rattle.regress_tree.specs.Repetition.{up_to}
-use Rattle.regress_tree.specs.Setting.{Setting}
-use Rattle.regress_tree.specs.Steps.{Matcher}
+use Rattle.regress_tree.specs.Steps.{Matcher, Setting}
 use Rattle.regress_program.specs.Compiled.{World, Solved, Goes, Matching, Code, Grown}
 use Rattle.regress_program.specs.Program.{At, Out, goto, reach}
 use Rattle.regress_program.specs.Stays.{Stays}

@@ -4,8 +4,7 @@ use Rattle.regress_tree.specs.Lookaround.{lookaround_matcher}
 use Rattle.regress_tree.specs.Matching.{steps}
 use Rattle.regress_tree.specs.Reading.{Direction}
 use Rattle.regress_tree.specs.Repetition.{unset}
-use Rattle.regress_tree.specs.Setting.{Setting}
-use Rattle.regress_tree.specs.Steps.{MatchState, Matcher, captured}
+use Rattle.regress_tree.specs.Steps.{MatchState, Matcher, captured, Setting}
 use Rattle.regress_tree.specs.Tree.{Tree}
 
 -- An instruction as plain data. It names the instructions after it by their indices.

@@ -1,10 +1,9 @@
 -- The law: how a rewrite may change a part of a tree.
 use Rattle.std.specs.Prelude.{◌≡◌, ◌≢◌, ℕ, ◌≤◌, Bool, false, IsTrue, List, encode_utf8_all}
 use Rattle.regress_tree.specs.Reading.{Direction, IsText}
-use Rattle.regress_tree.specs.Steps.{Alike}
+use Rattle.regress_tree.specs.Steps.{Alike, Setting}
 use Rattle.regress_tree.specs.Tree.{Tree, leaf, empty, tree}
 use Rattle.regress_tree.specs.Matching.{steps}
-use Rattle.regress_tree.specs.Setting.{Setting}
 use Rattle.regress_tree.specs.WellFormed.{Position, IsAllowed, captures}
 use Rattle.regress_tree.specs.Units.{account, IsLess}
 use Rattle.regress_tree.specs.Shapes.{LacksShape, is_simplified_away}

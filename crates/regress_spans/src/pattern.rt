@@ -6,7 +6,7 @@ ghost use Rattle.regress_tree.specs.Visits.{nodes};
 ghost use Rattle.regress_tree.specs.WellFormed.{IsWellFormed};
 ghost use Rattle.regress_lexer.specs.Source.{IsCodePoint};
 ghost use Rattle.regress_syntax.specs.Syntax.{Pattern};
-ghost use Rattle.regress_syntax.specs.SettingOf.{setting_of};
+ghost use Rattle.regress_syntax.specs.Meaning.{setting_of};
 ghost use Rattle.regress_parse.specs.Accepted.{IsAccepted, OneIsDerived, OfAccepted, Means};
 ghost use Rattle.regress_parse.specs.TreeOf.{tree_of};
 ghost use Rattle.regress_parse.specs.Spans.{IsWithin, IsInsideOrApart, spans_of};

@@ -1,5 +1,4 @@
 pub mod Names
-pub mod SettingOf
 pub mod Syntax
 pub mod Productions
 pub mod Grammar

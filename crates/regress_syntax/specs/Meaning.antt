@@ -4,18 +4,22 @@ use Rattle.std.specs.List.{concat}
 use Rattle.regress_base.specs.Intervals.{Bounds, is_member}
 use Rattle.regress_base.specs.declared.types.Flags.{Flags}
 use Rattle.regress_base.specs.declared.types.Quantifier.{Quantifier}
+use Rattle.regress_unicode.specs.declared.Tables.{Tables}
+use Rattle.regress_unicode.specs.TableOf.{table_of}
 use Rattle.regress_tree.specs.Reading.{Direction, forwards, backwards, of_characters}
-use Rattle.regress_tree.specs.Steps.{Matcher, dedup, stay, fail, ◌then_◌, ◌or_◌, one_character, hold_at}
+use Rattle.regress_tree.specs.Steps.{Matcher, dedup, stay, fail, ◌then_◌, ◌or_◌, one_character, hold_at, Setting}
 use Rattle.regress_tree.specs.Steps as Steps
 use Rattle.regress_tree.specs.Lookaround as Lookaround
 use Rattle.regress_tree.specs.References as References
-use Rattle.regress_tree.specs.Strings.{any_string}
-use Rattle.regress_tree.specs.Setting.{Setting}
 use Rattle.regress_base.specs.Table.{Table, denotes, is_in_closure}
 use Rattle.regress_tree.specs.Assertions.{is_line_terminator, is_word_character, at_anchor, differ, at_boundary}
 use Rattle.regress_tree.specs.Repetition.{repeat_matcher}
 use Rattle.regress_classes.specs.ClassProductions.{members_of}
 use Rattle.regress_syntax.specs.Syntax.{Name, Target, by_number, by_name, Atom, literal, dot, anchor, boundary, class_escape, class, class_set, string_property, back_reference, Group, grouping, modified, capture, look, Pattern, Terms, Item, one, either, no_terms, more_terms, atom, group, opened_by, counts_of_item, counts_of_terms, counts_of_term, names, groups_named, direction_of_group}
+
+-- the setting of a match: the flags, and the table in the value
+abbrev pub setting_of : Flags → Tables → Setting
+setting_of flags tables = record { flags = flags; table = table_of tables }
 
 -- A character matches the literal c: it is equal to c or, with the flag i, has the same canonical form (ECMA-262,
 -- Canonicalize).
@@ -82,7 +86,7 @@ module _ (setting : Setting) (names : List (Option Name)) (text : List ℕ) wher
   -- the strings tried in order, each matched character by character as a backreference is
   abbrev pub one_of_strings : Direction → Flags → List (List ℕ) → Matcher
   one_of_strings d flags =
-      any_string d (of_characters text) (denotes setting.table flags.icase setting.flags.unicode)
+      References.any_string d (of_characters text) (denotes setting.table flags.icase setting.flags.unicode)
 
   abbrev pub atom_steps : Direction → Atom → Matcher
   atom_steps d (literal flags c) = one_character d (of_characters text) (is_literal setting.table flags c)

@@ -2,12 +2,11 @@
 use Rattle.regress_lexer.specs.Views.{change_of}
 use Rattle.std.specs.Prelude.{◌≡◌, ℕ, List, map, Option, option_map}
 use Rattle.regress_tree.specs.Reading.{direction_if}
-use Rattle.regress_syntax.specs.SettingOf.{setting_of}
 use Rattle.regress_syntax.specs.declared.scope.Scope.{Scope}
 use Rattle.regress_syntax.specs.declared.group.Group.{Group as CodeGroup}
 use Rattle.regress_syntax.specs.declared.group.Group.TheVariants as groups
 use Rattle.regress_syntax.specs.declared.groups.Groups.{Groups}
-use Rattle.regress_syntax.specs.Meaning.{referred}
+use Rattle.regress_syntax.specs.Meaning.{referred, setting_of}
 use Rattle.regress_syntax.specs.Syntax.{Name, Target, Atom, back_reference, Group, grouping, modified, capture, look}
 use Rattle.regress_syntax.specs.Productions.{Context}
 

@@ -10,8 +10,7 @@ use Rattle.regress_base.specs.Table.{denotes}
 use Rattle.regress_tree.specs.Matching.{steps}
 use Rattle.regress_tree.specs.Reading.{Direction, forwards, backwards, direction_if, of_bytes}
 use Rattle.regress_tree.specs.References.{all_of, in_order}
-use Rattle.regress_tree.specs.Setting.{Setting}
-use Rattle.regress_tree.specs.Steps.{MatchState, Matcher}
+use Rattle.regress_tree.specs.Steps.{MatchState, Matcher, Setting}
 use Rattle.regress_tree.specs.Tree.{Tree, leaf, string_set, tree}
 use Rattle.regress_leaves.specs.Leaves.{exactly, put}
 use Rattle.regress_leaves.specs.declared.test.Test.{Test}

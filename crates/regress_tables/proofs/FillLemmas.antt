@@ -6,7 +6,7 @@ use Rattle.std.proofs.lemmas.List.{get_or_push}
 use Rattle.std.proofs.lemmas.Option.{slice_get_within}
 use Rattle.std.proofs.lemmas.Nat.{same_from_place}
 use Rattle.regress_tree.specs.Reading.{Direction, forwards, backwards, direction_if}
-use Rattle.regress_tree.specs.Setting.{Setting}
+use Rattle.regress_tree.specs.Steps.{Setting}
 use Rattle.regress_program.specs.Below.{row_of, column, place}
 use Rattle.regress_program.specs.Program.{Out, Routine, Op, outcomes_by, outcomes_at, matcher_of, IsSolution}
 use Rattle.regress_program.specs.Tidy.{has_no_back_reference}

@@ -8,8 +8,7 @@ use Rattle.std.proofs.Math.Nat.{mul-le-mul_right}
 use Rattle.regress_prefilter.specs.OneCharacter.{takes_one, test_of}
 use Rattle.regress_prefilter.proofs.lemmas.OneCharacter.{takes_one-steps}
 use Rattle.regress_tree.specs.Reading.{Direction, Read, direction_if, next_character, of_bytes}
-use Rattle.regress_tree.specs.Setting.{Setting}
-use Rattle.regress_tree.specs.Steps.{Matcher}
+use Rattle.regress_tree.specs.Steps.{Matcher, Setting}
 use Rattle.regress_tree.specs.Tree.{Tree}
 use Rattle.regress_leaves.specs.Subject.{subject}
 use Rattle.regress_leaves.proofs.lemmas.Leaves.{one_none, one_no, one_yes}

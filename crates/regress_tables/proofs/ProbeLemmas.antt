@@ -5,8 +5,7 @@ use Rattle.std.proofs.lemmas.Bool.{cases_eq}
 use Rattle.std.proofs.lemmas.Option.{slice_get-get_or}
 use Rattle.regress_tree.specs.Matching.{steps}
 use Rattle.regress_tree.specs.Reading.{Direction, direction_if}
-use Rattle.regress_tree.specs.Setting.{Setting}
-use Rattle.regress_tree.specs.Steps.{MatchState, Matcher}
+use Rattle.regress_tree.specs.Steps.{MatchState, Matcher, Setting}
 use Rattle.regress_tree.specs.Tree.{Tree}
 use Rattle.regress_leaves.specs.Leaves.{put}
 use Rattle.regress_program.specs.Below.{column}

@@ -9,8 +9,7 @@ use Rattle.std.proofs.lemmas.Option.{slice_get_cases}
 use Rattle.regress_tree.specs.Lookaround.{looked, lookaround_matcher}
 use Rattle.regress_tree.specs.Matching.{steps}
 use Rattle.regress_tree.specs.Reading.{Direction, direction_if}
-use Rattle.regress_tree.specs.Setting.{Setting}
-use Rattle.regress_tree.specs.Steps.{CaptureSpan, MatchState}
+use Rattle.regress_tree.specs.Steps.{CaptureSpan, MatchState, Setting}
 use Rattle.regress_tree.specs.Tree.{Tree}
 use Rattle.regress_leaves.specs.Leaves.{put}
 use Rattle.regress_program.specs.declared.ranges.GroupRange.{GroupRange}

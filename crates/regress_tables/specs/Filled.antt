@@ -1,7 +1,7 @@
 -- The tables of all routines of a program.
 use Rattle.std.specs.Prelude.{◌≡◌, ℕ, List, length}
 use Rattle.std.proofs.Props.{props}
-use Rattle.regress_tree.specs.Setting.{Setting}
+use Rattle.regress_tree.specs.Steps.{Setting}
 use Rattle.regress_program.specs.Program.{Routine, Out, IsSolution}
 use Rattle.regress_program.specs.Unique.{Direction-set}
 use Rattle.regress_tables.specs.declared.table.Table.{Table}

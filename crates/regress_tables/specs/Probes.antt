@@ -1,8 +1,7 @@
 -- What instructions that look at the text lead to.
 use Rattle.std.specs.Prelude.{◌≡◌, ℕ, ◌+◌, ◌*◌, ◌==◌, ◌<◌, ◌≤◌, Bool, true, false, List, [], ◌∷◌, length, take, slice_get, Option, Some, None, if◌then◌else◌}
 use Rattle.regress_tree.specs.Reading.{Direction}
-use Rattle.regress_tree.specs.Setting.{Setting}
-use Rattle.regress_tree.specs.Steps.{Matcher}
+use Rattle.regress_tree.specs.Steps.{Matcher, Setting}
 use Rattle.regress_program.specs.Linear.{is_back_reference}
 use Rattle.regress_program.specs.Program.{Op, Out, part, look, outcomes_by}
 use Rattle.regress_program.specs.Shape.{Fits}

@@ -1,7 +1,6 @@
 -- What a walk knows of captures.
 use Rattle.std.specs.Prelude.{◌≡◌, ℕ, ◌+◌, ◌≤◌, ◌<◌, Bool, false, true, List, [], ◌∷◌, slice_get, Option, Some, None}
-use Rattle.regress_tree.specs.Setting.{Setting}
-use Rattle.regress_tree.specs.Steps.{CaptureSpan}
+use Rattle.regress_tree.specs.Steps.{CaptureSpan, Setting}
 use Rattle.regress_program.specs.Isolated.{Captures, capture_at, captures_from}
 use Rattle.regress_program.specs.Program.{Out, Routine}
 use Rattle.regress_program.specs.Ranges.{ranges_of}

@@ -6,7 +6,6 @@ pub mod Assertions
 pub mod Repetition
 pub mod Lookaround
 pub mod References
-pub mod Strings
 pub mod Matching
 pub mod Onward
 pub mod Inside
@@ -22,7 +21,6 @@ pub mod Measures
 pub mod Units
 pub mod Shapes
 pub mod NormalForm
-pub mod Setting
 pub mod Spine
 pub mod NodeTests
 pub mod Copies

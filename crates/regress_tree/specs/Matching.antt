@@ -3,14 +3,12 @@ use Rattle.std.specs.Prelude.{ℕ, ◌+◌, ◌-◌, true, not, ◌==◌, List, 
 use Rattle.regress_base.specs.Brackets.{is_accepted}
 use Rattle.regress_base.specs.Listing.{lists}
 use Rattle.regress_base.specs.Table.{denotes}
-use Rattle.regress_tree.specs.Setting.{Setting}
 use Rattle.regress_tree.specs.Reading.{Direction, forwards, backwards, of_bytes}
-use Rattle.regress_tree.specs.Steps.{Matcher, dedup, stay, ◌then_◌, ◌or_◌, one_character, these_bytes, hold_at, capture}
+use Rattle.regress_tree.specs.Steps.{Matcher, dedup, stay, ◌then_◌, ◌or_◌, one_character, these_bytes, hold_at, capture, Setting}
 use Rattle.regress_tree.specs.Assertions.{is_line_terminator, is_word_character, at_anchor, at_boundary}
 use Rattle.regress_tree.specs.Repetition.{repeat_matcher}
 use Rattle.regress_tree.specs.Lookaround.{lookaround_matcher}
-use Rattle.regress_tree.specs.References.{back_reference}
-use Rattle.regress_tree.specs.Strings.{any_string}
+use Rattle.regress_tree.specs.References.{back_reference, any_string}
 use Rattle.regress_tree.specs.Tree.{Leaf, empty, goal, char, byte_sequence, byte_set, char_set, match_any, match_any_except_line_terminator, anchor, word_boundary, bracket, back_ref, string_set, Wrapper, capture_group, loop, loop_one, lookaround, Tree, Trees, leaf, cat, alt, wrapped, no_trees, more_trees, reverse_trees}
 
 -- A list of parts, in the order of the text, in the order of matching; and the other way round.

@@ -2,8 +2,7 @@
 use Rattle.std.specs.Prelude.{ℕ, ◌+◌, ◌≤◌, List, All}
 use Rattle.regress_tree.specs.Matching.{steps}
 use Rattle.regress_tree.specs.Reading.{forwards}
-use Rattle.regress_tree.specs.Setting.{Setting}
-use Rattle.regress_tree.specs.Steps.{MatchState, Matcher}
+use Rattle.regress_tree.specs.Steps.{MatchState, Matcher, Setting}
 use Rattle.regress_tree.specs.Tree.{Tree}
 
 -- Each outcome is at least n positions after the start.

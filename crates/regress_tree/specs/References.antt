@@ -1,7 +1,8 @@
--- Back references (ECMA-262, BackreferenceMatcher).
+-- Texts matched character by character: back references (ECMA-262, BackreferenceMatcher), and sets of strings, one of which
+-- matches (ECMA-262, CompileAtom, ClassStrings).
 use Rattle.std.specs.Prelude.{ℕ, zero, suc, ◌-◌, Bool, List, [], ◌∷◌, reverse, Option, Some, None, get_or, nat_lt, if◌then◌else◌}
 use Rattle.regress_tree.specs.Reading.{Direction, forwards, backwards, Reading, Read}
-use Rattle.regress_tree.specs.Steps.{CaptureSpan, Matcher, stay, ◌then_◌, one_character}
+use Rattle.regress_tree.specs.Steps.{CaptureSpan, Matcher, stay, fail, ◌then_◌, ◌or_◌, one_character}
 
 -- the decoded character, and those from the position after it on
 abbrev pub read_with : (ℕ → List ℕ) → Option Read → List ℕ
@@ -33,3 +34,8 @@ match_again d r same (Some span) = all_of d r same (in_order d (characters_from 
 -- group is unset.
 unfoldable pub back_reference : Direction → Reading → (same : ℕ → ℕ → Bool) → (id : ℕ) → Matcher
 back_reference d r same id s = match_again d r same (get_or s.captures id None) s
+
+-- Matches one of the strings, tried in order, each character by character by the comparison `same`.
+unfoldable pub any_string : Direction → Reading → (same : ℕ → ℕ → Bool) → List (List ℕ) → Matcher
+any_string d r same [] = fail
+any_string d r same (string ∷ strings) = all_of d r same (in_order d string) or_ any_string d r same strings

@@ -1,7 +1,9 @@
--- States, matchers and outcomes (ECMA-262, MatchState and Matcher), and the operations of which the matchers of all
--- nodes are composed.
+-- States, matchers and outcomes (ECMA-262, MatchState and Matcher), what matching depends on beside tree and text, and the
+-- operations of which the matchers of all nodes are composed.
 use Rattle.std.specs.Prelude.{◌≡◌, ℕ, Bool, true, false, not, ◌&&◌, List, [], ◌∷◌, ◌++◌, filter, flat_map, map, Option, Some, None, if◌then◌else◌, ◌==◌, min, max, slice_set, ◌+◌, ◌-◌, ◌≤◌, length, drop, nat_eq, nat_le, All}
 use Rattle.std.specs.List.{starts_with}
+use Rattle.regress_base.specs.declared.types.Flags.{Flags}
+use Rattle.regress_base.specs.Table.{Table}
 use Rattle.regress_tree.specs.Reading.{Direction, forwards, backwards, Reading, Read, next_character, byte_position}
 
 -- the start and the end of what a group has last matched, the smaller position first
@@ -16,6 +18,11 @@ pub record MatchState : Type 0 where
 -- The outcomes of a part of a pattern from a state, in order of preference (ECMA-262, Matcher, as a list).
 abbrev pub Matcher : Type 0
 Matcher = MatchState → List MatchState
+
+-- what matching depends on beside the tree and the text: the flags, and the table of canonical forms
+pub record Setting : Type 0 where
+  pub flags : Flags
+  pub table : Table
 
 abbrev pub same_capture : Option CaptureSpan → Option CaptureSpan → Bool
 same_capture None None = true

@@ -6,7 +6,7 @@ pub mod Classes
 pub mod Warned
 pub mod Walked
 -- re-exports what the public contract cites from other crates, so that a caller names one library
-pub use Rattle.regress_syntax.specs.SettingOf
+pub use Rattle.regress_syntax.specs.Meaning
 pub use Rattle.regress_parse.specs.Accepted
 pub use Rattle.regress_parse.specs.Fault
 pub use Rattle.regress_parse.specs.Settled

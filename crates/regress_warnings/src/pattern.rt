@@ -2,7 +2,7 @@
 ghost use Rattle.std.specs.Prelude.{◌≡◌, [], length, map, zip, All, IfOk, IfErr};
 ghost use Rattle.regress_lexer.specs.Source.{IsCodePoint};
 ghost use Rattle.regress_syntax.specs.Syntax.{Pattern};
-ghost use Rattle.regress_syntax.specs.SettingOf.{setting_of};
+ghost use Rattle.regress_syntax.specs.Meaning.{setting_of};
 ghost use Rattle.regress_parse.specs.Accepted.{IsAccepted};
 ghost use Rattle.regress_parse.specs.Spans.{IsWithin};
 ghost use Rattle.regress_parse.specs.Settled.{IsFaultOf};

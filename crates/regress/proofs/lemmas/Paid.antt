@@ -10,9 +10,8 @@ use Rattle.regress_match.specs.Costs.{AreCosts, IsWithinFindCost}
 use Rattle.regress_match.specs.Matcher as program
 use Rattle.regress_match.proofs.lemmas.Costs.{has_costs}
 use Rattle.regress_match.proofs.lemmas.Matches.{matches_cost-more}
-use Rattle.regress.specs.Compiled.{outcomes_of}
+use Rattle.regress.specs.Compiled.{outcomes_of, match_of}
 use Rattle.regress.specs.Costs.{AllAreTooCostly, factor_of, limit_of, matcher_of}
-use Rattle.regress.specs.Found.{match_of}
 use Rattle.regress.specs.Searched.{Advances, next_from, search_limit, search_remaining, searched_matcher, searched_text}
 use Rattle.regress.specs.declared.failure.SearchError.{SearchError}
 use Rattle.regress.specs.declared.failure.SearchError.TheVariants.{OutOfSteps}

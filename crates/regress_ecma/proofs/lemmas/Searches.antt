@@ -11,9 +11,8 @@ use Rattle.std.specs.Char.{IsScalar}
 use Rattle.std.specs.Str.{IsUtf8, IsCharBoundary, chars}
 use Rattle.regress_tree.specs.Matching.{matches}
 use Rattle.regress_tree.specs.Reading.{IsText, byte_position, forwards}
-use Rattle.regress_tree.specs.Setting.{Setting}
 use Rattle.regress_tree.specs.Steps as Steps
-use Rattle.regress_tree.specs.Steps.{IsStateOf, IsCaptureOf, byte_capture, byte_state}
+use Rattle.regress_tree.specs.Steps.{IsStateOf, IsCaptureOf, byte_capture, byte_state, Setting}
 use Rattle.regress_tree.specs.Tree.{Tree}
 use Rattle.regress_tree.specs.WellFormed.{captures}
 use Rattle.regress_tree.proofs.lemmas.Characters.{byte_position-le, byte_position-lt}

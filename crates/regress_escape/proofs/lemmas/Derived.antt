@@ -3,7 +3,7 @@ use Rattle.std.proofs.Common.{◌≡◌, ℕ, true, false, max, List, [], ◌∷
 use Rattle.regress_base.specs.declared.types.Flags.{Flags}
 use Rattle.regress_lexer.specs.FirstCodePoint.{may_begin}
 use Rattle.regress_lexer.specs.Source.{Source}
-use Rattle.regress_tree.specs.Setting.{Setting}
+use Rattle.regress_tree.specs.Steps.{Setting}
 use Rattle.regress_parse.specs.Accepted.{IsAccepted, own_context}
 use Rattle.regress_syntax.specs.Syntax.{Terms, no_terms, counts_of_terms, added, nothing_counted, nesting_of_terms}
 use Rattle.regress_syntax.specs.SameNames.{are_names_apart_in_terms}

@@ -5,8 +5,7 @@ use Rattle.std.specs.List.{starts_with}
 use Rattle.std.proofs.lemmas.Bool.{cond-false, cases_lt}
 use Rattle.std.proofs.lemmas.Bool.Decides.{nat_tests}
 use Rattle.regress_tree.specs.Reading.{Direction, forwards, backwards, of_characters, next_character}
-use Rattle.regress_tree.specs.Setting.{Setting}
-use Rattle.regress_tree.specs.Steps.{MatchState, Matcher, dedup, moved, one_character}
+use Rattle.regress_tree.specs.Steps.{MatchState, Matcher, dedup, moved, one_character, Setting}
 use Rattle.regress_syntax.specs.Syntax.{Name, no_terms, names}
 use Rattle.regress_syntax.specs.Meaning.{is_literal, terms_steps, meaning}
 use Rattle.regress_escape.specs.Literals.{literals_then, literals, this_string}

@@ -5,11 +5,9 @@ use Rattle.std.proofs.lemmas.List.{drop_more, length-reverse}
 use Rattle.regress_base.specs.declared.types.Quantifier.{Quantifier}
 use Rattle.regress_tree.specs.Matching.{steps}
 use Rattle.regress_tree.specs.Reading.{Direction, forwards, backwards, Reading, Read, next_character}
-use Rattle.regress_tree.specs.References.{all_of, in_order}
+use Rattle.regress_tree.specs.References.{all_of, in_order, any_string}
 use Rattle.regress_tree.specs.Repetition.{iterations, extra_iterations, repeat_matcher, up_to}
-use Rattle.regress_tree.specs.Setting.{Setting}
-use Rattle.regress_tree.specs.Strings.{any_string}
-use Rattle.regress_tree.specs.Steps.{MatchState, Matcher, ◌then_◌, one_character, moved, these_bytes, hold_at}
+use Rattle.regress_tree.specs.Steps.{MatchState, Matcher, ◌then_◌, one_character, moved, these_bytes, hold_at, Setting}
 use Rattle.regress_tree.specs.Tree.{empty, goal, char, byte_sequence, byte_set, char_set, match_any, match_any_except_line_terminator, anchor, word_boundary, bracket, back_ref, string_set, loop_one, Tree, leaf, cat, alt, wrapped}
 use Rattle.regress_tree.proofs.lemmas.Groups.{iteration-none}
 use Rattle.regress_tree.proofs.lemmas.Outcomes.{flat_map-stay}

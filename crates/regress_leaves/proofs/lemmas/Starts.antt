@@ -8,8 +8,7 @@ use Rattle.regress_base.specs.declared.bytesearch.bitmap.ByteBitmap.{ByteBitmap}
 use Rattle.regress_base.specs.Positions.{IsMemberAt}
 use Rattle.regress_tree.specs.Matching.{steps}
 use Rattle.regress_tree.specs.Reading.{Direction, forwards, next_character, of_bytes}
-use Rattle.regress_tree.specs.Setting.{Setting}
-use Rattle.regress_tree.specs.Steps.{MatchState, dedup}
+use Rattle.regress_tree.specs.Steps.{MatchState, dedup, Setting}
 use Rattle.regress_tree.specs.Tree.{Tree, leaf, string_set}
 use Rattle.regress_prefilter.specs.FirstSets.{BeginsWithByteOf}
 use Rattle.regress_prefilter.specs.OneCharacter.{takes_one, test_of}

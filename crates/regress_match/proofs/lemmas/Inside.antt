@@ -4,8 +4,7 @@ use Rattle.std.proofs.lemmas.List.Elements.{All-head, All-replicate}
 use Rattle.std.specs.Str.{IsUtf8, IsCharBoundary}
 use Rattle.regress_tree.specs.Inside.{IsCaptureInside, IsStateInside}
 use Rattle.regress_tree.specs.Reading.{forwards}
-use Rattle.regress_tree.specs.Setting.{Setting}
-use Rattle.regress_tree.specs.Steps.{MatchState}
+use Rattle.regress_tree.specs.Steps.{MatchState, Setting}
 use Rattle.regress_tree.specs.Tree.{Tree}
 use Rattle.regress_tree.specs.WellFormed.{IsWellFormed, captures}
 use Rattle.regress_tree.proofs.lemmas.Inside.{IsReachedInside, well_formed_stays_inside}

@@ -1,7 +1,7 @@
 -- What the scan finds in an accepted source.
 use Rattle.std.proofs.Common.{◌≡◌, ℕ, min, List, length, Option, refl, sym, ◌∙◌, arith}
 use Rattle.regress_base.specs.Limits.{max_capture_groups}
-use Rattle.regress_tree.specs.Setting.{Setting}
+use Rattle.regress_tree.specs.Steps.{Setting}
 use Rattle.regress_lexer.specs.declared.dialect.Dialect.{Dialect}
 use Rattle.regress_lexer.specs.Source.{Source}
 use Rattle.regress_syntax.specs.Syntax.{Name, Pattern, counts}

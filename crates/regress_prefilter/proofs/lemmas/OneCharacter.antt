@@ -7,8 +7,7 @@ use Rattle.std.proofs.lemmas.List.{length-append, nil_from_length}
 use Rattle.std.proofs.lemmas.Str.{length-encode}
 use Rattle.regress_tree.specs.Matching.{steps}
 use Rattle.regress_tree.specs.Reading.{Direction, forwards, backwards, Read, character_at, read_after, of_bytes}
-use Rattle.regress_tree.specs.Setting.{Setting}
-use Rattle.regress_tree.specs.Steps.{MatchState, one_character, these_bytes}
+use Rattle.regress_tree.specs.Steps.{MatchState, one_character, these_bytes, Setting}
 use Rattle.regress_tree.specs.Tree.{empty, goal, char, byte_sequence, byte_set, char_set, match_any, match_any_except_line_terminator, anchor, word_boundary, bracket, back_ref, string_set, Tree, leaf, cat, alt, wrapped}
 use Rattle.regress_tree.proofs.lemmas.ByteSequences.{these_bytes-one, these_bytes_before-one}
 use Rattle.regress_tree.proofs.lemmas.Characters.{character_at_parts}

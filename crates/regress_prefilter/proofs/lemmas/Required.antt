@@ -2,8 +2,7 @@
 use Rattle.std.proofs.Common.{◌≡◌, ℕ, List, [], ap}
 use Rattle.regress_tree.specs.Matching.{matches}
 use Rattle.regress_tree.specs.Reading.{forwards}
-use Rattle.regress_tree.specs.Setting.{Setting}
-use Rattle.regress_tree.specs.Steps.{MatchState, dedup}
+use Rattle.regress_tree.specs.Steps.{MatchState, dedup, Setting}
 use Rattle.regress_tree.specs.Tree.{Tree}
 use Rattle.regress_prefilter.specs.Required.{Requires}
 

@@ -1,8 +1,7 @@
 -- Every program has a cost.
 use Rattle.std.proofs.Common.{◌≡◌, ℕ, ◌+◌, List, Option, Some, None, slice_get, refl, ap, ◌∙◌}
 use Rattle.regress_tree.specs.Reading.{Direction}
-use Rattle.regress_tree.specs.Setting.{Setting}
-use Rattle.regress_tree.specs.Steps.{MatchState, Matcher}
+use Rattle.regress_tree.specs.Steps.{MatchState, Matcher, Setting}
 use Rattle.regress_program.specs.Cost.{Cost, IsCost, cost_at, cost_by}
 use Rattle.regress_program.specs.Program.{Op, Out, Routine, matcher_of, IsSolution}
 use Rattle.regress_program.specs.Shape.{IsProgram}

@@ -13,11 +13,9 @@ use Rattle.regress_base.specs.declared.types.Quantifier.{Quantifier}
 use Rattle.regress_tree.specs.Lookaround.{looked, lookaround_matcher}
 use Rattle.regress_tree.specs.Matching.{leaf_steps, steps, steps_of_parts}
 use Rattle.regress_tree.specs.Reading.{Direction, forwards, backwards, Read, next_character, of_bytes, read_after, read_before, character_at}
-use Rattle.regress_tree.specs.References.{all_of, characters_from, match_again, back_reference, in_order}
+use Rattle.regress_tree.specs.References.{all_of, characters_from, match_again, back_reference, in_order, any_string}
 use Rattle.regress_tree.specs.Repetition.{iteration, iterations, moving, up_to, extra_iterations, repeat_matcher, unset}
-use Rattle.regress_tree.specs.Setting.{Setting}
-use Rattle.regress_tree.specs.Steps.{CaptureSpan, MatchState, Matcher, stay, fail, ◌then_◌, ◌or_◌, moved, one_character, these_bytes, hold_at, capture, captured}
-use Rattle.regress_tree.specs.Strings.{any_string}
+use Rattle.regress_tree.specs.Steps.{CaptureSpan, MatchState, Matcher, stay, fail, ◌then_◌, ◌or_◌, moved, one_character, these_bytes, hold_at, capture, captured, Setting}
 use Rattle.regress_tree.specs.Tree.{Leaf, empty, goal, char, byte_sequence, byte_set, char_set, match_any, match_any_except_line_terminator, anchor, word_boundary, bracket, back_ref, string_set, capture_group, loop, loop_one, lookaround, Tree, Trees, leaf, cat, alt, wrapped, no_trees, more_trees}
 use Rattle.regress_leaves.specs.Leaves.{put}
 use Rattle.regress_program.specs.Stays.{IsOnward, IsReached, Stays}

@@ -1,7 +1,6 @@
 -- Every program has a solution, so what a search finds is found of a pattern with the same outcomes.
 use Rattle.std.proofs.Common.{◌≡◌, ℕ, ◌≤◌, List, length, Option, Some, None, sym, ◌∙◌}
-use Rattle.regress_tree.specs.Setting.{Setting}
-use Rattle.regress_tree.specs.Steps.{MatchState}
+use Rattle.regress_tree.specs.Steps.{MatchState, Setting}
 use Rattle.regress_found.specs.Found.{Finds, start_of}
 use Rattle.regress_program.specs.Program.{Out, Routine, IsSolution}
 use Rattle.regress_program.specs.Shape.{IsProgram}

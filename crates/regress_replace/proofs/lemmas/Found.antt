@@ -2,8 +2,7 @@
 use Rattle.std.proofs.Common.{ℕ, zero, suc, take, List, [], ◌∷◌, All, refl, arith}
 use Rattle.std.proofs.lemmas.List.Elements.{All-cons, All-head, All-nil, All-tail}
 use Rattle.std.specs.Str.{IsUtf8}
-use Rattle.regress_tree.specs.Setting.{Setting}
-use Rattle.regress_tree.specs.Steps.{MatchState}
+use Rattle.regress_tree.specs.Steps.{MatchState, Setting}
 use Rattle.regress_tree.specs.Tree.{Tree}
 use Rattle.regress_tree.specs.WellFormed.{IsWellFormed}
 use Rattle.regress_found.specs.Found.{start_of, IsInside, outcomes_at}

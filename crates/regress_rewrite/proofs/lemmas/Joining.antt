@@ -7,10 +7,9 @@ use Rattle.std.proofs.lemmas.List.Elements.{All-append, All-nil}
 use Rattle.std.proofs.lemmas.Str.{encodes-append}
 use mathlib.Core.Path.{fun_ext}
 use Rattle.regress_tree.specs.Reading.{Direction, forwards, backwards}
-use Rattle.regress_tree.specs.Steps.{MatchState, ◌then_◌, these_bytes}
+use Rattle.regress_tree.specs.Steps.{MatchState, ◌then_◌, these_bytes, Setting}
 use Rattle.regress_tree.specs.Tree.{byte_sequence, Tree, Trees, leaf, cat, no_trees, more_trees, append_trees, copies}
 use Rattle.regress_tree.specs.Matching.{steps_of_parts}
-use Rattle.regress_tree.specs.Setting.{Setting}
 use Rattle.regress_tree.specs.WellFormed.{Position, inside, last_of, AreUtf8, PartsAllowed, captures_of_trees}
 use Rattle.regress_tree.specs.Measures.{Measure, total_in_list}
 use Rattle.regress_tree.specs.Units.{sizes, unrollables, weights, weight_of_leaf, IsLess}

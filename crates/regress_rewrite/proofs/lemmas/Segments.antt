@@ -7,9 +7,8 @@ use mathlib.Core.Path.{fun_ext}
 use Rattle.regress_tree.specs.Matching.{steps, steps_of_parts}
 use Rattle.regress_tree.specs.NodeTests.{is_empty}
 use Rattle.regress_tree.specs.Reading.{Direction}
-use Rattle.regress_tree.specs.Setting.{Setting}
 use Rattle.regress_tree.specs.Shapes.{is_simplified_away}
-use Rattle.regress_tree.specs.Steps.{MatchState, stay, ◌then_◌}
+use Rattle.regress_tree.specs.Steps.{MatchState, stay, ◌then_◌, Setting}
 use Rattle.regress_tree.specs.Tree.{empty, Tree, Trees, leaf, cat, no_trees, more_trees, append_trees}
 use Rattle.regress_tree.specs.Units.{sizes, unrollables}
 use Rattle.regress_tree.specs.WellFormed.{Position, inside, last_of, NotAsOneCharacter, captures, captures_of_trees, PartsAllowed}

@@ -6,7 +6,7 @@ use Rattle.std.proofs.lemmas.List.{length-append, append-nil, append_assoc, map-
 use Rattle.regress_base.specs.Table.{Table}
 use Rattle.regress_base.specs.declared.types.Quantifier.{Quantifier}
 use Rattle.regress_tree.specs.Reading.{Direction, forwards, backwards}
-use Rattle.regress_tree.specs.Setting.{Setting}
+use Rattle.regress_tree.specs.Steps.{Setting}
 use Rattle.regress_tree.specs.Tree.{empty, goal, Tree, Trees, leaf, cat, alt, wrapped, no_trees, more_trees, append_trees, reverse_trees}
 use Rattle.regress_tree.specs.Visits.{nodes, nodes_in_list}
 use Rattle.regress_lexer.specs.Source.{Source, closing, bar}

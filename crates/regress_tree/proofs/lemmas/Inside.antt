@@ -14,8 +14,7 @@ use Rattle.regress_tree.specs.Assertions.{is_line_terminator, is_word_character}
 use Rattle.regress_tree.specs.Inside.{IsSpanInside, IsCaptureInside, IsStateInside}
 use Rattle.regress_tree.specs.Matching.{direction_in, leaf_steps, wrapper_steps, steps, steps_of_parts, matches}
 use Rattle.regress_tree.specs.Reading.{Direction, forwards, backwards, IsText, byte_position}
-use Rattle.regress_tree.specs.Setting.{Setting}
-use Rattle.regress_tree.specs.Steps.{CaptureSpan, MatchState, Matcher, IsCaptureOf, IsStateOf, byte_capture, byte_state, stay, these_bytes}
+use Rattle.regress_tree.specs.Steps.{CaptureSpan, MatchState, Matcher, IsCaptureOf, IsStateOf, byte_capture, byte_state, stay, these_bytes, Setting}
 use Rattle.regress_tree.specs.Tree.{Leaf, empty, goal, char, byte_sequence, byte_set, char_set, match_any, match_any_except_line_terminator, anchor, word_boundary, bracket, back_ref, string_set, Wrapper, capture_group, loop, loop_one, lookaround, Tree, Trees, leaf, cat, alt, wrapped, no_trees, more_trees}
 use Rattle.regress_tree.specs.WellFormed.{Position, inside, root, last_of, position_in, LeafIsAllowed, IsAllowed, PartsAllowed, IsWellFormed}
 use Rattle.regress_tree.proofs.TextLemmas.{utf8-from, are-utf8}

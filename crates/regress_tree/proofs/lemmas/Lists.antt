@@ -4,10 +4,9 @@ use mathlib.Core.Path.{fun_ext}
 use Rattle.std.proofs.lemmas.List.{map-append}
 use Rattle.regress_tree.specs.declared.ir.node.Node.{Node}
 use Rattle.regress_tree.specs.Reading.{Direction}
-use Rattle.regress_tree.specs.Steps.{MatchState}
+use Rattle.regress_tree.specs.Steps.{MatchState, Setting}
 use Rattle.regress_tree.specs.Tree.{Leaf, empty, goal, char, byte_sequence, byte_set, char_set, match_any, match_any_except_line_terminator, anchor, word_boundary, bracket, back_ref, string_set, Tree, Trees, leaf, cat, alt, wrapped, no_trees, more_trees, list, append_trees, tree, trees}
 use Rattle.regress_tree.specs.Matching.{steps, steps_of_parts}
-use Rattle.regress_tree.specs.Setting.{Setting}
 use Rattle.regress_tree.specs.WellFormed.{captures, captures_of_trees, Position, one_character, inside, last, root, NotAsOneCharacter, GoalIsAllowed, last_of, LeafIsAllowed, IsAllowed, PartsAllowed}
 use Rattle.regress_tree.proofs.lemmas.Outcomes.{flat_map-then}
 use Rattle.regress_tree.proofs.lemmas.Positions.{AsOneCharacter-free}

@@ -4,9 +4,8 @@ use Rattle.regress_base.specs.Listing.{lists}
 use Rattle.regress_base.specs.Table.{Table, denotes, class_of}
 use Rattle.regress_base.proofs.lemmas.Literals.{lists-one, lists-class_of-scalar}
 use Rattle.regress_tree.specs.Matching.{leaf_steps, steps}
-use Rattle.regress_tree.specs.Setting.{Setting}
 use Rattle.regress_tree.specs.Reading.{Direction, IsText, of_characters, of_bytes}
-use Rattle.regress_tree.specs.Steps.{MatchState, one_character}
+use Rattle.regress_tree.specs.Steps.{MatchState, one_character, Setting}
 use Rattle.regress_tree.specs.Tree.{leaf, char, char_set}
 use Rattle.regress_tree.proofs.lemmas.ByteSequences.{one_character-agree}
 use Rattle.regress_tree.proofs.lemmas.Simulation.{Simulates, Simulates-same_right, Simulates-one_character}

@@ -7,10 +7,9 @@ use Rattle.regress_base.specs.declared.types.Quantifier.{Quantifier}
 use Rattle.regress_tree.specs.Lookaround.{looked, lookaround_matcher}
 use Rattle.regress_tree.specs.Onward.{Advances}
 use Rattle.regress_tree.specs.Reading.{forwards, of_bytes, read_after, character_at}
-use Rattle.regress_tree.specs.References.{all_of, characters_from, match_again, back_reference, in_order}
+use Rattle.regress_tree.specs.References.{all_of, characters_from, match_again, back_reference, in_order, any_string}
 use Rattle.regress_tree.specs.Repetition.{iteration, iterations, moving, up_to, extra_iterations, repeat_matcher}
 use Rattle.regress_tree.specs.Steps.{CaptureSpan, MatchState, Matcher, stay, fail, ◌then_◌, ◌or_◌, moved, one_character, these_bytes, hold_at, capture, captured}
-use Rattle.regress_tree.specs.Strings.{any_string}
 
 abbrev IsOn : ℕ → MatchState → MatchState → Type 0
 IsOn n s t = s.position + n ≤ t.position

@@ -4,10 +4,9 @@ use mathlib.Core.Path.{fun_ext}
 use Rattle.std.specs.List.Sorted.{IsPermutation}
 use Rattle.std.proofs.lemmas.List.Sorted.{IsPermutation-refl, IsPermutation-trans, IsPermutation-append_comm, IsPermutation-append_left}
 use Rattle.regress_tree.specs.Reading.{Direction}
-use Rattle.regress_tree.specs.Steps.{MatchState, ◌then_◌}
+use Rattle.regress_tree.specs.Steps.{MatchState, ◌then_◌, Setting}
 use Rattle.regress_tree.specs.Tree.{Tree, Trees, no_trees, more_trees, append_trees, reverse_trees}
 use Rattle.regress_tree.specs.Matching.{steps, steps_of_parts}
-use Rattle.regress_tree.specs.Setting.{Setting}
 use Rattle.regress_tree.specs.WellFormed.{captures, captures_of_trees, inside, PartsAllowed}
 use Rattle.regress_tree.proofs.lemmas.Outcomes.{flat_map-stay}
 use Rattle.regress_tree.proofs.lemmas.Lists.{append_trees-none, append_trees-assoc, steps-append, captures-append, PartsAllowed-append}

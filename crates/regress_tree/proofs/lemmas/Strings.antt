@@ -1,8 +1,7 @@
 -- Sets of strings, over the bytes of a text and over its characters.
 use Rattle.std.proofs.Common.{ℕ, Bool, List, [], ◌∷◌, encode_utf8_all}
 use Rattle.regress_tree.specs.Reading.{Direction, IsText, of_characters, of_bytes}
-use Rattle.regress_tree.specs.References.{in_order}
-use Rattle.regress_tree.specs.Strings.{any_string}
+use Rattle.regress_tree.specs.References.{in_order, any_string}
 use Rattle.regress_tree.proofs.lemmas.References.{Simulates-all_of}
 use Rattle.regress_tree.proofs.lemmas.Simulation.{Simulates, Simulates-fail, Simulates-or}
 

@@ -3,10 +3,9 @@ use Rattle.std.proofs.Common.{◌≡◌, ℕ, ◌+◌, ◌<◌, ◌≤◌, ◌�
 use Rattle.std.proofs.lemmas.Bool.{or_parts}
 use Rattle.std.specs.Prelude.{if◌then◌else◌}
 use Rattle.regress_tree.specs.Reading.{Direction, forwards, backwards}
-use Rattle.regress_tree.specs.Steps.{Matcher, Alike}
+use Rattle.regress_tree.specs.Steps.{Matcher, Alike, Setting}
 use Rattle.regress_tree.specs.Tree.{Leaf, Wrapper, capture_group, loop, loop_one, lookaround, Tree, Trees, cat, alt, wrapped, no_trees, more_trees, append_trees}
 use Rattle.regress_tree.specs.Matching.{direction_in, wrapper_steps, steps, steps_of_parts}
-use Rattle.regress_tree.specs.Setting.{Setting}
 use Rattle.regress_tree.specs.declared.ir.walker.Walk.{Walk}
 use Rattle.regress_tree.specs.Visits.{is_backwards_in}
 use Rattle.regress_tree.specs.Walk.{direction_of}

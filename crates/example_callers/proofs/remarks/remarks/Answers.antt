@@ -1,5 +1,5 @@
 use Rattle.std.proofs.Common.{map, chars, ap, ◌∙◌}
-use Rattle.regress_front.specs.SettingOf.{setting_of}
+use Rattle.regress_front.specs.Meaning.{setting_of}
 use Rattle.example_callers.specs.Remarks.{explained}
 use Rattle.example_callers.proofs.RemarksLemmas.{remarked}
 use Rattle.example_callers.proofs.remarks.remarks.Goals as goal

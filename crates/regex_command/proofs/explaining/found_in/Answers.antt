@@ -1,5 +1,5 @@
 use Rattle.std.proofs.Common.{◌∙◌, List, ap, map}
-use Rattle.regress.specs.Found.{match_of}
+use Rattle.regress.specs.Compiled.{match_of}
 use Rattle.regress.specs.declared.found.Match.{Match}
 use Rattle.regress.specs.Unicode.{unicode_setting}
 use Rattle.regex_command.specs.Ending.{search_failure}

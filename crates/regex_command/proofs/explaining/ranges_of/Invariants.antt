@@ -1,6 +1,6 @@
 -- the ranges so far
 use Rattle.std.proofs.Common.{◌≡◌, map, take}
-use Rattle.regress.specs.Found.{match_of}
+use Rattle.regress.specs.Compiled.{match_of}
 use Rattle.regex_command.specs.Patterns.{range_of}
 use Rattle.regex_command.proofs.explaining.ranges_of.Given as goal
 

@@ -1,7 +1,6 @@
 -- the groups so far
 use Rattle.std.proofs.Common.{map, string_bytes}
-use Rattle.regress.specs.Compiled.{groups_of}
-use Rattle.regress.specs.Found.{match_of}
+use Rattle.regress.specs.Compiled.{groups_of, match_of}
 use Rattle.regress.specs.Groups.{names_left}
 use Rattle.regex_command.specs.Reply.{run_of}
 use Rattle.regex_command.proofs.JsonLemmas.{SoFar}

@@ -1,5 +1,5 @@
 use Rattle.std.proofs.Common.{◌∙◌}
-use Rattle.regress.specs.Found.{match_of}
+use Rattle.regress.specs.Compiled.{match_of}
 use Rattle.regex_command.specs.Reply.{run_of}
 use Rattle.regex_command.proofs.JsonLemmas.{match_of_parts}
 use Rattle.regex_command.proofs.json.match_json.Goals as goal

@@ -1,7 +1,7 @@
 -- What is added and the rest of the text, with the remaining matches in color, are together what is wanted.
 use Rattle.std.proofs.Common.{◌≡◌, ◌++◌, drop, map}
 use Rattle.regress_replace.proofs.lemmas.Order.{IsBefore}
-use Rattle.regress.specs.Found.{match_of}
+use Rattle.regress.specs.Compiled.{match_of}
 use Rattle.regex_command.proofs.PaintLemmas.{painted_from}
 use Rattle.regex_command.proofs.painting.add_painted_matches.Given as goal
 

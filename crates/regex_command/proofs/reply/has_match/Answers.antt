@@ -1,6 +1,6 @@
 use Rattle.std.proofs.Common.{◌≡◌, ◌<◌, ◌==◌, ◌∙◌, ℕ, zero, suc, false, arith, length, refl, subst, sym}
 use Rattle.std.proofs.lemmas.List.{length-map}
-use Rattle.regress.specs.Found.{match_of}
+use Rattle.regress.specs.Compiled.{match_of}
 use Rattle.regex_command.specs.Reply.{TextMatches, matches_of}
 use Rattle.regex_command.specs.declared.runs.TextMatches as code
 use Rattle.regex_command.proofs.RunLemmas.{none_matches, one_matches}

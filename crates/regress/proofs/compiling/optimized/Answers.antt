@@ -1,7 +1,7 @@
 use Rattle.std.proofs.Common.{◌∙◌, ap, subst, sym}
 use Rattle.std.specs.List.Sorted.{IsPermutation}
 use Rattle.regress_front.specs.Groups.{pattern_groups}
-use Rattle.regress_front.specs.SettingOf.{setting_of}
+use Rattle.regress_front.specs.Meaning.{setting_of}
 use Rattle.regress_front.specs.Tree.{tree}
 use Rattle.regress_front.specs.WellFormed.{captures}
 use Rattle.regress_parse.proofs.lemmas.{permuted-tree_of}

@@ -1,7 +1,7 @@
 -- The closure was called on the matches so far, and the text is that up to the end of the last one, with these replaced.
 use Rattle.std.proofs.Common.{drop, map, string_bytes}
 use Rattle.regress_replace.proofs.lemmas.Order.{IsBefore}
-use Rattle.regress.specs.Found.{match_of}
+use Rattle.regress.specs.Compiled.{match_of}
 use Rattle.regress.proofs.ReplacedLemmas.{HasReplaced}
 use Rattle.regress.proofs.replacing.replace_each.Given as goal
 

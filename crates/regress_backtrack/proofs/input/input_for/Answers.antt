@@ -2,7 +2,7 @@ use Rattle.std.proofs.Common.{◌≡◌, ◌<◌, Some, length, slice_get, optio
 use Rattle.std.proofs.lemmas.List.{length-map}
 use Rattle.std.proofs.lemmas.Option.{slice_get-map, slice_get_read}
 use Rattle.regress_tree.specs.Reading.{direction_if}
-use Rattle.regress_tree.specs.Setting.{Setting}
+use Rattle.regress_tree.specs.Steps.{Setting}
 use Rattle.regress_unicode.specs.TableOf.{table_of}
 use Rattle.regress_code.specs.NextBytes.{AreNextBytesIn}
 use Rattle.regress_code.specs.Skips.{AreSkips}

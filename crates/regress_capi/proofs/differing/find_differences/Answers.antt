@@ -1,4 +1,4 @@
-use Rattle.regress_syntax.specs.SettingOf.{setting_of}
+use Rattle.regress_syntax.specs.Meaning.{setting_of}
 use Rattle.regress_capi.proofs.DifferencesLemmas.{differences-are}
 use Rattle.regress_capi.proofs.differing.find_differences.Goals as goal
 

@@ -1,4 +1,4 @@
-use Rattle.regress.specs.Found.{match_of}
+use Rattle.regress.specs.Compiled.{match_of}
 use Rattle.regress_capi.proofs.expanding.expand.Goals as goal
 
 pub returns-in_ok-expand-in-Some : goal.returns-in_ok-expand-in-Some

@@ -1,7 +1,6 @@
 use Rattle.std.proofs.Common.{◌++◌, ap, ◌∙◌, option_map, subst, sym}
 use Rattle.std.proofs.lemmas.Result.{err_from_is_err_and}
-use Rattle.regress.specs.Compiled.{outcomes_of}
-use Rattle.regress.specs.Found.{match_of}
+use Rattle.regress.specs.Compiled.{outcomes_of, match_of}
 use Rattle.regress_capi.specs.Spans.{match_ends}
 use Rattle.regress_found.specs.Found.{Finds}
 use Rattle.regress_capi.proofs.searches.first_ends.Goals as goal

@@ -1,5 +1,5 @@
 use Rattle.std.proofs.Common.{◌≡◌, ◌++◌, append-nil, flat_map, sym, ap, ◌∙◌, subst}
-use Rattle.regress.specs.Found.{match_of}
+use Rattle.regress.specs.Compiled.{match_of}
 use Rattle.regress.specs.Groups.{span_of, spans_left}
 use Rattle.regress_capi.specs.Spans.{ends_of, match_ends}
 use Rattle.regress_capi.proofs.SearchLemmas.{span_more}

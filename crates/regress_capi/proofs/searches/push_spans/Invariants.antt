@@ -1,6 +1,6 @@
 -- The numbers appended and those of the remaining spans are together what is wanted.
 use Rattle.std.proofs.Common.{◌≡◌, ◌++◌, flat_map}
-use Rattle.regress.specs.Found.{match_of}
+use Rattle.regress.specs.Compiled.{match_of}
 use Rattle.regress.specs.Groups.{spans_left}
 use Rattle.regress_capi.specs.Spans.{ends_of, match_ends}
 use Rattle.regress_capi.proofs.searches.push_spans.Given as goal

@@ -1,5 +1,5 @@
 use Rattle.regress_tree.specs.Tree.{tree}
-use Rattle.regress_syntax.specs.SettingOf.{setting_of}
+use Rattle.regress_syntax.specs.Meaning.{setting_of}
 use Rattle.regress_capi.proofs.SpannedLemmas.{placed-are}
 use Rattle.regress_capi.proofs.spanning.parse.Goals as goal
 

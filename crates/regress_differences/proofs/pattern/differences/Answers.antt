@@ -1,7 +1,7 @@
 use Rattle.std.proofs.Common.{List, [], length, sym, subst}
 use Rattle.std.specs.List.{All}
 use Rattle.regress_tree.specs.Tree.{tree}
-use Rattle.regress_syntax.specs.SettingOf.{setting_of}
+use Rattle.regress_syntax.specs.Meaning.{setting_of}
 use Rattle.regress_parse.specs.Accepted.{own_context}
 use Rattle.regress_parse.specs.declared.span.Span.{Span}
 use Rattle.regress_parse.specs.Spans.{IsWithin}

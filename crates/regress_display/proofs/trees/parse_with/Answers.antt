@@ -1,4 +1,4 @@
-use Rattle.regress_syntax.specs.SettingOf.{setting_of}
+use Rattle.regress_syntax.specs.Meaning.{setting_of}
 use Rattle.regress_display.specs.Shown.{shows_spans}
 use Rattle.regress_display.proofs.ShownLemmas.{spanned_parsed}
 use Rattle.regress_display.proofs.trees.parse_with.Goals as goal

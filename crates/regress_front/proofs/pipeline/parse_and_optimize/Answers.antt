@@ -1,9 +1,8 @@
 use Rattle.std.proofs.Common.{◌≡◌, ◌≤◌, ◌+◌, ◌*◌, ℕ, List, Result, Ok, Err, IfOk, IsOkAnd, MatchResult, inl, inr, sym, ap, ◌∙◌, subst}
 use Rattle.std.specs.declared.alloc.AllocError.{AllocError}
 use Rattle.regress_tree.specs.declared.ir.node.Regex.{Regex}
-use Rattle.regress_tree.specs.Steps.{byte_state}
-use Rattle.regress_tree.specs.Setting.{Setting}
-use Rattle.regress_syntax.specs.SettingOf.{setting_of}
+use Rattle.regress_tree.specs.Steps.{byte_state, Setting}
+use Rattle.regress_syntax.specs.Meaning.{setting_of}
 use Rattle.regress_tree.specs.Tree.{Tree, tree}
 use Rattle.regress_tree.specs.WellFormed.{captures}
 use Rattle.regress_tree.specs.Units.{units, unrolling, loops}

@@ -3,7 +3,7 @@ use Rattle.regress_tree.specs.declared.ir.node.Node.{the_lemmas}
 use Rattle.regress_tree.specs.Assertions.{at_anchor, at_boundary, is_word_character}
 use Rattle.regress_tree.specs.Matching.{steps}
 use Rattle.regress_tree.specs.Reading.{of_bytes, direction_if}
-use Rattle.regress_tree.specs.Setting.{Setting}
+use Rattle.regress_tree.specs.Steps.{Setting}
 use Rattle.regress_tree.specs.Tree.{tree, leaf, anchor, word_boundary}
 use Rattle.regress_unicode.specs.TableOf.{table_of}
 use Rattle.regress_prefilter.specs.OneCharacter.{takes_one}

@@ -4,7 +4,7 @@ use Rattle.regress_base.specs.Limits.{max_capture_groups}
 use Rattle.regress_tree.specs.Reading.{forwards}
 use Rattle.regress_tree.specs.Tree.{Tree, trees, cat, more_trees, no_trees}
 use Rattle.regress_unicode.specs.TableOf.{table_of}
-use Rattle.regress_syntax.specs.SettingOf.{setting_of}
+use Rattle.regress_syntax.specs.Meaning.{setting_of}
 use Rattle.regress_tree.specs.WellFormed.{IsWellFormed}
 use Rattle.regress_tree.proofs.lemmas.Nodes.{tree-Cat, tree-Goal}
 use Rattle.regress_syntax.specs.Syntax.{counts}

@@ -1,6 +1,6 @@
 use Rattle.std.proofs.Common.{refl}
 use Rattle.regress_lexer.specs.declared.dialect.Dialect.TheVariants.{Regress}
-use Rattle.regress_syntax.specs.SettingOf.{setting_of}
+use Rattle.regress_syntax.specs.Meaning.{setting_of}
 use Rattle.regress_parse.proofs.FaultLemmas.{placed_fault}
 use Rattle.regress_parse.proofs.pattern.parse_with_spans.Goals as goal
 

@@ -3,7 +3,7 @@ use Rattle.std.proofs.Common.{◌≡◌, subst, ◌∙◌}
 use Rattle.regress_base.specs.declared.types.Flags.{Flags}
 use Rattle.regress_unicode.specs.TableOf.{table_of}
 use Rattle.regress_tree.specs.Tree.{tree}
-use Rattle.regress_syntax.specs.SettingOf.{setting_of}
+use Rattle.regress_syntax.specs.Meaning.{setting_of}
 use Rattle.regress_syntax.specs.Syntax.{Pattern}
 use Rattle.regress_parse.specs.TreeOf.{tree_of}
 use Rattle.regress_parse.specs.Accepted.{IsAcceptedIn, OneIsDerivedIn, OfAcceptedIn, Means}

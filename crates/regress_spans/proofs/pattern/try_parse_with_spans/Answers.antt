@@ -2,7 +2,7 @@ use Rattle.std.proofs.Common.{List, length, sym, ap, ap₂, ◌∙◌, subst}
 use Rattle.std.specs.List.{All, AllPairs, zip}
 use Rattle.std.proofs.lemmas.Result.{IfOk-weaker}
 use Rattle.regress_tree.specs.Visits.{nodes}
-use Rattle.regress_syntax.specs.SettingOf.{setting_of}
+use Rattle.regress_syntax.specs.Meaning.{setting_of}
 use Rattle.regress_parse.specs.declared.span.Span.{Span}
 use Rattle.regress_parse.specs.Spans.{IsWithin, IsInsideOrApart}
 use Rattle.regress_spans.specs.Paired.{postorder}

@@ -1,7 +1,6 @@
 use Rattle.std.proofs.Common.{List, map, subst, sym}
 use Rattle.regress_found.specs.Repeated.{AreAllMatches}
-use Rattle.regress.specs.Compiled.{outcomes_of}
-use Rattle.regress.specs.Found.{match_of}
+use Rattle.regress.specs.Compiled.{outcomes_of, match_of}
 use Rattle.regress.specs.declared.found.Match.{Match}
 use Rattle.regex_command.proofs.CostLemmas.{costly_all}
 use Rattle.regex_command.proofs.SomewhereLemmas.{nowhere_none}

@@ -1,8 +1,7 @@
 -- The list has the matches that the iteration has found, and its steps are at most what they cost.
 use Rattle.std.proofs.Common.{map}
 use Rattle.regress.specs.Costs.{factor_of}
-use Rattle.regress.specs.Compiled.{groups_of, outcomes_of}
-use Rattle.regress.specs.Found.{match_of}
+use Rattle.regress.specs.Compiled.{groups_of, outcomes_of, match_of}
 use Rattle.regress.proofs.FoundLemmas.{HasFoundWith}
 use Rattle.regress.proofs.lemmas.Paid.{HasPaid}
 use Rattle.regress.proofs.pattern.Regex.find_all.Given as goal

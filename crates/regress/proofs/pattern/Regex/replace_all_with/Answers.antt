@@ -1,7 +1,6 @@
 use Rattle.std.proofs.Common.{map}
 use Rattle.regress_replace.proofs.lemmas.Found.{AreAllMatches-in_order}
-use Rattle.regress.specs.Compiled.{outcomes_of}
-use Rattle.regress.specs.Found.{match_of}
+use Rattle.regress.specs.Compiled.{outcomes_of, match_of}
 use Rattle.regress.proofs.pattern.Regex.replace_all_with.Goals as goal
 
 pub replace_each-requires-clause-order : goal.replace_each-requires-clause-order

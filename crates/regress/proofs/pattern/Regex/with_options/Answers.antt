@@ -2,7 +2,7 @@ use Rattle.std.proofs.Common.{◌∙◌, ◌<◌, sym, ap, subst}
 use Rattle.std.specs.Arc.{arc_value}
 use Rattle.std.specs.Prelude.{IfErr, IfOk}
 use Rattle.regress_front.specs.Bound.{HasAtMost}
-use Rattle.regress_front.specs.SettingOf.{setting_of}
+use Rattle.regress_front.specs.Meaning.{setting_of}
 use Rattle.regress.specs.Failures.{IsDue}
 use Rattle.regress.specs.Source.{text_of}
 use Rattle.regress.proofs.CompiledLemmas.{from_characters}

@@ -1,7 +1,7 @@
 use Rattle.std.proofs.Common.{◌∙◌, sym, ap}
 use Rattle.std.specs.Arc.{arc_value}
 use Rattle.std.specs.Prelude.{IfErr}
-use Rattle.regress_front.specs.SettingOf.{setting_of}
+use Rattle.regress_front.specs.Meaning.{setting_of}
 use Rattle.regress_front.specs.Tree.{tree}
 use Rattle.regress_match.specs.Matcher.{is_find_linear_tree}
 use Rattle.regress.specs.Compiled.{IsTreeOf}
